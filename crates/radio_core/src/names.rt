@@ -1,0 +1,113 @@
+//! What senders, receivers, owners and gateways are called.
+ghost use Rattle.std.specs.Prelude.{◌≡◌, IsTrue, SomeIff};
+ghost use Rattle.std.specs.List.{list_all};
+ghost use Rattle.radio_core.specs.Names.{is_name, is_name_octet};
+
+use crate::padding::spread;
+use std::marker::Model;
+use std::str;
+
+/// A name: 1 to 32 ASCII letters, digits, `-`, `_` and `.` (this project's form). Contracts see its octets.
+#[derive(Clone, Copy, Debug, PartialEq, Eq)]
+pub struct Name {
+    octets: [u8; 32],
+    size: u8,
+}
+
+impl Model for Name {
+    ghost use Rattle.std.specs.Prelude.{ℕ, List, take, length, IsTrue};
+    ghost use Rattle.radio_core.specs.Names.{is_name};
+    ghost use Rattle.radio_core.specs.Padding.{padded, IsPadded};
+
+    ghost Value = { List ℕ };
+
+    ghost view = { λ a. take a.size a.octets };
+
+    ghost invariant = { λ a. IsPadded 32 a.octets a.size × IsTrue (is_name (take a.size a.octets)) };
+
+    ghost inverse = { λ text. record { octets = padded 32 text; size = length text } };
+
+    ghost inverse_ok = { λ a h i. record { octets = h.0.noughts i; size = h.0.room i } };
+}
+
+fn is_name_octet(octet: u8) -> bool
+    ensures { result ≡ is_name_octet octet }
+{
+    octet.is_ascii_alphanumeric() || octet == b'-' || octet == b'_' || octet == b'.'
+}
+
+fn are_name_octets(octets: &[u8]) -> bool
+    ensures { result ≡ list_all is_name_octet octets.now }
+{
+    octets.iter().all(|octet| is_name_octet(*octet))
+}
+
+fn is_name(octets: &[u8]) -> bool
+    ensures { result ≡ is_name octets.now }
+{
+    1 <= octets.len() && octets.len() <= 32 && are_name_octets(octets)
+}
+
+impl Name {
+    /// `None` exactly where the octets aren't a name.
+    #[tactic(auto, using(crate::proofs::PaddedTexts::padded_front))]
+    pub fn new(octets: &[u8]) -> Option<Self>
+        ensures { SomeIff result (IsTrue (is_name octets.now)) octets.now }
+    {
+        if is_name(octets) {
+            Some(Name {
+                octets: spread(octets),
+                size: octets.len() as u8,
+            })
+        } else {
+            None
+        }
+    }
+
+    /// The octets that `new` took.
+    pub fn get(&self) -> &[u8]
+        ensures same { result.now ≡ self.now }
+        ensures name { IsTrue (is_name self.now) }
+    {
+        &self.octets[..self.size as usize]
+    }
+
+    /// The same as text: a name is ASCII.
+    pub fn as_str(&self) -> &str
+        ensures { result.now ≡ self.now }
+    {
+        str::from_utf8(self.get()).unwrap()
+    }
+}
+
+#[cfg(test)]
+mod tests {
+    use super::*;
+
+    #[test]
+    fn names_have_their_form(rt: HostRuntime) {
+        let longest = [b'a'; 32];
+        let longer = [b'a'; 33];
+        let texts: [(&[u8], bool); 9] = [
+            (b"town", true),
+            (b"A.b-c_9", true),
+            (b"", false),
+            (b"a b", false),
+            (b"a/b", false),
+            (b"caf\xc3\xa9", false),
+            (b"a\0", false),
+            (&longest, true),
+            (&longer, false),
+        ];
+        for (text, is_one) in &texts {
+            match Name::new(text) {
+                Some(name) => {
+                    assert!(rt; *is_one);
+                    assert!(rt; name.get() == *text);
+                    assert!(rt; name.as_str().as_bytes() == *text);
+                }
+                None => assert!(rt; !*is_one),
+            }
+        }
+    }
+}
