@@ -1,0 +1,3 @@
+pub mod Decisions
+pub mod HeardLists
+pub mod Sameness

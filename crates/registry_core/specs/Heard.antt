@@ -1,0 +1,92 @@
+-- Hearing once: a list of envelopes, what it leaves, and what each further envelope is replied and adds.
+use Rattle.std.specs.Prelude.{◌≡◌, ℕ, ◌==◌, ◌<◌, ◌≤◌, Bool, false, not, ◌&&◌, List, [], ◌∷◌, ◌++◌, length, Option, Some, None, is_some, find, if◌then◌else◌, bytes_eq, IsTrue}
+use Rattle.std.specs.List.{list_any}
+use Rattle.registry_core.specs.declared.answers.Answer.{Answer}
+use Rattle.registry_core.specs.declared.messages.Envelope.{Envelope}
+use Rattle.registry_core.specs.Ranges.{IsEnvelope}
+use Rattle.registry_core.specs.Same.{same_message}
+use Rattle.registry_core.specs.Settings.{Settings}
+use Rattle.registry_core.specs.State.{State, opening}
+use Rattle.registry_core.specs.Step.{step}
+
+-- ---- what a list of envelopes leaves
+
+-- the state after the envelopes, one after another
+abbrev pub state_after : Settings → State → List Envelope → State
+state_after c s [] = s
+state_after c s (e ∷ es) = state_after c (step c s e).0 es
+
+-- from the opening state
+abbrev pub state_of : Settings → List Envelope → State
+state_of c heard = state_after c (opening c) heard
+
+-- each envelope with the answer that its step gives at its place
+abbrev pub answers_after : Settings → State → List Envelope → List (Envelope × Answer)
+answers_after c s [] = []
+answers_after c s (e ∷ es) = (e, (step c s e).1) ∷ answers_after c (step c s e).0 es
+
+abbrev pub answers_of : Settings → List Envelope → List (Envelope × Answer)
+answers_of c heard = answers_after c (opening c) heard
+
+-- ---- heard lists
+
+abbrev pub is_sender : State → List ℕ → Bool
+is_sender s name = is_some (s.senders name)
+
+-- the two have one sender and one transaction number
+abbrev pub same_pair : Envelope → Envelope → Bool
+same_pair a b = bytes_eq a.sender b.sender && a.transaction == b.transaction
+
+-- the list has the envelope's pair of sender and transaction number
+abbrev pub has_pair : List Envelope → Envelope → Bool
+has_pair heard e = list_any (same_pair e) heard
+
+-- so many are ever heard (this project's limit)
+abbrev pub most_heard : ℕ
+most_heard = 9007199254740991
+
+-- Each of the rest, in its turn, is an envelope with a sender of the state that the ones before it leave, and
+-- with a pair that none before it has.
+abbrev pub AreHeard : Settings → List Envelope → List Envelope → Type 0
+AreHeard c before [] = Unit {0}
+AreHeard c before (e ∷ rest) =
+    IsEnvelope e × IsTrue (is_sender (state_of c before) e.sender) × (has_pair before e ≡ false) × AreHeard c (before ++ e ∷ []) rest
+
+-- a heard list, from the first on
+pub record IsHeard (c : Settings) (heard : List Envelope) : Type 0 where
+  pub few : length heard ≤ most_heard
+  pub each : AreHeard c [] heard
+
+-- ---- one more envelope
+
+-- What an envelope is replied: that its sender is unknown, that its number was used for another message, or
+-- an answer.
+pub data Reply : Type 0 where
+  Stranger : Reply
+  Reused : Reply
+  Answers : Answer → Reply
+
+-- what the place that has the envelope's pair says of it, or else what its step answers now
+abbrev pub reply_at : Option (Envelope × Answer) → Envelope → Answer → Reply
+reply_at None e now = Answers now
+reply_at (Some kept) e now = if same_message kept.0.message e.message then Answers kept.1 else Reused
+
+-- the place that has the envelope's pair, with the answer that was given there
+abbrev pub place_of : Settings → List Envelope → Envelope → Option (Envelope × Answer)
+place_of c heard e = find (λ kept. same_pair e kept.0) (answers_of c heard)
+
+-- what an envelope is replied after these
+unfoldable pub reply_to : Settings → List Envelope → Envelope → Reply
+reply_to c heard e =
+    if is_sender (state_of c heard) e.sender
+    then reply_at (place_of c heard e) e (step c (state_of c heard) e).1
+    else Stranger
+
+-- a new envelope of a known sender goes to the end of the list
+unfoldable pub heard_with : Settings → List Envelope → Envelope → List Envelope
+heard_with c heard e = if is_sender (state_of c heard) e.sender && not (has_pair heard e) then heard ++ e ∷ [] else heard
+
+-- one more envelope leaves a heard list, while there is room
+abbrev pub HeardListsStay : Type 0
+HeardListsStay = (c : Settings) (heard : List Envelope) (e : Envelope) → IsHeard c heard → length heard < most_heard → IsEnvelope e
+    → IsHeard c (heard_with c heard e)

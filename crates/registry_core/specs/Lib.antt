@@ -1,0 +1,10 @@
+pub mod Checks
+pub mod Fits
+pub mod Heard
+pub mod Ranges
+pub mod Refusals
+pub mod Same
+pub mod Settings
+pub mod State
+pub mod Step
+pub mod Viewed
