@@ -35,7 +35,7 @@ is_sender s name = is_some (s.senders name)
 
 -- the two have one sender and one transaction number
 abbrev pub same_pair : Envelope → Envelope → Bool
-same_pair a b = bytes_eq a.sender b.sender && a.transaction == b.transaction
+same_pair a b = a.transaction == b.transaction && bytes_eq a.sender b.sender
 
 -- the list has the envelope's pair of sender and transaction number
 abbrev pub has_pair : List Envelope → Envelope → Bool

@@ -4,7 +4,7 @@ ghost use Rattle.registry_core.specs.declared.messages.Envelope.{Envelope};
 ghost use Rattle.registry_core.specs.declared.messages.Message.TheVariants.{OwnerAdd};
 ghost use Rattle.registry_core.specs.Settings.{Settings};
 ghost use Rattle.registry_core.specs.State.{State};
-ghost use Rattle.registry_core.specs.Step.{owner_add};
+ghost use Rattle.registry_core.specs.Step.{decision_or_refusal, owner_add};
 ghost use Rattle.registry_core.specs.Viewed.{IsView, IsStep};
 
 use crate::answers::{Answer, Refusal};
@@ -19,10 +19,16 @@ use radio_core::Name;
 pub fn decide(message: &Message, view: &View) -> (Effect, Answer)
     ensures { IsStep message.now view.now result }
 {
-    let decision = match message {
-        Message::OwnerAdd { owner } => decide_owner_add(*owner, view),
-    };
-    match decision {
+    match message {
+        Message::OwnerAdd { owner } => decision_or_refusal(decide_owner_add(*owner, view)),
+    }
+}
+
+/// A refusal changes nothing.
+fn decision_or_refusal(checked: Result<(Effect, Answer), Refusal>) -> (Effect, Answer)
+    ensures { result ≡ decision_or_refusal checked }
+{
+    match checked {
         Ok(decision) => decision,
         Err(refusal) => (Effect::Nothing, Answer::Refused(refusal)),
     }
@@ -30,7 +36,7 @@ pub fn decide(message: &Message, view: &View) -> (Effect, Answer)
 
 #[tactic(auto, unfolding(crate::specs::Step::owner_add))]
 fn decide_owner_add(owner: Name, view: &View) -> Result<(Effect, Answer), Refusal>
-    ensures { (c : Settings) (s : State) (e : Envelope) → e.message ≡ OwnerAdd owner → IsView s e view.now
+    ensures { (c : Settings) (s : State) (e : Envelope) → e.message ≡ OwnerAdd owner → IsView c s e view.now
         → result ≡ owner_add s e owner }
 {
     if view.role != Role::Operator {

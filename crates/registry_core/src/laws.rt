@@ -1,7 +1,12 @@
-//! Laws of the definitions: each is the contract of a function that does nothing.
+//! Laws of the definitions: each is the contract of a function that does nothing, or only reads what its
+//! arguments keep.
 ghost use Rattle.registry_core.specs.Fits.{DecisionsFit};
 ghost use Rattle.registry_core.specs.Heard.{HeardListsStay};
+ghost use Rattle.registry_core.specs.Ranges.{IsEnvelope, IsSettings};
 ghost use Rattle.registry_core.specs.Same.{SameMessageTells};
+
+use crate::configuration::Config;
+use crate::messages::{Envelope, Message};
 
 /// The test of two messages tells whether they are equal.
 pub fn same_message_tells()
@@ -17,3 +22,25 @@ pub fn decisions_fit()
 pub fn heard_lists_stay()
     ensures { HeardListsStay }
 {}
+
+/// What was made of a receiver, an operator and a block keeps their forms.
+pub fn configs_keep_ranges(config: &Config)
+    ensures { IsSettings config.now }
+{
+    let _receiver = config.receiver().get();
+    let _operator = config.operator().get();
+    let _addresses = config.addresses();
+}
+
+/// An envelope keeps the ranges of its types.
+pub fn envelopes_keep_ranges(envelope: &Envelope)
+    ensures { IsEnvelope envelope.now }
+{
+    let _sender = envelope.sender.get();
+    let _transaction = envelope.transaction;
+    match &envelope.message {
+        Message::OwnerAdd { owner } => {
+            let _owner = owner.get();
+        }
+    }
+}

@@ -1,0 +1,46 @@
+-- What a store keeps: facts, and an entry for each message that was heard.
+use Rattle.std.specs.Prelude.{◌≡◌, ℕ, Bool, ◌&&◌, ◌==◌, List, [], ◌∷◌, ◌++◌, Option, None, IsTrue, find, bytes_eq}
+use Rattle.registry_core.specs.declared.effects.Effect.{Effect}
+use Rattle.registry_core.specs.declared.messages.Envelope.{Envelope}
+use Rattle.registry_core.specs.Fits.{Fits}
+use Rattle.registry_core.specs.Heard.{is_sender}
+use Rattle.registry_core.specs.State.{State, state_with}
+
+-- a pair of sender and transaction number, with the message's text and the answer's
+pub record Entry : Type 0 where
+  pub sender : List ℕ
+  pub transaction : ℕ
+  pub message : List ℕ
+  pub answer : List ℕ
+
+pub record Kept : Type 0 where
+  pub facts : State
+  pub entries : List Entry
+
+-- the entry has the envelope's pair of sender and transaction number
+abbrev pub is_entry_of : Envelope → Entry → Bool
+is_entry_of e entry = e.transaction == entry.transaction && bytes_eq e.sender entry.sender
+
+abbrev pub entry_of : Envelope → List Entry → Option Entry
+entry_of e entries = find (is_entry_of e) entries
+
+-- the texts of the message and of its answer
+abbrev pub texts_of : Entry → List ℕ × List ℕ
+texts_of entry = (entry.message, entry.answer)
+
+-- the entry of an envelope, with its text and the answer's
+abbrev pub entry_with : Envelope → List ℕ → List ℕ → Entry
+entry_with e message answer = record { sender = e.sender; transaction = e.transaction; message = message; answer = answer }
+
+-- the effect is made, and an entry stands at the end
+abbrev pub with_entry : Kept → Envelope → List ℕ → Effect → List ℕ → Kept
+with_entry kept e message effect answer = record {
+  facts = state_with kept.facts effect;
+  entries = kept.entries ++ entry_with e message answer ∷ [];
+}
+
+-- the sender is known, the pair isn't heard, and the effect adds only what isn't there
+pub record CanAdd (kept : Kept) (e : Envelope) (effect : Effect) : Type 0 where
+  pub known : IsTrue (is_sender kept.facts e.sender)
+  pub new : entry_of e kept.entries ≡ None
+  pub effect_fits : Fits effect kept.facts

@@ -1,0 +1,11 @@
+//! What keeps the registry and the messages that were heard: the interface that the engine is written over, and
+//! its plain form in memory.
+#![tactic(auto)]
+
+mod faults;
+mod keeper;
+mod lists;
+
+pub use faults::StoreFault;
+pub use keeper::{Keeper, Loaded};
+pub use lists::Lists;
