@@ -1,0 +1,55 @@
+-- The texts of answers.
+use Rattle.std.specs.Prelude.{ℕ, List, Option, Some, None, codes, ◌++◌}
+use Rattle.serde_json.specs.Data.{Data, string, number, unsigned, object, no_members, member}
+use Rattle.serde_json.specs.Written.{compact_text}
+use Rattle.registry_core.specs.declared.answers.Answer.{Answer}
+use Rattle.registry_core.specs.declared.answers.Answer.TheVariants.{Refused}
+use Rattle.registry_core.specs.declared.answers.Refusal.{Refusal}
+use Rattle.registry_core.specs.declared.messages.Envelope.{Envelope}
+use Rattle.desk_wire.specs.Results.{result_code, result_description}
+use Rattle.desk_wire.specs.TypeNames.{type_name_of}
+use Rattle.desk_wire.specs.declared.heads.Head.{Head}
+
+-- what an answer repeats of its request
+abbrev pub head_of_envelope : Envelope → Head
+head_of_envelope e = record { sender = e.sender; transaction = e.transaction; type_name = type_name_of e.message }
+
+-- ---- the values, their members in byte order of their names
+
+-- the member Result of LoRaWAN Backend Interfaces 1.0
+abbrev pub result_value : Answer → Data
+result_value answer = object
+    (member (codes "Description") (string (result_description answer))
+    (member (codes "ResultCode") (string (result_code answer))
+    no_members))
+
+-- the receiver's answer to a request with this head
+abbrev pub answer_value : List ℕ → Head → Answer → Data
+answer_value receiver head answer = object
+    (member (codes "MessageType") (string (head.type_name ++ codes "Ans"))
+    (member (codes "ProtocolVersion") (string (codes "1.0"))
+    (member (codes "ReceiverID") (string head.sender)
+    (member (codes "Result") (result_value answer)
+    (member (codes "SenderID") (string receiver)
+    (member (codes "TransactionID") (number (unsigned head.transaction))
+    no_members))))))
+
+-- the receiver's answer to a text of which no head was read
+abbrev pub headless_value : List ℕ → Answer → Data
+headless_value receiver answer = object
+    (member (codes "ProtocolVersion") (string (codes "1.0"))
+    (member (codes "Result") (result_value answer)
+    (member (codes "SenderID") (string receiver)
+    no_members)))
+
+abbrev pub refusal_value : List ℕ → Option Head → Refusal → Data
+refusal_value receiver (Some head) refusal = answer_value receiver head (Refused refusal)
+refusal_value receiver None refusal = headless_value receiver (Refused refusal)
+
+-- ---- the texts
+
+unfoldable pub answer_text : List ℕ → Head → Answer → List ℕ
+answer_text receiver head answer = compact_text (answer_value receiver head answer)
+
+unfoldable pub refusal_text : List ℕ → Option Head → Refusal → List ℕ
+refusal_text receiver head refusal = compact_text (refusal_value receiver head refusal)

@@ -1,0 +1,15 @@
+-- What holds of reading and writing together.
+use Rattle.std.specs.Prelude.{◌≡◌, ℕ, List, Ok}
+use Rattle.registry_core.specs.declared.messages.Envelope.{Envelope}
+use Rattle.registry_core.specs.Ranges.{IsName, IsEnvelope}
+use Rattle.desk_wire.specs.Reading.{reads}
+use Rattle.desk_wire.specs.Writing.{message_text}
+
+-- what is written is read as the same envelope
+abbrev pub MessageReadsBack : Type 0
+MessageReadsBack = (receiver : List ℕ) (e : Envelope) → IsName receiver → IsEnvelope e
+    → reads receiver (message_text receiver e) ≡ Ok e
+
+-- what is read is in the ranges that the types keep
+abbrev pub ReadsInRange : Type 0
+ReadsInRange = (receiver text : List ℕ) (e : Envelope) → reads receiver text ≡ Ok e → IsEnvelope e

@@ -1,0 +1,41 @@
+-- The members of a JSON object, each in its form, and the members that every message and every answer to one have.
+use Rattle.std.specs.Prelude.{ℕ, List, Bool, Option, Some, None, codes, nat_lt, option_and_then, if◌then◌else◌}
+use Rattle.serde_json.specs.Data.{Data, string, number, unsigned, Members, put}
+use Rattle.serde_json.specs.Find.{get, as_str, as_number, as_u64}
+use Rattle.radio_core.specs.Names.{is_name}
+use Rattle.desk_wire.specs.TypeNames.{is_type_name}
+
+-- ---- what may be missing
+
+infixl 10 ◌>>=◌
+abbrev pub ◌>>=◌ : {X Y : Type 0} → Option X → (X → Option Y) → Option Y
+found >>= next = option_and_then next found
+
+abbrev pub only_if : {X : Type 0} → (X → Bool) → X → Option X
+only_if test x = if test x then Some x else None
+
+-- ---- a member of an object, in its form
+
+abbrev pub text_at : List ℕ → Data → Option (List ℕ)
+text_at member value = get member value >>= as_str
+
+abbrev pub name_at : List ℕ → Data → Option (List ℕ)
+name_at member value = text_at member value >>= only_if is_name
+
+abbrev pub type_name_at : List ℕ → Data → Option (List ℕ)
+type_name_at member value = text_at member value >>= only_if is_type_name
+
+-- a whole number below the limit
+abbrev pub whole_at : List ℕ → ℕ → Data → Option ℕ
+whole_at member limit value = get member value >>= as_number >>= as_u64 >>= only_if (λ n. nat_lt n limit)
+
+-- ---- members put beside others
+
+-- the envelope's, of LoRaWAN Backend Interfaces 1.0: type, sender, receiver and transaction
+abbrev pub with_envelope : List ℕ → List ℕ → List ℕ → ℕ → Members → Members
+with_envelope type_name sender receiver transaction members =
+    put (codes "TransactionID") (number (unsigned transaction))
+    (put (codes "SenderID") (string sender)
+    (put (codes "ReceiverID") (string receiver)
+    (put (codes "ProtocolVersion") (string (codes "1.0"))
+    (put (codes "MessageType") (string type_name) members))))

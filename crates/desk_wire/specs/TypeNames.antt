@@ -1,0 +1,14 @@
+-- What a MessageType may be (this project's form), and which type each message has.
+use Rattle.std.specs.Prelude.{ℕ, Bool, ◌&&◌, List, length, nat_le, codes}
+use Rattle.std.specs.Char.{is_ascii_alphabetic}
+use Rattle.std.specs.List.{list_all}
+use Rattle.registry_core.specs.declared.messages.Message.{Message}
+use Rattle.registry_core.specs.declared.messages.Message.TheVariants.{OwnerAdd}
+
+-- 1 to 32 ASCII letters
+abbrev pub is_type_name : List ℕ → Bool
+is_type_name text = nat_le 1 (length text) && nat_le (length text) 32 && list_all is_ascii_alphabetic text
+
+-- the MessageType of a message
+abbrev pub type_name_of : Message → List ℕ
+type_name_of (OwnerAdd owner) = codes "OwnerAdd"

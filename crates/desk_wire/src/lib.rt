@@ -1,0 +1,19 @@
+//! Messages, answers and refusals as JSON texts.
+#![tactic(auto)]
+
+mod answers;
+mod faults;
+mod heads;
+pub mod laws;
+mod members;
+mod reading;
+mod results;
+mod type_names;
+mod writing;
+
+pub use answers::{write_answer, write_refusal};
+pub use faults::WireFault;
+pub use heads::{Head, head_of};
+pub use reading::read_message;
+pub use type_names::TypeName;
+pub use writing::write_message;

@@ -1,0 +1,114 @@
+//! Texts read as envelopes.
+ghost use Rattle.std.specs.Prelude.{◌≡◌, IfOk, option_map};
+ghost use Rattle.serde_json.specs.View.{view};
+ghost use Rattle.desk_wire.specs.Reading.{common_members_of, owner_add_of, message_of, addressed, envelope_of, value_of, reads, Gives};
+
+use crate::faults::WireFault;
+use crate::heads::Head;
+use crate::members::{name_at, text_at, type_name_at, u32_at};
+use radio_core::Name;
+use registry_core::{Envelope, Message};
+use serde_json::Value;
+use std::alloc::{AllocError, Global};
+
+/// The members that every message has: whether ProtocolVersion is `1.0`, ReceiverID, and the head.
+#[derive(Clone, Copy)]
+struct CommonMembers {
+    is_current: bool,
+    receiver: Name,
+    head: Head,
+}
+
+/// The envelope that a text is for the receiver, or its first fault, or `Memory`.
+pub fn read_message(alloc: Global, text: &[u8], receiver: &Name) -> Result<Envelope, WireFault>
+    ensures { Gives result (reads receiver.now text.now) }
+{
+    match value_of(alloc, text) {
+        Ok(Some(value)) => envelope_of(receiver, &value),
+        Ok(None) => Err(WireFault::Malformed),
+        Err(_) => Err(WireFault::Memory),
+    }
+}
+
+/// The value that a text is, where it is JSON.
+fn value_of(alloc: Global, text: &[u8]) -> Result<Option<Value>, AllocError>
+    ensures { IfOk result (λ value. option_map view value ≡ value_of text.now) }
+{
+    match Value::from_slice(alloc, text) {
+        Ok(value) => Ok(Some(value)),
+        Err(e) => {
+            if e.is_memory() {
+                Err(AllocError)
+            } else {
+                Ok(None)
+            }
+        }
+    }
+}
+
+fn envelope_of(receiver: &Name, value: &Value) -> Result<Envelope, WireFault>
+    ensures { result
+        ≡ envelope_of receiver.now (common_members_of (view value.now)) (view value.now) }
+{
+    match common_members_of(value) {
+        Some(common) => addressed(receiver, common, value),
+        None => Err(WireFault::Malformed),
+    }
+}
+
+#[tactic(auto, unfolding(crate::specs::Reading::common_members_of))]
+fn common_members_of(value: &Value) -> Option<CommonMembers>
+    ensures { result ≡ common_members_of (view value.now) }
+{
+    let is_current = text_at(value, "ProtocolVersion")? == "1.0";
+    let sender = name_at(value, "SenderID")?;
+    let receiver = name_at(value, "ReceiverID")?;
+    let transaction = u32_at(value, "TransactionID")?;
+    let type_name = type_name_at(value, "MessageType")?;
+    Some(CommonMembers {
+        is_current,
+        receiver,
+        head: Head {
+            sender,
+            transaction,
+            type_name,
+        },
+    })
+}
+
+#[tactic(auto, unfolding(crate::specs::Reading::addressed))]
+fn addressed(receiver: &Name, common: CommonMembers, value: &Value) -> Result<Envelope, WireFault>
+    ensures { result ≡ addressed receiver.now common (view value.now) }
+{
+    let head = common.head;
+    if !common.is_current {
+        return Err(WireFault::InvalidProtocolVersion(head));
+    }
+    if common.receiver.get() != receiver.get() {
+        return Err(WireFault::UnknownReceiver(head));
+    }
+    Ok(Envelope {
+        sender: head.sender,
+        transaction: head.transaction,
+        message: message_of(head, value)?,
+    })
+}
+
+#[tactic(auto, unfolding(crate::specs::Reading::message_of))]
+fn message_of(head: Head, value: &Value) -> Result<Message, WireFault>
+    ensures { result ≡ message_of head (view value.now) }
+{
+    if head.type_name.get() == b"OwnerAdd".as_slice() {
+        owner_add_of(value).ok_or(WireFault::BadBody(head))
+    } else {
+        Err(WireFault::UnknownType(head))
+    }
+}
+
+#[tactic(auto, unfolding(crate::specs::Reading::owner_add_of))]
+fn owner_add_of(value: &Value) -> Option<Message>
+    ensures { result ≡ owner_add_of (view value.now) }
+{
+    let owner = name_at(value, "Owner")?;
+    Some(Message::OwnerAdd { owner })
+}

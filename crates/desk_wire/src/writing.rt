@@ -1,0 +1,72 @@
+//! Envelopes written as texts.
+ghost use Rattle.std.specs.Prelude.{◌≡◌, IfOk, OnOk};
+ghost use Rattle.serde_json.specs.View.{view, members_view};
+ghost use Rattle.desk_wire.specs.Writing.{message_value, message_text, with_body, with_owner_add};
+
+use crate::members::put_envelope;
+use crate::type_names::type_name_of;
+use radio_core::Name;
+use registry_core::{Envelope, Message};
+use serde_json::{Map, Value, put};
+use std::alloc::{AllocError, Global};
+
+/// The one text of an envelope for the receiver: compact JSON, its members in byte order of their names.
+#[tactic(auto, unfolding(crate::specs::Writing::message_text))]
+pub fn write_message(
+    alloc: Global,
+    envelope: &Envelope,
+    receiver: &Name,
+) -> Result<Vec<u8>, AllocError>
+    ensures { IfOk result (λ text. text.items ≡ message_text receiver.now envelope.now) }
+{
+    let value = message_value(alloc, envelope, receiver)?;
+    value.to_vec(alloc)
+}
+
+#[tactic(auto, using(crate::proofs::PutMembers::put_message))]
+fn message_value(alloc: Global, envelope: &Envelope, receiver: &Name) -> Result<Value, AllocError>
+    ensures { IfOk result (λ value. view value ≡ message_value receiver.now envelope.now.sender
+        envelope.now.transaction envelope.now.message) }
+{
+    let type_name = type_name_of(&envelope.message);
+    let mut members = Map::new(alloc);
+    put_envelope(
+        alloc,
+        &mut members,
+        type_name.as_str(),
+        &envelope.sender,
+        receiver,
+        envelope.transaction,
+    )?;
+    put_body(alloc, &mut members, &envelope.message)?;
+    Ok(Value::Object(members))
+}
+
+fn put_body(
+    alloc: Global,
+    members: &mut Map<String, Value>,
+    message: &Message,
+) -> Result<(), AllocError>
+    ensures { OnOk result (members_view members.new.entries ≡ with_body message.now
+        (members_view members.old.entries)) }
+{
+    match message {
+        Message::OwnerAdd { owner } => put_owner_add(alloc, members, owner),
+    }
+}
+
+fn put_owner_add(
+    alloc: Global,
+    members: &mut Map<String, Value>,
+    owner: &Name,
+) -> Result<(), AllocError>
+    ensures { OnOk result (members_view members.new.entries ≡ with_owner_add owner.now
+        (members_view members.old.entries)) }
+{
+    put(
+        members,
+        alloc,
+        "Owner",
+        Value::try_from_str(alloc, owner.as_str())?,
+    )
+}
