@@ -1,0 +1,5 @@
+pub mod Deliveries
+pub mod InOrder
+pub mod Laws
+pub mod Outcomes
+pub mod Told

@@ -1,0 +1,113 @@
+-- Outcomes of the code against what is told.
+use Rattle.std.specs.Prelude.{◌≡◌, ◌≢◌, ◌||◌, ℕ, Bool, true, false, List, [], ◌∷◌, ◌++◌, Option, Some, None, Result, Ok, Err, if◌then◌else◌}
+use Rattle.registry_core.specs.declared.answers.Refusal.TheVariants.{TransactionReused}
+use Rattle.registry_core.specs.declared.messages.Envelope.{Envelope}
+use Rattle.registry_core.specs.Heard.{state_of}
+use Rattle.registry_core.specs.Settings.{Settings}
+use Rattle.registry_core.specs.Step.{step}
+use Rattle.desk_store.specs.declared.faults.StoreFault.TheVariants.{Memory, Disk}
+use Rattle.desk_store.specs.Calls.{IsUnavailability}
+use Rattle.desk_store.specs.Kept.{Kept}
+use Rattle.desk_wire.specs.Answers.{answer_text, head_of_envelope}
+use Rattle.desk_wire.specs.Writing.{message_text}
+use Rattle.desk_wire.specs.declared.faults.WireFault.{WireFault}
+use Rattle.desk_wire.specs.declared.faults.WireFault.TheVariants as faults
+use Rattle.desk_engine.specs.declared.outcomes.Outcome.{Outcome}
+use Rattle.desk_engine.specs.declared.outcomes.Outcome.TheVariants.{Answered, Refused, Unavailable}
+use Rattle.desk_engine.specs.Told.{Told, AnswerText, RefusalText, envelope_of_text, fault_told, refused, text_told}
+use Rattle.desk_engine.specs.Deliveries.{Delivery, heard_after, heard_all}
+use Rattle.desk_engine.specs.InOrder.{IsInOrder, Survives, doubt_after, kept_after}
+
+-- ---- one outcome
+
+abbrev pub is_unavailable : Outcome → Bool
+is_unavailable (Unavailable fault) = true
+is_unavailable _ = false
+
+-- Unavailable for a fault of the disk
+abbrev pub is_disk_outcome : Outcome → Bool
+is_disk_outcome (Unavailable Disk) = true
+is_disk_outcome _ = false
+
+-- the outcome is what is told, or the store is unavailable
+abbrev pub IsOutcome : Told → Outcome → Type 0
+IsOutcome told (Answered text) = told ≡ AnswerText text.items
+IsOutcome told (Refused refusal text) = told ≡ RefusalText refusal text.items
+IsOutcome told (Unavailable fault) = IsUnavailability fault
+
+-- the delivery that an outcome makes of a text
+abbrev pub delivery_of : List ℕ → Outcome → Delivery
+delivery_of text outcome = record { text = text; unavailable = is_unavailable outcome }
+
+-- the message that a fault of the disk leaves in doubt
+abbrev pub doubt_of : Envelope → Outcome → Option Envelope
+doubt_of e outcome = if is_disk_outcome outcome then Some e else None
+
+abbrev pub doubt_read : Result Envelope WireFault → Outcome → Option Envelope
+doubt_read (Ok e) outcome = doubt_of e outcome
+doubt_read (Err fault) outcome = None
+
+-- the message that a text is, where a fault of the disk leaves it in doubt
+abbrev pub doubt_of_text : Settings → List ℕ → Outcome → Option Envelope
+doubt_of_text c text outcome = doubt_read (envelope_of_text c text) outcome
+
+-- ---- many
+
+-- each outcome is what its text is told after the ones before it
+abbrev pub AreOutcomes : Settings → List Envelope → List (List ℕ) → List Outcome → Type 0
+AreOutcomes c heard [] [] = Unit {0}
+AreOutcomes c heard (t ∷ ts) (o ∷ os) = IsOutcome (text_told c heard t) o × AreOutcomes c (heard_after c heard (delivery_of t o)) ts os
+AreOutcomes c heard [] (o ∷ os) = ⊥
+AreOutcomes c heard (t ∷ ts) [] = ⊥
+
+-- the deliveries that these outcomes make of the texts
+abbrev pub deliveries_of : List (List ℕ) → List Outcome → List Delivery
+deliveries_of (t ∷ ts) (o ∷ os) = delivery_of t o ∷ deliveries_of ts os
+deliveries_of [] os = []
+deliveries_of (t ∷ ts) [] = []
+
+abbrev pub has_disk_outcome : List Outcome → Bool
+has_disk_outcome [] = false
+has_disk_outcome (o ∷ os) = is_disk_outcome o || has_disk_outcome os
+
+-- the message in doubt: that of the first fault of the disk
+abbrev pub first_doubt : Settings → List (List ℕ) → List Outcome → Option Envelope
+first_doubt c (t ∷ ts) (o ∷ os) = if is_disk_outcome o then doubt_of_text c t o else first_doubt c ts os
+first_doubt c _ _ = None
+
+-- ---- of private functions
+
+-- the outcome is what is told, or memory ran out
+abbrev pub Says : Told → Outcome → Type 0
+Says told (Answered text) = told ≡ AnswerText text.items
+Says told (Refused refusal text) = told ≡ RefusalText refusal text.items
+Says told (Unavailable fault) = fault ≡ Memory
+
+-- the outcome is why the text is no envelope, or memory ran out
+abbrev pub RefusesText : Settings → WireFault → Outcome → Type 0
+RefusesText c faults.Memory outcome = outcome ≡ Unavailable Memory
+RefusesText c fault outcome = Says (fault_told c fault) outcome
+
+-- a repeat of the message with that text gets that answer, and another message is refused
+abbrev pub Repeats : Settings → Envelope → List ℕ → List ℕ → Outcome → Type 0
+Repeats c e message answer (Answered text) = (message_text c.receiver e ≡ message) × (text.items ≡ answer)
+Repeats c e message answer (Refused refusal text) =
+    (message_text c.receiver e ≢ message) × (refused c TransactionReused (Some (head_of_envelope e)) ≡ RefusalText refusal text.items)
+Repeats c e message answer (Unavailable fault) = fault ≡ Memory
+
+-- A message whose pair is new is heard and answered, or the store is unavailable and has not heard it.
+abbrev pub HearsNew : {K : Type 0} → (K → Kept → Type 0) → (K → List Kept → Type 0) → (K → Bool) → Settings → List Envelope → Envelope → K → Outcome → Type 0
+HearsNew holds leaves down c heard e new (Answered text) =
+    (text.items ≡ answer_text c.receiver (head_of_envelope e) (step c (state_of c heard) e).1)
+    × IsInOrder holds c new (heard ++ e ∷ [])
+    × leaves new (kept_after c (heard ++ e ∷ []) ∷ [])
+HearsNew holds leaves down c heard e new (Refused refusal text) = ⊥
+HearsNew holds leaves down c heard e new (Unavailable fault) =
+    IsUnavailability fault × IsInOrder holds c new heard × Survives leaves down c new heard (doubt_of e (Unavailable fault))
+
+-- what a run of these texts has done, with these outcomes
+pub record HasRun {K : Type 0} (holds : K → Kept → Type 0) (leaves : K → List Kept → Type 0) (down : K → Bool) (c : Settings) (heard : List Envelope) (old new : K) (texts : List (List ℕ)) (outcomes : List Outcome) : Type 0 where
+  pub outcomes_are : AreOutcomes c heard texts outcomes
+  pub order : IsInOrder holds c new (heard_all c heard (deliveries_of texts outcomes))
+  pub crash : (doubt : Option Envelope) → Survives leaves down c old heard doubt
+      → Survives leaves down c new (heard_all c heard (deliveries_of texts outcomes)) (doubt_after (down old) doubt (first_doubt c texts outcomes))

@@ -1,0 +1,59 @@
+-- What a delivery reads as, and what it is told.
+use Rattle.std.specs.Prelude.{ℕ, List, Option, Some, None, Result, Ok, Err, nat_lt, length, if◌then◌else◌}
+use Rattle.registry_core.specs.declared.answers.Refusal.{Refusal}
+use Rattle.registry_core.specs.declared.answers.Refusal.TheVariants.{Malformed, InvalidProtocolVersion, UnknownReceiver, UnknownSender, TransactionReused, BadBody, UnknownType, Unavailable}
+use Rattle.registry_core.specs.declared.messages.Envelope.{Envelope}
+use Rattle.registry_core.specs.Heard.{Reply, Stranger, Reused, Answers, reply_to}
+use Rattle.registry_core.specs.Settings.{Settings}
+use Rattle.desk_wire.specs.declared.faults.WireFault.{WireFault}
+use Rattle.desk_wire.specs.declared.faults.WireFault.TheVariants as faults
+use Rattle.desk_wire.specs.declared.heads.Head.{Head}
+use Rattle.desk_wire.specs.Answers.{answer_text, refusal_text, head_of_envelope}
+use Rattle.desk_wire.specs.Reading.{reads}
+
+-- a longer text is no message (this project's limit)
+abbrev pub most_octets : ℕ
+most_octets = 65536
+
+-- the envelope that a delivered text is, or why it is none
+unfoldable pub envelope_of_text : Settings → List ℕ → Result Envelope WireFault
+envelope_of_text c text = if nat_lt most_octets (length text) then Err faults.Malformed else reads c.receiver text
+
+-- what goes back: an answer's text, or a refusal and its text
+pub data Told : Type 0 where
+  AnswerText : List ℕ → Told
+  RefusalText : Refusal → List ℕ → Told
+
+abbrev pub text_of : Told → List ℕ
+text_of (AnswerText text) = text
+text_of (RefusalText refusal text) = text
+
+abbrev pub refused : Settings → Refusal → Option Head → Told
+refused c refusal head = RefusalText refusal (refusal_text c.receiver head refusal)
+
+-- a reply as a text
+abbrev pub reply_told : Settings → Envelope → Reply → Told
+reply_told c e Stranger = refused c UnknownSender (Some (head_of_envelope e))
+reply_told c e Reused = refused c TransactionReused (Some (head_of_envelope e))
+reply_told c e (Answers answer) = AnswerText (answer_text c.receiver (head_of_envelope e) answer)
+
+-- why a text is no envelope, as a text; reading tells no want of memory
+abbrev pub fault_told : Settings → WireFault → Told
+fault_told c faults.Malformed = refused c Malformed None
+fault_told c (faults.InvalidProtocolVersion head) = refused c InvalidProtocolVersion (Some head)
+fault_told c (faults.UnknownReceiver head) = refused c UnknownReceiver (Some head)
+fault_told c (faults.UnknownType head) = refused c UnknownType (Some head)
+fault_told c (faults.BadBody head) = refused c BadBody (Some head)
+fault_told c faults.Memory = refused c Unavailable None
+
+-- what an envelope is told after these
+abbrev pub envelope_told : Settings → List Envelope → Envelope → Told
+envelope_told c heard e = reply_told c e (reply_to c heard e)
+
+abbrev pub read_told : Settings → List Envelope → Result Envelope WireFault → Told
+read_told c heard (Ok e) = envelope_told c heard e
+read_told c heard (Err fault) = fault_told c fault
+
+-- what a text is told after these
+abbrev pub text_told : Settings → List Envelope → List ℕ → Told
+text_told c heard text = read_told c heard (envelope_of_text c text)

@@ -1,0 +1,13 @@
+//! Hears messages once, over any store: texts in, texts out.
+#![tactic(auto)]
+
+mod delivering;
+mod hearing;
+pub mod laws;
+mod outcomes;
+mod plain;
+
+pub use delivering::{deliver, run};
+pub use hearing::hear;
+pub use outcomes::Outcome;
+pub use plain::run_from_nothing;
