@@ -6,6 +6,8 @@ mod hearing;
 pub mod laws;
 mod outcomes;
 mod plain;
+#[cfg(test)]
+mod tests;
 
 pub use delivering::{deliver, run};
 pub use hearing::hear;
