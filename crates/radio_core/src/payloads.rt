@@ -1,0 +1,51 @@
+//! The octets of frames, as they are kept.
+ghost use Rattle.std.specs.Prelude.{◌≡◌, ◌≤◌, length, SomeIff};
+
+use crate::padding::spread;
+use std::marker::Model;
+
+/// 0 to 255 octets. Contracts see their list.
+#[derive(Clone, Copy, Debug, PartialEq, Eq)]
+pub struct Octets {
+    octets: [u8; 255],
+    size: u8,
+}
+
+impl Model for Octets {
+    ghost use Rattle.std.specs.Prelude.{ℕ, List, take, length};
+    ghost use Rattle.radio_core.specs.Padding.{padded, IsPadded};
+
+    ghost Value = { List ℕ };
+
+    ghost view = { λ a. take a.size a.octets };
+
+    ghost invariant = { λ a. IsPadded 255 a.octets a.size };
+
+    ghost inverse = { λ text. record { octets = padded 255 text; size = length text } };
+
+    ghost inverse_ok = { λ a h i. record { octets = h.noughts i; size = h.room i } };
+}
+
+impl Octets {
+    /// `None` exactly where there are more than 255 octets.
+    #[tactic(auto, using(crate::proofs::PaddedTexts::padded_front))]
+    pub fn new(octets: &[u8]) -> Option<Self>
+        ensures { SomeIff result (length octets.now ≤ 255) octets.now }
+    {
+        if octets.len() > 255 {
+            return None;
+        }
+        Some(Octets {
+            octets: spread(octets),
+            size: octets.len() as u8,
+        })
+    }
+
+    /// The octets that `new` took.
+    pub fn get(&self) -> &[u8]
+        ensures same { result.now ≡ self.now }
+        ensures length { length self.now ≤ 255 }
+    {
+        &self.octets[..self.size as usize]
+    }
+}
