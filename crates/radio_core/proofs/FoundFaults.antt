@@ -23,7 +23,6 @@ none_there (Some x) h = absurd (h x refl)
 
 -- a frame is read exactly where there is one
 pub frame_is_read : (text : List ℕ) (phy : Phy) → (read_of text ≡ Ok phy) ↔ IsFrame text phy
-unfolding read_of
 frame_is_read text phy =
     let r : (ok_or (frame_of text) (fault_of text) ≡ Ok phy) ↔ (frame_of text ≡ Some phy) = read_ok (frame_of text) (fault_of text) phy in
     let f : (frame_of text ≡ Some phy) ↔ IsFrame text phy = frame_is_found text phy in
@@ -31,17 +30,17 @@ frame_is_read text phy =
 
 -- what is read of no octets, behind another Major, and behind Major 0
 pub read_empty : (text : List ℕ) → length text ≡ 0 → Err Empty ≡ read_of text
-unfolding read_of frame_of
+unfolding frame_of
 read_empty [] e = refl
 read_empty (octet ∷ octets) e = absurd (omega (arith, e))
 
 pub read_major : (text : List ℕ) (mhdr : ℕ) (body : List ℕ) → text ≡ mhdr ∷ body → mhdr % 4 ≢ 0 → Err Major ≡ read_of text
-unfolding read_of frame_of
+unfolding frame_of
 read_major text mhdr body e h = rw (e, ne_eqb (mhdr % 4) 0 h)
 
 pub read_behind : (text : List ℕ) (mhdr : ℕ) (body : List ℕ) (r : Result Phy FrameFault) → text ≡ mhdr ∷ body → mhdr % 4 ≡ 0
     → r ≡ ok_or (body_of (mhdr / 32) body) (if nat_le 6 (mhdr / 32) then Kind else Length) → r ≡ read_of text
-unfolding read_of frame_of
+unfolding frame_of
 read_behind text mhdr body r e h k = rw (e, eq-eqb (mhdr % 4) 0 h) k
 
 -- the first fault is one, where no frame is found
@@ -60,7 +59,6 @@ first_is (mhdr ∷ body) none = by_major (mhdr % 4 == 0) refl
     by_major false e = eqb-false (mhdr % 4) 0 e
 
 found_is : (text : List ℕ) (fault : FrameFault) → read_of text ≡ Err fault → IsFault text fault
-unfolding read_of
 found_is text fault e =
     let r : (frame_of text ≡ None) × (fault_of text ≡ fault) = read_err (frame_of text) (fault_of text) fault e in
     subst (IsFault text) r.1 (first_is text (λ phy i. let f : frame_of text ≡ Some phy = (frame_is_found text phy).1 i in let n : frame_of text ≡ None = r.0 in cc))
@@ -76,7 +74,7 @@ no_type (suc (suc (suc (suc (suc zero))))) body h = absurd (omega (arith, h))
 no_type (suc (suc (suc (suc (suc (suc kind)))))) body h = refl
 
 is_found : (text : List ℕ) (fault : FrameFault) → IsFault text fault → read_of text ≡ Err fault
-unfolding read_of frame_of
+unfolding frame_of
 is_found [] Empty i = refl
 is_found [] Major i = absurd i
 is_found [] Kind i = absurd i

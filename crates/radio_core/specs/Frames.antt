@@ -125,7 +125,7 @@ fault_of (mhdr ∷ body) =
     if not (mhdr % 4 == 0) then Major else (if nat_le 6 (mhdr / 32) then Kind else Length)
 
 -- the frame, or why there is none
-unfoldable pub read_of : List ℕ → Result Phy FrameFault
+abbrev pub read_of : List ℕ → Result Phy FrameFault
 read_of text = ok_or (frame_of text) (fault_of text)
 
 -- the frame that is found is the one that the octets are

@@ -16,7 +16,7 @@ low_rate dr = 0
 abbrev pub crc_bits : Bool → ℕ
 crc_bits crc = if crc then 16 else 0
 
--- the bits that a block has, which is 4 bits of each of its symbols' SF - 2 DE
+-- the bits that a block of 5 symbols holds at coding rate 4/5: those of 4 symbols, each of SF - 2 DE bits
 abbrev pub bits_of_block : DataRate → ℕ
 bits_of_block dr = 4 * (spreading_factor dr - 2 * low_rate dr)
 

@@ -19,12 +19,14 @@ pub enum Band {
 
 impl Band {
     ghost use Rattle.std.specs.Prelude.{◌≡◌, ◌<◌, ◌⊎◌, IfSome, IfNone};
+    ghost use Rattle.radio_core.specs.declared.bands.Band.{Band};
     ghost use Rattle.radio_core.specs.Bands.{band_number, band_from, band_to};
 
     /// The band of a number. `None` exactly where the number is 0 or above 6.
     pub fn new(number: u8) -> Option<Self>
         ensures some { IfSome result (λ band. band_number band ≡ number) }
         ensures none { IfNone result ((number ≡ 0) ⊎ (6 < number)) }
+        ensures back { (band : Band) → band_number band ≡ number → result ≡ Some band }
     {
         match number {
             1 => Some(Band::B1),
@@ -103,5 +105,60 @@ pub fn limit(band: Band) -> u64
         Band::B1 | Band::B4 => 3_600_000,
         Band::B2 | Band::B3 | Band::B6 => 36_000_000,
         Band::B5 => 360_000_000,
+    }
+}
+
+#[cfg(test)]
+mod tests {
+    use super::*;
+
+    #[test]
+    fn bands_have_numbers_and_limits(rt: HostRuntime) {
+        let rows = [
+            (0, None, 0),
+            (1, Some(Band::B1), 3_600_000),
+            (2, Some(Band::B2), 36_000_000),
+            (3, Some(Band::B3), 36_000_000),
+            (4, Some(Band::B4), 3_600_000),
+            (5, Some(Band::B5), 360_000_000),
+            (6, Some(Band::B6), 36_000_000),
+            (7, None, 0),
+        ];
+        for (number, found, most) in &rows {
+            assert_eq!(rt; Band::new(*number), *found, "at {number}");
+            if let Some(band) = found {
+                assert_eq!(rt; band.get(), *number);
+                assert_eq!(rt; limit(*band), *most, "at {number}");
+            }
+        }
+    }
+
+    #[test]
+    fn transmissions_lie_in_bands(rt: HostRuntime) {
+        let rows = [
+            (868_100_000, DataRate::Dr5, Some(Band::B3)),
+            (868_300_000, DataRate::Dr5, Some(Band::B3)),
+            (868_537_500, DataRate::Dr0, Some(Band::B3)),
+            (868_562_500, DataRate::Dr0, None),
+            (868_000_000, DataRate::Dr5, None),
+            (868_500_000, DataRate::Dr6, None),
+            (868_475_000, DataRate::Dr6, Some(Band::B3)),
+            (868_800_000, DataRate::Dr0, Some(Band::B4)),
+            (869_525_000, DataRate::Dr0, Some(Band::B5)),
+            (863_062_500, DataRate::Dr0, Some(Band::B1)),
+            (863_062_499, DataRate::Dr0, None),
+            (864_937_500, DataRate::Dr0, Some(Band::B1)),
+            (864_937_501, DataRate::Dr0, None),
+            (865_062_500, DataRate::Dr0, Some(Band::B2)),
+            (869_937_500, DataRate::Dr5, Some(Band::B6)),
+            (869_937_501, DataRate::Dr5, None),
+            (869_875_000, DataRate::Dr6, Some(Band::B6)),
+            (869_875_001, DataRate::Dr6, None),
+            (0, DataRate::Dr0, None),
+            (u32::MAX, DataRate::Dr6, None),
+        ];
+        for (freq, dr, found) in &rows {
+            assert_eq!(rt; band_of(*freq, *dr), *found, "at {freq}");
+        }
     }
 }

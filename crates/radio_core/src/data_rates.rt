@@ -23,12 +23,14 @@ pub struct Rate {
 
 impl DataRate {
     ghost use Rattle.std.specs.Prelude.{◌≡◌, ◌<◌, IfSome, IfNone};
+    ghost use Rattle.radio_core.specs.declared.data_rates.DataRate.{DataRate};
     ghost use Rattle.radio_core.specs.DataRates.{dr_number};
 
     /// The data rate of a number. `None` exactly where the number is above 6.
     pub fn new(number: u8) -> Option<Self>
         ensures some { IfSome result (λ dr. dr_number dr ≡ number) }
         ensures none { IfNone result (6 < number) }
+        ensures back { (dr : DataRate) → dr_number dr ≡ number → result ≡ Some dr }
     {
         match number {
             0 => Some(DataRate::Dr0),
@@ -66,5 +68,32 @@ pub fn max_phy(dr: DataRate) -> usize
         DataRate::Dr0 | DataRate::Dr1 | DataRate::Dr2 => 64,
         DataRate::Dr3 => 128,
         DataRate::Dr4 | DataRate::Dr5 | DataRate::Dr6 => 255,
+    }
+}
+
+#[cfg(test)]
+mod tests {
+    use super::*;
+
+    #[test]
+    fn data_rates_have_numbers_and_lengths(rt: HostRuntime) {
+        let rows = [
+            (0, Some(DataRate::Dr0), 64),
+            (1, Some(DataRate::Dr1), 64),
+            (2, Some(DataRate::Dr2), 64),
+            (3, Some(DataRate::Dr3), 128),
+            (4, Some(DataRate::Dr4), 255),
+            (5, Some(DataRate::Dr5), 255),
+            (6, Some(DataRate::Dr6), 255),
+            (7, None, 0),
+            (255, None, 0),
+        ];
+        for (number, found, most) in &rows {
+            assert_eq!(rt; DataRate::new(*number), *found, "at {number}");
+            if let Some(dr) = found {
+                assert_eq!(rt; dr.get(), *number);
+                assert_eq!(rt; max_phy(*dr), *most, "at {number}");
+            }
+        }
     }
 }

@@ -1,5 +1,5 @@
 //! Frames as they go over the air (LoRaWAN L2 1.0.4, sections 4 and 6.2), as far as they can be read without keys.
-ghost use Rattle.std.specs.Prelude.{◌≡◌, ◌↔◌, Err, if◌then◌else◌, nat_le, ok_or};
+ghost use Rattle.std.specs.Prelude.{◌≡◌, ◌<◌, ◌↔◌, Err, if◌then◌else◌, length, nat_le, ok_or};
 ghost use Rattle.radio_core.specs.declared.frames.FrameFault.{FrameFault};
 ghost use Rattle.radio_core.specs.declared.frames.FrameFault.TheVariants.{Kind, Length};
 ghost use Rattle.radio_core.specs.declared.frames.Phy.{Phy};
@@ -110,7 +110,8 @@ fn data_down(confirmed: bool, body: &[u8]) -> Option<Phy>
 
 /// The frame of this type that has this behind its MHDR.
 fn read_body(frame_type: u8, body: &[u8]) -> Result<Phy, FrameFault>
-    ensures { result ≡ ok_or (body_of frame_type body.now) (if nat_le 6 frame_type then Kind else Length) }
+    ensures { result
+        ≡ ok_or (body_of frame_type body.now) (if nat_le 6 frame_type then Kind else Length) }
 {
     let frame = match frame_type {
         0 => join_request(body),
@@ -139,4 +140,104 @@ pub fn read_phy(octets: &[u8]) -> Result<Phy, FrameFault>
         return Err(FrameFault::Major);
     }
     read_body(mhdr / 32, body)
+}
+
+#[cfg(test)]
+mod tests {
+    use super::*;
+
+    const JOIN: [u8; 23] =
+        *b"\x00\x01\x00\x00\xd0\x7e\xd5\xb3\x70\x3c\x2b\x1a\x00\x0b\xa3\x04\x00\x00\x00\xa1\xb2\xc3\xd4";
+
+    const UP: [u8; 12] = *b"\x40\x00\x00\xa0\x01\x00\x00\x00\x11\x22\x33\x44";
+
+    #[test]
+    fn worked_frames_are_read(rt: HostRuntime) {
+        let addr = DevAddr::new(0x01a0_0000);
+        let confirmed = false;
+        let rows: [(&[u8], Phy); 6] = [
+            (
+                &JOIN,
+                Phy::Join {
+                    join_eui: Eui::new(0x70b3_d57e_d000_0001),
+                    dev_eui: Eui::new(0x0004_a30b_001a_2b3c),
+                    nonce: 0,
+                },
+            ),
+            (
+                &UP,
+                Phy::Up {
+                    confirmed,
+                    addr,
+                    fcnt: 0,
+                },
+            ),
+            (
+                b"\x40\x00\x00\xa0\x01\x00\x05\x00\x11\x22\x33\x44",
+                Phy::Up {
+                    confirmed,
+                    addr,
+                    fcnt: 5,
+                },
+            ),
+            (
+                b"\x40\x00\x00\xa0\x01\x00\xff\xff\x11\x22\x33\x44",
+                Phy::Up {
+                    confirmed,
+                    addr,
+                    fcnt: 65_535,
+                },
+            ),
+            (
+                b"\x60\x00\x00\xa0\x01\x00\x00\x00\x55\x66\x77\x88",
+                Phy::Down {
+                    confirmed,
+                    addr,
+                    fcnt: 0,
+                },
+            ),
+            (
+                b"\x20\x00\x01\x02\x03\x04\x05\x06\x07\x08\x09\x0a\x0b\x0c\x0d\x0e\x0f",
+                Phy::Accept,
+            ),
+        ];
+        for (octets, phy) in &rows {
+            assert_eq!(rt; read_phy(octets), Ok(*phy));
+        }
+    }
+
+    /// How many of the 256 values of the octet at a place give a frame, Empty, Major, Kind and Length.
+    fn tally(octets: &mut [u8], place: usize) -> [u16; 5]
+        requires { place < length octets.old }
+    {
+        let mut counts = [0_u16; 5];
+        for value in 0..=255 {
+            octets[place] = value;
+            let outcome = match read_phy(octets) {
+                Ok(_) => 0,
+                Err(FrameFault::Empty) => 1,
+                Err(FrameFault::Major) => 2,
+                Err(FrameFault::Kind) => 3,
+                Err(FrameFault::Length) => 4,
+            };
+            counts[outcome] = counts[outcome].saturating_add(1);
+        }
+        counts
+    }
+
+    #[test]
+    fn faults_are_told(rt: HostRuntime) {
+        for size in 0..JOIN.len() {
+            let fault = if size == 0 {
+                FrameFault::Empty
+            } else {
+                FrameFault::Length
+            };
+            assert_eq!(rt; read_phy(&JOIN[..size]), Err(fault), "{size} octets");
+        }
+        let mut join = JOIN;
+        assert_eq!(rt; tally(&mut join, 0), [8, 0, 192, 16, 40]);
+        let mut up = UP;
+        assert_eq!(rt; tally(&mut up, 5), [16, 0, 0, 0, 240]);
+    }
 }

@@ -49,3 +49,31 @@ impl Octets {
         &self.octets[..self.size as usize]
     }
 }
+
+#[cfg(test)]
+mod tests {
+    use super::*;
+
+    #[test]
+    fn at_most_255_octets_are_kept(rt: HostRuntime) {
+        let longest = [0xa5; 255];
+        let longer = [0xa5; 256];
+        let texts: [(&[u8], bool); 4] = [
+            (b"", true),
+            (b"\x40\x00", true),
+            (&longest, true),
+            (&longer, false),
+        ];
+        for (text, is_kept) in &texts {
+            match Octets::new(text) {
+                Some(octets) => {
+                    assert!(rt; *is_kept);
+                    assert!(rt; octets.get() == *text);
+                }
+                None => assert!(rt; !*is_kept),
+            }
+        }
+        assert!(rt; Octets::new(b"\x40") == Octets::new(b"\x40"));
+        assert!(rt; Octets::new(b"\x40") != Octets::new(b"\x40\x00"));
+    }
+}

@@ -71,3 +71,43 @@ pub fn airtime(dr: DataRate, octets: usize, crc: bool) -> u64
     let quarters = 81 + 20 * block_count(dr, octets as u64, crc);
     quarters * (symbol_time(dr) / 4)
 }
+
+#[cfg(test)]
+mod tests {
+    use super::*;
+
+    /// Uplinks have the payload's CRC, downlinks don't.
+    const UP: bool = true;
+
+    const DOWN: bool = false;
+
+    #[test]
+    fn transmissions_take_their_time(rt: HostRuntime) {
+        let rows: [(usize, bool, DataRate, u64); 20] = [
+            (12, UP, DataRate::Dr0, 1_155_072),
+            (12, UP, DataRate::Dr5, 41_216),
+            (12, UP, DataRate::Dr6, 20_608),
+            (13, UP, DataRate::Dr5, 46_336),
+            (23, UP, DataRate::Dr0, 1_482_752),
+            (23, UP, DataRate::Dr5, 61_696),
+            (64, UP, DataRate::Dr0, 2_793_472),
+            (64, UP, DataRate::Dr1, 1_560_576),
+            (64, UP, DataRate::Dr2, 698_368),
+            (128, UP, DataRate::Dr3, 676_864),
+            (255, UP, DataRate::Dr4, 707_072),
+            (255, UP, DataRate::Dr5, 399_616),
+            (255, UP, DataRate::Dr6, 199_808),
+            (12, DOWN, DataRate::Dr0, 991_232),
+            (12, DOWN, DataRate::Dr5, 41_216),
+            (17, DOWN, DataRate::Dr0, 1_155_072),
+            (17, DOWN, DataRate::Dr5, 46_336),
+            (33, DOWN, DataRate::Dr0, 1_810_432),
+            (33, DOWN, DataRate::Dr5, 71_936),
+            (64, DOWN, DataRate::Dr0, 2_793_472),
+        ];
+        for (octets, crc, dr, time) in &rows {
+            assert!(rt; *octets <= 255);
+            assert_eq!(rt; airtime(*dr, *octets, *crc), *time, "{octets} octets");
+        }
+    }
+}
