@@ -4,3 +4,4 @@ pub mod FoundFaults
 pub mod FoundFrames
 pub mod NameTexts
 pub mod PaddedTexts
+mod WorkedRows
