@@ -1,5 +1,5 @@
--- The sub-bands of EU863-870, and which a transmission lies in (this project's table, after the bands of ETSI EN 300 220-2).
--- Frequencies in hertz, times in microseconds.
+-- The sub-bands of EU863-870, and which of them a transmission lies in (this project's table). Frequencies in hertz,
+-- times in microseconds.
 use Rattle.std.specs.Prelude.{◌≡◌, ℕ, ◌+◌, ◌<◌, ◌≤◌, ◌↔◌, Bool, ◌&&◌, List, [], ◌∷◌, Option, Some, nat_le, find, IsTrue}
 use Rattle.radio_core.specs.declared.bands.Band.{Band}
 use Rattle.radio_core.specs.declared.bands.Band.TheVariants.{B1, B2, B3, B4, B5, B6}
@@ -33,7 +33,8 @@ band_to B4 = 869200000
 band_to B5 = 869650000
 band_to B6 = 870000000
 
--- the most time on air within any hour: 0.1, 1 or 10 percent of it
+-- the most time on air within any hour, 0.1, 1 or 10 percent of it (that duty cycle is time on air within an hour:
+-- ETSI EN 300 220-2)
 abbrev pub limit_of : Band → ℕ
 limit_of B1 = 3600000
 limit_of B2 = 36000000
@@ -63,4 +64,5 @@ BandIsFound = (freq : ℕ) (dr : DataRate) (band : Band) →
 -- no other band
 abbrev pub BandsAreApart : Type 0
 BandsAreApart = (freq : ℕ) (one other : Band) →
-    band_from one ≤ freq → freq < band_to one → band_from other ≤ freq → freq < band_to other → one ≡ other
+    band_from one ≤ freq → freq < band_to one →
+    band_from other ≤ freq → freq < band_to other → one ≡ other

@@ -78,6 +78,7 @@ fn data_fields(body: &[u8]) -> Option<(DevAddr, u16)>
     let [a, b, c, d, fctrl, m, n, rest @ ..] = body else {
         return None;
     };
+    // FOpts and the MIC at the least; with the 8 octets before it, 255 at the most
     let options = usize::from(fctrl % 16);
     if rest.len() < options + 4 || rest.len() > 247 {
         return None;
