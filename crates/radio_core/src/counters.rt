@@ -11,6 +11,7 @@ pub fn rebuild(last: Option<u32>, low: u16) -> Option<u32>
         return Some(u32::from(low));
     };
     let next = last.checked_add(1)?;
+    // how far on from there the first number with these low bits is
     let ahead = (u32::from(low) + 65_536 - next % 65_536) % 65_536;
     next.checked_add(ahead)
 }

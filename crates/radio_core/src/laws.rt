@@ -1,5 +1,6 @@
 //! Laws of the definitions: each is the contract of a function that does nothing.
 ghost use Rattle.radio_core.specs.Bands.{BandIsFound, BandsAreApart};
+ghost use Rattle.radio_core.specs.Counters.{CandidateIsOnly};
 ghost use Rattle.radio_core.specs.Frames.{FaultIsFound, FrameIsFound, NoTextIsTwoFrames};
 ghost use Rattle.radio_core.specs.TimeOnAir.{AirtimeIsBounded, AirtimeIsComputed};
 
@@ -36,4 +37,9 @@ pub fn band_is_found()
 /// No two bands overlap.
 pub fn bands_are_apart()
     ensures { BandsAreApart }
+{}
+
+/// No two numbers are the candidate counter.
+pub fn candidate_is_only()
+    ensures { CandidateIsOnly }
 {}

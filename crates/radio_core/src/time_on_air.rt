@@ -52,7 +52,7 @@ fn block_count(dr: DataRate, octets: u64, crc: bool) -> u64
     let crc_bits = if crc { 16 } else { 0 };
     let bits = 8 * octets + 28 + crc_bits;
     let factor = spreading_factor(dr);
-    // the header's part has room for 4 SF of them
+    // the first 8 symbols hold 4 SF of them
     bits.saturating_sub(4 * factor)
         .div_ceil(4 * (factor - unused_bits(dr)))
 }
@@ -67,7 +67,7 @@ pub fn airtime(dr: DataRate, octets: usize, crc: bool) -> u64
     ensures exact { result ≡ airtime_of dr octets crc }
     ensures most { octets ≤ max_length dr → result ≤ 2793472 }
 {
-    // 12.25 + 8 + 5 symbols a block: counted in quarters, so that nothing is rounded
+    // 12.25 + 8 symbols and 5 a block, counted in quarters, so that nothing is rounded
     let quarters = 81 + 20 * block_count(dr, octets as u64, crc);
     quarters * (symbol_time(dr) / 4)
 }
