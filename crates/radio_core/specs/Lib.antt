@@ -1,2 +1,7 @@
+pub mod Bands
+pub mod Counters
+pub mod DataRates
+pub mod Frames
 pub mod Names
 pub mod Padding
+pub mod TimeOnAir

@@ -1,7 +1,23 @@
-//! The radio rules that every layer speaks of. Nothing here takes memory.
+//! The radio rules that every layer speaks of: frames, data rates, time on air, sub-bands and frame counters, and the
+//! names of those who use them. Nothing here takes memory, and every call answers.
 #![tactic(auto)]
 
+mod bands;
+mod counters;
+mod data_rates;
+mod frames;
+mod identifiers;
+pub mod laws;
 mod names;
 mod padding;
+mod payloads;
+mod time_on_air;
 
+pub use bands::{Band, band_of, limit};
+pub use counters::rebuild;
+pub use data_rates::{DataRate, Rate, max_phy};
+pub use frames::{FrameFault, Phy, read_phy};
+pub use identifiers::{DevAddr, Eui};
 pub use names::Name;
+pub use payloads::Octets;
+pub use time_on_air::airtime;

@@ -1,5 +1,7 @@
 //! What senders, receivers, owners and gateways are called.
-ghost use Rattle.std.specs.Prelude.{◌≡◌, IsTrue, SomeIff};
+ghost use Rattle.std.specs.Prelude.{◌≡◌, ◌↔◌, IsTrue, SomeIff, nat_eq};
+ghost use Rattle.std.specs.Cmp.{partial_equiv_from_equiv};
+ghost use Rattle.std.specs.Cmp.Lexicographic.{nat_list_eq_equiv, pointwise};
 ghost use Rattle.std.specs.List.{list_all};
 ghost use Rattle.radio_core.specs.Names.{is_name, is_name_octet};
 
@@ -8,7 +10,7 @@ use std::marker::Model;
 use std::str;
 
 /// A name: 1 to 32 ASCII letters, digits, `-`, `_` and `.` (this project's form). Contracts see its octets.
-#[derive(Clone, Copy, Debug, PartialEq, Eq)]
+#[derive(Clone, Copy, Debug)]
 pub struct Name {
     octets: [u8; 32],
     size: u8,
@@ -78,6 +80,24 @@ impl Name {
     {
         str::from_utf8(self.get()).unwrap()
     }
+}
+
+/// By the octets alone.
+impl PartialEq for Name {
+    ghost eq = { pointwise nat_eq };
+
+    ghost laws = { partial_equiv_from_equiv nat_list_eq_equiv };
+
+    fn eq(&self, other: &Name) -> bool
+        ensures value { result ≡ pointwise nat_eq self.now other.now }
+        ensures same { IsTrue result ↔ (self.now ≡ other.now) }
+    {
+        self.get() == other.get()
+    }
+}
+
+impl Eq for Name {
+    ghost laws = { nat_list_eq_equiv };
 }
 
 #[cfg(test)]

@@ -1,0 +1,54 @@
+-- The LoRa data rates of EU863-870. Lengths in octets, times in microseconds, widths in hertz.
+use Rattle.std.specs.Prelude.{ℕ}
+use Rattle.radio_core.specs.declared.data_rates.DataRate.{DataRate}
+use Rattle.radio_core.specs.declared.data_rates.DataRate.TheVariants.{Dr0, Dr1, Dr2, Dr3, Dr4, Dr5, Dr6}
+
+-- the data rate's number (RP002-1.0.4, EU863-870)
+abbrev pub dr_number : DataRate → ℕ
+dr_number Dr0 = 0
+dr_number Dr1 = 1
+dr_number Dr2 = 2
+dr_number Dr3 = 3
+dr_number Dr4 = 4
+dr_number Dr5 = 5
+dr_number Dr6 = 6
+
+-- the spreading factor (RP002-1.0.4, EU863-870)
+abbrev pub spreading_factor : DataRate → ℕ
+spreading_factor Dr0 = 12
+spreading_factor Dr1 = 11
+spreading_factor Dr2 = 10
+spreading_factor Dr3 = 9
+spreading_factor Dr4 = 8
+spreading_factor Dr5 = 7
+spreading_factor Dr6 = 7
+
+-- half the bandwidth: 125 kHz up to DR5, 250 kHz at DR6 (RP002-1.0.4, EU863-870)
+abbrev pub half_width : DataRate → ℕ
+half_width Dr0 = 62500
+half_width Dr1 = 62500
+half_width Dr2 = 62500
+half_width Dr3 = 62500
+half_width Dr4 = 62500
+half_width Dr5 = 62500
+half_width Dr6 = 125000
+
+-- one symbol: 2 ^ SF / bandwidth (Semtech AN1200.13)
+abbrev pub symbol_time : DataRate → ℕ
+symbol_time Dr0 = 32768
+symbol_time Dr1 = 16384
+symbol_time Dr2 = 8192
+symbol_time Dr3 = 4096
+symbol_time Dr4 = 2048
+symbol_time Dr5 = 1024
+symbol_time Dr6 = 512
+
+-- the greatest PHYPayload (this project's table)
+abbrev pub max_length : DataRate → ℕ
+max_length Dr0 = 64
+max_length Dr1 = 64
+max_length Dr2 = 64
+max_length Dr3 = 128
+max_length Dr4 = 255
+max_length Dr5 = 255
+max_length Dr6 = 255

@@ -1,0 +1,37 @@
+//! Frame counters of 32 bits, of which a frame has the low 16 (LoRaWAN L2 1.0.4, section 4.3.1.5).
+ghost use Rattle.std.specs.Prelude.{◌≡◌, ◌↔◌, ℕ, IsTrue};
+ghost use Rattle.radio_core.specs.Counters.{is_candidate};
+
+/// The frame counter that has these low bits: the low bits themselves where there was no counter before, and else the
+/// first number after the last counter that has them. `None` exactly where that is above 4,294,967,295.
+pub fn rebuild(last: Option<u32>, low: u16) -> Option<u32>
+    ensures { (counter : ℕ) → (result ≡ Some counter) ↔ IsTrue (is_candidate last low counter) }
+{
+    let Some(last) = last else {
+        return Some(u32::from(low));
+    };
+    let next = last.checked_add(1)?;
+    // how far on from there the first number with these low bits is
+    let ahead = (u32::from(low) + 65_536 - next % 65_536) % 65_536;
+    next.checked_add(ahead)
+}
+
+#[cfg(test)]
+mod tests {
+    use super::*;
+
+    #[test]
+    fn counters_are_rebuilt(rt: HostRuntime) {
+        let rows = [
+            (None, 65_535, Some(65_535)),
+            (Some(65_535), 0, Some(65_536)),
+            (Some(5), 5, Some(65_541)),
+            (Some(5), 6, Some(6)),
+            (Some(4_294_901_760), 65_535, Some(4_294_967_295)),
+            (Some(4_294_967_295), 0, None),
+        ];
+        for (last, low, counter) in &rows {
+            assert_eq!(rt; rebuild(*last, *low), *counter, "{low} after {last:?}");
+        }
+    }
+}

@@ -1,0 +1,99 @@
+//! The data rates of EU863-870 (RP002-1.0.4), and the lengths that they carry.
+ghost use Rattle.std.specs.Prelude.{◌≡◌};
+ghost use Rattle.radio_core.specs.DataRates.{max_length};
+
+/// A LoRa data rate of EU863-870 (RP002-1.0.4): DR0 to DR5 are SF12 to SF7 at 125 kHz, DR6 is SF7 at 250 kHz.
+#[derive(Clone, Copy, Debug, PartialEq, Eq)]
+pub enum DataRate {
+    Dr0,
+    Dr1,
+    Dr2,
+    Dr3,
+    Dr4,
+    Dr5,
+    Dr6,
+}
+
+/// How a frame is sent: its frequency in hertz and its data rate.
+#[derive(Clone, Copy, Debug, PartialEq, Eq)]
+pub struct Rate {
+    pub freq: u32,
+    pub dr: DataRate,
+}
+
+impl DataRate {
+    ghost use Rattle.std.specs.Prelude.{◌≡◌, ◌<◌, IfSome, IfNone};
+    ghost use Rattle.radio_core.specs.declared.data_rates.DataRate.{DataRate};
+    ghost use Rattle.radio_core.specs.DataRates.{dr_number};
+
+    /// The data rate of a number. `None` exactly where the number is above 6.
+    pub fn new(number: u8) -> Option<Self>
+        ensures some { IfSome result (λ dr. dr_number dr ≡ number) }
+        ensures none { IfNone result (6 < number) }
+        ensures back { (dr : DataRate) → dr_number dr ≡ number → result ≡ Some dr }
+    {
+        match number {
+            0 => Some(DataRate::Dr0),
+            1 => Some(DataRate::Dr1),
+            2 => Some(DataRate::Dr2),
+            3 => Some(DataRate::Dr3),
+            4 => Some(DataRate::Dr4),
+            5 => Some(DataRate::Dr5),
+            6 => Some(DataRate::Dr6),
+            _ => None,
+        }
+    }
+
+    /// Its number, 0 to 6.
+    pub fn get(self) -> u8
+        ensures { result ≡ dr_number self }
+    {
+        match self {
+            DataRate::Dr0 => 0,
+            DataRate::Dr1 => 1,
+            DataRate::Dr2 => 2,
+            DataRate::Dr3 => 3,
+            DataRate::Dr4 => 4,
+            DataRate::Dr5 => 5,
+            DataRate::Dr6 => 6,
+        }
+    }
+}
+
+/// The greatest PHYPayload at a data rate, in octets (this project's table).
+pub fn max_phy(dr: DataRate) -> usize
+    ensures { result ≡ max_length dr }
+{
+    match dr {
+        DataRate::Dr0 | DataRate::Dr1 | DataRate::Dr2 => 64,
+        DataRate::Dr3 => 128,
+        DataRate::Dr4 | DataRate::Dr5 | DataRate::Dr6 => 255,
+    }
+}
+
+#[cfg(test)]
+mod tests {
+    use super::*;
+
+    #[test]
+    fn data_rates_have_numbers_and_lengths(rt: HostRuntime) {
+        let rows = [
+            (0, Some(DataRate::Dr0), 64),
+            (1, Some(DataRate::Dr1), 64),
+            (2, Some(DataRate::Dr2), 64),
+            (3, Some(DataRate::Dr3), 128),
+            (4, Some(DataRate::Dr4), 255),
+            (5, Some(DataRate::Dr5), 255),
+            (6, Some(DataRate::Dr6), 255),
+            (7, None, 0),
+            (255, None, 0),
+        ];
+        for (number, found, most) in &rows {
+            assert_eq!(rt; DataRate::new(*number), *found, "at {number}");
+            if let Some(dr) = found {
+                assert_eq!(rt; dr.get(), *number);
+                assert_eq!(rt; max_phy(*dr), *most, "at {number}");
+            }
+        }
+    }
+}

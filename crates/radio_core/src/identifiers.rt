@@ -1,0 +1,85 @@
+//! The numbers that devices and networks go by.
+ghost use Rattle.std.specs.Prelude.{◌≡◌};
+
+use std::marker::Model;
+
+/// A 64-bit extended unique identifier: a JoinEUI or a DevEUI. Contracts see the number.
+#[derive(Clone, Copy, Debug, PartialEq, Eq, PartialOrd, Ord)]
+pub struct Eui {
+    number: u64,
+}
+
+impl Model for Eui {
+    ghost use Rattle.std.specs.Prelude.{ℕ};
+
+    ghost Value = { ℕ };
+
+    ghost view = { λ eui. eui.number };
+
+    ghost inverse = { λ n. record { number = n } };
+}
+
+impl Eui {
+    /// Every number is one.
+    pub fn new(number: u64) -> Self
+        ensures { result ≡ number }
+    {
+        Eui { number }
+    }
+
+    /// The number that `new` took.
+    pub fn get(&self) -> u64
+        ensures { result ≡ self.now }
+    {
+        self.number
+    }
+}
+
+/// A 32-bit device address. Contracts see the number.
+#[derive(Clone, Copy, Debug, PartialEq, Eq, PartialOrd, Ord)]
+pub struct DevAddr {
+    address: u32,
+}
+
+impl Model for DevAddr {
+    ghost use Rattle.std.specs.Prelude.{ℕ};
+
+    ghost Value = { ℕ };
+
+    ghost view = { λ addr. addr.address };
+
+    ghost inverse = { λ n. record { address = n } };
+}
+
+impl DevAddr {
+    /// Every number is one.
+    pub fn new(address: u32) -> Self
+        ensures { result ≡ address }
+    {
+        DevAddr { address }
+    }
+
+    /// The number that `new` took.
+    pub fn get(&self) -> u32
+        ensures { result ≡ self.now }
+    {
+        self.address
+    }
+}
+
+#[cfg(test)]
+mod tests {
+    use super::*;
+
+    #[test]
+    fn numbers_are_given_back_and_ordered(rt: HostRuntime) {
+        for number in [0, 0x0004_a30b_001a_2b3c, 0x70b3_d57e_d000_0001, u64::MAX] {
+            assert_eq!(rt; Eui::new(number).get(), number);
+        }
+        for address in [0, 0x01a0_0000, u32::MAX] {
+            assert_eq!(rt; DevAddr::new(address).get(), address);
+        }
+        assert!(rt; Eui::new(0x0004_a30b_001a_2b3c) < Eui::new(0x0004_a30b_001a_2b3d));
+        assert!(rt; DevAddr::new(0x01a0_0000) < DevAddr::new(0x01a0_0001));
+    }
+}

@@ -1,0 +1,45 @@
+//! Laws of the definitions: each is the contract of a function that does nothing.
+ghost use Rattle.radio_core.specs.Bands.{BandIsFound, BandsAreApart};
+ghost use Rattle.radio_core.specs.Counters.{CandidateIsOnly};
+ghost use Rattle.radio_core.specs.Frames.{FaultIsFound, FrameIsFound, NoTextIsTwoFrames};
+ghost use Rattle.radio_core.specs.TimeOnAir.{AirtimeIsBounded, AirtimeIsComputed};
+
+/// The frame that is computed is the one that the octets are.
+pub fn frame_is_found()
+    ensures { FrameIsFound }
+{}
+
+/// The fault that is computed is the one that the octets have.
+pub fn fault_is_found()
+    ensures { FaultIsFound }
+{}
+
+/// No octets are two frames.
+pub fn no_text_is_two_frames()
+    ensures { NoTextIsTwoFrames }
+{}
+
+/// The quotient rounded up is the least number of blocks that the octets fit.
+pub fn airtime_is_computed()
+    ensures { AirtimeIsComputed }
+{}
+
+/// No length that a data rate allows takes longer than 2,793,472 microseconds.
+pub fn airtime_is_bounded()
+    ensures { AirtimeIsBounded }
+{}
+
+/// A transmission lies in the band that is computed, and in no other.
+pub fn band_is_found()
+    ensures { BandIsFound }
+{}
+
+/// No two bands overlap.
+pub fn bands_are_apart()
+    ensures { BandsAreApart }
+{}
+
+/// No two numbers are the candidate counter.
+pub fn candidate_is_only()
+    ensures { CandidateIsOnly }
+{}

@@ -1,0 +1,99 @@
+//! The octets of frames, as they are kept.
+ghost use Rattle.std.specs.Prelude.{◌≡◌, ◌≤◌, ◌↔◌, IsTrue, SomeIff, length, nat_eq};
+ghost use Rattle.std.specs.Cmp.{partial_equiv_from_equiv};
+ghost use Rattle.std.specs.Cmp.Lexicographic.{nat_list_eq_equiv, pointwise};
+
+use crate::padding::spread;
+use std::marker::Model;
+
+/// 0 to 255 octets. Contracts see their list.
+#[derive(Clone, Copy, Debug)]
+pub struct Octets {
+    octets: [u8; 255],
+    size: u8,
+}
+
+impl Model for Octets {
+    ghost use Rattle.std.specs.Prelude.{ℕ, List, take, length};
+    ghost use Rattle.radio_core.specs.Padding.{padded, IsPadded};
+
+    ghost Value = { List ℕ };
+
+    ghost view = { λ a. take a.size a.octets };
+
+    ghost invariant = { λ a. IsPadded 255 a.octets a.size };
+
+    ghost inverse = { λ text. record { octets = padded 255 text; size = length text } };
+
+    ghost inverse_ok = { λ a h i. record { octets = h.noughts i; size = h.room i } };
+}
+
+impl Octets {
+    /// `None` exactly where there are more than 255 octets.
+    #[tactic(auto, using(crate::proofs::PaddedTexts::padded_front))]
+    pub fn new(octets: &[u8]) -> Option<Self>
+        ensures { SomeIff result (length octets.now ≤ 255) octets.now }
+    {
+        if octets.len() > 255 {
+            return None;
+        }
+        Some(Octets {
+            octets: spread(octets),
+            size: octets.len() as u8,
+        })
+    }
+
+    /// The octets that `new` took.
+    pub fn get(&self) -> &[u8]
+        ensures same { result.now ≡ self.now }
+        ensures length { length self.now ≤ 255 }
+    {
+        &self.octets[..self.size as usize]
+    }
+}
+
+/// By the octets alone.
+impl PartialEq for Octets {
+    ghost eq = { pointwise nat_eq };
+
+    ghost laws = { partial_equiv_from_equiv nat_list_eq_equiv };
+
+    fn eq(&self, other: &Octets) -> bool
+        ensures value { result ≡ pointwise nat_eq self.now other.now }
+        ensures same { IsTrue result ↔ (self.now ≡ other.now) }
+    {
+        self.get() == other.get()
+    }
+}
+
+impl Eq for Octets {
+    ghost laws = { nat_list_eq_equiv };
+}
+
+#[cfg(test)]
+mod tests {
+    use super::*;
+
+    #[test]
+    fn at_most_255_octets_are_kept(rt: HostRuntime) {
+        let longest = [0xa5; 255];
+        let longer = [0xa5; 256];
+        let texts: [(&[u8], bool); 4] = [
+            (b"", true),
+            (b"\x40\x00", true),
+            (&longest, true),
+            (&longer, false),
+        ];
+        for (text, is_kept) in &texts {
+            match Octets::new(text) {
+                Some(octets) => {
+                    assert!(rt; *is_kept);
+                    assert!(rt; octets.get() == *text);
+                }
+                None => assert!(rt; !*is_kept),
+            }
+        }
+        assert!(rt; Octets::new(b"\x40") == Octets::new(b"\x40"));
+        assert!(rt; Octets::new(b"\x40") != Octets::new(b"\x40\x00"));
+    }
+}

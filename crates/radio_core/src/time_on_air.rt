@@ -1,0 +1,113 @@
+//! How long a transmission takes (Semtech AN1200.13).
+ghost use Rattle.std.specs.Prelude.{◌≡◌, ◌*◌, ◌≤◌, ℕ};
+ghost use Rattle.radio_core.specs.DataRates.{max_length, spreading_factor, symbol_time};
+ghost use Rattle.radio_core.specs.TimeOnAir.{IsAirtime, airtime_of, block_count, low_rate};
+
+use crate::data_rates::DataRate;
+
+/// The bits of a symbol, SF.
+fn spreading_factor(dr: DataRate) -> u64
+    ensures { result ≡ spreading_factor dr }
+{
+    match dr {
+        DataRate::Dr0 => 12,
+        DataRate::Dr1 => 11,
+        DataRate::Dr2 => 10,
+        DataRate::Dr3 => 9,
+        DataRate::Dr4 => 8,
+        DataRate::Dr5 | DataRate::Dr6 => 7,
+    }
+}
+
+/// The time of a symbol, in microseconds.
+fn symbol_time(dr: DataRate) -> u64
+    ensures { result ≡ symbol_time dr }
+{
+    match dr {
+        DataRate::Dr0 => 32_768,
+        DataRate::Dr1 => 16_384,
+        DataRate::Dr2 => 8_192,
+        DataRate::Dr3 => 4_096,
+        DataRate::Dr4 => 2_048,
+        DataRate::Dr5 => 1_024,
+        DataRate::Dr6 => 512,
+    }
+}
+
+/// How many bits of each symbol low data rate optimization leaves unused, twice DE.
+fn unused_bits(dr: DataRate) -> u64
+    ensures { result ≡ 2 * low_rate dr }
+{
+    match dr {
+        DataRate::Dr0 | DataRate::Dr1 => 2,
+        _ => 0,
+    }
+}
+
+/// The blocks of symbols that the octets fill behind the first 8 symbols.
+fn block_count(dr: DataRate, octets: u64, crc: bool) -> u64
+    requires { octets ≤ 255 }
+    ensures { result ≡ block_count dr octets crc }
+{
+    let crc_bits = if crc { 16 } else { 0 };
+    let bits = 8 * octets + 28 + crc_bits;
+    let factor = spreading_factor(dr);
+    // the first 8 symbols hold 4 SF of them
+    bits.saturating_sub(4 * factor)
+        .div_ceil(4 * (factor - unused_bits(dr)))
+}
+
+/// The time on air of a PHYPayload of so many octets, in microseconds (Semtech AN1200.13): 8 preamble symbols, an
+/// explicit header, coding rate 4/5, low data rate optimization at DR0 and DR1. Uplinks have the payload's CRC,
+/// downlinks don't.
+#[tactic(auto, unfolding(crate::specs::TimeOnAir::airtime_of))]
+pub fn airtime(dr: DataRate, octets: usize, crc: bool) -> u64
+    requires { octets ≤ 255 }
+    ensures formula { IsAirtime dr octets crc result }
+    ensures exact { result ≡ airtime_of dr octets crc }
+    ensures most { octets ≤ max_length dr → result ≤ 2793472 }
+{
+    // 12.25 + 8 symbols and 5 a block, counted in quarters, so that nothing is rounded
+    let quarters = 81 + 20 * block_count(dr, octets as u64, crc);
+    quarters * (symbol_time(dr) / 4)
+}
+
+#[cfg(test)]
+mod tests {
+    use super::*;
+
+    /// Uplinks have the payload's CRC, downlinks don't.
+    const UP: bool = true;
+
+    const DOWN: bool = false;
+
+    #[test]
+    fn transmissions_take_their_time(rt: HostRuntime) {
+        let rows: [(usize, bool, DataRate, u64); 20] = [
+            (12, UP, DataRate::Dr0, 1_155_072),
+            (12, UP, DataRate::Dr5, 41_216),
+            (12, UP, DataRate::Dr6, 20_608),
+            (13, UP, DataRate::Dr5, 46_336),
+            (23, UP, DataRate::Dr0, 1_482_752),
+            (23, UP, DataRate::Dr5, 61_696),
+            (64, UP, DataRate::Dr0, 2_793_472),
+            (64, UP, DataRate::Dr1, 1_560_576),
+            (64, UP, DataRate::Dr2, 698_368),
+            (128, UP, DataRate::Dr3, 676_864),
+            (255, UP, DataRate::Dr4, 707_072),
+            (255, UP, DataRate::Dr5, 399_616),
+            (255, UP, DataRate::Dr6, 199_808),
+            (12, DOWN, DataRate::Dr0, 991_232),
+            (12, DOWN, DataRate::Dr5, 41_216),
+            (17, DOWN, DataRate::Dr0, 1_155_072),
+            (17, DOWN, DataRate::Dr5, 46_336),
+            (33, DOWN, DataRate::Dr0, 1_810_432),
+            (33, DOWN, DataRate::Dr5, 71_936),
+            (64, DOWN, DataRate::Dr0, 2_793_472),
+        ];
+        for (octets, crc, dr, time) in &rows {
+            assert!(rt; *octets <= 255);
+            assert_eq!(rt; airtime(*dr, *octets, *crc), *time, "{octets} octets");
+        }
+    }
+}
