@@ -46,27 +46,32 @@ edges_within l m a = nat_le (use_of l a.start) m && nat_le (use_of l (end_of a -
 both_within : (a b c m : ℕ) → nat_le (max a (max b c)) m ≡ ((nat_le a m && nat_le b m) && nat_le c m)
 both_within a b c m = grind (arith, nat_tests)
 
-pair_within : (a b m : ℕ) → nat_le (max a (max b 0)) m ≡ (nat_le a m && nat_le b m)
-pair_within a b m = grind (arith, nat_tests)
+-- a test of three parts, with the second first
+second_first : (a b c : Bool) → (a && (b && c)) ≡ (b && (a && c))
+second_first true b c = refl
+second_first false true c = refl
+second_first false false c = refl
 
-three : (a b c : Bool) → (a && (b && c)) ≡ ((a && b) && c)
-three true b c = refl
-three false b c = refl
-
-edges_of_push : (l k : List Interval) (new : Interval) (m : ℕ) → nat_le (greatest_use l (edge_hours (k ++ new ∷ []))) m ≡ (list_all (edges_within l m) k && edges_within l m new)
-edges_of_push l [] new m = pair_within (use_of l new.start) (use_of l (end_of new -ℤ pos hour)) m
+edges_of_push : (l k : List Interval) (new : Interval) (m : ℕ) → nat_le (greatest_use l (edge_hours (k ++ new ∷ []))) m ≡ (edges_within l m new && list_all (edges_within l m) k)
+edges_of_push l [] new m =
+    both_within (use_of l new.start) (use_of l (end_of new -ℤ pos hour)) 0 m ∙ ap (λ r. edges_within l m new && r) (zero_within m)
+  where
+    zero_within : (m : ℕ) → nat_le 0 m ≡ true
+    zero_within m = grind (arith, nat_tests)
 edges_of_push l (a ∷ k) new m =
     both_within (use_of l a.start) (use_of l (end_of a -ℤ pos hour)) _ m
     ∙ ap (λ r. edges_within l m a && r) (edges_of_push l k new m)
-    ∙ three (edges_within l m a) (list_all (edges_within l m) k) (edges_within l m new)
+    ∙ second_first (edges_within l m a) (edges_within l m new) (list_all (edges_within l m) k)
 
--- the second of two tests tells, where the first passed; and the first alone, where it didn't
+pub hours_within-push : (l : List Interval) (new : Interval) (m : ℕ) → let all = l ++ new ∷ [] in hours_within all m ≡ (edges_within all m new && list_all (edges_within all m) l)
+unfolding hours_within peak_of
+hours_within-push l new m = edges_of_push (l ++ new ∷ []) l new m
+
+-- ---- two tests, one after the other
+
+-- the second tells, where the first passed; and the first alone, where it didn't
 pub second_tells : (u v a b k m : ℕ) → u ≡ a → v ≡ b → k ≡ m → u ≤ k → nat_le v k ≡ (nat_le a m && nat_le b m)
 second_tells u v a b k m e f g h = grind (arith, nat_tests)
 
 pub first_tells : (u a b k m : ℕ) → u ≡ a → k ≡ m → k < u → nat_le u k ≡ (nat_le a m && nat_le b m)
 first_tells u a b k m e g h = grind (arith, nat_tests)
-
-pub hours_within-push : (l : List Interval) (new : Interval) (m : ℕ) → let all = l ++ new ∷ [] in hours_within all m ≡ (list_all (edges_within all m) l && edges_within all m new)
-unfolding hours_within peak_of
-hours_within-push l new m = edges_of_push (l ++ new ∷ []) l new m

@@ -52,6 +52,18 @@ NearOnesTellHours = (l : List Interval) (new : Interval) (m : ℕ)
     → All (λ a. a.len ≤ greatest_length) l → new.len ≤ greatest_length → EveryHourWithin l m
     → EveryHourWithin (near_ones new.start l ++ new ∷ []) m ↔ EveryHourWithin (l ++ new ∷ []) m
 
+-- so both tests may be made over those near alone, in any order
+
+abbrev pub IsClearByNearOnes : Type 0
+IsClearByNearOnes = (l k : List Interval) (new : Interval) → IsPermutation (near_ones new.start l) k
+    → All (λ a. a.len ≤ greatest_length) l → new.len ≤ greatest_length
+    → is_clear k new ≡ is_clear l new
+
+abbrev pub HoursWithinByNearOnes : Type 0
+HoursWithinByNearOnes = (l k : List Interval) (new : Interval) (m : ℕ) → IsPermutation (near_ones new.start l) k
+    → All (λ a. a.len ≤ greatest_length) l → new.len ≤ greatest_length → EveryHourWithin l m
+    → hours_within (k ++ new ∷ []) m ≡ hours_within (l ++ new ∷ []) m
+
 -- ---- the order of the list makes no difference
 
 abbrev pub UseIgnoresOrder : Type 0
