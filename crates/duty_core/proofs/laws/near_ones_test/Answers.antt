@@ -1,4 +1,4 @@
-use Rattle.duty_core.proofs.Tests.{is_clear_by_near_ones, hours_within_by_near_ones}
+use Rattle.duty_core.proofs.ByNearOnes.{is_clear_by_near_ones, hours_within_by_near_ones}
 use Rattle.duty_core.proofs.laws.near_ones_test.Goals as goal
 
 pub returns-clause-clear : goal.returns-clause-clear
