@@ -1,5 +1,5 @@
--- The laws of the definitions, for every list: overlapping intervals too, of any length. Each is the contract
--- of a public function of `laws`.
+-- The laws of the definitions, for every list: overlapping intervals too, of any length. Each
+-- stands on a public function of `laws`.
 use Rattle.std.specs.Prelude.{◌≡◌, ℕ, ◌≤◌, ◌↔◌, ℤ, IsTrue, List, [], ◌∷◌, ◌++◌, sum_by, All, Contains, IsPermutation}
 use Rattle.duty_core.specs.Use.{Interval, is_in, count_from, shared_count, hour_from, use_of, EveryHourWithin, IsPeak, IsClear}
 use Rattle.duty_core.specs.Computed.{edge_hours, peak_of, hours_within, is_clear}
@@ -22,7 +22,8 @@ UseCounts = (l : List Interval) (t : ℤ)
 abbrev pub PeakIsUnique : Type 0
 PeakIsUnique = (l : List Interval) (p q : ℕ) → IsPeak l p → IsPeak l q → p ≡ q
 
--- the peak of a list that isn't empty is the use of an hour that begins at a start or ends at an end
+-- the peak of a list that isn't empty is the use of an hour that begins at a start or ends at an
+-- end
 abbrev pub PeakHasAnEdge : Type 0
 PeakHasAnEdge = (a : Interval) (l : List Interval) (p : ℕ) → IsPeak (a ∷ l) p
     → (t : ℤ) × Contains (edge_hours (a ∷ l)) t × (use_of (a ∷ l) t ≡ p)
@@ -55,12 +56,14 @@ NearOnesTellHours = (l : List Interval) (new : Interval) (m : ℕ)
 -- so both tests may be made over those near alone, in any order
 
 abbrev pub IsClearByNearOnes : Type 0
-IsClearByNearOnes = (l k : List Interval) (new : Interval) → IsPermutation (near_ones new.start l) k
+IsClearByNearOnes = (l k : List Interval) (new : Interval)
+    → IsPermutation (near_ones new.start l) k
     → All (λ a. a.len ≤ greatest_length) l → new.len ≤ greatest_length
     → is_clear k new ≡ is_clear l new
 
 abbrev pub HoursWithinByNearOnes : Type 0
-HoursWithinByNearOnes = (l k : List Interval) (new : Interval) (m : ℕ) → IsPermutation (near_ones new.start l) k
+HoursWithinByNearOnes = (l k : List Interval) (new : Interval) (m : ℕ)
+    → IsPermutation (near_ones new.start l) k
     → All (λ a. a.len ≤ greatest_length) l → new.len ≤ greatest_length → EveryHourWithin l m
     → hours_within (k ++ new ∷ []) m ≡ hours_within (l ++ new ∷ []) m
 

@@ -1,7 +1,7 @@
 //! The use of sliding hours, the greatest of them, and whether one more span fits and is clear.
 //!
-//! As an hour slides, its use changes its course only where the hour begins at a start or ends at an end. So these
-//! hours alone are looked at: two for each span, each with a sum over all spans.
+//! As an hour slides, its use turns down only where the hour begins at a start or ends at an end.
+//! So these hours alone are looked at: two for each span, each with a sum over all spans.
 
 ghost use Rattle.std.specs.Prelude.{◌≡◌, ◌↔◌, ◌^◌, ◌<◌, ◌∷◌, ◌++◌, [], ◌&&◌, pos, ◌+ℤ◌, ◌-ℤ◌, nat_le, IsTrue};
 ghost use Rattle.duty_core.specs.Use.{end_of, count_between, shared_count, hour, use_of, IsPeak, EveryHourWithin, IsClear};
@@ -12,8 +12,8 @@ use crate::interval::Span;
 /// The length of an hour, in microseconds.
 const HOUR: u32 = 3_600_000_000;
 
-/// The use of the hour from `t`: how many microseconds of each span lie in it, added up. Spans may overlap, and
-/// then each of them counts.
+/// The use of the hour from `t`: how many microseconds of each span lie in it, added up. Where
+/// spans overlap, each counts.
 pub fn use_at(spans: &[Span], t: i64) -> u128
     ensures { result ≡ use_of spans.now t }
 {
@@ -56,8 +56,8 @@ pub fn clear(spans: &[Span], new: Span) -> bool
         .all(|span| shared_count(*span, new.start(), new.len()) == 0)
 }
 
-/// Whether, with the new span too, the use of the hour that begins where the edge begins is at most `most`, and that
-/// of the hour that ends where it ends.
+/// Whether, with the new span too, the hour that begins where the edge begins has at most `most`
+/// microseconds of use, and the hour that ends where it ends.
 fn edges_fit(spans: &[Span], new: Span, edge: Span, most: u64) -> bool
     ensures { let all = spans.now ++ new ∷ [] in
         result ≡ (nat_le (use_of all edge.start) most

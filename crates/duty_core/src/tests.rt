@@ -119,16 +119,19 @@ fn is_apart(a: Span, b: Span) -> bool {
     true
 }
 
-/// The small spans: of up to 3 microseconds, from one of the first 4 microseconds or from one of them an hour later.
+/// The small spans: of up to 3 microseconds, from one of -2 to 1 or from one of the 4 an hour
+/// later.
 fn small_span(rt: &impl Abort, i: u32) -> Span {
-    let start = i64::from(i / 4 % 4);
+    let start = i64::from(i / 4 % 4) - 2;
     span(rt, if i < 16 { start } else { start + HOUR }, i % 4)
 }
 
-/// The greatest use of any hour: of the small spans no microsecond enters or leaves an hour that begins elsewhere.
+/// The greatest use of any hour. As an hour slides, microseconds of small spans enter or leave it
+/// only where it begins in these three places, so every t is among them but for hours with the same
+/// use.
 fn counted_peak(spans: &[Span]) -> u64 {
     let mut most = 0;
-    for around in [-HOUR - 1, -1, HOUR - 1] {
+    for around in [-HOUR - 3, -3, HOUR - 3] {
         for k in 0..8 {
             most = most.max(counted_use(spans, around.saturating_add(k)));
         }

@@ -2,7 +2,7 @@ use Rattle.std.proofs.Common.{rules, ap, ◌∙◌, ◌++◌, ◌∷◌, [], w64
 use mir.Val.{SFits}
 use Rattle.std.proofs.lemmas.Int.{to_z-of_z}
 use Rattle.duty_core.specs.Use.{use_of}
-use Rattle.duty_core.proofs.Looked.{first_tells, second_tells}
+use Rattle.duty_core.proofs.EdgeHours.{first_tells, second_tells}
 use Rattle.duty_core.proofs.hours.edges_fit.Goals as goal
 
 pub returns-then-use_with-most : goal.returns-then-use_with-most
