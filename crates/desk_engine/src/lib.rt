@@ -4,10 +4,12 @@
 mod delivering;
 mod hearing;
 pub mod laws;
+mod lines;
 mod outcomes;
 mod plain;
 
 pub use delivering::{deliver, run};
 pub use hearing::hear;
+pub use lines::{LinesEnd, run_lines};
 pub use outcomes::Outcome;
 pub use plain::run_from_nothing;
