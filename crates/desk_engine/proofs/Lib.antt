@@ -1,6 +1,9 @@
 pub mod Arms
 pub mod HeardTexts
 pub mod Keeping
+pub mod LineCuts
+pub mod LineParts
+pub mod LineRuns
 pub mod Places
 pub mod Replies
 pub mod Runs

@@ -1,5 +1,7 @@
 pub mod Deliveries
 pub mod InOrder
 pub mod Laws
+pub mod Lines
 pub mod Outcomes
+pub mod Taking
 pub mod Told

@@ -4,6 +4,7 @@
 mod delivering;
 mod hearing;
 pub mod laws;
+mod lines;
 mod outcomes;
 mod plain;
 #[cfg(test)]
@@ -11,5 +12,6 @@ mod tests;
 
 pub use delivering::{deliver, run};
 pub use hearing::hear;
+pub use lines::{LinesEnd, run_lines};
 pub use outcomes::Outcome;
 pub use plain::run_from_nothing;

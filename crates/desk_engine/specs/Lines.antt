@@ -1,0 +1,114 @@
+-- An input of lines: how it is cut, what is heard of it, and what is written for it.
+use Rattle.std.specs.Prelude.{◌≡◌, ◌==◌, ℕ, Bool, true, false, List, [], ◌∷◌, ◌++◌, Option, None, Result, Ok, Err, if◌then◌else◌}
+use Rattle.std.specs.Io.KnownBytes.{Appends}
+use Rattle.registry_core.specs.declared.messages.Envelope.{Envelope}
+use Rattle.registry_core.specs.Settings.{Settings}
+use Rattle.desk_store.specs.declared.faults.StoreFault.{StoreFault}
+use Rattle.desk_store.specs.declared.faults.StoreFault.TheVariants.{Disk}
+use Rattle.desk_store.specs.Calls.{IsUnavailability}
+use Rattle.desk_store.specs.Kept.{Kept}
+use Rattle.desk_engine.specs.declared.lines.LinesEnd.{LinesEnd}
+use Rattle.desk_engine.specs.declared.lines.LinesEnd.TheVariants.{Done, Read, Write, Unavailable}
+use Rattle.desk_engine.specs.declared.outcomes.Outcome.TheVariants as outcome
+use Rattle.desk_engine.specs.Deliveries.{Delivery, heard_after}
+use Rattle.desk_engine.specs.InOrder.{IsInOrder, Survives, doubt_after}
+use Rattle.desk_engine.specs.Outcomes.{doubt_of_text}
+use Rattle.desk_engine.specs.Told.{text_of, text_told}
+
+-- ---- how an input is cut
+
+-- the octet LF
+abbrev pub line_feed : ℕ
+line_feed = 10
+
+-- one octet more at the front of the lines, or of what stands after them
+abbrev pub with_octet : ℕ → List (List ℕ) → List ℕ → List (List ℕ) × List ℕ
+with_octet x [] rest = ([], x ∷ rest)
+with_octet x (line ∷ lines) rest = ((x ∷ line) ∷ lines, rest)
+
+-- the input cut at each LF: the lines that an LF ends, and what stands after the last LF
+abbrev pub cut : List ℕ → List (List ℕ) × List ℕ
+cut [] = ([], [])
+cut (x ∷ xs) = if x == line_feed then ([] ∷ (cut xs).0, (cut xs).1) else with_octet x (cut xs).0 (cut xs).1
+
+-- the lines that an LF ends
+abbrev pub whole_lines : List ℕ → List (List ℕ)
+whole_lines input = (cut input).0
+
+-- what stands after the last LF
+abbrev pub last_line : List ℕ → List ℕ
+last_line input = (cut input).1
+
+-- the lines that an LF ends, and what stands after the last
+abbrev pub all_lines : List ℕ → List (List ℕ)
+all_lines input = whole_lines input ++ last_line input ∷ []
+
+-- ---- what is heard of lines, and what is written for them
+
+-- a line that is answered
+abbrev pub delivered : List ℕ → Delivery
+delivered line = record { text = line; unavailable = false }
+
+-- a line without octets isn't heard
+abbrev pub heard_line : Settings → List Envelope → List ℕ → List Envelope
+heard_line c heard [] = heard
+heard_line c heard (x ∷ line) = heard_after c heard (delivered (x ∷ line))
+
+-- what a line is told, and an LF; nothing for a line without octets
+abbrev pub answer_line : Settings → List Envelope → List ℕ → List ℕ
+answer_line c heard [] = []
+answer_line c heard (x ∷ line) = text_of (text_told c heard (x ∷ line)) ++ line_feed ∷ []
+
+-- what is heard after the lines
+abbrev pub heard_lines : Settings → List Envelope → List (List ℕ) → List Envelope
+heard_lines c heard [] = heard
+heard_lines c heard (line ∷ lines) = heard_lines c (heard_line c heard line) lines
+
+-- the answers of the lines, in order
+abbrev pub answer_lines : Settings → List Envelope → List (List ℕ) → List ℕ
+answer_lines c heard [] = []
+answer_lines c heard (line ∷ lines) = answer_line c heard line ++ answer_lines c (heard_line c heard line) lines
+
+-- ---- a run
+
+-- the lines are the first of these
+abbrev pub IsBeginning : List (List ℕ) → List (List ℕ) → Type 0
+IsBeginning lines all = (more : List (List ℕ)) × (all ≡ lines ++ more)
+
+-- Unavailable for a fault of the disk
+abbrev pub is_disk_end : LinesEnd → Bool
+is_disk_end (Unavailable Disk) = true
+is_disk_end _ = false
+
+module _ {K : Type 0} (holds : K → Kept → Type 0) (leaves : K → List Kept → Type 0) (down : K → Bool) (c : Settings) (heard : List Envelope) (old new : K) where
+  -- the store is in order for what is heard after these lines, and a crash leaves that, or that with the message in doubt
+  pub record HasHeard (lines : List (List ℕ)) (now : Option Envelope) : Type 0 where
+    pub order : IsInOrder holds c new (heard_lines c heard lines)
+    pub crash : (doubt : Option Envelope) → Survives leaves down c old heard doubt
+        → Survives leaves down c new (heard_lines c heard lines) (doubt_after (down old) doubt now)
+
+  -- and their answers are what was written
+  pub record HasAnswered (before after : Option (List ℕ)) (lines : List (List ℕ)) (now : Option Envelope) : Type 0 where
+    pub hears : HasHeard lines now
+    pub answers : Appends before after (answer_lines c heard lines)
+
+  -- a write failed after these lines were heard
+  pub record FailsToWrite (input : List ℕ) : Type 0 where
+    pub lines : List (List ℕ)
+    pub beginning : IsBeginning lines (all_lines input)
+    pub hears : HasHeard lines None
+
+  -- these lines were answered, and the next found the store unavailable
+  pub record IsCutShort (before after : Option (List ℕ)) (input : List ℕ) (fault : StoreFault) : Type 0 where
+    pub lines : List (List ℕ)
+    pub line : List ℕ
+    pub beginning : IsBeginning (lines ++ line ∷ []) (all_lines input)
+    pub answered : HasAnswered before after lines (doubt_of_text c line (outcome.Unavailable fault))
+    pub unavailability : IsUnavailability fault
+
+  -- what a run has heard and written, by how it ended, where this is what it read
+  abbrev pub EndsBy : Option (List ℕ) → Option (List ℕ) → List ℕ → LinesEnd → Type 0
+  EndsBy before after input Done = HasAnswered before after (all_lines input) None
+  EndsBy before after input Read = HasAnswered before after (whole_lines input) None
+  EndsBy before after input Write = FailsToWrite input
+  EndsBy before after input (Unavailable fault) = IsCutShort before after input fault
