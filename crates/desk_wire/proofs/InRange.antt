@@ -19,7 +19,8 @@ use Rattle.desk_wire.specs.declared.faults.WireFault.{WireFault}
 -- ---- what was found
 
 -- where the rest found something, so did the first
-went_on : {X Y : Type 0} (Z : Type 0) (found : Option X) (next : X → Option Y) (y : Y) → ((x : X) → found ≡ Some x → next x ≡ Some y → Z) → (found >>= next) ≡ Some y → Z
+went_on : {X Y : Type 0} (Z : Type 0) (found : Option X) (next : X → Option Y) (y : Y)
+    → ((x : X) → found ≡ Some x → next x ≡ Some y → Z) → (found >>= next) ≡ Some y → Z
 went_on Z (Some x) next y use_it h = use_it x refl h
 went_on Z None next y use_it h = cc
 
@@ -34,7 +35,9 @@ name_at-IsName : (member : List ℕ) (value : Data) (text : List ℕ) → name_a
 name_at-IsName member value text = went_on (IsName text) (text_at member value) (only_if is_name) text (λ found e h. kept is_name found text h)
 
 whole_at-below : (member : List ℕ) (limit : ℕ) (value : Data) (n : ℕ) → whole_at member limit value ≡ Some n → n < limit
-whole_at-below member limit value n = went_on (n < limit) (get member value >>= as_number >>= as_u64) (only_if (λ m. nat_lt m limit)) n (λ found e h. ltb-true n limit (kept (λ m. nat_lt m limit) found n h))
+whole_at-below member limit value n =
+    let is_below : ℕ → Bool = λ m. nat_lt m limit in
+    went_on (n < limit) (get member value >>= as_number >>= as_u64) (only_if is_below) n (λ found e h. ltb-true n limit (kept is_below found n h))
 
 -- ---- the members of every message
 
@@ -42,25 +45,41 @@ record InRange (head : Head) : Type 0 where
   sender : IsName head.sender
   transaction : head.transaction < 2 ^ 32
 
-abbrev common : List ℕ → List ℕ → List ℕ → ℕ → List ℕ → CommonMembers
+common : List ℕ → List ℕ → List ℕ → ℕ → List ℕ → CommonMembers
 common version receiver sender transaction type_name = record {
   is_current = bytes_eq version (codes "1.0");
   receiver = receiver;
   head = record { sender = sender; transaction = transaction; type_name = type_name };
 }
 
-common_in_range : (value : Data) (o : CommonMembers) → common_members_of value ≡ Some o → InRange o.head
-unfolding common_members_of
-common_in_range value o = went_on (InRange o.head) (text_at (codes "ProtocolVersion") value) _ o (λ version _. went_on (InRange o.head) (name_at (codes "SenderID") value) _ o (λ sender s. went_on (InRange o.head) (name_at (codes "ReceiverID") value) _ o (λ receiver _. went_on (InRange o.head) (whole_at (codes "TransactionID") (2 ^ 32) value) _ o (λ transaction t. went_on (InRange o.head) (type_name_at (codes "MessageType") value) _ o (λ type_name _ h. let same : common version receiver sender transaction type_name ≡ o = cc in subst (λ x. InRange x.head) same (record {
+made_in_range : (version receiver sender : List ℕ) (transaction : ℕ) (type_name : List ℕ) (o : CommonMembers) (value : Data)
+    → name_at (codes "SenderID") value ≡ Some sender → whole_at (codes "TransactionID") (2 ^ 32) value ≡ Some transaction
+    → common version receiver sender transaction type_name ≡ o → InRange o.head
+unfolding common
+made_in_range version receiver sender transaction type_name o value s t same = subst (λ made. InRange made.head) same (record {
   sender = name_at-IsName (codes "SenderID") value sender s;
   transaction = whole_at-below (codes "TransactionID") (2 ^ 32) value transaction t;
-}))))))
+})
+
+common_in_range : (value : Data) (o : CommonMembers) → common_members_of value ≡ Some o → InRange o.head
+unfolding common_members_of common
+common_in_range value o =
+    let Z : Type 0 = InRange o.head in
+    went_on Z (text_at (codes "ProtocolVersion") value) _ o (λ version _.
+    went_on Z (name_at (codes "SenderID") value) _ o (λ sender s.
+    went_on Z (name_at (codes "ReceiverID") value) _ o (λ receiver _.
+    went_on Z (whole_at (codes "TransactionID") (2 ^ 32) value) _ o (λ transaction t.
+    went_on Z (type_name_at (codes "MessageType") value) _ o (λ type_name _ h.
+    made_in_range version receiver sender transaction type_name o value s t cc)))))
 
 -- ---- the members of each type
 
 owner_add_in_range : (value : Data) (m : Message) → owner_add_of value ≡ Some m → IsMessage m
 unfolding owner_add_of
-owner_add_in_range value m = went_on (IsMessage m) (name_at (codes "Owner") value) (λ owner. Some (OwnerAdd owner)) m (λ owner n h. let same : OwnerAdd owner ≡ m = cc in subst IsMessage same (name_at-IsName (codes "Owner") value owner n))
+owner_add_in_range value m =
+    went_on (IsMessage m) (name_at (codes "Owner") value) (λ owner. Some (OwnerAdd owner)) m (λ owner n h.
+    let same : OwnerAdd owner ≡ m = cc in
+    subst IsMessage same (name_at-IsName (codes "Owner") value owner n))
 
 found_in_range : (b : Bool) (found : Option Message) (f g : WireFault) (m : Message) → ((x : Message) → found ≡ Some x → IsMessage x)
     → (if b then ok_or found f else Err g) ≡ Ok m → IsMessage m

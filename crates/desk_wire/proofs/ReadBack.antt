@@ -4,7 +4,6 @@ use Rattle.std.specs.Str.{bytes_eq}
 use Rattle.std.proofs.lemmas.Str.{is_utf8-from_IsUtf8}
 use Rattle.std.proofs.lemmas.Bool.{lt-ltb}
 use Rattle.std.proofs.lemmas.Slice.Eq.{bytes_eq-Decides}
-use Rattle.json.proofs.Printed.Utf8.{IsUtf8-are_ascii}
 use Rattle.serde_json.specs.Data.{Data}
 use Rattle.serde_json.specs.Read.{read}
 use Rattle.serde_json.specs.Written.{compact_text}
@@ -17,40 +16,17 @@ use Rattle.desk_wire.specs.Writing.{message_value, message_text}
 use Rattle.desk_wire.specs.Laws.{MessageReadsBack}
 use Rattle.desk_wire.specs.declared.reading.CommonMembers.{CommonMembers}
 use Rattle.desk_wire.proofs.NameTexts.{IsUtf8-name}
-use Rattle.desk_wire.proofs.PlainValues.{IsPlain, IsUtf8-compact_text, read-compact_text}
+use Rattle.desk_wire.proofs.PlainValues.{IsPlain, literal_then, text_then, whole_then, IsUtf8-compact_text, read-compact_text}
 
-plain : (receiver sender owner : List ℕ) (n : ℕ) → IsName receiver → IsName sender → IsName owner → n < 2 ^ 64 → IsPlain (message_value receiver sender n (OwnerAdd owner))
-plain receiver sender owner n r s o fits = (
-  IsUtf8-are_ascii _ refl,
-  (
-    IsUtf8-are_ascii _ refl,
-    (
-      IsUtf8-are_ascii _ refl,
-      (
-        IsUtf8-name owner o,
-        (
-          IsUtf8-are_ascii _ refl,
-          (
-            IsUtf8-are_ascii _ refl,
-            (
-              IsUtf8-are_ascii _ refl,
-              (
-                IsUtf8-name receiver r,
-                (
-                  IsUtf8-are_ascii _ refl,
-                  (
-                    IsUtf8-name sender s,
-                    (IsUtf8-are_ascii _ refl, (fits, tt)),
-                  ),
-                ),
-              ),
-            ),
-          ),
-        ),
-      ),
-    ),
-  ),
-)
+plain : (receiver sender owner : List ℕ) (n : ℕ) → IsName receiver → IsName sender → IsName owner → n < 2 ^ 64
+    → IsPlain (message_value receiver sender n (OwnerAdd owner))
+plain receiver sender owner n r s o fits =
+    literal_then refl refl
+    (text_then refl (IsUtf8-name owner o)
+    (literal_then refl refl
+    (text_then refl (IsUtf8-name receiver r)
+    (text_then refl (IsUtf8-name sender s)
+    (whole_then refl fits tt)))))
 
 value_of-text : (d : Data) → IsPlain d → read (compact_text d) ≡ Some d → value_of (compact_text d) ≡ Some d
 value_of-text d plain same = rw (is_utf8-from_IsUtf8 _ (IsUtf8-compact_text d plain)) same

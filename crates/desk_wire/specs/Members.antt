@@ -31,7 +31,7 @@ whole_at member limit value = get member value >>= as_number >>= as_u64 >>= only
 
 -- ---- members put beside others
 
--- the envelope's, of LoRaWAN Backend Interfaces 1.0: type, sender, receiver and transaction
+-- those of the envelope (LoRaWAN Backend Interfaces 1.0)
 abbrev pub with_envelope : List ℕ → List ℕ → List ℕ → ℕ → Members → Members
 with_envelope type_name sender receiver transaction members =
     put (codes "TransactionID") (number (unsigned transaction))

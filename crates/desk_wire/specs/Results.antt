@@ -1,12 +1,13 @@
--- How refusals are told: a ResultCode and a Description. ResultCode is a member of LoRaWAN Backend Interfaces 1.0;
--- which code stands for which refusal, and the descriptions, are this project's.
+-- How a result is told: a ResultCode and a Description, members of LoRaWAN Backend Interfaces 1.0. How the codes are
+-- spelt, which one stands for which refusal, and the descriptions are this project's.
 use Rattle.std.specs.Prelude.{ℕ, List, codes}
 use Rattle.registry_core.specs.declared.answers.Refusal.{Refusal}
 use Rattle.registry_core.specs.declared.answers.Refusal.TheVariants.{Malformed, InvalidProtocolVersion, UnknownReceiver, UnknownSender, TransactionReused, WrongRole, BadBody, UnknownType, Exists, UnknownOwner, UnknownGateway, UnknownDevEui, UnknownDevAddr, BadFrame, OutOfBand, MicFailed, JoinEui, Nonce, Addresses, Replayed, Late, Gap, SessionEnded, NoUplink, DownCounter, Collision, Duty, Answered, NoBooking, Done, Time, Unavailable, NotADesk, SchemaVersion}
 use Rattle.registry_core.specs.declared.answers.Answer.{Answer}
 use Rattle.registry_core.specs.declared.answers.Answer.TheVariants.{Success, Refused}
 
--- the last three have no answer text
+-- ---- the table of refusals. The last three are no answers: their lines make the table total
+
 abbrev pub refusal_code : Refusal → List ℕ
 refusal_code Malformed = codes "Other"
 refusal_code InvalidProtocolVersion = codes "InvalidProtocolVersion"
@@ -78,6 +79,8 @@ refusal_description Time = codes "time"
 refusal_description Unavailable = codes ""
 refusal_description NotADesk = codes ""
 refusal_description SchemaVersion = codes ""
+
+-- ---- the result of an answer
 
 abbrev pub result_code : Answer → List ℕ
 result_code Success = codes "Success"

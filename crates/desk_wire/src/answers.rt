@@ -12,7 +12,8 @@ use registry_core::{Answer, Envelope, Refusal};
 use serde_json::{Map, Value, put};
 use std::alloc::{AllocError, Global};
 
-/// The text of the receiver's answer to an envelope.
+/// The text of the receiver's answer to an envelope: the members of the envelope, with the sender as ReceiverID and
+/// `Ans` behind the MessageType, and Result with ResultCode and Description (LoRaWAN Backend Interfaces 1.0).
 #[tactic(auto, unfolding(crate::specs::Answers::answer_text))]
 pub fn write_answer(
     alloc: Global,
@@ -28,7 +29,8 @@ pub fn write_answer(
 }
 
 /// The text of the receiver's refusal of a request. With a head it has all members of the envelope, and without one
-/// only ProtocolVersion, Result and SenderID.
+/// only ProtocolVersion, Result and SenderID. Refusals 32 to 34 are no answers: for them it would have the ResultCode
+/// `Other` and an empty Description.
 #[tactic(auto, unfolding(crate::specs::Answers::refusal_text))]
 pub fn write_refusal(
     alloc: Global,

@@ -8,6 +8,8 @@ pub mod laws;
 mod members;
 mod reading;
 mod results;
+#[cfg(test)]
+mod tests;
 mod type_names;
 mod writing;
 

@@ -19,7 +19,10 @@ struct CommonMembers {
     head: Head,
 }
 
-/// The envelope that a text is for the receiver, or its first fault, or `Memory`.
+/// The envelope that a text is for the receiver, or its first fault: refusals 1, 2, 3, 8 and 7 are looked for in this
+/// order. The text is a JSON object (RFC 8259) in UTF-8 that has the members of the envelope (LoRaWAN Backend Interfaces
+/// 1.0) and those of its type, in this project's forms. Further members are ignored, and of equal ones the last stands.
+/// `Memory` is told only where a growth was refused.
 pub fn read_message(alloc: Global, text: &[u8], receiver: &Name) -> Result<Envelope, WireFault>
     ensures { Gives result (reads receiver.now text.now) }
 {

@@ -10,7 +10,8 @@ use registry_core::{Envelope, Message};
 use serde_json::{Map, Value, put};
 use std::alloc::{AllocError, Global};
 
-/// The one text of an envelope for the receiver: compact JSON, its members in byte order of their names.
+/// The one text of an envelope for the receiver: compact JSON, the members in byte order of their names. `read_message`
+/// reads it as the same envelope.
 #[tactic(auto, unfolding(crate::specs::Writing::message_text))]
 pub fn write_message(
     alloc: Global,
