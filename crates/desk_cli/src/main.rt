@@ -1,0 +1,10 @@
+//! The program `desk`.
+#![tactic(auto)]
+
+mod commands;
+mod numbers;
+mod options;
+mod usage;
+mod words;
+
+fn main() {}
