@@ -4,6 +4,8 @@
 mod commands;
 mod numbers;
 mod options;
+#[cfg(test)]
+mod tests;
 mod usage;
 mod words;
 

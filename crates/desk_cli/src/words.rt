@@ -1,7 +1,7 @@
 //! The words of a command line.
 ghost use Rattle.std.specs.Prelude.{◌≡◌, false, [], ◌∷◌, IfOk};
 ghost use Rattle.clap.specs.Matches.{found_of};
-ghost use Rattle.clap.specs.Simple.{app_of, subcommand_rows_of};
+ghost use Rattle.clap.specs.Simple.{app_of, new_app, subcommand_rows_of};
 ghost use Rattle.clap.specs.Walk.{rows_of, rule_of, texts};
 ghost use Rattle.clap.specs.declared.builder.command.Command.TheViews.{out-Command as fields_of};
 ghost use Rattle.clap.specs.declared.error.kind.ErrorKind.TheVariants.{MissingSubcommand};
@@ -72,30 +72,63 @@ fn usage_of(error: Error) -> Usage
 fn desk_command<'a>(alloc: Global) -> Result<clap::Command<'a>, AllocError>
     ensures { IfOk result (λ c. app_of c ≡ desk_app) }
 {
-    clap::Command::new(alloc, "desk").subcommand(lines_command(alloc)?)
+    command(alloc, "desk", "A LoRaWAN device registry and airtime desk").subcommand(lines_command(
+        alloc,
+    )?)
 }
 
 fn lines_command<'a>(alloc: Global) -> Result<clap::Command<'a>, AllocError>
     ensures app { IfOk result (λ c. app_of c ≡ lines_app) }
     ensures local { IfOk result (λ c. (fields_of c).has_globals ≡ false) }
 {
-    let receiver = option(alloc, "receiver", "NAME", "desk");
-    let operator = option(alloc, "operator", "NAME", "office");
-    let base = option(alloc, "base", "HEX8", "01a00000");
-    let addresses = option(alloc, "addresses", "COUNT", "65536");
-    clap::Command::new(alloc, "lines")
-        .arg(receiver)?
-        .arg(operator)?
-        .arg(base)?
-        .arg(addresses)
+    let receiver = option(alloc, "receiver", "NAME", "desk", "The desk's own name");
+    let operator = option(alloc, "operator", "NAME", "office", "The first operator");
+    let base = option(
+        alloc,
+        "base",
+        "HEX8",
+        "01a00000",
+        "The first device address",
+    );
+    let addresses = option(
+        alloc,
+        "addresses",
+        "COUNT",
+        "65536",
+        "How many device addresses",
+    );
+    command(
+        alloc,
+        "lines",
+        "Answers the messages of standard input, one a line",
+    )
+    .arg(receiver)?
+    .arg(operator)?
+    .arg(base)?
+    .arg(addresses)
 }
 
-fn option<'a>(alloc: Global, name: &'a str, value: &'a str, default: &'a str) -> Arg<'a>
+fn command<'a>(alloc: Global, name: &'a str, about: &'a str) -> clap::Command<'a>
+    ensures app { app_of result ≡ new_app name.entry.now }
+    ensures local { (fields_of result).has_globals ≡ false }
+{
+    clap::Command::new(alloc, name).about(about)
+}
+
+/// An option of one value.
+fn option<'a>(
+    alloc: Global,
+    name: &'a str,
+    form: &'a str,
+    default: &'a str,
+    help: &'a str,
+) -> Arg<'a>
     ensures rule { rule_of result ≡ option_rule name.entry.now default.entry.now }
     ensures local { result.global ≡ false }
 {
     Arg::new(alloc, name)
         .long(name)
-        .value_name(value)
+        .value_name(form)
         .default_value(default)
+        .help(help)
 }
