@@ -10,7 +10,7 @@ use Rattle.clap.specs.declared.parser.matches.ArgMatches.{ArgMatches}
 use Rattle.desk_cli.specs.Named.{desk_app, command_named, named_by, named_unless, IsUsageOf, Tells}
 use Rattle.desk_cli.specs.declared.commands.Command.{Command}
 use Rattle.desk_cli.specs.declared.usage.Usage.{Usage}
-use Rattle.desk_cli.specs.declared.usage.Usage.TheVariants.{Memory, Words, Value}
+use Rattle.desk_cli.specs.declared.usage.Usage.TheVariants.{Words, Value, NotText, Memory}
 
 -- words that have no fault name what the subcommand that they enter says
 unfaulted : (kinds : Kinds) (met found : Option (Text × List Row)) (r : Result Command Usage)
@@ -23,6 +23,7 @@ faulted : (kinds : Kinds) (met : Option (Text × List Row)) (error : Error) (usa
     → HasKind kinds error → IsUsageOf error usage → Tells (named_unless kinds met) (Err usage)
 faulted kinds met error Memory has is = tt
 faulted kinds met error (Value value) has is = absurd is
+faulted kinds met error NotText has is = absurd is
 faulted kinds met error (Words same) (inl memory) is = absurd (is.1 memory)
 faulted [] met error (Words same) (inr among) is = absurd among
 faulted (kind ∷ kinds) met error (Words same) (inr among) is =

@@ -14,7 +14,7 @@ use Rattle.desk_cli.specs.declared.commands.Command.{Command}
 use Rattle.desk_cli.specs.declared.commands.Command.TheVariants.{Lines}
 use Rattle.desk_cli.specs.declared.usage.BadValue.{BadValue}
 use Rattle.desk_cli.specs.declared.usage.Usage.{Usage}
-use Rattle.desk_cli.specs.declared.usage.Usage.TheVariants.{Memory, Words, Value}
+use Rattle.desk_cli.specs.declared.usage.Usage.TheVariants.{Words, Value, NotText, Memory}
 
 -- ---- the command line
 
@@ -71,10 +71,12 @@ abbrev pub IsUsageOf : Error → Usage → Type 0
 IsUsageOf error Memory = kind_of error ≡ OutOfMemory
 IsUsageOf error (Words same) = (same ≡ error) × (kind_of error ≢ OutOfMemory)
 IsUsageOf error (Value value) = ⊥
+IsUsageOf error NotText = ⊥
 
 -- the answer is what the words name, unless memory ran out
 abbrev pub Tells : Named → Result Command Usage → Type 0
 Tells named (Ok command) = named ≡ names command
 Tells named (Err (Words error)) = IsRefusal (kind_of error) named
 Tells named (Err (Value value)) = named ≡ bad value
+Tells named (Err NotText) = ⊥
 Tells named (Err Memory) = Unit {0}

@@ -24,6 +24,8 @@ pub enum Usage {
     Words(Error),
     /// A value is bad.
     Value(BadValue),
+    /// A word isn't UTF-8.
+    NotText,
     /// Memory ran out before the words were read.
     Memory,
 }
@@ -51,6 +53,7 @@ impl Display for Usage {
             Usage::Value(value) => {
                 write!(f, "error: {value}\n\nFor more information, try '--help'.\n")
             }
+            Usage::NotText => f.write_str("error: a word isn't UTF-8\n"),
             Usage::Memory => f.write_str("desk: unavailable\n"),
         }
     }
