@@ -1,0 +1,46 @@
+-- Answers that tell what words name.
+use Rattle.std.proofs.Common.{◌≡◌, true, [], ◌∷◌, List, Option, Result, Err, inl, inr, refl, subst, sym}
+use Rattle.clap.specs.Faults.{fault_of, is_simple_and_free}
+use Rattle.clap.specs.Kinds.{Kinds, HasKind, IsAmong}
+use Rattle.clap.specs.Simple.{App, HasMatchesOf, subcommand_rows_of}
+use Rattle.clap.specs.Values.{kind_of}
+use Rattle.clap.specs.Walk.{Row, Text}
+use Rattle.clap.specs.declared.error.Error.{Error}
+use Rattle.clap.specs.declared.parser.matches.ArgMatches.{ArgMatches}
+use Rattle.desk_cli.specs.Named.{desk_app, command_named, named_by, named_unless, IsUsageOf, Tells}
+use Rattle.desk_cli.specs.declared.commands.Command.{Command}
+use Rattle.desk_cli.specs.declared.usage.Usage.{Usage}
+use Rattle.desk_cli.specs.declared.usage.Usage.TheVariants.{Words, Value, NotText, Memory}
+
+-- words that have no fault name what the subcommand that they enter says
+unfaulted : (kinds : Kinds) (met found : Option (Text × List Row)) (r : Result Command Usage)
+    → kinds ≡ [] → found ≡ met → Tells (command_named found) r → Tells (named_unless kinds met) r
+unfaulted kinds met found r free same tells =
+    subst (λ ks. Tells (named_unless ks met) r) (sym free) (subst (λ m. Tells (command_named m) r) same tells)
+
+-- an error on the words has one of their faults
+faulted : (kinds : Kinds) (met : Option (Text × List Row)) (error : Error) (usage : Usage)
+    → HasKind kinds error → IsUsageOf error usage → Tells (named_unless kinds met) (Err usage)
+faulted kinds met error Memory has is = tt
+faulted kinds met error (Value value) has is = absurd is
+faulted kinds met error NotText has is = absurd is
+faulted kinds met error (Words same) (inl memory) is = absurd (is.1 memory)
+faulted [] met error (Words same) (inr among) is = absurd among
+faulted (kind ∷ kinds) met error (Words same) (inr among) is =
+    subst (λ e. IsAmong (kind_of e) (kind ∷ kinds)) (sym is.0) among
+
+-- the same of the desk's command line, at a parse that gives matches and at one that gives an error
+pub tells_command : (app : App) (words : List Text) (m : ArgMatches) (r : Result Command Usage) → app ≡ desk_app
+    → (is_simple_and_free app ≡ true → fault_of app words ≡ []) → HasMatchesOf app words m
+    → Tells (command_named (subcommand_rows_of m)) r → Tells (named_by words) r
+tells_command app words m r is free has tells =
+    let desk_free = subst (λ a. is_simple_and_free a ≡ true → fault_of a words ≡ []) is free in
+    let desk_has = subst (λ a. HasMatchesOf a words m) is has in
+    unfaulted _ _ _ r (desk_free refl) (desk_has refl).1 tells
+
+pub tells_usage : (app : App) (words : List Text) (error : Error) (usage : Usage) → app ≡ desk_app
+    → (is_simple_and_free app ≡ true → HasKind (fault_of app words) error) → IsUsageOf error usage
+    → Tells (named_by words) (Err usage)
+tells_usage app words error usage is has same =
+    let desk_has = subst (λ a. is_simple_and_free a ≡ true → HasKind (fault_of a words) error) is has in
+    faulted _ _ error usage (desk_has refl) same

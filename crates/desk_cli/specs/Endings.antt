@@ -1,0 +1,17 @@
+-- How the program ends (this project's exit statuses).
+use Rattle.std.specs.Prelude.{ℕ}
+use Rattle.desk_cli.specs.declared.endings.Ending.{Ending}
+use Rattle.desk_cli.specs.declared.endings.Ending.TheVariants.{Done, Refused, Misused, Failed}
+use Rattle.desk_cli.specs.declared.usage.Usage.{Usage}
+use Rattle.desk_cli.specs.declared.usage.Usage.TheVariants.{Memory}
+
+abbrev pub status_of : Ending → ℕ
+status_of Done = 0
+status_of Refused = 1
+status_of Misused = 2
+status_of Failed = 3
+
+-- the want of memory is a failure, and all else that is wrong with words is a misuse, help too
+abbrev pub ending_of : Usage → Ending
+ending_of Memory = Failed
+ending_of _ = Misused

@@ -1,0 +1,4 @@
+pub mod Endings
+pub mod Named
+pub mod Numbers
+pub mod Options

@@ -1,0 +1,48 @@
+-- The configuration that the options of a command give.
+use Rattle.std.specs.Prelude.{ℕ, ◌+◌, ◌^◌, Bool, ◌&&◌, List, Option, Some, None, Result, Ok, Err, codes, nat_le, option_and_then, if◌then◌else◌}
+use Rattle.clap.specs.Walk.{Row, Text, first_of}
+use Rattle.radio_core.specs.Names.{is_name}
+use Rattle.registry_core.specs.Settings.{Settings}
+use Rattle.desk_cli.specs.Numbers.{base_of, count_of}
+use Rattle.desk_cli.specs.declared.usage.BadValue.{BadValue}
+use Rattle.desk_cli.specs.declared.usage.BadValue.TheVariants.{Receiver, Operator, Base, Addresses, Block}
+
+-- a value, or which value is bad
+abbrev pub Checked : Type 0 → Type 0
+Checked X = Result X BadValue
+
+infixl 10 ◌>>=◌
+abbrev pub ◌>>=◌ : {X Y : Type 0} → Checked X → (X → Checked Y) → Checked Y
+(Ok x) >>= next = next x
+(Err bad) >>= next = Err bad
+
+-- it has to be there, or else this value is bad
+abbrev pub needs : {X : Type 0} → Option X → BadValue → Checked X
+needs (Some x) bad = Ok x
+needs None bad = Err bad
+
+abbrev pub name_of : Text → Option Text
+name_of text = if is_name text then Some text else None
+
+-- the addresses are some, and they end at the last address or before
+abbrev pub is_block : ℕ → ℕ → Bool
+is_block base addresses = nat_le 1 addresses && nat_le (base + addresses) (2 ^ 32)
+
+abbrev pub settings_of : Text → Text → ℕ → ℕ → Option Settings
+settings_of receiver operator base addresses =
+    if is_block base addresses
+    then Some (record { receiver = receiver; operator = operator; base = base; addresses = addresses })
+    else None
+
+-- the value of an option, by a form
+abbrev pub value_at : {X : Type 0} → (Text → Option X) → Text → List Row → Option X
+value_at form option rows = option_and_then form (first_of option rows)
+
+-- the configuration of the four options, or the first of them that is bad
+unfoldable pub config_of : List Row → Checked Settings
+config_of rows = do
+  receiver ← needs (value_at name_of (codes "receiver") rows) Receiver
+  operator ← needs (value_at name_of (codes "operator") rows) Operator
+  base ← needs (value_at base_of (codes "base") rows) Base
+  addresses ← needs (value_at count_of (codes "addresses") rows) Addresses
+  needs (settings_of receiver operator base addresses) Block

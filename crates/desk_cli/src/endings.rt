@@ -1,0 +1,39 @@
+//! How the program ends.
+ghost use Rattle.std.specs.Prelude.{◌≡◌};
+ghost use Rattle.std.specs.Process.{exit_status};
+ghost use Rattle.desk_cli.specs.Endings.{ending_of, status_of};
+
+use crate::usage::Usage;
+use std::process::ExitCode;
+
+/// How the program ends. The exit statuses are this project's.
+#[derive(Clone, Copy, Debug, PartialEq, Eq)]
+pub enum Ending {
+    /// It did what was asked. Status 0.
+    Done,
+    /// What was asked is refused. Status 1.
+    Refused,
+    /// The words name no command, or ask for help. Status 2.
+    Misused,
+    /// Memory, a file or the network failed. Status 3.
+    Failed,
+}
+
+impl Ending {
+    /// The exit status.
+    pub fn status(self) -> ExitCode
+        ensures { exit_status result ≡ status_of self }
+    {
+        ExitCode::from(self as u8)
+    }
+}
+
+/// How the program ends where words name no command.
+pub fn ending_of(usage: &Usage) -> Ending
+    ensures { result ≡ ending_of usage.now }
+{
+    match usage {
+        Usage::Memory => Ending::Failed,
+        _ => Ending::Misused,
+    }
+}

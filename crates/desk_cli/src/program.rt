@@ -1,0 +1,62 @@
+//! The program's arguments, and what it does with them.
+ghost use Rattle.std.specs.Prelude.{◌≡◌, map, string_bytes, IfOk};
+ghost use Rattle.clap.specs.Walk.{texts};
+ghost use Rattle.desk_cli.specs.Endings.{ending_of};
+
+use crate::commands::Command;
+use crate::endings::{Ending, ending_of};
+use crate::usage::Usage;
+use crate::words::read_words;
+use std::alloc::Global;
+use std::env;
+use std::io::{ErrorKind, Write};
+use std::rt::Env;
+
+/// Does what the program's arguments ask. What is wrong with them goes to `faults`.
+pub fn run<R: Env + AllocGlobal, F: Write>(rt: &R, faults: &mut F) -> Ending {
+    match asked(rt) {
+        Ok(command) => perform(&command),
+        Err(usage) => tell(&usage, faults),
+    }
+}
+
+// `Lines` is matched behind a reference: a pattern that moves `config` out in generic code gets no proof.
+fn perform(command: &Command) -> Ending {
+    match command {
+        Command::Lines { config: _ } => Ending::Done,
+    }
+}
+
+fn tell<F: Write>(usage: &Usage, faults: &mut F) -> Ending
+    ensures { result ≡ ending_of usage.now }
+{
+    // Where even this can't be written, the exit status still tells.
+    let _ = write!(faults, "{usage}");
+    ending_of(usage)
+}
+
+/// The command that the program's arguments name.
+fn asked<R: Env + AllocGlobal>(rt: &R) -> Result<Command, Usage> {
+    let arguments = arguments(rt)?;
+    let words = words_of(rt.alloc(), &arguments)?;
+    read_words(rt.alloc(), &words)
+}
+
+/// The program's arguments, its own name first.
+fn arguments<R: Env + AllocGlobal>(rt: &R) -> Result<Vec<String>, Usage> {
+    match env::args(rt) {
+        Ok(arguments) => arguments.collect(rt.alloc()).map_err(|_| Usage::Memory),
+        Err(error) if error.kind() == ErrorKind::OutOfMemory => Err(Usage::Memory),
+        Err(_) => Err(Usage::NotText),
+    }
+}
+
+fn words_of<'a>(alloc: Global, arguments: &'a [String]) -> Result<Vec<&'a str>, Usage>
+    ensures { IfOk result (λ words. texts words.items ≡ map string_bytes arguments.entry.now) }
+{
+    let words = arguments.iter().map(|argument| argument.as_str());
+    match words.collect(alloc) {
+        Ok(words) => Ok(words),
+        Err(_) => Err(Usage::Memory),
+    }
+}

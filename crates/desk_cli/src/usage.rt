@@ -1,0 +1,60 @@
+//! Why words name no command.
+use clap::Error;
+use std::fmt::{self, Display, Formatter};
+
+/// A value that isn't in its form, or values that don't go together.
+#[derive(Clone, Copy, Debug, PartialEq, Eq)]
+pub enum BadValue {
+    /// `--receiver` is no name.
+    Receiver,
+    /// `--operator` is no name.
+    Operator,
+    /// `--base` isn't eight hexadecimal digits.
+    Base,
+    /// `--addresses` isn't one to ten decimal digits, or isn't below 2 ^ 32.
+    Addresses,
+    /// The block of addresses is empty or goes beyond the last address.
+    Block,
+}
+
+/// Why words name no command. Its `Display` is the text for the user.
+#[derive(Debug, Drop)]
+pub enum Usage {
+    /// clap's error on the words, or the help that they ask for.
+    Words(Error),
+    /// A value is bad.
+    Value(BadValue),
+    /// A word isn't UTF-8.
+    NotText,
+    /// Memory ran out before the words were read.
+    Memory,
+}
+
+impl Display for BadValue {
+    fn fmt<W: fmt::Write>(&self, f: &mut Formatter<W>) -> fmt::Result {
+        f.write_str(match self {
+            BadValue::Receiver => {
+                "--receiver takes 1 to 32 ASCII letters, digits, '-', '_' and '.'"
+            }
+            BadValue::Operator => {
+                "--operator takes 1 to 32 ASCII letters, digits, '-', '_' and '.'"
+            }
+            BadValue::Base => "--base takes eight hexadecimal digits",
+            BadValue::Addresses => "--addresses takes a number up to 4294967295, in digits",
+            BadValue::Block => "--addresses is at least 1, and ends at address ffffffff or before",
+        })
+    }
+}
+
+impl Display for Usage {
+    fn fmt<W: fmt::Write>(&self, f: &mut Formatter<W>) -> fmt::Result {
+        match self {
+            Usage::Words(error) => write!(f, "{error}"),
+            Usage::Value(value) => {
+                write!(f, "error: {value}\n\nFor more information, try '--help'.\n")
+            }
+            Usage::NotText => f.write_str("error: a word isn't UTF-8\n"),
+            Usage::Memory => f.write_str("desk: unavailable\n"),
+        }
+    }
+}
