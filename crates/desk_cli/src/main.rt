@@ -3,6 +3,7 @@
 
 mod commands;
 mod endings;
+mod lines;
 mod numbers;
 mod options;
 mod program;
@@ -14,5 +15,5 @@ mod words;
 use std::process::ExitCode;
 
 fn main(rt: HostRuntime) -> ExitCode {
-    program::run(&rt, &mut rt.stderr()).status()
+    program::run(&rt, &mut rt.stdin(), &mut rt.stdout(), &mut rt.stderr()).status()
 }

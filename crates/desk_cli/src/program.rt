@@ -5,25 +5,37 @@ ghost use Rattle.desk_cli.specs.Endings.{ending_of};
 
 use crate::commands::Command;
 use crate::endings::{Ending, ending_of};
+use crate::lines::lines_command;
 use crate::usage::Usage;
 use crate::words::read_words;
 use std::alloc::Global;
 use std::env;
-use std::io::{ErrorKind, Write};
+use std::io::{ErrorKind, Read, Write};
 use std::rt::Env;
 
 /// Does what the program's arguments ask. What is wrong with them goes to `faults`.
-pub fn run<R: Env + AllocGlobal, F: Write>(rt: &R, faults: &mut F) -> Ending {
+pub fn run<E: Env + AllocGlobal, R: Read, W: Write, F: Write>(
+    rt: &E,
+    reader: &mut R,
+    answers: &mut W,
+    faults: &mut F,
+) -> Ending {
     match asked(rt) {
-        Ok(command) => perform(&command),
+        Ok(command) => perform(rt.alloc(), &command, reader, answers, faults),
         Err(usage) => tell(&usage, faults),
     }
 }
 
 // `Lines` is matched behind a reference: a pattern that moves `config` out in generic code gets no proof.
-fn perform(command: &Command) -> Ending {
+fn perform<R: Read, W: Write, F: Write>(
+    alloc: Global,
+    command: &Command,
+    reader: &mut R,
+    answers: &mut W,
+    faults: &mut F,
+) -> Ending {
     match command {
-        Command::Lines { config: _ } => Ending::Done,
+        Command::Lines { config } => lines_command(alloc, config, reader, answers, faults),
     }
 }
 

@@ -1,5 +1,5 @@
 -- Outcomes of the code against what is told.
-use Rattle.std.specs.Prelude.{◌≡◌, ◌≢◌, ◌||◌, ℕ, Bool, true, false, List, [], ◌∷◌, ◌++◌, Option, Some, None, Result, Ok, Err, if◌then◌else◌}
+use Rattle.std.specs.Prelude.{◌≡◌, ◌≢◌, ◌||◌, ℕ, Bool, true, false, List, [], ◌∷◌, ◌++◌, Option, Some, None, Result, Ok, Err, MatchOption, if◌then◌else◌}
 use Rattle.registry_core.specs.declared.answers.Refusal.TheVariants.{TransactionReused}
 use Rattle.registry_core.specs.declared.messages.Envelope.{Envelope}
 use Rattle.registry_core.specs.Heard.{state_of}
@@ -11,10 +11,10 @@ use Rattle.desk_store.specs.Kept.{Kept}
 use Rattle.desk_wire.specs.Answers.{answer_text, head_of_envelope}
 use Rattle.desk_wire.specs.Writing.{message_text}
 use Rattle.desk_wire.specs.declared.faults.WireFault.{WireFault}
-use Rattle.desk_wire.specs.declared.faults.WireFault.TheVariants as faults
+use Rattle.desk_wire.specs.Faults.{head_of_fault, refusal_of_fault}
 use Rattle.desk_engine.specs.declared.outcomes.Outcome.{Outcome}
 use Rattle.desk_engine.specs.declared.outcomes.Outcome.TheVariants.{Answered, Refused, Unavailable}
-use Rattle.desk_engine.specs.Told.{Told, AnswerText, RefusalText, envelope_of_text, fault_told, refused, text_told}
+use Rattle.desk_engine.specs.Told.{Told, AnswerText, RefusalText, envelope_of_text, refused, text_told}
 use Rattle.desk_engine.specs.Deliveries.{Delivery, heard_after, heard_all}
 use Rattle.desk_engine.specs.InOrder.{IsInOrder, Survives, doubt_after, kept_after}
 
@@ -83,10 +83,9 @@ Says told (Answered text) = told ≡ AnswerText text.items
 Says told (Refused refusal text) = told ≡ RefusalText refusal text.items
 Says told (Unavailable fault) = fault ≡ Memory
 
--- the outcome is why the text is no envelope, or memory ran out
+-- the outcome is why the text is no envelope; where memory ran out before that was known, it is Unavailable
 abbrev pub RefusesText : Settings → WireFault → Outcome → Type 0
-RefusesText c faults.Memory outcome = outcome ≡ Unavailable Memory
-RefusesText c fault outcome = Says (fault_told c fault) outcome
+RefusesText c fault outcome = MatchOption (refusal_of_fault fault) (outcome ≡ Unavailable Memory) (λ refusal. Says (refused c refusal (head_of_fault fault)) outcome)
 
 -- a repeat of the message with that text gets that answer, and another message is refused
 abbrev pub Repeats : Settings → Envelope → List ℕ → List ℕ → Outcome → Type 0

@@ -1,14 +1,15 @@
 -- What a delivery reads as, and what it is told.
-use Rattle.std.specs.Prelude.{ℕ, List, Option, Some, None, Result, Ok, Err, nat_lt, length, if◌then◌else◌}
+use Rattle.std.specs.Prelude.{ℕ, List, Option, Some, None, Result, Ok, Err, nat_lt, length, unwrap_or, if◌then◌else◌}
 use Rattle.registry_core.specs.declared.answers.Refusal.{Refusal}
-use Rattle.registry_core.specs.declared.answers.Refusal.TheVariants.{Malformed, InvalidProtocolVersion, UnknownReceiver, UnknownSender, TransactionReused, BadBody, UnknownType, Unavailable}
+use Rattle.registry_core.specs.declared.answers.Refusal.TheVariants.{UnknownSender, TransactionReused, Unavailable}
 use Rattle.registry_core.specs.declared.messages.Envelope.{Envelope}
 use Rattle.registry_core.specs.Heard.{Reply, Stranger, Reused, Answers, reply_to}
 use Rattle.registry_core.specs.Settings.{Settings}
 use Rattle.desk_wire.specs.declared.faults.WireFault.{WireFault}
-use Rattle.desk_wire.specs.declared.faults.WireFault.TheVariants as faults
+use Rattle.desk_wire.specs.declared.faults.WireFault.TheVariants.{Malformed}
 use Rattle.desk_wire.specs.declared.heads.Head.{Head}
 use Rattle.desk_wire.specs.Answers.{answer_text, refusal_text, head_of_envelope}
+use Rattle.desk_wire.specs.Faults.{head_of_fault, refusal_of_fault}
 use Rattle.desk_wire.specs.Reading.{reads}
 
 -- a longer text is no message (this project's limit)
@@ -17,7 +18,7 @@ most_octets = 65536
 
 -- the envelope that a delivered text is, or why it is none
 unfoldable pub envelope_of_text : Settings → List ℕ → Result Envelope WireFault
-envelope_of_text c text = if nat_lt most_octets (length text) then Err faults.Malformed else reads c.receiver text
+envelope_of_text c text = if nat_lt most_octets (length text) then Err Malformed else reads c.receiver text
 
 -- what goes back: an answer's text, or a refusal and its text
 pub data Told : Type 0 where
@@ -39,12 +40,7 @@ reply_told c e (Answers answer) = AnswerText (answer_text c.receiver (head_of_en
 
 -- why a text is no envelope, as a text; reading tells no want of memory
 abbrev pub fault_told : Settings → WireFault → Told
-fault_told c faults.Malformed = refused c Malformed None
-fault_told c (faults.InvalidProtocolVersion head) = refused c InvalidProtocolVersion (Some head)
-fault_told c (faults.UnknownReceiver head) = refused c UnknownReceiver (Some head)
-fault_told c (faults.UnknownType head) = refused c UnknownType (Some head)
-fault_told c (faults.BadBody head) = refused c BadBody (Some head)
-fault_told c faults.Memory = refused c Unavailable None
+fault_told c fault = refused c (unwrap_or (refusal_of_fault fault) Unavailable) (head_of_fault fault)
 
 -- what an envelope is told after these
 abbrev pub envelope_told : Settings → List Envelope → Envelope → Told

@@ -12,7 +12,7 @@ use crate::hearing::{hear, refuse};
 use crate::outcomes::Outcome;
 use desk_store::{Keeper, StoreFault};
 use desk_wire::{WireFault, read_message};
-use registry_core::{Config, Envelope, Refusal};
+use registry_core::{Config, Envelope};
 use std::alloc::{AllocError, Global};
 
 #[tactic(auto, unfolding(crate::specs::Told::envelope_of_text))]
@@ -29,20 +29,9 @@ fn read_delivery(alloc: Global, config: &Config, text: &[u8]) -> Result<Envelope
 fn refuse_text(alloc: Global, config: &Config, fault: &WireFault) -> Outcome
     ensures { RefusesText config.now fault.now result }
 {
-    match fault {
-        WireFault::Malformed => refuse(alloc, config, Refusal::Malformed, None),
-        WireFault::InvalidProtocolVersion(head) => {
-            refuse(alloc, config, Refusal::InvalidProtocolVersion, Some(head))
-        }
-        WireFault::UnknownReceiver(head) => refuse(
-            alloc,
-            config,
-            Refusal::UnknownReceiver,
-            Some(head),
-        ),
-        WireFault::UnknownType(head) => refuse(alloc, config, Refusal::UnknownType, Some(head)),
-        WireFault::BadBody(head) => refuse(alloc, config, Refusal::BadBody, Some(head)),
-        WireFault::Memory => Outcome::Unavailable(StoreFault::Memory),
+    match fault.refusal() {
+        Some(refusal) => refuse(alloc, config, refusal, fault.head()),
+        None => Outcome::Unavailable(StoreFault::Memory),
     }
 }
 

@@ -1,0 +1,55 @@
+//! `desk lines`: messages from a reader, answers to a writer, over lists in memory.
+ghost use Rattle.std.specs.Prelude.{◌≡◌, ℕ, List, []};
+ghost use Rattle.std.specs.Io.KnownBytes.{Appends, Consumes, IsAtEnd};
+ghost use Rattle.desk_engine.specs.Lines.{all_lines, answer_lines};
+ghost use Rattle.desk_cli.specs.Endings.{IsDoneOrFailed};
+
+use crate::endings::Ending;
+use desk_engine::{LinesEnd, run_lines};
+use desk_store::Lists;
+use registry_core::Config;
+use std::alloc::Global;
+use std::io::{Read, Write};
+
+/// Answers the messages of the reader, one a line, over lists made for it: exit status 0 where the input ended.
+///
+/// Where the reader or the writer fails it says `desk: file` on the fault line, and where the store is unavailable
+/// `desk: unavailable`: exit status 3, after the answers of the lines before.
+pub fn lines_command<R: Read, W: Write, F: Write>(
+    alloc: Global,
+    config: &Config,
+    reader: &mut R,
+    answers: &mut W,
+    faults: &mut F,
+) -> Ending
+    // With status 0 exactly the answers of the lines were written, from the opening state on.
+    ensures answered { result ≡ Ending.Done → (input : List ℕ)
+        × Consumes (R.remaining reader.old) (R.remaining reader.new) input × IsAtEnd (R.remaining reader.new)
+        × Appends (W.contents answers.old) (W.contents answers.new) (answer_lines config.now [] (all_lines input)) }
+    ensures ends { IsDoneOrFailed result }
+{
+    let mut lists = match Lists::new(alloc, *config) {
+        Ok(lists) => lists,
+        Err(_) => return fail(faults, "desk: unavailable\n"),
+    };
+    match run_lines(alloc, &mut lists, reader, answers) {
+        LinesEnd::Done => match answers.flush() {
+            Ok(()) => Ending::Done,
+            Err(_) => fail(faults, "desk: file\n"),
+        },
+        LinesEnd::Read => fail(faults, "desk: file\n"),
+        LinesEnd::Write => fail(faults, "desk: file\n"),
+        LinesEnd::Unavailable(_) => fail(faults, "desk: unavailable\n"),
+    }
+}
+
+/// Says why on the fault line. Where even this can't be written, the exit status still tells.
+fn fail<F: Write>(faults: &mut F, line: &str) -> Ending
+    ensures { result ≡ Ending.Failed }
+{
+    let _ = faults.write_all(line.as_bytes());
+    Ending::Failed
+}
+
+#[cfg(test)]
+mod tests;
