@@ -74,16 +74,19 @@ all_lines-append xs ys = ap (λ c. c.0 ++ c.1 ∷ []) (cut-append xs ys) ∙ app
 pub beginning-append : (xs ys : List ℕ) → IsBeginning (whole_lines xs) (all_lines (xs ++ ys))
 beginning-append xs ys = (later_lines xs ys, all_lines-append xs ys)
 
--- there is a first of them
-first_line : (lines : List (List ℕ)) (rest : List ℕ) → (line : List ℕ) × (more : List (List ℕ)) × (lines ++ rest ∷ [] ≡ line ∷ more)
-first_line [] rest = (rest, [], refl)
-first_line (line ∷ lines) rest = (line, lines ++ rest ∷ [], refl)
+-- the first of them goes on with a line begun
+first_line : (p : List ℕ) (c : List (List ℕ) × List ℕ)
+    → (tail : List ℕ) × (more : List (List ℕ)) × ((begun_by p c).0 ++ (begun_by p c).1 ∷ [] ≡ (p ++ tail) ∷ more)
+first_line p ([], rest) = (rest, [], refl)
+first_line p (line ∷ lines, rest) = (line, lines ++ rest ∷ [], refl)
 
--- after the whole lines comes another
-pub next_line : (xs ys : List ℕ) → (line : List ℕ) × IsBeginning (whole_lines xs ++ line ∷ []) (all_lines (xs ++ ys))
+-- after the whole lines comes one that goes on with the last line
+pub next_line : (xs ys : List ℕ) → (tail : List ℕ) × IsBeginning (whole_lines xs ++ (last_line xs ++ tail) ∷ []) (all_lines (xs ++ ys))
 next_line xs ys =
-    let first = first_line (begun_by (last_line xs) (cut ys)).0 (begun_by (last_line xs) (cut ys)).1 in
-    (first.0, (first.1, all_lines-append xs ys ∙ ap (λ later. whole_lines xs ++ later) first.2 ∙ sym (append_assoc (whole_lines xs) (first.0 ∷ []) first.1)))
+    let first = first_line (last_line xs) (cut ys) in (
+      first.0,
+      (first.1, all_lines-append xs ys ∙ ap (λ later. whole_lines xs ++ later) first.2 ∙ sym (append_assoc (whole_lines xs) ((last_line xs ++ first.0) ∷ []) first.1)),
+    )
 
 pub beginning-refl : (lines : List (List ℕ)) → IsBeginning lines lines
 beginning-refl lines = ([], sym (append-nil lines))

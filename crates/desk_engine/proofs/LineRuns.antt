@@ -1,5 +1,5 @@
 -- What a run has heard and written, one line or one octet further.
-use Rattle.std.proofs.Common.{◌≡◌, ◌==◌, ◌||◌, ◌+◌, ◌<◌, ℕ, List, [], ◌∷◌, ◌++◌, Bool, true, false, Option, Some, None, Result, Ok, Err, IfErr, OnOk, length, take, drop, get_or, refl, sym, ap, ◌∙◌, subst, append_assoc, append-nil, take-append-drop, inl, inr, arith}
+use Rattle.std.proofs.Common.{◌≡◌, ◌≢◌, ◌==◌, ◌||◌, ◌+◌, ◌<◌, ℕ, List, [], ◌∷◌, ◌++◌, Bool, true, false, Option, Some, None, Result, Ok, Err, IfErr, OnOk, length, take, drop, get_or, refl, sym, ap, ◌∙◌, subst, append_assoc, append-nil, take-append-drop, inl, inr, arith}
 use Rattle.std.proofs.lemmas.List.{take_more}
 use Rattle.std.proofs.KnownBytes.{Appends-nil, Appends-trans, Consumes-trans}
 use Rattle.std.specs.Io.KnownBytes.{Appends, Consumes}
@@ -54,6 +54,14 @@ no_doubt c line o u = no_doubt_read (envelope_of_text c line) o u
 no_doubt_memory : (r : Result Envelope WireFault) → doubt_read r (outcome.Unavailable Memory) ≡ None
 no_doubt_memory (Ok e) = refl
 no_doubt_memory (Err fault) = refl
+
+has_octet : (line : List ℕ) → (length line == 0) ≡ false → line ≢ []
+has_octet line some none = let empty : length line ≡ 0 = ap length none in absurd (cc (ap (λ n. n == 0) empty, some))
+
+-- a line with this octet has an octet
+has_that_octet : (xs : List ℕ) (x : ℕ) (ys : List ℕ) → (xs ++ x ∷ []) ++ ys ≢ []
+has_that_octet [] x ys none = cc
+has_that_octet (y ∷ xs) x ys none = cc
 
 -- what is answered Unavailable isn't heard
 heard_read-unavailable : (c : Settings) (heard : List Envelope) (r : Result Envelope WireFault) → heard_read true c heard r ≡ heard
@@ -121,7 +129,7 @@ module _ {K : Type 0} (holds : K → Kept → Type 0) (leaves : K → List Kept 
     hears = hears;
     answers = subst (Appends w v) (ap (λ s. s ++ line_feed ∷ []) (sym told) ∙ sym (append-nil _)) written;
   }
-  takes-heard T heard old new w v x line text (Err Write) told hears written failed = hears
+  takes-heard T heard old new w v x line text (Err Write) told hears written failed = ((λ e. cc), hears)
   takes-heard T heard old new w v x line text (Err (Unavailable fault)) told hears written failed = cc
 
   -- it was told this
@@ -143,12 +151,13 @@ module _ {K : Type 0} (holds : K → Kept → Type 0) (leaves : K → List Kept 
 
   -- the store was unavailable
   pub takes-unavailable : (T : Type 0) (heard : List Envelope) (old new : K) (w : Option (List ℕ)) (line : List ℕ) (fault : StoreFault)
-      → IsUnavailability fault → IsInOrder holds c new (heard_after c heard (delivery_of line (outcome.Unavailable fault)))
+      → (length line == 0) ≡ false → IsUnavailability fault → IsInOrder holds c new (heard_after c heard (delivery_of line (outcome.Unavailable fault)))
       → ((doubt : Option Envelope) → Survives leaves down c old heard doubt
       → Survives leaves down c new (heard_after c heard (delivery_of line (outcome.Unavailable fault))) (doubt_after (down old) doubt (doubt_of_text c line (outcome.Unavailable fault))))
       → TakesLine holds leaves down c heard old new w w {T = T} line (Err (Unavailable fault))
-  takes-unavailable T heard old new w line fault is order crash =
+  takes-unavailable T heard old new w line fault some is order crash =
       let same : heard_after c heard (delivery_of line (outcome.Unavailable fault)) ≡ heard = heard_read-unavailable c heard (envelope_of_text c line) in (
+        has_octet line some,
         record {
           hears = record {
             order = subst (λ h. IsInOrder holds c new h) same order;
@@ -183,15 +192,18 @@ module _ {K : Type 0} (holds : K → Kept → Type 0) (leaves : K → List Kept 
       → TakesLine holds leaves down c (heard_lines c heard (whole_lines input)) mid new u v {T = T} slice (Err stop)
       → EndsBy holds leaves down c heard start new w v all (end_of stop)
   ends-stopped T Write heard start mid new w u v input all line slice beginning stands same took = record {
-    lines = all_lines input;
+    lines = whole_lines input;
+    line = last_line input;
+    some = λ none. took.0 (same ∙ stands.begun ∙ ap part none);
     beginning = beginning;
     hears = hears-then heard start mid new (whole_lines input) (last_line input ∷ []) None stands.up stands.answered.hears
         (hears-whole (heard_lines c heard (whole_lines input)) mid new (last_line input) None
-        (subst (λ l. HasHeard holds leaves down c (heard_lines c heard (whole_lines input)) mid new (l ∷ []) None) (same ∙ stands.begun) took));
+        (subst (λ l. HasHeard holds leaves down c (heard_lines c heard (whole_lines input)) mid new (l ∷ []) None) (same ∙ stands.begun) took.1));
   }
   ends-stopped T (Unavailable fault) heard start mid new w u v input all line slice beginning stands same took = record {
     lines = whole_lines input;
     line = last_line input;
+    some = λ none. took.0 (same ∙ stands.begun ∙ ap part none);
     beginning = beginning;
     answered =
         let o : Outcome = outcome.Unavailable fault in
@@ -199,8 +211,8 @@ module _ {K : Type 0} (holds : K → Kept → Type 0) (leaves : K → List Kept 
         ap (λ l. doubt_of_text c l o) (same ∙ stands.begun) ∙ parts.doubt_of_text-part c (last_line input) o in
         subst (λ lines. HasAnswered holds leaves down c heard start new w v lines (doubt_of_text c (last_line input) o)) (append-nil (whole_lines input))
         (subst (λ d. HasAnswered holds leaves down c heard start new w v (whole_lines input ++ []) d) whole
-        (answers-then heard start mid new w u v (whole_lines input) [] (doubt_of_text c slice o) stands.up stands.answered took.0));
-    unavailability = took.1;
+        (answers-then heard start mid new w u v (whole_lines input) [] (doubt_of_text c slice o) stands.up stands.answered took.1));
+    unavailability = took.2;
   }
 
   -- an LF was met
@@ -239,16 +251,20 @@ module _ {K : Type 0} (holds : K → Kept → Type 0) (leaves : K → List Kept 
   }
 
   -- there was no memory for it
-  pub goes-without : (heard : List Envelope) (start mid : K) (w u : Option (List ℕ)) (input line : List ℕ) (x : ℕ)
+  pub goes-without : (heard : List Envelope) (start mid : K) (w u : Option (List ℕ)) (input line : List ℕ) (x : ℕ) → (x == line_feed) ≡ false
       → StandsAt holds leaves down c heard start mid w u input line
       → (more : List ℕ) → EndsBy holds leaves down c heard start mid w u ((input ++ x ∷ []) ++ more) (end_of (Unavailable Memory))
-  goes-without heard start mid w u input line x stands more =
-      let next = cuts.next_line input ((x ∷ []) ++ more) in
+  goes-without heard start mid w u input line x other stands more =
+      let next = cuts.next_line (input ++ x ∷ []) more in
+      let begun : last_line (input ++ x ∷ []) ≡ last_line input ++ x ∷ [] = cuts.last_line-octet input x other in
       record {
-        lines = whole_lines input;
-        line = next.0;
-        beginning = subst (λ s. IsBeginning (whole_lines input ++ next.0 ∷ []) (all_lines s)) (sym (append_assoc input (x ∷ []) more)) next.1;
-        answered = subst (λ d. HasAnswered holds leaves down c heard start mid w u (whole_lines input) d) (sym (no_doubt_memory (envelope_of_text c next.0))) stands.answered;
+        lines = whole_lines (input ++ x ∷ []);
+        line = last_line (input ++ x ∷ []) ++ next.0;
+        some = λ none. has_that_octet (last_line input) x next.0 (ap (λ l. l ++ next.0) (sym begun) ∙ none);
+        beginning = next.1;
+        answered = subst (λ d. HasAnswered holds leaves down c heard start mid w u (whole_lines (input ++ x ∷ [])) d)
+            (sym (no_doubt_memory (envelope_of_text c (last_line (input ++ x ∷ []) ++ next.0))))
+            (subst (λ lines. HasAnswered holds leaves down c heard start mid w u lines None) (sym (cuts.whole_lines-octet input x other)) stands.answered);
         unavailability = tt;
       }
 

@@ -1,5 +1,5 @@
 -- An input of lines: how it is cut, what is heard of it, and what is written for it.
-use Rattle.std.specs.Prelude.{◌≡◌, ◌==◌, ℕ, Bool, true, false, List, [], ◌∷◌, ◌++◌, Option, None, Result, Ok, Err, if◌then◌else◌}
+use Rattle.std.specs.Prelude.{◌≡◌, ◌≢◌, ◌==◌, ℕ, Bool, true, false, List, [], ◌∷◌, ◌++◌, Option, None, Result, Ok, Err, if◌then◌else◌}
 use Rattle.std.specs.Io.KnownBytes.{Appends}
 use Rattle.registry_core.specs.declared.messages.Envelope.{Envelope}
 use Rattle.registry_core.specs.Settings.{Settings}
@@ -92,16 +92,19 @@ module _ {K : Type 0} (holds : K → Kept → Type 0) (leaves : K → List Kept 
     pub hears : HasHeard lines now
     pub answers : Appends before after (answer_lines c heard lines)
 
-  -- a write failed after these lines were heard
+  -- the line that was heard after these, which has an octet, was not answered whole
   pub record FailsToWrite (input : List ℕ) : Type 0 where
     pub lines : List (List ℕ)
-    pub beginning : IsBeginning lines (all_lines input)
-    pub hears : HasHeard lines None
+    pub line : List ℕ
+    pub some : line ≢ []
+    pub beginning : IsBeginning (lines ++ line ∷ []) (all_lines input)
+    pub hears : HasHeard (lines ++ line ∷ []) None
 
-  -- these lines were answered, and the next found the store unavailable
+  -- these lines were answered, and the line after them, which has an octet, found the store unavailable
   pub record IsCutShort (before after : Option (List ℕ)) (input : List ℕ) (fault : StoreFault) : Type 0 where
     pub lines : List (List ℕ)
     pub line : List ℕ
+    pub some : line ≢ []
     pub beginning : IsBeginning (lines ++ line ∷ []) (all_lines input)
     pub answered : HasAnswered before after lines (doubt_of_text c line (outcome.Unavailable fault))
     pub unavailability : IsUnavailability fault

@@ -1,5 +1,5 @@
 -- Where a run stands in its input, and what one line does. For private clauses.
-use Rattle.std.specs.Prelude.{◌≡◌, ◌+◌, ℕ, Bool, true, false, List, [], ◌∷◌, ◌++◌, Option, None, Result, Ok, Err, length, nat_lt, take, if◌then◌else◌}
+use Rattle.std.specs.Prelude.{◌≡◌, ◌≢◌, ◌+◌, ℕ, Bool, true, false, List, [], ◌∷◌, ◌++◌, Option, None, Result, Ok, Err, length, nat_lt, take, if◌then◌else◌}
 use Rattle.registry_core.specs.declared.messages.Envelope.{Envelope}
 use Rattle.registry_core.specs.Settings.{Settings}
 use Rattle.desk_store.specs.Calls.{IsUnavailability}
@@ -31,12 +31,12 @@ is_disk_stop (Ok done) = false
 is_disk_stop (Err stop) = is_disk_end (end_of stop)
 
 module _ {K : Type 0} (holds : K → Kept → Type 0) (leaves : K → List Kept → Type 0) (down : K → Bool) (c : Settings) (heard : List Envelope) (old new : K) (before after : Option (List ℕ)) where
-  -- what one line does: it is answered, or heard without an answer, or the store is unavailable
+  -- What one line does. It is answered; or, where it has an octet, heard without an answer, or the store is unavailable.
   abbrev pub TakesLine : {T : Type 0} → List ℕ → Result T Stop → Type 0
   TakesLine line (Ok done) = HasAnswered holds leaves down c heard old new before after (line ∷ []) None
-  TakesLine line (Err Write) = HasHeard holds leaves down c heard old new (line ∷ []) None
+  TakesLine line (Err Write) = (line ≢ []) × HasHeard holds leaves down c heard old new (line ∷ []) None
   TakesLine line (Err (Unavailable fault)) =
-      HasAnswered holds leaves down c heard old new before after [] (doubt_of_text c line (outcome.Unavailable fault)) × IsUnavailability fault
+      (line ≢ []) × HasAnswered holds leaves down c heard old new before after [] (doubt_of_text c line (outcome.Unavailable fault)) × IsUnavailability fault
 
   -- The lines of this input are answered, and this is kept of the line that stands after them.
   pub record StandsAt (input line : List ℕ) : Type 0 where

@@ -217,3 +217,6 @@ fn take_octets<K: Keeper, W: Write>(
     }
     Ok(())
 }
+
+#[cfg(test)]
+mod tests;

@@ -22,6 +22,6 @@ returns-in-Refused-clause-takes g c = λ s heard same sound order.
 
 pub returns-in-Unavailable-clause-takes : goal.returns-in-Unavailable-clause-takes
 returns-in-Unavailable-clause-takes g c = λ s heard same sound order.
-    runs.takes-unavailable g.K.Keeper.holds g.K.Keeper.leaves g.K.Keeper.down s (Unit {0}) heard c.args.keeper.now c.deliver.new.keeper _ c.args.line.now c.in-Unavailable.fault
+    runs.takes-unavailable g.K.Keeper.holds g.K.Keeper.leaves g.K.Keeper.down s (Unit {0}) heard c.args.keeper.now c.deliver.new.keeper _ c.args.line.now c.in-Unavailable.fault (sym c.is_empty.ensures ∙ c.if-is_empty.false)
     (c.in-Unavailable.ensures.outcome s heard same sound order) (c.in-Unavailable.ensures.order s heard same sound order)
     (λ doubt survives. c.in-Unavailable.ensures.crash s heard doubt same sound order survives)

@@ -26,4 +26,5 @@ returns-in-Ok-keep_octet-clause-goes g c = λ s heard start before input same so
 
 pub returns-in-Err-keep_octet-clause-goes : goal.returns-in-Err-keep_octet-clause-goes
 returns-in-Err-keep_octet-clause-goes g c = λ s heard start before input same sound stands.
-    runs.goes-without g.K.Keeper.holds g.K.Keeper.leaves g.K.Keeper.down s heard start c.args.keeper.now before _ input c.args.line.now.items c.args.octet stands
+    runs.goes-without g.K.Keeper.holds g.K.Keeper.leaves g.K.Keeper.down s heard start c.args.keeper.now before _ input c.args.line.now.items c.args.octet (ne_eqb c.args.octet line_feed c.if-octet-eq10.false)
+    stands
