@@ -9,11 +9,14 @@ use std::test::Fail;
 /// A line that goes in, and the line that comes out.
 type Row = (&'static str, &'static str);
 
-const REQUEST: &str = r#"{"ProtocolVersion":"1.0","SenderID":"office","ReceiverID":"desk","TransactionID":1,"MessageType":"OwnerAdd","Owner":"town"}"#;
+const REQUEST: &str =
+    r#"{"ProtocolVersion":"1.0","SenderID":"office","ReceiverID":"desk","TransactionID":1,"MessageType":"OwnerAdd","Owner":"town"}"#;
 
-const ANSWER: &str = r#"{"MessageType":"OwnerAddAns","ProtocolVersion":"1.0","ReceiverID":"office","Result":{"Description":"","ResultCode":"Success"},"SenderID":"desk","TransactionID":1}"#;
+const ANSWER: &str =
+    r#"{"MessageType":"OwnerAddAns","ProtocolVersion":"1.0","ReceiverID":"office","Result":{"Description":"","ResultCode":"Success"},"SenderID":"desk","TransactionID":1}"#;
 
-const MALFORMED: &str = r#"{"ProtocolVersion":"1.0","Result":{"Description":"malformed","ResultCode":"Other"},"SenderID":"desk"}"#;
+const MALFORMED: &str =
+    r#"{"ProtocolVersion":"1.0","Result":{"Description":"malformed","ResultCode":"Other"},"SenderID":"desk"}"#;
 
 const ROWS: [Row; 12] = [
     (REQUEST, ANSWER),
@@ -59,7 +62,12 @@ const ROWS: [Row; 12] = [
 ];
 
 fn config() -> Option<Config> {
-    Config::new(Name::new(b"desk")?, Name::new(b"office")?, 0x01a0_0000, 65536)
+    Config::new(
+        Name::new(b"desk")?,
+        Name::new(b"office")?,
+        0x01a0_0000,
+        65536,
+    )
 }
 
 #[test]
