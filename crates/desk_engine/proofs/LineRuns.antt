@@ -1,5 +1,5 @@
 -- What a run has heard and written, one line or one octet further.
-use Rattle.std.proofs.Common.{◌≡◌, ◌≢◌, ◌==◌, ◌||◌, ◌+◌, ◌<◌, ℕ, List, [], ◌∷◌, ◌++◌, Bool, true, false, Option, Some, None, Result, Ok, Err, IfErr, OnOk, length, take, drop, get_or, refl, sym, ap, ◌∙◌, subst, append_assoc, append-nil, take-append-drop, inl, inr, arith}
+use Rattle.std.proofs.Common.{◌≡◌, ◌≢◌, ◌==◌, ◌+◌, ◌<◌, ℕ, List, [], ◌∷◌, ◌++◌, Bool, true, false, Option, None, Result, Ok, Err, IfErr, OnOk, length, take, drop, get_or, refl, sym, ap, ◌∙◌, subst, append_assoc, append-nil, take-append-drop}
 use Rattle.std.proofs.lemmas.List.{take_more}
 use Rattle.std.proofs.KnownBytes.{Appends-nil, Appends-trans, Consumes-trans}
 use Rattle.std.specs.Io.KnownBytes.{Appends, Consumes}
@@ -15,11 +15,11 @@ use Rattle.desk_engine.specs.declared.lines.Stop.TheVariants.{Write, Unavailable
 use Rattle.desk_engine.specs.declared.outcomes.Outcome.{Outcome}
 use Rattle.desk_engine.specs.declared.outcomes.Outcome.TheVariants as outcome
 use Rattle.desk_engine.specs.Deliveries.{heard_after, heard_read}
-use Rattle.desk_engine.specs.InOrder.{IsInOrder, IsInDoubt, Survives, doubt_after}
+use Rattle.desk_engine.specs.InOrder.{IsInOrder, Survives, doubt_after}
 use Rattle.desk_engine.specs.Lines.{line_feed, delivered, whole_lines, last_line, all_lines, heard_line, answer_line, heard_lines, answer_lines, IsBeginning, HasHeard, HasAnswered, EndsBy}
-use Rattle.desk_engine.specs.Outcomes.{IsOutcome, delivery_of, doubt_of_text, doubt_of, doubt_read, is_unavailable}
-use Rattle.desk_engine.specs.Taking.{kept, part, end_of, is_disk_stop, TakesLine, StandsAt, GoesTo}
-use Rattle.desk_engine.specs.Told.{Told, text_of, text_told, envelope_of_text}
+use Rattle.desk_engine.specs.Outcomes.{delivery_of, doubt_of_text, doubt_read, is_unavailable}
+use Rattle.desk_engine.specs.Taking.{kept, part, end_of, TakesLine, StandsAt}
+use Rattle.desk_engine.specs.Told.{text_of, text_told, envelope_of_text}
 use Rattle.desk_engine.proofs.LineCuts as cuts
 use Rattle.desk_engine.proofs.LineParts as parts
 use Rattle.desk_engine.proofs.Unread.{survives_untouched}

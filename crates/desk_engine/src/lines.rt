@@ -18,11 +18,11 @@ use std::io::{ErrorKind, Read, Write};
 pub enum LinesEnd {
     /// The input ended, and each line is answered.
     Done,
-    /// A read failed. The lines that came with their LF are answered.
+    /// A read failed. The lines that came with their LF are answered, and what stands after them isn't heard.
     Read,
-    /// A write failed. How much of an answer went out isn't known.
+    /// A write failed or took nothing. The line was heard, and how much of its answer went out isn't known.
     Write,
-    /// The store was unavailable for a line. The lines before it are answered.
+    /// The store was unavailable for a line, or there was no memory to keep one. The lines before it are answered.
     Unavailable(StoreFault),
 }
 
@@ -51,11 +51,13 @@ const MOST_KEPT: usize = 65_537;
 /// Answers an input of lines, one message a line, each answer followed by one LF (octet 10).
 ///
 /// The input is cut at each LF. A line without octets gets no answer, and what stands after the last LF is a line too.
-/// A line of more than 65,536 octets is refused as malformed, and read to its end. The writer isn't flushed.
+/// A line of more than 65,536 octets is refused as malformed, and read to its end. A read that was interrupted is made
+/// again; `Read` is told where one failed, or after 2^64 - 1 of them. The writer isn't flushed.
 ///
 /// With `Done` and `Read` exactly the answers of the lines were written: of all, or of those that came with their LF.
 /// With `Unavailable` exactly the answers of the lines before the one that found the store so. With `Write` nothing is
-/// said of the output. In each case the store is in order for what is heard after the lines that were taken.
+/// said of the output. In each case the store is in order for what is heard of the lines that were taken, and so a
+/// message of theirs that comes again gets its first answer.
 pub fn run_lines<K: Keeper, R: Read, W: Write>(
     alloc: Global,
     keeper: &mut K,

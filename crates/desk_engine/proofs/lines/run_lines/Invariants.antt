@@ -1,4 +1,4 @@
-use Rattle.std.proofs.Common.{◌≡◌, ℕ, List, Option}
+use Rattle.std.proofs.Common.{◌≡◌, ℕ, List}
 use Rattle.std.specs.Io.KnownBytes.{Consumes}
 use Rattle.registry_core.specs.declared.messages.Envelope.{Envelope}
 use Rattle.registry_core.specs.Settings.{Settings}
