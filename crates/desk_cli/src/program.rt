@@ -20,7 +20,7 @@ pub fn run<R: Env + AllocGlobal, F: Write>(rt: &R, faults: &mut F) -> Ending {
     }
 }
 
-// `Lines` is matched behind a reference: a pattern that moves `config` out in generic code gets no proof.
+// Behind a reference: where a pattern moves `config` out of its command, the toolchain finds no proof.
 fn perform(command: &Command) -> Ending {
     match command {
         Command::Lines { config: _ } => Ending::Done,
