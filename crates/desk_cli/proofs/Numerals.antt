@@ -1,13 +1,13 @@
 -- What std's parser makes of digits with no sign.
-use Rattle.std.proofs.Common.{◌≡◌, ◌≢◌, ℕ, ◌<◌, ◌^◌, List, [], ◌∷◌, true, Result, Ok, Err, Some, None, length, ◌≤◌, nat_lt, lit<, if◌then◌else◌, arith, refl}
-use Rattle.std.proofs.lemmas.Bool.{and_parts, lt-ltb, le-leb}
+use Rattle.std.proofs.Common.{◌≡◌, ◌≢◌, ℕ, ◌<◌, ◌^◌, List, [], ◌∷◌, true, Result, Ok, Err, Some, None, length, ◌==◌, nat_le, nat_lt, lit<, if◌then◌else◌, arith, refl}
+use Rattle.std.proofs.lemmas.Bool.{and_parts, lt-ltb}
 use Rattle.std.proofs.lemmas.Bool.Decides.{nat_tests}
 use Rattle.std.proofs.lemmas.Str.Parse.{without_leading_plus_none}
 use Rattle.std.specs.Char.{digit_value, is_ascii_digit, is_ascii_hexdigit}
 use Rattle.std.specs.List.{list_all}
 use Rattle.std.specs.Result.{result_ok}
 use Rattle.std.specs.Str.Parse.{AllDigits, ParsesUnsigned, digits_value, without_leading_plus}
-use Rattle.desk_cli.specs.Numbers.{base_of, count_of, value_of}
+use Rattle.desk_cli.specs.Numbers.{base_of, count_of, is_base, is_count, value_of}
 
 hex_digit : (c : ℕ) → is_ascii_hexdigit c ≡ true → digit_value c < 16
 hex_digit c h = grind (arith, nat_tests)
@@ -43,12 +43,20 @@ value_of-parses radix text (Err e) small some h parses =
     let refused = rw (no_plus radix text small h) at parses in
     too_large (digits_value radix text) (λ below. refused ((some, h), below))
 
-pub base_of-parses : {E : Type 0} (text : List ℕ) (r : Result ℕ E) → length text ≡ 8 → list_all is_ascii_hexdigit text ≡ true
-    → ParsesUnsigned 32 16 text r → result_ok r ≡ base_of text
-base_of-parses text r eight h parses =
-    rw (eight, h) (value_of-parses 16 text r (lit< tt) (omega (arith, eight)) (hex_digits text h) parses)
+some_of_base : (text : List ℕ) → (length text == 8) ≡ true → 0 < length text
+some_of_base text h = grind (arith, nat_tests)
 
-pub count_of-parses : {E : Type 0} (text : List ℕ) (r : Result ℕ E) → 1 ≤ length text → length text ≤ 10
-    → list_all is_ascii_digit text ≡ true → ParsesUnsigned 32 10 text r → result_ok r ≡ count_of text
-count_of-parses text r some few h parses =
-    rw (le-leb _ _ some, le-leb _ _ few, h) (value_of-parses 10 text r (lit< tt) (omega (arith, some)) (digits text h) parses)
+some_of_count : (text : List ℕ) → nat_le 1 (length text) ≡ true → 0 < length text
+some_of_count text h = grind (arith, nat_tests)
+
+pub base_of-parses : {E : Type 0} (text : List ℕ) (r : Result ℕ E) → is_base text ≡ true → ParsesUnsigned 32 16 text r
+    → result_ok r ≡ base_of text
+base_of-parses text r h parses =
+    let parts = and_parts _ _ h in
+    rw h (value_of-parses 16 text r (lit< tt) (some_of_base text parts.0) (hex_digits text parts.1) parses)
+
+pub count_of-parses : {E : Type 0} (text : List ℕ) (r : Result ℕ E) → is_count text ≡ true → ParsesUnsigned 32 10 text r
+    → result_ok r ≡ count_of text
+count_of-parses text r h parses =
+    let parts = and_parts _ _ h in
+    rw h (value_of-parses 10 text r (lit< tt) (some_of_count text (and_parts _ _ parts.0).0) (digits text parts.1) parses)

@@ -26,7 +26,7 @@ pub fn run<E: Env + AllocGlobal, R: Read, W: Write, F: Write>(
     }
 }
 
-// `Lines` is matched behind a reference: a pattern that moves `config` out in generic code gets no proof.
+// Behind a reference: where a pattern moves `config` out of its command, the toolchain finds no proof.
 fn perform<R: Read, W: Write, F: Write>(
     alloc: Global,
     command: &Command,

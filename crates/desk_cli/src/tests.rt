@@ -11,21 +11,19 @@ const LONGEST: &str = "abcdefghijklmnopqrstuvwxyz-_.012";
 
 const LONGER: &str = "abcdefghijklmnopqrstuvwxyz-_.0123";
 
-fn config(receiver: &str, operator: &str, base: u32, addresses: u32) -> Option<Config> {
-    Config::new(
-        Name::new(receiver.as_bytes())?,
-        Name::new(operator.as_bytes())?,
-        base,
-        addresses,
-    )
+fn lines(receiver: &str, operator: &str, base: u32, addresses: u32) -> Option<Command> {
+    let receiver = Name::new(receiver.as_bytes())?;
+    let operator = Name::new(operator.as_bytes())?;
+    let config = Config::new(receiver, operator, base, addresses)?;
+    Some(Command::Lines { config })
 }
 
 #[test]
 fn words_that_name_lines(rt: HostRuntime) -> Result<(), Fail> {
-    let rows: [(&[&str], Option<Config>); 9] = [
+    let rows: [(&[&str], Option<Command>); 9] = [
         (
             &["desk", "lines"],
-            config("desk", "office", 0x01a0_0000, 65_536),
+            lines("desk", "office", 0x01a0_0000, 65_536),
         ),
         (
             &[
@@ -40,7 +38,7 @@ fn words_that_name_lines(rt: HostRuntime) -> Result<(), Fail> {
                 "--addresses",
                 "7",
             ],
-            config("town", "op.1", 1, 7),
+            lines("town", "op.1", 1, 7),
         ),
         (
             &[
@@ -51,15 +49,15 @@ fn words_that_name_lines(rt: HostRuntime) -> Result<(), Fail> {
                 "--operator=-._A",
                 "--receiver=Z",
             ],
-            config("Z", "-._A", 0xffab_09cd, 8),
+            lines("Z", "-._A", 0xffab_09cd, 8),
         ),
         (
             &["desk", "lines", "--base", "01A00000"],
-            config("desk", "office", 0x01a0_0000, 65_536),
+            lines("desk", "office", 0x01a0_0000, 65_536),
         ),
         (
             &["desk", "lines", "--base", "ffffffff", "--addresses", "1"],
-            config("desk", "office", u32::MAX, 1),
+            lines("desk", "office", u32::MAX, 1),
         ),
         (
             &[
@@ -70,25 +68,25 @@ fn words_that_name_lines(rt: HostRuntime) -> Result<(), Fail> {
                 "--addresses",
                 "4294967295",
             ],
-            config("desk", "office", 1, u32::MAX),
+            lines("desk", "office", 1, u32::MAX),
         ),
         (
             &["desk", "lines", "--receiver", LONGEST],
-            config(LONGEST, "office", 0x01a0_0000, 65_536),
+            lines(LONGEST, "office", 0x01a0_0000, 65_536),
         ),
         (
             &["desk", "lines", "--operator", "desk"],
-            config("desk", "desk", 0x01a0_0000, 65_536),
+            lines("desk", "desk", 0x01a0_0000, 65_536),
         ),
         (
             &["another", "lines"],
-            config("desk", "office", 0x01a0_0000, 65_536),
+            lines("desk", "office", 0x01a0_0000, 65_536),
         ),
     ];
     for (words, want) in &rows {
         assert!(rt; want.is_some());
         match read_words(rt.alloc(), words) {
-            Ok(Command::Lines { config }) => assert_eq!(rt; Some(config), *want, "at {words:?}"),
+            Ok(command) => assert_eq!(rt; Some(command), *want, "at {words:?}"),
             Err(usage) => assert!(rt; false, "{words:?}: {usage}"),
         }
     }

@@ -15,7 +15,8 @@ use clap::error::{Error, ErrorKind};
 use clap::{Arg, ArgMatches};
 use std::alloc::{AllocError, Global};
 
-/// The command that the words name, the program's own name first.
+/// The command that the words name, the program's own name first, by clap's rules and the forms of the values. Else
+/// why they name none: clap's refusal or help, or the first value that is bad. `Usage::Memory` says nothing of the words.
 pub fn read_words(alloc: Global, words: &[&str]) -> Result<Command, Usage>
     ensures { Tells (named_by (texts words.now)) result }
 {
