@@ -92,7 +92,7 @@ module _ {K : Type 0} (holds : K → Kept → Type 0) (leaves : K → List Kept 
     pub hears : HasHeard lines now
     pub answers : Appends before after (answer_lines c heard lines)
 
-  -- the line that was heard after these, which has an octet, was not answered whole
+  -- these lines were heard, and a last one with an octet; nothing is said of what was written
   pub record FailsToWrite (input : List ℕ) : Type 0 where
     pub lines : List (List ℕ)
     pub line : List ℕ
