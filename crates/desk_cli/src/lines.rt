@@ -8,6 +8,7 @@ use crate::endings::Ending;
 use desk_engine::{LinesEnd, run_lines};
 use desk_store::Lists;
 use registry_core::Config;
+use registry_core::laws::nothing_is_heard;
 use std::alloc::Global;
 use std::io::{Read, Write};
 
@@ -28,6 +29,7 @@ pub fn lines_command<R: Read, W: Write, F: Write>(
         × Appends (W.contents answers.old) (W.contents answers.new) (answer_lines config.now [] (all_lines input)) }
     ensures ends { IsDoneOrFailed result }
 {
+    nothing_is_heard();
     let mut lists = match Lists::new(alloc, *config) {
         Ok(lists) => lists,
         Err(_) => return fail(faults, "desk: unavailable\n"),

@@ -26,7 +26,7 @@ use Rattle.desk_engine.specs.declared.outcomes.Outcome.TheVariants.{Answered, Re
 use Rattle.desk_engine.specs.Deliveries.{heard_unless}
 use Rattle.desk_engine.specs.InOrder.{IsInOrder, Survives, doubt_after, entries_of, entry_at, kept_after}
 use Rattle.desk_engine.specs.Outcomes.{HearsNew, IsOutcome, Repeats, Says, doubt_of, is_disk_outcome, is_unavailable}
-use Rattle.desk_engine.specs.Told.{AnswerText, Told, envelope_told, refused, reply_told}
+use Rattle.desk_engine.specs.Told.{AnswerText, Told, envelope_told, refusal_told, reply_told}
 use Rattle.desk_engine.proofs.Keeping.{length-kept_after}
 use Rattle.desk_engine.proofs.Places.{cases_option, entry_of-entries_of, has_pair-place_of, no_place, same_envelope, stands_for}
 use Rattle.desk_engine.proofs.Replies.{heard_with-new, reply-known, reply-stranger}
@@ -49,8 +49,8 @@ says_at a b told o same said = subst (λ c. Says (told c) o) same said
 -- ---- a stranger
 
 pub stranger_outcome : (c : Settings) (heard : List Envelope) (e : Envelope) (o : Outcome) → is_sender (state_of c heard) e.sender ≡ false
-    → Says (refused c UnknownSender (Some (head_of_envelope e))) o → IsOutcome (envelope_told c heard e) o
-stranger_outcome c heard e o unknown said = rw (reply-stranger c heard e unknown) (says_outcome (refused c UnknownSender (Some (head_of_envelope e))) o said)
+    → Says (refusal_told c UnknownSender (Some (head_of_envelope e))) o → IsOutcome (envelope_told c heard e) o
+stranger_outcome c heard e o unknown said = rw (reply-stranger c heard e unknown) (says_outcome (refusal_told c UnknownSender (Some (head_of_envelope e))) o said)
 
 -- ---- a pair that was heard
 

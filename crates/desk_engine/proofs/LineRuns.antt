@@ -16,7 +16,7 @@ use Rattle.desk_engine.specs.declared.outcomes.Outcome.{Outcome}
 use Rattle.desk_engine.specs.declared.outcomes.Outcome.TheVariants as outcome
 use Rattle.desk_engine.specs.Deliveries.{heard_after, heard_read}
 use Rattle.desk_engine.specs.InOrder.{IsInOrder, Survives, doubt_after}
-use Rattle.desk_engine.specs.Lines.{line_feed, delivered, whole_lines, last_line, all_lines, heard_line, answer_line, heard_lines, answer_lines, IsBeginning, HasHeard, HasAnswered, EndsBy}
+use Rattle.desk_engine.specs.Lines.{line_feed, delivery_of_line, whole_lines, last_line, all_lines, heard_line, answer_line, heard_lines, answer_lines, IsBeginning, HasHeard, HasAnswered, EndsBy}
 use Rattle.desk_engine.specs.Outcomes.{delivery_of, doubt_of_text, doubt_read, is_unavailable}
 use Rattle.desk_engine.specs.Taking.{kept, part, end_of, TakesLine, StandsAt}
 use Rattle.desk_engine.specs.Told.{text_of, text_told, envelope_of_text}
@@ -134,9 +134,9 @@ module _ {K : Type 0} (holds : K → Kept → Type 0) (leaves : K → List Kept 
 
   -- it was told this
   pub takes-told : (T : Type 0) (heard : List Envelope) (old new : K) (w v : Option (List ℕ)) (line text : List ℕ) (o : Outcome) (r : Result T Stop)
-      → (length line == 0) ≡ false → is_unavailable o ≡ false → text_of (text_told c heard line) ≡ text → IsInOrder holds c new (heard_after c heard (delivered line))
+      → (length line == 0) ≡ false → is_unavailable o ≡ false → text_of (text_told c heard line) ≡ text → IsInOrder holds c new (heard_after c heard (delivery_of_line line))
       → ((doubt : Option Envelope) → Survives leaves down c old heard doubt
-      → Survives leaves down c new (heard_after c heard (delivered line)) (doubt_after (down old) doubt (doubt_of_text c line o)))
+      → Survives leaves down c new (heard_after c heard (delivery_of_line line)) (doubt_after (down old) doubt (doubt_of_text c line o)))
       → OnOk r (Appends w v (text ++ line_feed ∷ [])) → IfErr r (λ stop. stop ≡ Write)
       → TakesLine holds leaves down c heard old new w v line r
   takes-told T heard old new w v [] text o r some up told order crash written failed = cc
@@ -145,7 +145,7 @@ module _ {K : Type 0} (holds : K → Kept → Type 0) (leaves : K → List Kept 
       (record {
         order = order;
         crash = λ doubt s.
-            subst (λ d. Survives leaves down c new (heard_after c heard (delivered (x ∷ line))) (doubt_after (down old) doubt d)) (no_doubt c (x ∷ line) o up)
+            subst (λ d. Survives leaves down c new (heard_after c heard (delivery_of_line (x ∷ line))) (doubt_after (down old) doubt d)) (no_doubt c (x ∷ line) o up)
             (crash doubt s);
       }) written failed
 

@@ -46,13 +46,13 @@ all_lines input = whole_lines input ++ last_line input ∷ []
 -- ---- what is heard of lines, and what is written for them
 
 -- a line that is answered
-abbrev pub delivered : List ℕ → Delivery
-delivered line = record { text = line; unavailable = false }
+abbrev pub delivery_of_line : List ℕ → Delivery
+delivery_of_line line = record { text = line; unavailable = false }
 
 -- a line without octets isn't heard
 abbrev pub heard_line : Settings → List Envelope → List ℕ → List Envelope
 heard_line c heard [] = heard
-heard_line c heard (x ∷ line) = heard_after c heard (delivered (x ∷ line))
+heard_line c heard (x ∷ line) = heard_after c heard (delivery_of_line (x ∷ line))
 
 -- what a line is told, and an LF; nothing for a line without octets
 abbrev pub answer_line : Settings → List Envelope → List ℕ → List ℕ

@@ -14,7 +14,7 @@ use Rattle.desk_wire.specs.declared.faults.WireFault.{WireFault}
 use Rattle.desk_wire.specs.Faults.{head_of_fault, refusal_of_fault}
 use Rattle.desk_engine.specs.declared.outcomes.Outcome.{Outcome}
 use Rattle.desk_engine.specs.declared.outcomes.Outcome.TheVariants.{Answered, Refused, Unavailable}
-use Rattle.desk_engine.specs.Told.{Told, AnswerText, RefusalText, envelope_of_text, refused, text_told}
+use Rattle.desk_engine.specs.Told.{Told, AnswerText, RefusalText, envelope_of_text, refusal_told, text_told}
 use Rattle.desk_engine.specs.Deliveries.{Delivery, heard_after, heard_all}
 use Rattle.desk_engine.specs.InOrder.{IsInOrder, Survives, doubt_after, kept_after}
 
@@ -85,13 +85,13 @@ Says told (Unavailable fault) = fault ≡ Memory
 
 -- the outcome is why the text is no envelope; where memory ran out before that was known, it is Unavailable
 abbrev pub RefusesText : Settings → WireFault → Outcome → Type 0
-RefusesText c fault outcome = MatchOption (refusal_of_fault fault) (outcome ≡ Unavailable Memory) (λ refusal. Says (refused c refusal (head_of_fault fault)) outcome)
+RefusesText c fault outcome = MatchOption (refusal_of_fault fault) (outcome ≡ Unavailable Memory) (λ refusal. Says (refusal_told c refusal (head_of_fault fault)) outcome)
 
 -- a repeat of the message with that text gets that answer, and another message is refused
 abbrev pub Repeats : Settings → Envelope → List ℕ → List ℕ → Outcome → Type 0
 Repeats c e message answer (Answered text) = (message_text c.receiver e ≡ message) × (text.items ≡ answer)
 Repeats c e message answer (Refused refusal text) =
-    (message_text c.receiver e ≢ message) × (refused c TransactionReused (Some (head_of_envelope e)) ≡ RefusalText refusal text.items)
+    (message_text c.receiver e ≢ message) × (refusal_told c TransactionReused (Some (head_of_envelope e)) ≡ RefusalText refusal text.items)
 Repeats c e message answer (Unavailable fault) = fault ≡ Memory
 
 -- A message whose pair is new is heard and answered, or the store is unavailable and has not heard it.

@@ -1,5 +1,5 @@
 -- What a delivery reads as, and what it is told.
-use Rattle.std.specs.Prelude.{ℕ, List, Option, Some, None, Result, Ok, Err, nat_lt, length, unwrap_or, if◌then◌else◌}
+use Rattle.std.specs.Prelude.{ℕ, List, Option, Some, Result, Ok, Err, nat_lt, length, unwrap_or, if◌then◌else◌}
 use Rattle.registry_core.specs.declared.answers.Refusal.{Refusal}
 use Rattle.registry_core.specs.declared.answers.Refusal.TheVariants.{UnknownSender, TransactionReused, Unavailable}
 use Rattle.registry_core.specs.declared.messages.Envelope.{Envelope}
@@ -29,18 +29,18 @@ abbrev pub text_of : Told → List ℕ
 text_of (AnswerText text) = text
 text_of (RefusalText refusal text) = text
 
-abbrev pub refused : Settings → Refusal → Option Head → Told
-refused c refusal head = RefusalText refusal (refusal_text c.receiver head refusal)
+abbrev pub refusal_told : Settings → Refusal → Option Head → Told
+refusal_told c refusal head = RefusalText refusal (refusal_text c.receiver head refusal)
 
 -- a reply as a text
 abbrev pub reply_told : Settings → Envelope → Reply → Told
-reply_told c e Stranger = refused c UnknownSender (Some (head_of_envelope e))
-reply_told c e Reused = refused c TransactionReused (Some (head_of_envelope e))
+reply_told c e Stranger = refusal_told c UnknownSender (Some (head_of_envelope e))
+reply_told c e Reused = refusal_told c TransactionReused (Some (head_of_envelope e))
 reply_told c e (Answers answer) = AnswerText (answer_text c.receiver (head_of_envelope e) answer)
 
 -- why a text is no envelope, as a text; reading tells no want of memory
 abbrev pub fault_told : Settings → WireFault → Told
-fault_told c fault = refused c (unwrap_or (refusal_of_fault fault) Unavailable) (head_of_fault fault)
+fault_told c fault = refusal_told c (unwrap_or (refusal_of_fault fault) Unavailable) (head_of_fault fault)
 
 -- what an envelope is told after these
 abbrev pub envelope_told : Settings → List Envelope → Envelope → Told

@@ -9,7 +9,7 @@ ghost use Rattle.desk_wire.specs.Answers.{head_of_envelope};
 ghost use Rattle.desk_engine.specs.Deliveries.{heard_unless};
 ghost use Rattle.desk_engine.specs.InOrder.{IsInOrder, Survives, doubt_after, entries_of};
 ghost use Rattle.desk_engine.specs.Outcomes.{IsOutcome, Says, Repeats, HearsNew, is_unavailable, is_disk_outcome, doubt_of};
-ghost use Rattle.desk_engine.specs.Told.{envelope_told, refused};
+ghost use Rattle.desk_engine.specs.Told.{envelope_told, refusal_told};
 
 use crate::outcomes::Outcome;
 use desk_store::{Keeper, Loaded, StoreFault};
@@ -28,7 +28,7 @@ pub(crate) fn refuse(
     refusal: Refusal,
     head: Option<&Head>,
 ) -> Outcome
-    ensures { Says (refused config.now refusal (option_map (λ h. h.now) head.entry)) result }
+    ensures { Says (refusal_told config.now refusal (option_map (λ h. h.now) head.entry)) result }
 {
     match write_refusal(alloc, refusal, head, config.receiver()) {
         Ok(text) => Outcome::Refused(refusal, text),

@@ -9,6 +9,7 @@ use crate::delivering::run;
 use crate::outcomes::Outcome;
 use desk_store::Lists;
 use registry_core::Config;
+use registry_core::laws::nothing_is_heard;
 use std::alloc::{AllocError, Global};
 
 /// Answers texts in order over lists made for it, for every configuration and every list of texts.
@@ -23,6 +24,7 @@ pub fn run_from_nothing(
     ensures kept { IfOk result (λ ran. kept_of ran.0
         ≡ kept_after config (heard_all config [] (deliveries_of (map (λ t. t.now) texts.now) ran.1.items))) }
 {
+    nothing_is_heard();
     let mut lists = Lists::new(alloc, config)?;
     let outcomes = run(alloc, &mut lists, texts)?;
     Ok((lists, outcomes))

@@ -10,7 +10,7 @@ use Rattle.registry_core.specs.declared.messages.Message.{Message}
 use Rattle.registry_core.specs.declared.messages.Message.TheVariants.{OwnerAdd}
 use Rattle.registry_core.specs.Ranges.{IsName, IsMessage, IsEnvelope}
 use Rattle.desk_wire.specs.Members.{◌>>=◌, only_if, text_at, name_at, whole_at, type_name_at}
-use Rattle.desk_wire.specs.Reading.{reads_value, value_of, envelope_of, common_members_of, addressed, message_of, owner_add_of, with_message}
+use Rattle.desk_wire.specs.Reading.{reads_value, value_of, envelope_of, common_members_of, envelope_addressed, message_of, owner_add_of, with_message}
 use Rattle.desk_wire.specs.Laws.{ReadsInRange}
 use Rattle.desk_wire.specs.declared.heads.Head.{Head}
 use Rattle.desk_wire.specs.declared.reading.CommonMembers.{CommonMembers}
@@ -108,7 +108,7 @@ checked_in_range true false found f g e range h = cc
 checked_in_range false ours found f g e range h = cc
 
 envelope_in_range : (receiver : List ℕ) (value : Data) (found : Option CommonMembers) (e : Envelope) → common_members_of value ≡ found → envelope_of receiver found value ≡ Ok e → IsEnvelope e
-unfolding addressed
+unfolding envelope_addressed
 envelope_in_range receiver value None e is h = cc
 envelope_in_range receiver value (Some o) e is h =
     checked_in_range o.is_current (bytes_eq o.receiver receiver) _ _ _ e (with_message_in_range o.head (message_of o.head value) e (common_in_range value o is) (message_in_range o.head value)) h

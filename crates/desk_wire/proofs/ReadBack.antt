@@ -11,7 +11,7 @@ use Rattle.serde_json.proofs.Numbers.{number_of-decimal}
 use Rattle.registry_core.specs.declared.messages.Message.{Message}
 use Rattle.registry_core.specs.declared.messages.Message.TheVariants.{OwnerAdd}
 use Rattle.registry_core.specs.Ranges.{IsName, IsMessage}
-use Rattle.desk_wire.specs.Reading.{reads, reads_value, value_of, envelope_of, common_members_of, addressed, message_of, owner_add_of}
+use Rattle.desk_wire.specs.Reading.{reads, reads_value, value_of, envelope_of, common_members_of, envelope_addressed, message_of, owner_add_of}
 use Rattle.desk_wire.specs.Writing.{message_value, message_text}
 use Rattle.desk_wire.specs.Laws.{MessageReadsBack}
 use Rattle.desk_wire.specs.declared.reading.CommonMembers.{CommonMembers}
@@ -51,7 +51,7 @@ common_members_of-message receiver sender owner n r s fits = rw (s, r, lt-ltb n 
 
 reads-text : (receiver sender owner : List ℕ) (n : ℕ) → IsName receiver → IsName sender → IsName owner → n < 2 ^ 32
     → reads receiver (compact_text (message_value receiver sender n (OwnerAdd owner))) ≡ Ok (record { sender = sender; transaction = n; message = OwnerAdd owner })
-unfolding addressed message_of owner_add_of common
+unfolding envelope_addressed message_of owner_add_of common
 reads-text receiver sender owner n r s o fits =
     let d : Data = message_value receiver sender n (OwnerAdd owner) in
     ap (reads_value receiver) (value_of-message receiver sender owner n r s o (omega arith))

@@ -49,8 +49,8 @@ with_message head (Ok message) = Ok (record { sender = head.sender; transaction 
 with_message head (Err fault) = Err fault
 
 -- the version, then the receiver, then the type and its members
-unfoldable pub addressed : List ℕ → CommonMembers → Data → Result Envelope WireFault
-addressed receiver common value =
+unfoldable pub envelope_addressed : List ℕ → CommonMembers → Data → Result Envelope WireFault
+envelope_addressed receiver common value =
     if common.is_current then
     (if bytes_eq common.receiver receiver then with_message common.head (message_of common.head value)
     else Err (UnknownReceiver common.head))
@@ -59,7 +59,7 @@ addressed receiver common value =
 -- a value that lacks a member of every message is malformed
 abbrev pub envelope_of : List ℕ → Option CommonMembers → Data → Result Envelope WireFault
 envelope_of receiver None value = Err Malformed
-envelope_of receiver (Some common) value = addressed receiver common value
+envelope_of receiver (Some common) value = envelope_addressed receiver common value
 
 abbrev pub reads_value : List ℕ → Option Data → Result Envelope WireFault
 reads_value receiver None = Err Malformed

@@ -1,7 +1,7 @@
 //! Texts read as envelopes.
 ghost use Rattle.std.specs.Prelude.{◌≡◌, IfOk, option_map};
 ghost use Rattle.serde_json.specs.View.{view};
-ghost use Rattle.desk_wire.specs.Reading.{common_members_of, owner_add_of, message_of, addressed, envelope_of, value_of, reads, Gives};
+ghost use Rattle.desk_wire.specs.Reading.{common_members_of, owner_add_of, message_of, envelope_addressed, envelope_of, value_of, reads, Gives};
 
 use crate::faults::WireFault;
 use crate::heads::Head;
@@ -54,7 +54,7 @@ fn envelope_of(receiver: &Name, value: &Value) -> Result<Envelope, WireFault>
         ≡ envelope_of receiver.now (common_members_of (view value.now)) (view value.now) }
 {
     match common_members_of(value) {
-        Some(common) => addressed(receiver, common, value),
+        Some(common) => envelope_addressed(receiver, common, value),
         None => Err(WireFault::Malformed),
     }
 }
@@ -79,9 +79,13 @@ fn common_members_of(value: &Value) -> Option<CommonMembers>
     })
 }
 
-#[tactic(auto, unfolding(crate::specs::Reading::addressed))]
-fn addressed(receiver: &Name, common: CommonMembers, value: &Value) -> Result<Envelope, WireFault>
-    ensures { result ≡ addressed receiver.now common (view value.now) }
+#[tactic(auto, unfolding(crate::specs::Reading::envelope_addressed))]
+fn envelope_addressed(
+    receiver: &Name,
+    common: CommonMembers,
+    value: &Value,
+) -> Result<Envelope, WireFault>
+    ensures { result ≡ envelope_addressed receiver.now common (view value.now) }
 {
     let head = common.head;
     if !common.is_current {

@@ -90,3 +90,7 @@ heard_with c heard e = if is_sender (state_of c heard) e.sender && not (has_pair
 abbrev pub HeardListsStay : Type 0
 HeardListsStay = (c : Settings) (heard : List Envelope) (e : Envelope) → IsHeard c heard → length heard < most_heard → IsEnvelope e
     → IsHeard c (heard_with c heard e)
+
+-- no envelopes are a heard list
+abbrev pub NothingIsHeard : Type 0
+NothingIsHeard = (c : Settings) → IsHeard c []

@@ -1,7 +1,7 @@
 //! Laws of the definitions: each is the contract of a function that does nothing, or only reads what its
 //! arguments keep.
 ghost use Rattle.registry_core.specs.Fits.{DecisionsFit};
-ghost use Rattle.registry_core.specs.Heard.{HeardListsStay};
+ghost use Rattle.registry_core.specs.Heard.{HeardListsStay, NothingIsHeard};
 ghost use Rattle.registry_core.specs.Ranges.{IsEnvelope, IsSettings};
 ghost use Rattle.registry_core.specs.Same.{SameMessageTells};
 
@@ -16,6 +16,11 @@ pub fn same_message_tells()
 /// Whatever was heard, the effect of a step adds only what isn't there.
 pub fn decisions_fit()
     ensures { DecisionsFit }
+{}
+
+/// No messages are a heard list: the one that a new store is in order for.
+pub fn nothing_is_heard()
+    ensures { NothingIsHeard }
 {}
 
 /// One more message leaves a heard list, while there is room.

@@ -7,7 +7,7 @@ use Rattle.desk_store.specs.Calls.{is_disk}
 use Rattle.desk_wire.specs.Answers.{head_of_envelope}
 use Rattle.desk_engine.specs.InOrder.{kept_after}
 use Rattle.desk_engine.specs.Outcomes.{Repeats}
-use Rattle.desk_engine.specs.Told.{refused}
+use Rattle.desk_engine.specs.Told.{refusal_told}
 use Rattle.desk_engine.proofs.Arms.{heard_pair, new_crash, new_order, new_outcome, new_pair, repeat_outcome, says_at, stranger_outcome, survives_reads, was_up}
 use Rattle.desk_engine.proofs.Replies.{unless-again, unless-stranger}
 use Rattle.desk_engine.proofs.hearing.hear.Goals as goal
@@ -18,7 +18,7 @@ returns-in-Ok-Stranger-clause-outcome g c = λ config heard its sound held.
     let e = c.args.envelope.now in
     let loaded = rw c.in-Ok-Stranger.field-0-is at (c.in-Ok-Stranger.ensures.loaded (kept_after config heard) sound held.kept) in
     let same = c.config-in-Ok-Stranger.ensures ∙ c.load.ensures.call.same ∙ sym its in
-    stranger_outcome config heard e c.refuse.result loaded (says_at _ config (λ s. refused s UnknownSender (Some (head_of_envelope e))) c.refuse.result same (rw c.head_of.ensures at c.refuse.ensures))
+    stranger_outcome config heard e c.refuse.result loaded (says_at _ config (λ s. refusal_told s UnknownSender (Some (head_of_envelope e))) c.refuse.result same (rw c.head_of.ensures at c.refuse.ensures))
 
 pub returns-in-Ok-Stranger-clause-order : goal.returns-in-Ok-Stranger-clause-order
 unfolding kept_after
