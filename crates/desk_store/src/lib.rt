@@ -2,9 +2,12 @@
 //! its plain form in memory.
 #![tactic(auto)]
 
+mod facts;
 mod faults;
 mod keeper;
 mod lists;
+#[cfg(test)]
+mod tests;
 
 pub use faults::StoreFault;
 pub use keeper::{Keeper, Loaded};

@@ -1,4 +1,6 @@
+pub mod HexTexts
 pub mod InRange
+pub mod Kept
 pub mod NameTexts
 pub mod PlainValues
 pub mod PutMembers

@@ -12,7 +12,7 @@ use Rattle.desk_wire.specs.TypeNames.{is_type_name}
 name_octet_small : (c : ℕ) → is_name_octet c ≡ true → c < 128
 name_octet_small c h = grind (arith, nat_tests)
 
-are_ascii : (text : List ℕ) → list_all is_name_octet text ≡ true → IsAscii text
+pub are_ascii : (text : List ℕ) → list_all is_name_octet text ≡ true → IsAscii text
 are_ascii [] h i = omega arith
 are_ascii (c ∷ text) h zero = name_octet_small c (and_parts _ _ h).0
 are_ascii (c ∷ text) h (suc i) = are_ascii text (and_parts _ _ h).1 i

@@ -1,8 +1,12 @@
 pub mod Answers
+pub mod Bodies
 pub mod Faults
+pub mod Hexadecimal
 pub mod Laws
 pub mod Members
+pub mod Optional
 pub mod Reading
 pub mod Results
+pub mod Roles
 pub mod TypeNames
 pub mod Writing

@@ -6,8 +6,9 @@ use Rattle.serde_json.specs.Data.{Data}
 use Rattle.serde_json.specs.Read.{read}
 use Rattle.registry_core.specs.declared.messages.Envelope.{Envelope}
 use Rattle.registry_core.specs.declared.messages.Message.{Message}
-use Rattle.registry_core.specs.declared.messages.Message.TheVariants.{OwnerAdd}
-use Rattle.desk_wire.specs.Members.{◌>>=◌, text_at, name_at, type_name_at, whole_at}
+use Rattle.desk_wire.specs.Bodies.{sender_add_of, owner_add_of, gateway_add_of, device_add_of, device_move_of}
+use Rattle.desk_wire.specs.Members.{text_at, name_at, type_name_at, whole_at}
+use Rattle.desk_wire.specs.Optional.{◌>>=◌}
 use Rattle.desk_wire.specs.declared.heads.Head.{Head}
 use Rattle.desk_wire.specs.declared.faults.WireFault.{WireFault}
 use Rattle.desk_wire.specs.declared.faults.WireFault.TheVariants.{Malformed, InvalidProtocolVersion, UnknownReceiver, UnknownType, BadBody, Memory}
@@ -29,19 +30,16 @@ common_members_of value = do
     head = record { sender = sender; transaction = transaction; type_name = type_name };
   })
 
--- ---- the members of each type
-
-unfoldable pub owner_add_of : Data → Option Message
-owner_add_of value = do
-  owner ← name_at (codes "Owner") value
-  Some (OwnerAdd owner)
-
 -- ---- the first fault, or the envelope
 
 -- the message, by its type's name
 unfoldable pub message_of : Head → Data → Result Message WireFault
 message_of head value =
-    if bytes_eq head.type_name (codes "OwnerAdd") then ok_or (owner_add_of value) (BadBody head)
+    if bytes_eq head.type_name (codes "SenderAdd") then ok_or (sender_add_of value) (BadBody head)
+    else if bytes_eq head.type_name (codes "OwnerAdd") then ok_or (owner_add_of value) (BadBody head)
+    else if bytes_eq head.type_name (codes "GatewayAdd") then ok_or (gateway_add_of value) (BadBody head)
+    else if bytes_eq head.type_name (codes "DeviceAdd") then ok_or (device_add_of value) (BadBody head)
+    else if bytes_eq head.type_name (codes "DeviceMove") then ok_or (device_move_of value) (BadBody head)
     else Err (UnknownType head)
 
 abbrev pub with_message : Head → Result Message WireFault → Result Envelope WireFault

@@ -5,7 +5,7 @@ ghost use Rattle.registry_core.specs.declared.answers.Answer.TheVariants.{Refuse
 ghost use Rattle.desk_wire.specs.Answers.{head_of_envelope, result_value, answer_value, headless_value, refusal_value, answer_text, refusal_text};
 
 use crate::heads::{Head, head_of};
-use crate::members::put_envelope;
+use crate::members::{put_envelope, put_text};
 use crate::results::{result_code, result_description};
 use radio_core::Name;
 use registry_core::{Answer, Envelope, Refusal};
@@ -88,23 +88,24 @@ fn answer_value(
 fn headless_value(alloc: Global, receiver: &Name, answer: &Answer) -> Result<Value, AllocError>
     ensures { IfOk result (λ value. view value ≡ headless_value receiver.now answer.now) }
 {
-    let version = Value::try_from_str(alloc, "1.0")?;
     let told = result_value(alloc, answer)?;
-    let sender = Value::try_from_str(alloc, receiver.as_str())?;
     let mut members = Map::new(alloc);
-    put(&mut members, alloc, "ProtocolVersion", version)?;
+    put_text(alloc, &mut members, "ProtocolVersion", "1.0")?;
     put(&mut members, alloc, "Result", told)?;
-    put(&mut members, alloc, "SenderID", sender)?;
+    put_text(alloc, &mut members, "SenderID", receiver.as_str())?;
     Ok(Value::Object(members))
 }
 
 fn result_value(alloc: Global, answer: &Answer) -> Result<Value, AllocError>
     ensures { IfOk result (λ value. view value ≡ result_value answer.now) }
 {
-    let description = Value::try_from_str(alloc, result_description(answer))?;
-    let code = Value::try_from_str(alloc, result_code(answer))?;
     let mut members = Map::new(alloc);
-    put(&mut members, alloc, "Description", description)?;
-    put(&mut members, alloc, "ResultCode", code)?;
+    put_text(
+        alloc,
+        &mut members,
+        "Description",
+        result_description(answer),
+    )?;
+    put_text(alloc, &mut members, "ResultCode", result_code(answer))?;
     Ok(Value::Object(members))
 }

@@ -2,12 +2,15 @@
 #![tactic(auto)]
 
 mod answers;
+mod bodies;
 mod faults;
 mod heads;
+mod hexadecimal;
 pub mod laws;
 mod members;
 mod reading;
 mod results;
+mod roles;
 #[cfg(test)]
 mod tests;
 mod type_names;

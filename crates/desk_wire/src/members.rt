@@ -1,10 +1,15 @@
 //! Members of JSON objects: read in their forms, and put beside others.
 ghost use Rattle.std.specs.Prelude.{◌≡◌, ◌^◌, OnOk, option_map};
+ghost use Rattle.serde_json.specs.Data.{string, put};
 ghost use Rattle.serde_json.specs.View.{view, members_view};
-ghost use Rattle.desk_wire.specs.Members.{text_at, name_at, type_name_at, whole_at, with_envelope};
+ghost use Rattle.desk_wire.specs.Hexadecimal.{eui_digits};
+ghost use Rattle.desk_wire.specs.Members.{text_at, name_at, type_name_at, whole_at, eui_at, role_at, with_envelope};
 
+use crate::hexadecimal::{eui_digits, eui_of};
+use crate::roles::role_named;
 use crate::type_names::TypeName;
-use radio_core::Name;
+use radio_core::{Eui, Name};
+use registry_core::Role;
 use serde_json::{Map, Value, put};
 use std::alloc::{AllocError, Global};
 
@@ -32,6 +37,47 @@ pub(crate) fn u32_at(value: &Value, member: &str) -> Option<u32>
     u32::try_from(value.get(member)?.as_u64()?).ok()
 }
 
+pub(crate) fn eui_at(value: &Value, member: &str) -> Option<Eui>
+    ensures { result ≡ eui_at member.now (view value.now) }
+{
+    eui_of(text_at(value, member)?)
+}
+
+pub(crate) fn role_at(value: &Value, member: &str) -> Option<Role>
+    ensures { result ≡ role_at member.now (view value.now) }
+{
+    role_named(text_at(value, member)?)
+}
+
+pub(crate) fn put_text(
+    alloc: Global,
+    members: &mut Map<String, Value>,
+    member: &str,
+    text: &str,
+) -> Result<(), AllocError>
+    ensures { OnOk result (members_view members.new.entries ≡ put member.now (string text.now)
+        (members_view members.old.entries)) }
+{
+    put(members, alloc, member, Value::try_from_str(alloc, text)?)
+}
+
+pub(crate) fn put_eui(
+    alloc: Global,
+    members: &mut Map<String, Value>,
+    member: &str,
+    eui: Eui,
+) -> Result<(), AllocError>
+    ensures { OnOk result (members_view members.new.entries
+        ≡ put member.now (string (eui_digits eui)) (members_view members.old.entries)) }
+{
+    put(
+        members,
+        alloc,
+        member,
+        Value::String(eui_digits(alloc, eui)?),
+    )
+}
+
 /// The members of the envelope. An `Err` leaves some of them put.
 pub(crate) fn put_envelope(
     alloc: Global,
@@ -44,13 +90,9 @@ pub(crate) fn put_envelope(
     ensures { OnOk result (members_view members.new.entries ≡ with_envelope type_name.now sender.now
         receiver.now transaction (members_view members.old.entries)) }
 {
-    let type_name = Value::try_from_str(alloc, type_name)?;
-    let version = Value::try_from_str(alloc, "1.0")?;
-    let receiver = Value::try_from_str(alloc, receiver.as_str())?;
-    let sender = Value::try_from_str(alloc, sender.as_str())?;
-    put(members, alloc, "MessageType", type_name)?;
-    put(members, alloc, "ProtocolVersion", version)?;
-    put(members, alloc, "ReceiverID", receiver)?;
-    put(members, alloc, "SenderID", sender)?;
+    put_text(alloc, members, "MessageType", type_name)?;
+    put_text(alloc, members, "ProtocolVersion", "1.0")?;
+    put_text(alloc, members, "ReceiverID", receiver.as_str())?;
+    put_text(alloc, members, "SenderID", sender.as_str())?;
     put(members, alloc, "TransactionID", Value::from(transaction))
 }

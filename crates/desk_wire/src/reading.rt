@@ -1,8 +1,9 @@
 //! Texts read as envelopes.
 ghost use Rattle.std.specs.Prelude.{◌≡◌, IfOk, option_map};
 ghost use Rattle.serde_json.specs.View.{view};
-ghost use Rattle.desk_wire.specs.Reading.{common_members_of, owner_add_of, message_of, envelope_addressed, envelope_of, value_of, reads, Gives};
+ghost use Rattle.desk_wire.specs.Reading.{common_members_of, message_of, envelope_addressed, envelope_of, value_of, reads, Gives};
 
+use crate::bodies::{device_add_of, device_move_of, gateway_add_of, owner_add_of, sender_add_of};
 use crate::faults::WireFault;
 use crate::heads::Head;
 use crate::members::{name_at, text_at, type_name_at, u32_at};
@@ -23,6 +24,17 @@ struct CommonMembers {
 /// order. The text is a JSON object (RFC 8259) in UTF-8 that has the members of the envelope (LoRaWAN Backend Interfaces
 /// 1.0) and those of its type, in this project's forms. Further members are ignored, and of equal ones the last stands.
 /// `Memory` is told only where a growth was refused.
+///
+/// | MessageType | Its members |
+/// |---|---|
+/// | SenderAdd | Sender: a name; Role: `operator` or `radio` |
+/// | OwnerAdd | Owner: a name |
+/// | GatewayAdd | Gateway: a name |
+/// | DeviceAdd | DevEUI and JoinEUI: EUIs; Owner: a name |
+/// | DeviceMove | DevEUI: an EUI; Owner: a name |
+///
+/// An EUI is a text of 16 hexadecimal digits, the most significant first, in either case, with or without `0x` before
+/// them.
 pub fn read_message(alloc: Global, text: &[u8], receiver: &Name) -> Result<Envelope, WireFault>
     ensures { Gives result (reads receiver.now text.now) }
 {
@@ -105,17 +117,13 @@ fn envelope_addressed(
 fn message_of(head: Head, value: &Value) -> Result<Message, WireFault>
     ensures { result ≡ message_of head (view value.now) }
 {
-    if head.type_name.get() == b"OwnerAdd".as_slice() {
-        owner_add_of(value).ok_or(WireFault::BadBody(head))
-    } else {
-        Err(WireFault::UnknownType(head))
-    }
-}
-
-#[tactic(auto, unfolding(crate::specs::Reading::owner_add_of))]
-fn owner_add_of(value: &Value) -> Option<Message>
-    ensures { result ≡ owner_add_of (view value.now) }
-{
-    let owner = name_at(value, "Owner")?;
-    Some(Message::OwnerAdd { owner })
+    let message = match head.type_name.as_str() {
+        "SenderAdd" => sender_add_of(value),
+        "OwnerAdd" => owner_add_of(value),
+        "GatewayAdd" => gateway_add_of(value),
+        "DeviceAdd" => device_add_of(value),
+        "DeviceMove" => device_move_of(value),
+        _ => return Err(WireFault::UnknownType(head)),
+    };
+    message.ok_or(WireFault::BadBody(head))
 }

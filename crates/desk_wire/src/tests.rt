@@ -1,9 +1,12 @@
 //! The worked texts, letter for letter.
+use crate::hexadecimal::octets_of;
 use crate::{
     Head, TypeName, WireFault, head_of, read_message, write_answer, write_message, write_refusal,
 };
-use radio_core::Name;
-use registry_core::{Answer, Envelope, Message, Refusal};
+use radio_core::{Eui, Name, Octets};
+use registry_core::{Answer, Envelope, Message, Refusal, Role};
+use std::alloc::{AllocError, Global};
+use std::str;
 use std::test::Fail;
 
 const REQUEST: &str =
@@ -22,14 +25,25 @@ fn name(text: &str) -> Result<Name, &'static str> {
     Name::new(text.as_bytes()).ok_or("no name")
 }
 
-fn worked_envelope() -> Result<Envelope, &'static str> {
+fn envelope(message: Message) -> Result<Envelope, &'static str> {
     Ok(Envelope {
         sender: name("office")?,
         transaction: 1,
-        message: Message::OwnerAdd {
-            owner: name("town")?,
-        },
+        message,
     })
+}
+
+fn worked_envelope() -> Result<Envelope, &'static str> {
+    envelope(Message::OwnerAdd {
+        owner: name("town")?,
+    })
+}
+
+/// A request, with its MessageType and the members of its type written out.
+fn request(alloc: Global, message: &str) -> Result<String, AllocError> {
+    format!(in alloc;
+        r#"{{"ProtocolVersion":"1.0","SenderID":"office","ReceiverID":"desk","TransactionID":1,"MessageType":{message}}}"#
+    )
 }
 
 #[test]
@@ -49,6 +63,108 @@ fn the_worked_request_is_read_written_and_answered(rt: HostRuntime) -> Result<()
         type_name: TypeName::new(b"OwnerAdd").ok_or("no type")?,
     };
     assert!(rt; head_of(&envelope) == head);
+    Ok(())
+}
+
+#[test]
+fn each_message_is_read_and_written(rt: HostRuntime) -> Result<(), Fail> {
+    let desk = name("desk")?;
+    let dev_eui = Eui::new(0x0004_a30b_001a_2b3c);
+    let join_eui = Eui::new(0x70b3_d57e_d000_0001);
+    for (message, written) in [
+        (
+            Message::SenderAdd {
+                sender: name("bridge")?,
+                role: Role::Radio,
+            },
+            r#"{"MessageType":"SenderAdd","ProtocolVersion":"1.0","ReceiverID":"desk","Role":"radio","Sender":"bridge","SenderID":"office","TransactionID":1}"#,
+        ),
+        (
+            Message::SenderAdd {
+                sender: name("bureau")?,
+                role: Role::Operator,
+            },
+            r#"{"MessageType":"SenderAdd","ProtocolVersion":"1.0","ReceiverID":"desk","Role":"operator","Sender":"bureau","SenderID":"office","TransactionID":1}"#,
+        ),
+        (
+            Message::OwnerAdd {
+                owner: name("town")?,
+            },
+            WRITTEN,
+        ),
+        (
+            Message::GatewayAdd {
+                gateway: name("gw-a")?,
+            },
+            r#"{"Gateway":"gw-a","MessageType":"GatewayAdd","ProtocolVersion":"1.0","ReceiverID":"desk","SenderID":"office","TransactionID":1}"#,
+        ),
+        (
+            Message::DeviceAdd {
+                dev_eui,
+                join_eui,
+                owner: name("town")?,
+            },
+            r#"{"DevEUI":"0004a30b001a2b3c","JoinEUI":"70b3d57ed0000001","MessageType":"DeviceAdd","Owner":"town","ProtocolVersion":"1.0","ReceiverID":"desk","SenderID":"office","TransactionID":1}"#,
+        ),
+        (
+            Message::DeviceMove {
+                dev_eui,
+                owner: name("city")?,
+            },
+            r#"{"DevEUI":"0004a30b001a2b3c","MessageType":"DeviceMove","Owner":"city","ProtocolVersion":"1.0","ReceiverID":"desk","SenderID":"office","TransactionID":1}"#,
+        ),
+    ] {
+        let wanted = envelope(message)?;
+        let text = write_message(rt.alloc(), &wanted, &desk)?;
+        assert_eq!(rt; text.as_slice(), written.as_bytes(), "{written}");
+        let read = read_message(rt.alloc(), written.as_bytes(), &desk);
+        assert!(rt; read == Ok(wanted), "{written}");
+    }
+    Ok(())
+}
+
+#[test]
+fn euis_are_read_in_either_case_with_and_without_a_prefix(rt: HostRuntime) -> Result<(), Fail> {
+    let desk = name("desk")?;
+    let wanted = Ok(envelope(Message::DeviceAdd {
+        dev_eui: Eui::new(0x0004_a30b_001a_2b3c),
+        join_eui: Eui::new(0x70b3_d57e_d000_0001),
+        owner: name("town")?,
+    })?);
+    for (dev_eui, join_eui) in [
+        ("0004a30b001a2b3c", "70b3d57ed0000001"),
+        ("0004A30B001A2B3C", "70B3D57ED0000001"),
+        ("0x0004a30b001a2b3c", "0x70b3d57ed0000001"),
+        ("0x0004A30B001A2B3C", "70b3D57eD0000001"),
+    ] {
+        let message = format!(in rt.alloc();
+            r#""DeviceAdd","Owner":"town","JoinEUI":"{join_eui}","DevEUI":"{dev_eui}""#
+        )?;
+        let text = request(rt.alloc(), message.as_str())?;
+        let read = read_message(rt.alloc(), text.as_bytes(), &desk);
+        assert!(rt; read == wanted, "{text}");
+    }
+    Ok(())
+}
+
+#[test]
+fn octets_are_even_digits_and_at_most_255(rt: HostRuntime) -> Result<(), Fail> {
+    let digits = [b'a'; 512];
+    let longest = str::from_utf8(&digits[..510]).ok().ok_or("no text")?;
+    let longer = str::from_utf8(&digits).ok().ok_or("no text")?;
+    for (text, wanted) in [
+        ("", Octets::new(b"")),
+        ("0x", Octets::new(b"")),
+        ("400000A0", Octets::new(b"\x40\x00\x00\xa0")),
+        ("0x400000a0", Octets::new(b"\x40\x00\x00\xa0")),
+        ("4", None),
+        ("0x4", None),
+        ("0x0x40", None),
+        (longest, Octets::new(&[0xaa; 255])),
+        (longer, None),
+    ] {
+        assert!(rt; octets_of(text) == wanted, "{text}");
+    }
     Ok(())
 }
 
@@ -133,6 +249,47 @@ fn the_first_fault_is_told(rt: HostRuntime) -> Result<(), Fail> {
         match read_message(rt.alloc(), text.as_bytes(), &desk) {
             Ok(_) => assert!(rt; false, "{text}"),
             Err(fault) => assert_eq!(rt; fault_number(&fault), wanted, "{text}"),
+        }
+    }
+    Ok(())
+}
+
+#[test]
+fn bodies_that_lack_a_member_in_its_form_are_bad(rt: HostRuntime) -> Result<(), Fail> {
+    let desk = name("desk")?;
+    for message in [
+        r#""SenderAdd","Sender":"bridge""#,
+        r#""SenderAdd","Role":"radio""#,
+        r#""SenderAdd","Sender":"bridge","Role":"Operator""#,
+        r#""SenderAdd","Sender":"bridge","Role":"""#,
+        r#""SenderAdd","Sender":"bridge","Role":null"#,
+        r#""SenderAdd","Sender":"a b","Role":"radio""#,
+        r#""OwnerAdd","Gateway":"town""#,
+        r#""GatewayAdd","Owner":"gw-a""#,
+        r#""GatewayAdd","Gateway":1"#,
+        r#""DeviceAdd","DevEUI":"0004a30b001a2b3c","JoinEUI":"70b3d57ed0000001""#,
+        r#""DeviceAdd","DevEUI":"0004a30b001a2b3c","Owner":"town""#,
+        r#""DeviceAdd","JoinEUI":"70b3d57ed0000001","Owner":"town""#,
+        r#""DeviceMove","DevEUI":"0004a30b001a2b3c""#,
+        r#""DeviceMove","Owner":"town""#,
+        r#""DeviceMove","DevEUI":"0004a30b001a2b3","Owner":"town""#,
+        r#""DeviceMove","DevEUI":"0004a30b001a2b3c4","Owner":"town""#,
+        r#""DeviceMove","DevEUI":"0004a30b001a2b","Owner":"town""#,
+        r#""DeviceMove","DevEUI":"0004a30b001a2b3c4d","Owner":"town""#,
+        r#""DeviceMove","DevEUI":"0x04a30b001a2b3c","Owner":"town""#,
+        r#""DeviceMove","DevEUI":"0x","Owner":"town""#,
+        r#""DeviceMove","DevEUI":"","Owner":"town""#,
+        r#""DeviceMove","DevEUI":"0X0004a30b001a2b3c","Owner":"town""#,
+        r#""DeviceMove","DevEUI":"0x0x0004a30b001a2b3c","Owner":"town""#,
+        r#""DeviceMove","DevEUI":"0004a30b001a2b3g","Owner":"town""#,
+        r#""DeviceMove","DevEUI":"0004-a30b-001a-2b3c","Owner":"town""#,
+        r#""DeviceMove","DevEUI":1301960588962620,"Owner":"town""#,
+        r#""DeviceMove","DevEUI":null,"Owner":"town""#,
+    ] {
+        let text = request(rt.alloc(), message)?;
+        match read_message(rt.alloc(), text.as_bytes(), &desk) {
+            Ok(_) => assert!(rt; false, "{text}"),
+            Err(fault) => assert_eq!(rt; fault_number(&fault), 7, "{text}"),
         }
     }
     Ok(())

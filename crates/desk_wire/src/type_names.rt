@@ -66,7 +66,12 @@ fn are_letters(octets: &[u8]) -> bool
 pub(crate) fn type_name_of(message: &Message) -> TypeName
     ensures { result ≡ type_name_of message.now }
 {
-    match message {
-        Message::OwnerAdd { owner: _ } => TypeName::new(b"OwnerAdd").unwrap(),
-    }
+    let text = match message {
+        Message::SenderAdd { .. } => b"SenderAdd".as_slice(),
+        Message::OwnerAdd { .. } => b"OwnerAdd",
+        Message::GatewayAdd { .. } => b"GatewayAdd",
+        Message::DeviceAdd { .. } => b"DeviceAdd",
+        Message::DeviceMove { .. } => b"DeviceMove",
+    };
+    TypeName::new(text).unwrap()
 }

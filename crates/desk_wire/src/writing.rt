@@ -1,17 +1,20 @@
 //! Envelopes written as texts.
 ghost use Rattle.std.specs.Prelude.{◌≡◌, IfOk, OnOk};
 ghost use Rattle.serde_json.specs.View.{view, members_view};
-ghost use Rattle.desk_wire.specs.Writing.{message_value, message_text, with_body, with_owner_add};
+ghost use Rattle.desk_wire.specs.Writing.{message_value, message_text, with_body};
 
+use crate::bodies::{
+    put_device_add, put_device_move, put_gateway_add, put_owner_add, put_sender_add,
+};
 use crate::members::put_envelope;
 use crate::type_names::type_name_of;
 use radio_core::Name;
 use registry_core::{Envelope, Message};
-use serde_json::{Map, Value, put};
+use serde_json::{Map, Value};
 use std::alloc::{AllocError, Global};
 
-/// The one text of an envelope for the receiver: compact JSON, the members in byte order of their names. `read_message`
-/// reads it as the same envelope.
+/// The one text of an envelope for the receiver: compact JSON, the members in byte order of their names. EUIs
+/// are in lower case without `0x`. `read_message` reads it as the same envelope.
 #[tactic(auto, unfolding(crate::specs::Writing::message_text))]
 pub fn write_message(
     alloc: Global,
@@ -52,22 +55,14 @@ fn put_body(
         (members_view members.old.entries)) }
 {
     match message {
+        Message::SenderAdd { sender, role } => put_sender_add(alloc, members, sender, *role),
         Message::OwnerAdd { owner } => put_owner_add(alloc, members, owner),
+        Message::GatewayAdd { gateway } => put_gateway_add(alloc, members, gateway),
+        Message::DeviceAdd {
+            dev_eui,
+            join_eui,
+            owner,
+        } => put_device_add(alloc, members, *dev_eui, *join_eui, owner),
+        Message::DeviceMove { dev_eui, owner } => put_device_move(alloc, members, *dev_eui, owner),
     }
-}
-
-fn put_owner_add(
-    alloc: Global,
-    members: &mut Map<String, Value>,
-    owner: &Name,
-) -> Result<(), AllocError>
-    ensures { OnOk result (members_view members.new.entries ≡ with_owner_add owner.now
-        (members_view members.old.entries)) }
-{
-    put(
-        members,
-        alloc,
-        "Owner",
-        Value::try_from_str(alloc, owner.as_str())?,
-    )
 }

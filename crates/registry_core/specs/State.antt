@@ -1,10 +1,11 @@
 -- What the registry holds, and how a message's change goes into it.
--- What has a name is looked up by it, so that nothing depends on an order in which a store keeps it.
-use Rattle.std.specs.Prelude.{ℕ, Bool, true, false, List, Option, Some, None, bytes_eq, if◌then◌else◌}
+-- What has a name or an EUI is looked up by it, so that nothing depends on an order in which a store keeps it.
+use Rattle.std.specs.Prelude.{ℕ, ◌==◌, Bool, true, false, List, Option, Some, None, option_map, bytes_eq, if◌then◌else◌}
+use Rattle.registry_core.specs.declared.facts.Device.{Device}
 use Rattle.registry_core.specs.declared.messages.Role.{Role}
 use Rattle.registry_core.specs.declared.messages.Role.TheVariants.{Operator}
 use Rattle.registry_core.specs.declared.effects.Effect.{Effect}
-use Rattle.registry_core.specs.declared.effects.Effect.TheVariants.{Nothing, AddsOwner}
+use Rattle.registry_core.specs.declared.effects.Effect.TheVariants.{Nothing, AddsSender, AddsOwner, AddsGateway, AddsDevice, MovesDevice}
 use Rattle.registry_core.specs.Settings.{Settings}
 
 -- ---- facts
@@ -14,24 +15,54 @@ pub record State : Type 0 where
   pub senders : List ℕ → Option Role
   -- whether an owner has the name
   pub owners : List ℕ → Bool
+  -- whether a gateway has the name
+  pub gateways : List ℕ → Bool
+  -- a device by its DevEUI
+  pub devices : ℕ → Option Device
 
 -- what is looked up by a name, with this at the name
 abbrev pub at_name : {X : Type 0} → (List ℕ → X) → List ℕ → X → List ℕ → X
 at_name f name x = λ other. if bytes_eq other name then x else f other
+
+-- what is looked up by a number, with this at the number
+abbrev pub at_number : {X : Type 0} → (ℕ → X) → ℕ → X → ℕ → X
+at_number f n x = λ other. if other == n then x else f other
 
 -- the opening state: the configured operator is the only sender, and there is nothing else
 abbrev pub opening : Settings → State
 opening c = record {
   senders = at_name (λ _. None) c.operator (Some Operator);
   owners = λ _. false;
+  gateways = λ _. false;
+  devices = λ _. None;
 }
 
 -- ---- changes
 
+abbrev pub with_sender : State → List ℕ → Role → State
+with_sender s name role = record s { senders = at_name s.senders name (Some role) }
+
 abbrev pub with_owner : State → List ℕ → State
 with_owner s name = record s { owners = at_name s.owners name true }
+
+abbrev pub with_gateway : State → List ℕ → State
+with_gateway s name = record s { gateways = at_name s.gateways name true }
+
+abbrev pub with_device : State → ℕ → Device → State
+with_device s dev_eui device = record s { devices = at_number s.devices dev_eui (Some device) }
+
+-- the device with this owner, and all else as it was
+abbrev pub owned_by : List ℕ → Device → Device
+owned_by owner device = record device { owner = owner }
+
+abbrev pub with_move : State → ℕ → List ℕ → State
+with_move s dev_eui owner = record s { devices = at_number s.devices dev_eui (option_map (owned_by owner) (s.devices dev_eui)) }
 
 -- the state with a message's change
 abbrev pub state_with : State → Effect → State
 state_with s Nothing = s
+state_with s (AddsSender name role) = with_sender s name role
 state_with s (AddsOwner name) = with_owner s name
+state_with s (AddsGateway name) = with_gateway s name
+state_with s (AddsDevice dev_eui device) = with_device s dev_eui device
+state_with s (MovesDevice dev_eui owner) = with_move s dev_eui owner

@@ -1,17 +1,13 @@
-//! What a message changes and how it is answered: one function for each message, its checks in their order.
+//! What a message changes and how it is answered.
 ghost use Rattle.std.specs.Prelude.{◌≡◌};
-ghost use Rattle.registry_core.specs.declared.messages.Envelope.{Envelope};
-ghost use Rattle.registry_core.specs.declared.messages.Message.TheVariants.{OwnerAdd};
-ghost use Rattle.registry_core.specs.Settings.{Settings};
-ghost use Rattle.registry_core.specs.State.{State};
-ghost use Rattle.registry_core.specs.Step.{decision_or_refusal, owner_add};
-ghost use Rattle.registry_core.specs.Viewed.{IsView, IsStep};
+ghost use Rattle.registry_core.specs.Step.{decision_or_refusal};
+ghost use Rattle.registry_core.specs.Viewed.{IsChecked, IsStep};
 
+use crate::administration::{device_add, device_move, gateway_add, owner_add, sender_add};
 use crate::answers::{Answer, Refusal};
 use crate::effects::Effect;
-use crate::messages::{Message, Role};
+use crate::messages::Message;
 use crate::views::View;
-use radio_core::Name;
 
 /// What the message changes, and what it is answered. It takes no memory and always answers.
 ///
@@ -19,9 +15,7 @@ use radio_core::Name;
 pub fn decide(message: &Message, view: &View) -> (Effect, Answer)
     ensures { IsStep message.now view.now result }
 {
-    match message {
-        Message::OwnerAdd { owner } => decision_or_refusal(decide_owner_add(*owner, view)),
-    }
+    decision_or_refusal(checked_decision(message, view))
 }
 
 /// A refusal changes nothing.
@@ -34,16 +28,19 @@ fn decision_or_refusal(checked: Result<(Effect, Answer), Refusal>) -> (Effect, A
     }
 }
 
-#[tactic(auto, unfolding(crate::specs::Step::owner_add))]
-fn decide_owner_add(owner: Name, view: &View) -> Result<(Effect, Answer), Refusal>
-    ensures { (c : Settings) (s : State) (e : Envelope) → e.message ≡ OwnerAdd owner → IsView c s e view.now
-        → result ≡ owner_add s e owner }
+/// The checks of the message's type.
+fn checked_decision(message: &Message, view: &View) -> Result<(Effect, Answer), Refusal>
+    ensures { IsChecked message.now view.now result }
 {
-    if view.role != Role::Operator {
-        return Err(Refusal::WrongRole);
+    match message {
+        Message::SenderAdd { sender, role } => sender_add(*sender, *role, view),
+        Message::OwnerAdd { owner } => owner_add(*owner, view),
+        Message::GatewayAdd { gateway } => gateway_add(*gateway, view),
+        Message::DeviceAdd {
+            dev_eui,
+            join_eui,
+            owner,
+        } => device_add(*dev_eui, *join_eui, *owner, view),
+        Message::DeviceMove { dev_eui, owner } => device_move(*dev_eui, *owner, view),
     }
-    if view.owner_known {
-        return Err(Refusal::Exists);
-    }
-    Ok((Effect::AddsOwner { name: owner }, Answer::Success))
 }

@@ -13,7 +13,7 @@ pub fn same_message_tells()
     ensures { SameMessageTells }
 {}
 
-/// Whatever was heard, the effect of a step adds only what isn't there.
+/// Whatever was heard, the effect of a step adds only what isn't there, and names only what is.
 pub fn decisions_fit()
     ensures { DecisionsFit }
 {}
@@ -44,7 +44,26 @@ pub fn envelopes_keep_ranges(envelope: &Envelope)
     let _sender = envelope.sender.get();
     let _transaction = envelope.transaction;
     match &envelope.message {
+        Message::SenderAdd { sender, role: _ } => {
+            let _named = sender.get();
+        }
         Message::OwnerAdd { owner } => {
+            let _owner = owner.get();
+        }
+        Message::GatewayAdd { gateway } => {
+            let _gateway = gateway.get();
+        }
+        Message::DeviceAdd {
+            dev_eui,
+            join_eui,
+            owner,
+        } => {
+            let _dev_eui = dev_eui.get();
+            let _join_eui = join_eui.get();
+            let _owner = owner.get();
+        }
+        Message::DeviceMove { dev_eui, owner } => {
+            let _dev_eui = dev_eui.get();
             let _owner = owner.get();
         }
     }

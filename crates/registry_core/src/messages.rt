@@ -1,5 +1,5 @@
 //! Messages, after reading.
-use radio_core::Name;
+use radio_core::{Eui, Name};
 
 /// What a sender may send.
 #[derive(Clone, Copy, Debug, PartialEq, Eq)]
@@ -11,7 +11,25 @@ pub enum Role {
 /// What a sender asks.
 #[derive(Clone, Copy, Debug, PartialEq, Eq)]
 pub enum Message {
-    OwnerAdd { owner: Name },
+    SenderAdd {
+        sender: Name,
+        role: Role,
+    },
+    OwnerAdd {
+        owner: Name,
+    },
+    GatewayAdd {
+        gateway: Name,
+    },
+    DeviceAdd {
+        dev_eui: Eui,
+        join_eui: Eui,
+        owner: Name,
+    },
+    DeviceMove {
+        dev_eui: Eui,
+        owner: Name,
+    },
 }
 
 /// A message with its sender and the sender's transaction number.

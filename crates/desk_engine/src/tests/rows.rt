@@ -1,0 +1,258 @@
+//! What is delivered in each run, and what goes back: whole texts where their letters matter, and else the parts in
+//! which requests differ.
+use Row::{Asks, Letters};
+use std::alloc::{AllocError, Global};
+
+/// What a request is told: the number of its refusal (0: this is the answer of what is heard), the Description and the
+/// ResultCode.
+#[derive(Clone, Copy)]
+pub(super) struct Told(u8, &'static str, &'static str);
+
+const SUCCESS: Told = Told(0, "", "Success");
+
+const ROLE: Told = Told(0, "role", "Other");
+
+const EXISTS: Told = Told(0, "exists", "Other");
+
+const UNKNOWN_OWNER: Told = Told(0, "owner", "Other");
+
+const UNKNOWN_DEVICE: Told = Told(0, "", "UnknownDevEUI");
+
+const UNKNOWN_SENDER: Told = Told(4, "", "UnknownSender");
+
+const REUSED: Told = Told(5, "transaction", "Other");
+
+const BODY: Told = Told(7, "body", "Other");
+
+const TYPE: Told = Told(8, "type", "Other");
+
+/// What is delivered, and what it is told.
+#[derive(Clone, Copy)]
+pub(super) enum Row {
+    /// A request of a sender: its transaction number, its type, and the members of the type.
+    Asks(&'static str, u32, &'static str, &'static str, Told),
+    /// A whole text, the number of its refusal (0: it is heard), and the whole text that goes back.
+    Letters(&'static str, u8, &'static str),
+}
+
+/// A text, the number of its refusal (0: it is heard), and the text that goes back.
+#[derive(Drop)]
+pub(super) struct Delivery {
+    pub(super) text: String,
+    pub(super) number: u8,
+    pub(super) wanted: String,
+}
+
+/// The deliveries of the rows. Each row is delivered twice: whatever it is told, it is told again.
+pub(super) fn deliveries_of(alloc: Global, rows: &[Row]) -> Result<Vec<Delivery>, AllocError> {
+    let mut deliveries = Vec::new(alloc);
+    for row in rows {
+        for _ in 0..2 {
+            deliveries.push(delivery_of(alloc, row)?)?;
+        }
+    }
+    Ok(deliveries)
+}
+
+fn delivery_of(alloc: Global, row: &Row) -> Result<Delivery, AllocError> {
+    match *row {
+        Asks(sender, transaction, type_name, members, told) => Ok(Delivery {
+            text: request(alloc, sender, transaction, type_name, members)?,
+            number: told.0,
+            wanted: answer(alloc, sender, transaction, type_name, told)?,
+        }),
+        Letters(text, number, wanted) => Ok(Delivery {
+            text: format!(in alloc; "{text}")?,
+            number,
+            wanted: format!(in alloc; "{wanted}")?,
+        }),
+    }
+}
+
+fn request(
+    alloc: Global,
+    sender: &str,
+    transaction: u32,
+    type_name: &str,
+    members: &str,
+) -> Result<String, AllocError> {
+    format!(in alloc;
+        r#"{{"ProtocolVersion":"1.0","SenderID":"{sender}","ReceiverID":"desk","TransactionID":{transaction},"MessageType":"{type_name}",{members}}}"#
+    )
+}
+
+fn answer(
+    alloc: Global,
+    receiver: &str,
+    transaction: u32,
+    type_name: &str,
+    told: Told,
+) -> Result<String, AllocError> {
+    let Told(_, description, code) = told;
+    format!(in alloc;
+        r#"{{"MessageType":"{type_name}Ans","ProtocolVersion":"1.0","ReceiverID":"{receiver}","Result":{{"Description":"{description}","ResultCode":"{code}"}},"SenderID":"desk","TransactionID":{transaction}}}"#
+    )
+}
+
+/// The worked request, letter for letter.
+pub(super) const REQUEST: &str =
+    r#"{"ProtocolVersion":"1.0","SenderID":"office","ReceiverID":"desk","TransactionID":1,"MessageType":"OwnerAdd","Owner":"town"}"#;
+
+/// The answer of the worked request.
+pub(super) const ADDED: &str =
+    r#"{"MessageType":"OwnerAddAns","ProtocolVersion":"1.0","ReceiverID":"office","Result":{"Description":"","ResultCode":"Success"},"SenderID":"desk","TransactionID":1}"#;
+
+pub(super) const MALFORMED: &str =
+    r#"{"ProtocolVersion":"1.0","Result":{"Description":"malformed","ResultCode":"Other"},"SenderID":"desk"}"#;
+
+const TOWN: &str = r#""Owner":"town""#;
+
+const CITY: &str = r#""Owner":"city""#;
+
+const LONG_OWNER: &str = r#""Owner":"abcdefghijklmnopqrstuvwxyzabcdefg""#;
+
+// The tables are statics: a proof goes through all rows of a constant where it is used, which takes minutes.
+
+/// Owners, and each fault of a text.
+pub(super) static OWNERS: [Row; 12] = [
+    Letters(REQUEST, 0, ADDED),
+    Asks("office", 1, "OwnerAdd", TOWN, SUCCESS),
+    Asks("office", 2, "OwnerAdd", TOWN, EXISTS),
+    Asks("office", 1, "OwnerAdd", CITY, REUSED),
+    Letters(
+        r#"{"X":[1],"Owner":"town","MessageType":"OwnerAdd","TransactionID":1,"ReceiverID":"desk","SenderID":"office","ProtocolVersion":"1.0"}"#,
+        0,
+        ADDED,
+    ),
+    Letters("{", 1, MALFORMED),
+    Asks("nobody", 1, "OwnerAdd", TOWN, UNKNOWN_SENDER),
+    Letters(
+        r#"{"ProtocolVersion":"1.0","SenderID":"office","ReceiverID":"other","TransactionID":1,"MessageType":"OwnerAdd","Owner":"town"}"#,
+        3,
+        r#"{"MessageType":"OwnerAddAns","ProtocolVersion":"1.0","ReceiverID":"office","Result":{"Description":"","ResultCode":"UnknownReceiver"},"SenderID":"desk","TransactionID":1}"#,
+    ),
+    Letters(
+        r#"{"ProtocolVersion":"1.1","SenderID":"office","ReceiverID":"desk","TransactionID":1,"MessageType":"OwnerAdd","Owner":"town"}"#,
+        2,
+        r#"{"MessageType":"OwnerAddAns","ProtocolVersion":"1.0","ReceiverID":"office","Result":{"Description":"","ResultCode":"InvalidProtocolVersion"},"SenderID":"desk","TransactionID":1}"#,
+    ),
+    Asks("office", 1, "OwnerDrop", TOWN, TYPE),
+    Asks("office", 1, "OwnerAdd", LONG_OWNER, BODY),
+    // the used number's other owner was not added
+    Asks("office", 3, "OwnerAdd", CITY, SUCCESS),
+];
+
+const BRIDGE: &str = r#""Sender":"bridge","Role":"radio""#;
+
+const OFFICE: &str = r#""Sender":"office","Role":"operator""#;
+
+const STRANGER: &str = r#""Sender":"stranger","Role":"operator""#;
+
+const GATEWAY_A: &str = r#""Gateway":"gw-a""#;
+
+const GATEWAY_B: &str = r#""Gateway":"gw-b""#;
+
+const GATEWAY_C: &str = r#""Gateway":"gw-c""#;
+
+const DEVICE: &str = r#""DevEUI":"0004a30b001a2b3c","JoinEUI":"70b3d57ed0000001","Owner":"town""#;
+
+const DEVICE_IN_CAPITALS: &str =
+    r#""DevEUI":"0x0004A30B001A2B3C","JoinEUI":"70B3D57ED0000001","Owner":"town""#;
+
+const DEVICE_OF_CITY: &str =
+    r#""DevEUI":"0004a30b001a2b3c","JoinEUI":"70b3d57ed0000001","Owner":"city""#;
+
+const OTHER: &str = r#""DevEUI":"0004a30b001a2b3d","JoinEUI":"70b3d57ed0000001","Owner":"town""#;
+
+const OTHER_OF_CITY: &str =
+    r#""DevEUI":"0004a30b001a2b3d","JoinEUI":"70b3d57ed0000001","Owner":"city""#;
+
+const DEVICE_TO_TOWN: &str = r#""DevEUI":"0004a30b001a2b3c","Owner":"town""#;
+
+const DEVICE_TO_CITY: &str = r#""DevEUI":"0004a30b001a2b3c","Owner":"city""#;
+
+const OTHER_TO_TOWN: &str = r#""DevEUI":"0004a30b001a2b3d","Owner":"town""#;
+
+const OTHER_TO_CITY: &str = r#""DevEUI":"0004a30b001a2b3d","Owner":"city""#;
+
+const AS_ADMIN: &str = r#""Sender":"third","Role":"admin""#;
+
+const WITHOUT_ROLE: &str = r#""Sender":"third""#;
+
+const AS_RADIO: &str = r#""Sender":"third","Role":"radio""#;
+
+const TWO_WORDS: &str = r#""Gateway":"gw d""#;
+
+/// A DevEUI of 15 digits.
+const SHORT_DEVICE: &str =
+    r#""DevEUI":"0004a30b001a2b3","JoinEUI":"70b3d57ed0000001","Owner":"town""#;
+
+/// A JoinEUI behind `0X`.
+const PREFIX_IN_CAPITALS: &str =
+    r#""DevEUI":"0004a30b001a2b3e","JoinEUI":"0X70b3d57ed0000001","Owner":"town""#;
+
+/// A DevEUI of 15 digits.
+const SHORT_TO_TOWN: &str = r#""DevEUI":"0004a30b001a2b3","Owner":"town""#;
+
+/// A DevEUI of 18 digits.
+const LONG_TO_TOWN: &str = r#""DevEUI":"0004a30b001a2b3c00","Owner":"town""#;
+
+/// Senders, owners, gateways and devices, with each refusal that their messages may have.
+pub(super) static REGISTRY: [Row; 49] = [
+    Asks("office", 900_000, "SenderAdd", BRIDGE, SUCCESS),
+    Asks("office", 900_001, "OwnerAdd", TOWN, SUCCESS),
+    Asks("office", 900_002, "GatewayAdd", GATEWAY_A, SUCCESS),
+    Asks("office", 900_003, "GatewayAdd", GATEWAY_B, SUCCESS),
+    Asks("office", 2, "DeviceAdd", DEVICE, SUCCESS),
+    Asks("office", 3, "DeviceAdd", DEVICE, EXISTS),
+    Asks("office", 2, "DeviceAdd", OTHER, REUSED),
+    Asks("office", 2, "DeviceAdd", DEVICE_IN_CAPITALS, SUCCESS),
+    Asks("office", 4, "DeviceMove", DEVICE_TO_TOWN, SUCCESS),
+    Asks("office", 5, "DeviceAdd", OTHER_OF_CITY, UNKNOWN_OWNER),
+    Asks("office", 6, "DeviceAdd", DEVICE_OF_CITY, UNKNOWN_OWNER),
+    // neither the used number's device nor the refused one was added
+    Asks("office", 7, "DeviceMove", OTHER_TO_TOWN, UNKNOWN_DEVICE),
+    Asks("office", 8, "DeviceMove", DEVICE_TO_CITY, UNKNOWN_OWNER),
+    Asks("office", 9, "DeviceMove", OTHER_TO_CITY, UNKNOWN_DEVICE),
+    Asks("office", 10, "SenderAdd", BRIDGE, EXISTS),
+    Asks("office", 11, "SenderAdd", OFFICE, EXISTS),
+    Asks("office", 12, "OwnerAdd", TOWN, EXISTS),
+    Asks("office", 13, "GatewayAdd", GATEWAY_A, EXISTS),
+    // the role is looked at first, and what it forbids isn't done
+    Asks("bridge", 2, "SenderAdd", STRANGER, ROLE),
+    Asks("bridge", 3, "OwnerAdd", TOWN, ROLE),
+    Asks("bridge", 4, "GatewayAdd", GATEWAY_C, ROLE),
+    Asks("bridge", 5, "DeviceAdd", OTHER, ROLE),
+    Asks("bridge", 6, "DeviceMove", DEVICE_TO_TOWN, ROLE),
+    Asks("bridge", 7, "DeviceMove", OTHER_TO_CITY, ROLE),
+    Asks("office", 14, "GatewayAdd", GATEWAY_C, SUCCESS),
+    Asks("office", 15, "DeviceAdd", OTHER, SUCCESS),
+    Asks("office", 16, "DeviceMove", OTHER_TO_TOWN, SUCCESS),
+    // a stranger's message isn't heard, and the same text is once its sender is known
+    Asks("stranger", 1, "OwnerAdd", CITY, UNKNOWN_SENDER),
+    Asks("office", 17, "DeviceMove", OTHER_TO_CITY, UNKNOWN_OWNER),
+    Asks("office", 18, "SenderAdd", STRANGER, SUCCESS),
+    Asks("stranger", 1, "OwnerAdd", CITY, SUCCESS),
+    Asks("office", 19, "DeviceMove", OTHER_TO_CITY, SUCCESS),
+    Asks("stranger", 2, "DeviceMove", DEVICE_TO_CITY, SUCCESS),
+    // what was refused is refused again, though it would be done now
+    Asks("office", 7, "DeviceMove", OTHER_TO_TOWN, UNKNOWN_DEVICE),
+    Asks("office", 8, "DeviceMove", DEVICE_TO_CITY, UNKNOWN_OWNER),
+    // a used number with a message of another type
+    Asks("office", 2, "DeviceMove", DEVICE_TO_TOWN, REUSED),
+    Asks("office", 4, "OwnerAdd", TOWN, REUSED),
+    Asks("office", 900_000, "GatewayAdd", GATEWAY_A, REUSED),
+    Asks("office", 900_002, "SenderAdd", STRANGER, REUSED),
+    Asks("bridge", 3, "DeviceAdd", DEVICE, REUSED),
+    // members that aren't in their form, and a type that there isn't
+    Asks("office", 30, "SenderAdd", AS_ADMIN, BODY),
+    Asks("office", 30, "SenderAdd", WITHOUT_ROLE, BODY),
+    Asks("office", 30, "GatewayAdd", TWO_WORDS, BODY),
+    Asks("office", 30, "DeviceAdd", SHORT_DEVICE, BODY),
+    Asks("office", 30, "DeviceAdd", PREFIX_IN_CAPITALS, BODY),
+    Asks("office", 30, "DeviceMove", SHORT_TO_TOWN, BODY),
+    Asks("office", 30, "DeviceMove", LONG_TO_TOWN, BODY),
+    Asks("office", 30, "DeviceDrop", DEVICE_TO_TOWN, TYPE),
+    // none of them used its number
+    Asks("office", 30, "SenderAdd", AS_RADIO, SUCCESS),
+];

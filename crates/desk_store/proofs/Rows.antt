@@ -1,0 +1,86 @@
+-- One more row is one more fact, and a row that is moved is its device moved.
+use Rattle.std.proofs.Common.{◌≡◌, ℕ, Bool, true, false, List, [], ◌∷◌, ◌++◌, Option, Some, None, map, option_map, cond, refl, ◌∙◌, ap, arith, inl, inr}
+use Rattle.std.specs.Prelude.{◌==◌, find, bytes_eq}
+use Rattle.std.specs.Option.{option_or}
+use Rattle.std.proofs.lemmas.Bool.{cases_Bool}
+use Rattle.std.proofs.lemmas.Bool.Decides.{nat_tests}
+use Rattle.std.proofs.lemmas.List.Folds.{find-append}
+use Rattle.std.proofs.lemmas.Slice.Eq.{bytes_eq-Decides}
+use Rattle.registry_core.specs.State.{at_name, at_number, owned_by}
+use Rattle.desk_store.specs.declared.facts.DeviceRow.{DeviceRow}
+use Rattle.desk_store.specs.declared.facts.SenderRow.{SenderRow}
+use Rattle.desk_store.specs.Facts.{role_in, device_in, row_moved}
+
+-- functions with one value at each argument are one
+at_each : {X Y : Type 0} {f g : X → Y} → ((x : X) → f x ≡ g x) → f ≡ g
+at_each h = λ i x. h x i
+
+-- ---- a look-up with one more row, where none had its key
+
+-- at another key the look-up stays, and at the key it finds the row
+found_more : {X Y : Type 0} (value : X → Y) (before : Option X) (row : X) (is_key : Bool) → (is_key ≡ true → option_map value before ≡ None)
+    → option_map value (option_or before (cond is_key (Some row) None)) ≡ cond is_key (Some (value row)) (option_map value before)
+found_more value None row true new = refl
+found_more value None row false new = refl
+found_more value (Some x) row false new = refl
+found_more value (Some x) row true new = let none : Some (value x) ≡ None = new refl in cc
+
+pub role_in-more : (rows : List SenderRow) (row : SenderRow) → role_in rows row.name ≡ None
+    → role_in (rows ++ row ∷ []) ≡ at_name (role_in rows) row.name (Some row.role)
+role_in-more rows row new = at_each (λ name.
+    ap (option_map (λ (r : SenderRow). r.role)) (find-append (λ (r : SenderRow). bytes_eq name r.name) rows (row ∷ []))
+    ∙ found_more (λ (r : SenderRow). r.role) (find (λ (r : SenderRow). bytes_eq name r.name) rows) row (bytes_eq name row.name)
+    (λ same. rw ((bytes_eq-Decides name row.name).0 same) new))
+
+number_told : (n m : ℕ) → (n == m) ≡ true → n ≡ m
+number_told n m h = grind (arith, nat_tests)
+
+pub device_in-more : (rows : List DeviceRow) (row : DeviceRow) → device_in rows row.dev_eui ≡ None
+    → device_in (rows ++ row ∷ []) ≡ at_number (device_in rows) row.dev_eui (Some row.device)
+device_in-more rows row new = at_each (λ dev_eui.
+    ap (option_map (λ (r : DeviceRow). r.device)) (find-append (λ (r : DeviceRow). dev_eui == r.dev_eui) rows (row ∷ []))
+    ∙ found_more (λ (r : DeviceRow). r.device) (find (λ (r : DeviceRow). dev_eui == r.dev_eui) rows) row (dev_eui == row.dev_eui)
+    (λ same. rw (number_told dev_eui row.dev_eui same) new))
+
+-- ---- a row moved
+
+-- of the two ways round to compare, each tells what the other tells
+never_one_way : {X : Type 0} (n m : ℕ) → (n == m) ≡ true → (m == n) ≡ false → X
+never_one_way n m h k = absurd (grind (arith, nat_tests))
+
+number_self : (n : ℕ) → (n == n) ≡ true
+number_self n = grind (arith, nat_tests)
+
+never_between : {X : Type 0} (q n d : ℕ) → (q == d) ≡ false → (n == d) ≡ true → (q == n) ≡ true → X
+never_between q n d apart h k = absurd (grind (arith, nat_tests))
+
+moved_by : (row : DeviceRow) (rows : List DeviceRow) (d : ℕ) (owner : List ℕ) (a b : Bool) → (row.dev_eui == d) ≡ a → (d == row.dev_eui) ≡ b
+    → device_in (map (row_moved d owner) rows) d ≡ option_map (owned_by owner) (device_in rows d)
+    → device_in (map (row_moved d owner) (row ∷ rows)) d ≡ option_map (owned_by owner) (device_in (row ∷ rows) d)
+moved_by row rows d owner true true e f rest = rw (e, f) refl
+moved_by row rows d owner false false e f rest = rw (e, f) rest
+moved_by row rows d owner true false e f rest = never_one_way row.dev_eui d e f
+moved_by row rows d owner false true e f rest = never_one_way d row.dev_eui f e
+
+moved : (rows : List DeviceRow) (d : ℕ) (owner : List ℕ) → device_in (map (row_moved d owner) rows) d ≡ option_map (owned_by owner) (device_in rows d)
+moved [] d owner = refl
+moved (row ∷ rows) d owner = moved_by row rows d owner (row.dev_eui == d) (d == row.dev_eui) refl refl (moved rows d owner)
+
+stays_by : (row : DeviceRow) (rows : List DeviceRow) (q d : ℕ) (owner : List ℕ) (a b : Bool) → (q == d) ≡ false → (row.dev_eui == d) ≡ a → (q == row.dev_eui) ≡ b
+    → device_in (map (row_moved d owner) rows) q ≡ device_in rows q
+    → device_in (map (row_moved d owner) (row ∷ rows)) q ≡ device_in (row ∷ rows) q
+stays_by row rows q d owner true true apart e f rest = never_between q row.dev_eui d apart e f
+stays_by row rows q d owner true false apart e f rest = rw (e, f) rest
+stays_by row rows q d owner false true apart e f rest = rw (e, f) refl
+stays_by row rows q d owner false false apart e f rest = rw (e, f) rest
+
+stays : (rows : List DeviceRow) (q d : ℕ) (owner : List ℕ) → (q == d) ≡ false → device_in (map (row_moved d owner) rows) q ≡ device_in rows q
+stays [] q d owner apart = refl
+stays (row ∷ rows) q d owner apart = stays_by row rows q d owner (row.dev_eui == d) (q == row.dev_eui) apart refl refl (stays rows q d owner apart)
+
+pub device_in-moved : (rows : List DeviceRow) (dev_eui : ℕ) (owner : List ℕ)
+    → device_in (map (row_moved dev_eui owner) rows) ≡ at_number (device_in rows) dev_eui (option_map (owned_by owner) (device_in rows dev_eui))
+device_in-moved rows dev_eui owner = at_each (λ other. elim (cases_Bool (other == dev_eui)) [
+  | inl same ↦ rw (number_told other dev_eui same, number_self dev_eui) (moved rows dev_eui owner)
+  | inr apart ↦ rw apart (stays rows other dev_eui owner apart)
+])

@@ -1,0 +1,7 @@
+use Rattle.std.proofs.Common.{◌≡◌, drop}
+use Rattle.desk_store.specs.Facts.{device_in}
+use Rattle.desk_store.proofs.facts.device_in.Given as goal
+
+-- the device, if it is there, stands in what is still to be looked through
+abbrev pub invariant-loop-row : goal.invariant-loop-row
+invariant-loop-row l = device_in (drop l.row-index l.devices) l.dev_eui ≡ device_in l.devices l.dev_eui

@@ -1,0 +1,122 @@
+//! The members of each type: read as a message, and put beside those of the envelope.
+ghost use Rattle.std.specs.Prelude.{◌≡◌, OnOk};
+ghost use Rattle.serde_json.specs.View.{view, members_view};
+ghost use Rattle.desk_wire.specs.Bodies.{sender_add_of, owner_add_of, gateway_add_of, device_add_of, device_move_of, with_sender_add, with_owner_add, with_gateway_add, with_device_add, with_device_move};
+
+use crate::members::{eui_at, name_at, put_eui, put_text, role_at};
+use crate::roles::role_name;
+use radio_core::{Eui, Name};
+use registry_core::{Message, Role};
+use serde_json::{Map, Value};
+use std::alloc::{AllocError, Global};
+
+#[tactic(auto, unfolding(crate::specs::Bodies::sender_add_of))]
+pub(crate) fn sender_add_of(value: &Value) -> Option<Message>
+    ensures { result ≡ sender_add_of (view value.now) }
+{
+    let sender = name_at(value, "Sender")?;
+    let role = role_at(value, "Role")?;
+    Some(Message::SenderAdd { sender, role })
+}
+
+#[tactic(auto, unfolding(crate::specs::Bodies::owner_add_of))]
+pub(crate) fn owner_add_of(value: &Value) -> Option<Message>
+    ensures { result ≡ owner_add_of (view value.now) }
+{
+    let owner = name_at(value, "Owner")?;
+    Some(Message::OwnerAdd { owner })
+}
+
+#[tactic(auto, unfolding(crate::specs::Bodies::gateway_add_of))]
+pub(crate) fn gateway_add_of(value: &Value) -> Option<Message>
+    ensures { result ≡ gateway_add_of (view value.now) }
+{
+    let gateway = name_at(value, "Gateway")?;
+    Some(Message::GatewayAdd { gateway })
+}
+
+#[tactic(auto, unfolding(crate::specs::Bodies::device_add_of))]
+pub(crate) fn device_add_of(value: &Value) -> Option<Message>
+    ensures { result ≡ device_add_of (view value.now) }
+{
+    let dev_eui = eui_at(value, "DevEUI")?;
+    let join_eui = eui_at(value, "JoinEUI")?;
+    let owner = name_at(value, "Owner")?;
+    Some(Message::DeviceAdd {
+        dev_eui,
+        join_eui,
+        owner,
+    })
+}
+
+#[tactic(auto, unfolding(crate::specs::Bodies::device_move_of))]
+pub(crate) fn device_move_of(value: &Value) -> Option<Message>
+    ensures { result ≡ device_move_of (view value.now) }
+{
+    let dev_eui = eui_at(value, "DevEUI")?;
+    let owner = name_at(value, "Owner")?;
+    Some(Message::DeviceMove { dev_eui, owner })
+}
+
+pub(crate) fn put_sender_add(
+    alloc: Global,
+    members: &mut Map<String, Value>,
+    sender: &Name,
+    role: Role,
+) -> Result<(), AllocError>
+    ensures { OnOk result (members_view members.new.entries ≡ with_sender_add sender.now role
+        (members_view members.old.entries)) }
+{
+    put_text(alloc, members, "Role", role_name(role))?;
+    put_text(alloc, members, "Sender", sender.as_str())
+}
+
+pub(crate) fn put_owner_add(
+    alloc: Global,
+    members: &mut Map<String, Value>,
+    owner: &Name,
+) -> Result<(), AllocError>
+    ensures { OnOk result (members_view members.new.entries ≡ with_owner_add owner.now
+        (members_view members.old.entries)) }
+{
+    put_text(alloc, members, "Owner", owner.as_str())
+}
+
+pub(crate) fn put_gateway_add(
+    alloc: Global,
+    members: &mut Map<String, Value>,
+    gateway: &Name,
+) -> Result<(), AllocError>
+    ensures { OnOk result (members_view members.new.entries ≡ with_gateway_add gateway.now
+        (members_view members.old.entries)) }
+{
+    put_text(alloc, members, "Gateway", gateway.as_str())
+}
+
+pub(crate) fn put_device_add(
+    alloc: Global,
+    members: &mut Map<String, Value>,
+    dev_eui: Eui,
+    join_eui: Eui,
+    owner: &Name,
+) -> Result<(), AllocError>
+    ensures { OnOk result (members_view members.new.entries ≡ with_device_add dev_eui join_eui
+        owner.now (members_view members.old.entries)) }
+{
+    put_eui(alloc, members, "DevEUI", dev_eui)?;
+    put_eui(alloc, members, "JoinEUI", join_eui)?;
+    put_text(alloc, members, "Owner", owner.as_str())
+}
+
+pub(crate) fn put_device_move(
+    alloc: Global,
+    members: &mut Map<String, Value>,
+    dev_eui: Eui,
+    owner: &Name,
+) -> Result<(), AllocError>
+    ensures { OnOk result (members_view members.new.entries ≡ with_device_move dev_eui owner.now
+        (members_view members.old.entries)) }
+{
+    put_eui(alloc, members, "DevEUI", dev_eui)?;
+    put_text(alloc, members, "Owner", owner.as_str())
+}

@@ -1,0 +1,57 @@
+//! Hexadecimal text: octets and EUIs read from digits, and written in them.
+ghost use Rattle.std.specs.Prelude.{◌≡◌, ◌/◌, IfOk, length};
+ghost use Rattle.std.specs.String.{string_bytes};
+ghost use Rattle.desk_wire.specs.Hexadecimal.{unprefixed, decoded, octets_in, eui_in, eui_digits};
+
+use radio_core::{Eui, Octets};
+use std::alloc::{AllocError, Global};
+
+/// The digits: what stands behind a `0x`, where the text begins with one.
+fn unprefixed(text: &[u8]) -> &[u8]
+    ensures { result.now ≡ unprefixed text.now }
+{
+    text.strip_prefix(b"0x".as_slice()).unwrap_or(text)
+}
+
+/// The octets that digits are. The room is for half as many octets as there are digits, and is written to.
+#[tactic(auto, unfolding(crate::specs::Hexadecimal::decoded))]
+fn decoded(digits: &[u8], room: &mut [u8]) -> Option<Octets>
+    requires { length room.old ≡ length digits.now / 2 }
+    ensures { result ≡ decoded digits.now }
+{
+    hex::decode_to_slice(digits, room).ok()?;
+    Octets::new(room)
+}
+
+/// The octets that a text is: two digits for each, in either case, with or without `0x` before them. `None` exactly
+/// where it isn't digits, their number is odd, or there are more than 255 octets. It takes no memory.
+#[tactic(auto, using(crate::proofs::HexTexts::too_long))]
+pub(crate) fn octets_of(text: &str) -> Option<Octets>
+    ensures { result ≡ octets_in text.now }
+{
+    let digits = unprefixed(text.as_bytes());
+    let size = digits.len() / 2;
+    if size > 255 {
+        return None;
+    }
+    let mut room = [0; 255];
+    decoded(digits, &mut room[..size])
+}
+
+/// The EUI that a text is: exactly 8 octets, the most significant first.
+#[tactic(auto, unfolding(crate::specs::Hexadecimal::eui_in))]
+pub(crate) fn eui_of(text: &str) -> Option<Eui>
+    ensures { result ≡ eui_in text.now }
+{
+    let octets = octets_of(text)?;
+    let number = <[u8; 8]>::try_from(octets.get()).ok()?;
+    Some(Eui::new(u64::from_be_bytes(number)))
+}
+
+/// The text of an EUI: 16 digits in lower case, the most significant first.
+#[tactic(auto, unfolding(crate::specs::Hexadecimal::eui_digits))]
+pub(crate) fn eui_digits(alloc: Global, eui: Eui) -> Result<String, AllocError>
+    ensures { IfOk result (λ text. string_bytes text ≡ eui_digits eui) }
+{
+    hex::encode(alloc, eui.get().to_be_bytes())
+}

@@ -1,0 +1,74 @@
+//! What the messages of an operator change and how they are answered: one function for each, its checks in their order.
+ghost use Rattle.std.specs.Prelude.{◌≡◌};
+ghost use Rattle.registry_core.specs.declared.messages.Message.TheVariants.{SenderAdd, OwnerAdd, GatewayAdd, DeviceAdd, DeviceMove};
+ghost use Rattle.registry_core.specs.Viewed.{IsChecked};
+
+use crate::answers::{Answer, Refusal};
+use crate::checks::wants;
+use crate::effects::Effect;
+use crate::facts::Device;
+use crate::messages::Role;
+use crate::views::View;
+use radio_core::{Eui, Name};
+
+/// An operator adds a sender with its role.
+#[tactic(auto, unfolding(crate::specs::Viewed::IsChecked, crate::specs::Step::sender_add))]
+pub(crate) fn sender_add(sender: Name, role: Role, view: &View) -> Result<(Effect, Answer), Refusal>
+    ensures { IsChecked (SenderAdd sender role) view.now result }
+{
+    wants(view.role == Role::Operator, Refusal::WrongRole)?;
+    wants(!view.sender_known, Refusal::Exists)?;
+    Ok((Effect::AddsSender { name: sender, role }, Answer::Success))
+}
+
+/// An operator adds an owner.
+#[tactic(auto, unfolding(crate::specs::Viewed::IsChecked, crate::specs::Step::owner_add))]
+pub(crate) fn owner_add(owner: Name, view: &View) -> Result<(Effect, Answer), Refusal>
+    ensures { IsChecked (OwnerAdd owner) view.now result }
+{
+    wants(view.role == Role::Operator, Refusal::WrongRole)?;
+    wants(!view.owner_known, Refusal::Exists)?;
+    Ok((Effect::AddsOwner { name: owner }, Answer::Success))
+}
+
+/// An operator adds a gateway.
+#[tactic(auto, unfolding(crate::specs::Viewed::IsChecked, crate::specs::Step::gateway_add))]
+pub(crate) fn gateway_add(gateway: Name, view: &View) -> Result<(Effect, Answer), Refusal>
+    ensures { IsChecked (GatewayAdd gateway) view.now result }
+{
+    wants(view.role == Role::Operator, Refusal::WrongRole)?;
+    wants(!view.gateway_known, Refusal::Exists)?;
+    Ok((Effect::AddsGateway { name: gateway }, Answer::Success))
+}
+
+/// An operator adds a device of an owner.
+#[tactic(auto, unfolding(crate::specs::Viewed::IsChecked, crate::specs::Step::device_add))]
+pub(crate) fn device_add(
+    dev_eui: Eui,
+    join_eui: Eui,
+    owner: Name,
+    view: &View,
+) -> Result<(Effect, Answer), Refusal>
+    ensures { IsChecked (DeviceAdd dev_eui join_eui owner) view.now result }
+{
+    wants(view.role == Role::Operator, Refusal::WrongRole)?;
+    wants(view.owner_known, Refusal::UnknownOwner)?;
+    wants(view.device.is_none(), Refusal::Exists)?;
+    let device = Device { join_eui, owner };
+    Ok((Effect::AddsDevice { dev_eui, device }, Answer::Success))
+}
+
+/// An operator gives a device to an owner, which may be the one that it has.
+#[tactic(auto, unfolding(crate::specs::Viewed::IsChecked, crate::specs::Step::device_move))]
+pub(crate) fn device_move(
+    dev_eui: Eui,
+    owner: Name,
+    view: &View,
+) -> Result<(Effect, Answer), Refusal>
+    ensures { IsChecked (DeviceMove dev_eui owner) view.now result }
+{
+    wants(view.role == Role::Operator, Refusal::WrongRole)?;
+    wants(view.device.is_some(), Refusal::UnknownDevEui)?;
+    wants(view.owner_known, Refusal::UnknownOwner)?;
+    Ok((Effect::MovesDevice { dev_eui, owner }, Answer::Success))
+}

@@ -1,0 +1,12 @@
+//! Checks in a row: the first that fails is the answer.
+ghost use Rattle.std.specs.Prelude.{◌≡◌};
+ghost use Rattle.registry_core.specs.Checks.{wants};
+
+use crate::answers::Refusal;
+
+/// It has to be so, or else this is the refusal.
+pub(crate) fn wants(condition: bool, refusal: Refusal) -> Result<(), Refusal>
+    ensures { result ≡ wants condition refusal }
+{
+    if condition { Ok(()) } else { Err(refusal) }
+}
