@@ -11,7 +11,8 @@ use Rattle.registry_core.specs.Heard.{HeardListsStay, IsHeard, Answers, has_pair
 use Rattle.registry_core.specs.Ranges.{IsEnvelope, IsName}
 use Rattle.registry_core.specs.Same.{SameMessageTells, same_message}
 use Rattle.registry_core.specs.Settings.{Settings}
-use Rattle.registry_core.specs.Step.{Decision, decision_of, step}
+use Rattle.registry_core.specs.Decision.{Decision}
+use Rattle.registry_core.specs.Step.{decision_of, step}
 use Rattle.registry_core.specs.Viewed.{IsView}
 use Rattle.desk_store.specs.declared.faults.StoreFault.{StoreFault}
 use Rattle.desk_store.specs.declared.faults.StoreFault.TheVariants.{Disk}

@@ -6,7 +6,8 @@ use Rattle.registry_core.specs.declared.messages.Envelope.{Envelope}
 use Rattle.registry_core.specs.Heard.{state_after, state_of, answers_after, answers_of}
 use Rattle.registry_core.specs.Settings.{Settings}
 use Rattle.registry_core.specs.State.{State, opening}
-use Rattle.registry_core.specs.Step.{Decision, decision_of, step}
+use Rattle.registry_core.specs.Decision.{Decision}
+use Rattle.registry_core.specs.Step.{decision_of, step}
 use Rattle.desk_store.specs.Kept.{Entry, Kept, with_entry}
 use Rattle.desk_wire.specs.Answers.{answer_text, head_of_envelope}
 use Rattle.desk_wire.specs.Writing.{message_text}

@@ -1,27 +1,31 @@
 //! The messages of runs from the opening state, through `deliver` one by one and through `run` at once.
+mod data_frames;
+mod joins;
 mod rows;
 
 use crate::{Outcome, deliver, run};
+use data_frames::{DATA, SESSIONS};
 use desk_store::Lists;
+use joins::{JOINS, ONE_ADDRESS};
 use radio_core::Name;
 use registry_core::Config;
-use rows::{ADDED, Delivery, MALFORMED, OWNERS, REGISTRY, REQUEST, Row, deliveries_of};
+use rows::{ADDED, Delivery, MALFORMED, OWNERS, REGISTRY, REQUEST, Row, SETUP, deliveries_of};
 use std::alloc::Global;
 use std::process::Abort;
 use std::test::Fail;
 
-fn config() -> Option<Config> {
+fn config(addresses: u32) -> Option<Config> {
     Config::new(
         Name::new(b"desk")?,
         Name::new(b"office")?,
         0x01a0_0000,
-        65536,
+        addresses,
     )
 }
 
-/// A desk that has heard nothing.
-fn opening(alloc: Global) -> Result<Lists, Fail> {
-    Ok(Lists::new(alloc, config().ok_or("no configuration")?)?)
+/// A desk with so many addresses that has heard nothing.
+fn opening(alloc: Global, addresses: u32) -> Result<Lists, Fail> {
+    Ok(Lists::new(alloc, config(addresses).ok_or("no configuration")?)?)
 }
 
 /// The outcome has this number and this text.
@@ -44,23 +48,25 @@ fn expect_told(rt: &impl Abort, outcome: &Outcome, delivery: &Delivery) {
     expect(rt, outcome, delivery.number, delivery.wanted.as_str());
 }
 
-fn deliver_each<R: Abort + AllocGlobal>(rt: &R, rows: &[Row]) -> Result<(), Fail> {
-    let mut lists = opening(rt.alloc())?;
+fn deliver_each<R: Abort + AllocGlobal>(
+    rt: &R,
+    lists: &mut Lists,
+    rows: &[Row],
+) -> Result<(), Fail> {
     for delivery in &deliveries_of(rt.alloc(), rows)? {
-        let outcome = deliver(rt.alloc(), &mut lists, delivery.text.as_bytes());
+        let outcome = deliver(rt.alloc(), lists, delivery.text.as_bytes());
         expect_told(rt, &outcome, delivery);
     }
     Ok(())
 }
 
-fn run_all<R: Abort + AllocGlobal>(rt: &R, rows: &[Row]) -> Result<(), Fail> {
-    let mut lists = opening(rt.alloc())?;
+fn run_all<R: Abort + AllocGlobal>(rt: &R, lists: &mut Lists, rows: &[Row]) -> Result<(), Fail> {
     let deliveries = deliveries_of(rt.alloc(), rows)?;
     let mut texts: Vec<&[u8]> = Vec::new(rt.alloc());
     for delivery in &deliveries {
         texts.push(delivery.text.as_bytes())?;
     }
-    let outcomes = run(rt.alloc(), &mut lists, &texts)?;
+    let outcomes = run(rt.alloc(), lists, &texts)?;
     assert_eq!(rt; outcomes.len(), deliveries.len());
     for (outcome, delivery) in outcomes.iter().zip(&deliveries) {
         expect_told(rt, outcome, delivery);
@@ -70,14 +76,38 @@ fn run_all<R: Abort + AllocGlobal>(rt: &R, rows: &[Row]) -> Result<(), Fail> {
 
 #[test]
 fn one_by_one(rt: HostRuntime) -> Result<(), Fail> {
-    deliver_each(&rt, &OWNERS)?;
-    deliver_each(&rt, &REGISTRY)
+    let mut lists = opening(rt.alloc(), 65_536)?;
+    deliver_each(&rt, &mut lists, &OWNERS)?;
+    for (addresses, rows) in [
+        (65_536, &REGISTRY[..]),
+        (65_536, &JOINS),
+        (1, &ONE_ADDRESS),
+        (65_536, &DATA),
+        (65_536, &SESSIONS),
+    ] {
+        let mut lists = opening(rt.alloc(), addresses)?;
+        deliver_each(&rt, &mut lists, &SETUP)?;
+        deliver_each(&rt, &mut lists, rows)?;
+    }
+    Ok(())
 }
 
 #[test]
 fn at_once(rt: HostRuntime) -> Result<(), Fail> {
-    run_all(&rt, &OWNERS)?;
-    run_all(&rt, &REGISTRY)
+    let mut lists = opening(rt.alloc(), 65_536)?;
+    run_all(&rt, &mut lists, &OWNERS)?;
+    for (addresses, rows) in [
+        (65_536, &REGISTRY[..]),
+        (65_536, &JOINS),
+        (1, &ONE_ADDRESS),
+        (65_536, &DATA),
+        (65_536, &SESSIONS),
+    ] {
+        let mut lists = opening(rt.alloc(), addresses)?;
+        run_all(&rt, &mut lists, &SETUP)?;
+        run_all(&rt, &mut lists, rows)?;
+    }
+    Ok(())
 }
 
 /// The worked request and so many spaces.
@@ -91,7 +121,7 @@ fn spaced(alloc: Global, spaces: usize) -> Result<Vec<u8>, Fail> {
 
 #[test]
 fn the_longest_text(rt: HostRuntime) -> Result<(), Fail> {
-    let mut lists = opening(rt.alloc())?;
+    let mut lists = opening(rt.alloc(), 65_536)?;
     let longest = spaced(rt.alloc(), 65_413)?;
     assert_eq!(rt; longest.len(), 65_536);
     let outcome = deliver(rt.alloc(), &mut lists, &longest);

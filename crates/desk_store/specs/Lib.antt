@@ -2,3 +2,4 @@ pub mod Calls
 pub mod Facts
 pub mod Kept
 pub mod Lists
+pub mod Lookups

@@ -1,37 +1,25 @@
-//! The registry's facts in the plain form: rows in the order in which they came, looked through from the front.
-ghost use Rattle.std.specs.Prelude.{◌≡◌, Some, IfOk, OnOk, OnErr, map};
-ghost use Rattle.registry_core.specs.Settings.{Settings};
+//! The registry's facts in the plain form: rows in the order in which they came.
+ghost use Rattle.std.specs.Prelude.{◌≡◌, ◌+◌, [], ◌∷◌, ◌++◌, length, IfOk, OnOk, OnErr, map};
 ghost use Rattle.registry_core.specs.Fits.{Fits};
-ghost use Rattle.registry_core.specs.Viewed.{IsView, sender_known, owner_known, gateway_known, device_named};
 ghost use Rattle.registry_core.specs.State.{opening, state_with};
-ghost use Rattle.registry_core.specs.declared.messages.Envelope.{Envelope};
-ghost use Rattle.desk_store.specs.Facts.{role_in, name_in, device_in, row_moved, facts_of};
+ghost use Rattle.desk_store.specs.Facts.{facts_of};
+ghost use Rattle.desk_store.specs.Lookups.{row_moved};
 
+use crate::rows::{CopyRow, DeviceRow, SenderRow};
 use radio_core::{Eui, Name};
-use registry_core::{Config, Device, Effect, Message, Role, View};
+use registry_core::{Config, Effect, Reception, Role, Session, Uplink};
 use std::alloc::{AllocError, Global};
-
-/// A sender with its role.
-#[derive(Clone, Copy, Debug, PartialEq, Eq)]
-struct SenderRow {
-    name: Name,
-    role: Role,
-}
-
-/// A device with its DevEUI.
-#[derive(Clone, Copy, Debug, PartialEq, Eq)]
-struct DeviceRow {
-    dev_eui: Eui,
-    device: Device,
-}
 
 /// The registry's facts. Contracts see what they are by `facts_of`.
 #[derive(Debug, Drop)]
 pub(crate) struct Facts {
-    senders: Vec<SenderRow>,
-    owners: Vec<Name>,
-    gateways: Vec<Name>,
-    devices: Vec<DeviceRow>,
+    pub(crate) senders: Vec<SenderRow>,
+    pub(crate) owners: Vec<Name>,
+    pub(crate) gateways: Vec<Name>,
+    pub(crate) devices: Vec<DeviceRow>,
+    pub(crate) sessions: Vec<Session>,
+    pub(crate) uplinks: Vec<Uplink>,
+    pub(crate) copies: Vec<CopyRow>,
 }
 
 impl Facts {
@@ -49,68 +37,10 @@ impl Facts {
             owners: Vec::new(alloc),
             gateways: Vec::new(alloc),
             devices: Vec::new(alloc),
+            sessions: Vec::new(alloc),
+            uplinks: Vec::new(alloc),
+            copies: Vec::new(alloc),
         })
-    }
-
-    /// The role of a sender.
-    pub(crate) fn role_of(&self, sender: &Name) -> Option<Role>
-        ensures { result ≡ (facts_of self.now).senders sender.now }
-    {
-        role_in(&self.senders, sender)
-    }
-
-    /// What the facts hold for a message of a sender with this role.
-    pub(crate) fn view(&self, role: Role, message: &Message) -> View
-        ensures { (c : Settings) (e : Envelope) → e.message ≡ message.now
-            → (facts_of self.now).senders e.sender ≡ Some role → IsView c (facts_of self.now) e result }
-    {
-        View {
-            role,
-            sender_known: self.sender_known(message),
-            owner_known: self.owner_known(message),
-            gateway_known: self.gateway_known(message),
-            device: self.device_named(message),
-        }
-    }
-
-    fn sender_known(&self, message: &Message) -> bool
-        ensures { result ≡ sender_known (facts_of self.now) message.now }
-    {
-        match message {
-            Message::SenderAdd { sender, role: _ } => role_in(&self.senders, sender).is_some(),
-            _ => false,
-        }
-    }
-
-    fn owner_known(&self, message: &Message) -> bool
-        ensures { result ≡ owner_known (facts_of self.now) message.now }
-    {
-        match message {
-            Message::OwnerAdd { owner }
-            | Message::DeviceAdd { owner, .. }
-            | Message::DeviceMove { owner, .. } => name_in(&self.owners, owner),
-            _ => false,
-        }
-    }
-
-    fn gateway_known(&self, message: &Message) -> bool
-        ensures { result ≡ gateway_known (facts_of self.now) message.now }
-    {
-        match message {
-            Message::GatewayAdd { gateway } => name_in(&self.gateways, gateway),
-            _ => false,
-        }
-    }
-
-    fn device_named(&self, message: &Message) -> Option<Device>
-        ensures { result ≡ device_named (facts_of self.now) message.now }
-    {
-        match message {
-            Message::DeviceAdd { dev_eui, .. } | Message::DeviceMove { dev_eui, .. } => {
-                device_in(&self.devices, *dev_eui)
-            }
-            _ => None,
-        }
     }
 
     /// Makes the change, or none.
@@ -128,37 +58,70 @@ impl Facts {
                 self.devices.push(DeviceRow { dev_eui, device })?
             }
             Effect::MovesDevice { dev_eui, owner } => move_in(&mut self.devices, dev_eui, owner),
+            Effect::AddsSession {
+                session,
+                uplink,
+                gateway,
+                reception,
+            } => {
+                self.sessions.reserve(1)?;
+                add_uplink(
+                    &mut self.uplinks,
+                    &mut self.copies,
+                    uplink,
+                    gateway,
+                    reception,
+                )?;
+                self.sessions.push(session)?;
+            }
+            Effect::AddsUplink {
+                uplink,
+                gateway,
+                reception,
+            } => add_uplink(
+                &mut self.uplinks,
+                &mut self.copies,
+                uplink,
+                gateway,
+                reception,
+            )?,
+            Effect::AddsCopy {
+                uplink,
+                gateway,
+                reception,
+            } => self.copies.push(CopyRow {
+                uplink,
+                gateway,
+                reception,
+            })?,
         }
         Ok(())
     }
 }
 
-fn role_in(senders: &[SenderRow], name: &Name) -> Option<Role>
-    ensures { result ≡ role_in senders.now name.now }
+/// The uplink goes to the end with the next number, and so does its copy; or neither.
+fn add_uplink(
+    uplinks: &mut Vec<Uplink>,
+    copies: &mut Vec<CopyRow>,
+    uplink: Uplink,
+    gateway: Name,
+    reception: Reception,
+) -> Result<(), AllocError>
+    ensures uplinks { OnOk result (uplinks.new.items ≡ uplinks.old.items ++ uplink ∷ []) }
+    ensures copies { OnOk result (copies.new.items ≡ copies.old.items
+        ++ record { uplink = length uplinks.old.items + 1; gateway = gateway; reception = reception } ∷ []) }
+    ensures err { OnErr result ((uplinks.new.items ≡ uplinks.old.items)
+        × (copies.new.items ≡ copies.old.items)) }
 {
-    for row in senders {
-        if name.get() == row.name.get() {
-            return Some(row.role);
-        }
-    }
-    None
-}
-
-fn name_in(names: &[Name], name: &Name) -> bool
-    ensures { result ≡ name_in names.now name.now }
-{
-    names.iter().any(|other| name.get() == other.get())
-}
-
-fn device_in(devices: &[DeviceRow], dev_eui: Eui) -> Option<Device>
-    ensures { result ≡ device_in devices.now dev_eui }
-{
-    for row in devices {
-        if dev_eui == row.dev_eui {
-            return Some(row.device);
-        }
-    }
-    None
+    let number = uplinks.len() as u64 + 1;
+    uplinks.reserve(1)?;
+    copies.push(CopyRow {
+        uplink: number,
+        gateway,
+        reception,
+    })?;
+    uplinks.push(uplink)?;
+    Ok(())
 }
 
 /// The device has this owner, and all else stays.

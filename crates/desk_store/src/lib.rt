@@ -6,8 +6,11 @@ mod facts;
 mod faults;
 mod keeper;
 mod lists;
+mod lookups;
+mod rows;
 #[cfg(test)]
 mod tests;
+mod views;
 
 pub use faults::StoreFault;
 pub use keeper::{Keeper, Loaded};

@@ -92,7 +92,7 @@ impl Keeper for Lists {
             let answer = row.answer.to_vec(self.alloc)?;
             return Ok(Loaded::Heard { message, answer });
         }
-        Ok(Loaded::Fresh(self.facts.view(role, &envelope.message)))
+        Ok(Loaded::Fresh(self.facts.view(&self.config, role, &envelope.message)))
     }
 
     fn commit(

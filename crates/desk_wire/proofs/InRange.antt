@@ -1,21 +1,20 @@
 -- What is read is in the ranges of the types.
-use Rattle.std.proofs.Common.{ℕ, ◌<◌, ◌^◌, List, Bool, Option, Some, None, Result, Ok, Err, nat_lt, codes, refl}
+use Rattle.std.proofs.Common.{ℕ, ◌<◌, ◌^◌, List, Bool, true, false, Option, Some, None, IfSome, option_map, if◌then◌else◌, Result, Ok, Err, nat_lt, codes, refl, arith}
 use Rattle.std.proofs.lemmas.Bool.{ltb-true}
 use Rattle.serde_json.specs.Data.{Data}
-use Rattle.serde_json.specs.Find.{get, as_number, as_u64}
 use Rattle.radio_core.specs.Names.{is_name}
 use Rattle.registry_core.specs.declared.messages.Message.{Message}
-use Rattle.registry_core.specs.Ranges.{IsName, IsEui, IsMessage, IsEnvelope}
-use Rattle.desk_wire.specs.Bodies.{sender_add_of, owner_add_of, gateway_add_of, device_add_of, device_move_of}
-use Rattle.desk_wire.specs.Members.{text_at, name_at, whole_at, type_name_at, eui_at, role_at}
-use Rattle.desk_wire.specs.Optional.{◌>>=◌}
+use Rattle.registry_core.specs.Ranges.{IsName, IsOctets, IsEui, IsReport, IsMessage, IsEnvelope}
+use Rattle.desk_wire.specs.Bodies.{sender_add_of, owner_add_of, gateway_add_of, device_add_of, device_move_of, join_heard_of, frame_heard_of}
+use Rattle.desk_wire.specs.Members.{text_at, name_at, unsigned_at, whole_at, is_null_at, whole_or_null_at, data_rate_at, octets_at, type_name_at, eui_at, role_at, join_verdict_at}
 use Rattle.desk_wire.specs.Reading.{reads_value, value_of, envelope_of, common_members_of, envelope_addressed, message_of, with_message}
+use Rattle.desk_wire.specs.Reports.{rate_of, report_of}
 use Rattle.desk_wire.specs.Laws.{ReadsInRange}
 use Rattle.desk_wire.specs.declared.heads.Head.{Head}
 use Rattle.desk_wire.specs.declared.reading.CommonMembers.{CommonMembers}
 use Rattle.desk_wire.specs.declared.faults.WireFault.{WireFault}
-use Rattle.desk_wire.proofs.HexTexts.{eui_kept}
-use Rattle.desk_wire.proofs.Kept.{Keeps, any, after, made, tested, KeepsOk, done, ok_if_found, either, refused}
+use Rattle.desk_wire.proofs.HexTexts.{octets_kept, eui_kept}
+use Rattle.desk_wire.proofs.Kept.{Keeps, any, after, mapped, made, tested, KeepsOk, done, ok_if_found, either, refused}
 
 -- ---- members in their forms
 
@@ -24,9 +23,21 @@ name_kept member value = tested is_name (text_at member value)
 
 whole_kept : (member : List ℕ) (limit : ℕ) (value : Data) → Keeps (λ n. n < limit) (whole_at member limit value)
 whole_kept member limit value =
-    let found : Option ℕ = get member value >>= as_number >>= as_u64 in
     let below : ℕ → Bool = λ n. nat_lt n limit in
-    record { holds = λ n same. ltb-true n limit ((tested below found).holds n same) }
+    record { holds = λ n same. ltb-true n limit ((tested below (unsigned_at member value)).holds n same) }
+
+number_or_null_kept : (limit : ℕ) (found : Option ℕ) (b : Bool) → Keeps (λ n. n < limit) found
+    → Keeps (λ number. IfSome number (λ n. n < limit)) (if b then Some None else option_map Some found)
+number_or_null_kept limit found true kept = made tt
+number_or_null_kept limit found false kept = mapped Some kept (λ n below. below)
+
+whole_or_null_kept : (member : List ℕ) (limit : ℕ) (value : Data)
+    → Keeps (λ number. IfSome number (λ n. n < limit)) (whole_or_null_at member limit value)
+whole_or_null_kept member limit value =
+    number_or_null_kept limit (whole_at member limit value) (is_null_at member value) (whole_kept member limit value)
+
+octets_at_kept : (member : List ℕ) (value : Data) → Keeps IsOctets (octets_at member value)
+octets_at_kept member value = after _ (any (text_at member value)) (λ text _. octets_kept text)
 
 eui_at_kept : (member : List ℕ) (value : Data) → Keeps IsEui (eui_at member value)
 eui_at_kept member value = after _ (any (text_at member value)) (λ text _. eui_kept text)
@@ -46,6 +57,24 @@ common_members_kept value =
     after _ (whole_kept (codes "TransactionID") (2 ^ 32) value) (λ transaction t.
     after _ (any (type_name_at (codes "MessageType") value)) (λ type_name _.
     made (record { sender = s; transaction = t }))))))
+
+-- ---- the members of a report
+
+rate_kept : (value : Data) → Keeps (λ rate. rate.freq < 2 ^ 32) (rate_of value)
+unfolding rate_of
+rate_kept value =
+    after _ (whole_kept (codes "Freq") (2 ^ 32) value) (λ freq f.
+    after _ (any (data_rate_at (codes "DataRate") value)) (λ dr _.
+    made f))
+
+report_kept : (value : Data) → Keeps IsReport (report_of value)
+unfolding report_of
+report_kept value =
+    after _ (name_kept (codes "Gateway") value) (λ gateway g.
+    after _ (whole_kept (codes "Time") (2 ^ 53) value) (λ time t.
+    after _ (rate_kept value) (λ rate r.
+    after _ (octets_at_kept (codes "PHYPayload") value) (λ octets o.
+    made (record { gateway = g; time = omega arith; freq = r; octets = o })))))
 
 -- ---- the members of each type
 
@@ -79,6 +108,20 @@ device_move_kept value =
     after _ (name_kept (codes "Owner") value) (λ owner o.
     made (d, o)))
 
+join_heard_kept : (value : Data) → Keeps IsMessage (join_heard_of value)
+unfolding join_heard_of
+join_heard_kept value =
+    after _ (report_kept value) (λ report r.
+    after _ (any (join_verdict_at (codes "Verdict") value)) (λ verdict _.
+    made r))
+
+frame_heard_kept : (value : Data) → Keeps IsMessage (frame_heard_of value)
+unfolding frame_heard_of
+frame_heard_kept value =
+    after _ (report_kept value) (λ report r.
+    after _ (whole_or_null_kept (codes "Verdict") (2 ^ 32) value) (λ verdict v.
+    made (r, v)))
+
 message_kept : (head : Head) (value : Data) → KeepsOk IsMessage (message_of head value)
 unfolding message_of
 message_kept head value =
@@ -87,7 +130,9 @@ message_kept head value =
     (either _ (ok_if_found _ (gateway_add_kept value))
     (either _ (ok_if_found _ (device_add_kept value))
     (either _ (ok_if_found _ (device_move_kept value))
-    refused))))
+    (either _ (ok_if_found _ (join_heard_kept value))
+    (either _ (ok_if_found _ (frame_heard_kept value))
+    refused))))))
 
 -- ---- the envelope
 

@@ -1,3 +1,4 @@
+pub mod DataRateNumbers
 pub mod HexTexts
 pub mod InRange
 pub mod Kept

@@ -1,32 +1,39 @@
 -- The text of a message is read as that message.
-use Rattle.std.proofs.Common.{◌≡◌, ℕ, ◌<◌, ◌≤◌, ◌^◌, List, true, Some, Ok, IsUtf8, codes, refl, ap, subst, ◌∙◌, arith}
+use Rattle.std.proofs.Common.{◌≡◌, ℕ, ◌<◌, ◌≤◌, ◌^◌, List, true, Option, Some, None, IfSome, Ok, IsUtf8, codes, refl, ap, subst, ◌∙◌, arith}
 use Rattle.std.specs.Str.{bytes_eq}
 use Rattle.std.proofs.lemmas.Str.{is_utf8-from_IsUtf8}
 use Rattle.std.proofs.lemmas.Bool.{lt-ltb}
 use Rattle.std.proofs.lemmas.Slice.Eq.{bytes_eq-Decides}
-use Rattle.serde_json.specs.Data.{Data, Members, no_members}
+use Rattle.serde_json.specs.Data.{Data, string, Members, no_members}
 use Rattle.serde_json.specs.Read.{read, of_json, max_depth}
 use Rattle.json.specs.Tree.{depth}
 use Rattle.serde_json.specs.Written.{compact_text, outline}
 use Rattle.serde_json.proofs.Numbers.{number_of-decimal}
 use Rattle.json.proofs.Printed.Utf8.{IsUtf8-are_ascii}
+use Rattle.radio_core.specs.DataRates.{dr_number}
+use Rattle.registry_core.specs.declared.messages.JoinVerdict.{JoinVerdict}
+use Rattle.registry_core.specs.declared.messages.JoinVerdict.TheVariants.{Good, Bad}
+use Rattle.registry_core.specs.declared.messages.Report.{Report}
 use Rattle.registry_core.specs.declared.messages.Role.{Role}
 use Rattle.registry_core.specs.declared.messages.Role.TheVariants.{Operator, Radio}
 use Rattle.registry_core.specs.declared.messages.Message.{Message}
-use Rattle.registry_core.specs.declared.messages.Message.TheVariants.{SenderAdd, OwnerAdd, GatewayAdd, DeviceAdd, DeviceMove}
-use Rattle.registry_core.specs.Ranges.{IsName, IsMessage}
-use Rattle.desk_wire.specs.Bodies.{sender_add_of, owner_add_of, gateway_add_of, device_add_of, device_move_of}
-use Rattle.desk_wire.specs.Hexadecimal.{eui_digits}
-use Rattle.desk_wire.specs.Members.{with_envelope}
+use Rattle.registry_core.specs.declared.messages.Message.TheVariants.{SenderAdd, OwnerAdd, GatewayAdd, DeviceAdd, DeviceMove, JoinHeard, FrameHeard}
+use Rattle.registry_core.specs.Ranges.{IsName, IsReport, IsMessage}
+use Rattle.desk_wire.specs.Bodies.{sender_add_of, owner_add_of, gateway_add_of, device_add_of, device_move_of, join_heard_of, frame_heard_of}
+use Rattle.desk_wire.specs.Hexadecimal.{octet_digits, eui_digits}
+use Rattle.desk_wire.specs.Members.{whole_or_null_at, whole_or_null, with_envelope}
 use Rattle.desk_wire.specs.Reading.{reads, reads_value, value_of, envelope_of, common_members_of, envelope_addressed, message_of}
+use Rattle.desk_wire.specs.Reports.{rate_of, report_of, with_report}
 use Rattle.desk_wire.specs.Roles.{role_name, role_named}
 use Rattle.desk_wire.specs.TypeNames.{type_name_of}
-use Rattle.desk_wire.specs.Writing.{message_value, message_text, with_body}
+use Rattle.desk_wire.specs.Verdicts.{join_verdict_name, join_verdict_named}
+use Rattle.desk_wire.specs.Writing.{heard_value, message_value, message_text, with_body}
 use Rattle.desk_wire.specs.Laws.{MessageReadsBack}
 use Rattle.desk_wire.specs.declared.reading.CommonMembers.{CommonMembers}
-use Rattle.desk_wire.proofs.HexTexts.{IsUtf8-eui_digits, eui_in-eui_digits}
+use Rattle.desk_wire.proofs.DataRateNumbers.{data_rate_numbered-dr_number, dr_number-fits}
+use Rattle.desk_wire.proofs.HexTexts.{IsUtf8-octet_digits, octets_in-octet_digits, IsUtf8-eui_digits, eui_in-eui_digits}
 use Rattle.desk_wire.proofs.NameTexts.{IsUtf8-name}
-use Rattle.desk_wire.proofs.PlainValues.{IsPlain, HasPlain, nothing_plain, text_put, whole_put, IsUtf8-compact_text, read-compact_text}
+use Rattle.desk_wire.proofs.PlainValues.{IsPlain, HasPlain, nothing_plain, plain_put, text_put, whole_put, IsUtf8-compact_text, read-compact_text}
 use Rattle.desk_wire.proofs.PutMembers.{put_message}
 
 -- ---- the value is plain
@@ -35,12 +42,18 @@ IsUtf8-role_name : (role : Role) → IsUtf8 (role_name role)
 IsUtf8-role_name Operator = IsUtf8-are_ascii _ refl
 IsUtf8-role_name Radio = IsUtf8-are_ascii _ refl
 
+IsUtf8-join_verdict_name : (verdict : JoinVerdict) → IsUtf8 (join_verdict_name verdict)
+IsUtf8-join_verdict_name Good = IsUtf8-are_ascii _ refl
+IsUtf8-join_verdict_name Bad = IsUtf8-are_ascii _ refl
+
 IsUtf8-type_name_of : (m : Message) → IsUtf8 (type_name_of m)
 IsUtf8-type_name_of (SenderAdd sender role) = IsUtf8-are_ascii _ refl
 IsUtf8-type_name_of (OwnerAdd owner) = IsUtf8-are_ascii _ refl
 IsUtf8-type_name_of (GatewayAdd gateway) = IsUtf8-are_ascii _ refl
 IsUtf8-type_name_of (DeviceAdd dev_eui join_eui owner) = IsUtf8-are_ascii _ refl
 IsUtf8-type_name_of (DeviceMove dev_eui owner) = IsUtf8-are_ascii _ refl
+IsUtf8-type_name_of (JoinHeard report verdict) = IsUtf8-are_ascii _ refl
+IsUtf8-type_name_of (FrameHeard report verdict) = IsUtf8-are_ascii _ refl
 
 with_envelope-plain : (type_name receiver sender : List ℕ) (n : ℕ) → IsUtf8 type_name → IsName receiver → IsName sender → n < 2 ^ 64
     → HasPlain (with_envelope type_name sender receiver n no_members)
@@ -50,6 +63,28 @@ with_envelope-plain type_name receiver sender n t r s fits =
     (text_put (codes "ReceiverID") receiver refl (IsUtf8-name receiver r)
     (text_put (codes "ProtocolVersion") (codes "1.0") refl (IsUtf8-are_ascii _ refl)
     (text_put (codes "MessageType") type_name refl t nothing_plain))))
+
+-- each number of a report fits 64 bits
+record FitsWords (report : Report) : Type 0 where
+  time : report.time < 2 ^ 64
+  freq : report.rate.freq < 2 ^ 64
+  dr : dr_number report.rate.dr < 2 ^ 64
+
+fits_words : (report : Report) → IsReport report → FitsWords report
+fits_words report h = record { time = omega (arith, h.time); freq = omega (arith, h.freq); dr = omega (arith, dr_number-fits report.rate.dr) }
+
+with_report-plain : (report : Report) (ms : Members) → IsReport report → HasPlain ms → HasPlain (with_report report ms)
+with_report-plain report ms r h =
+    let fits : FitsWords report = fits_words report r in
+    whole_put (codes "Time") report.time refl fits.time
+    (text_put (codes "PHYPayload") (octet_digits report.octets) refl (IsUtf8-octet_digits report.octets)
+    (text_put (codes "Gateway") report.gateway refl (IsUtf8-name report.gateway r.gateway)
+    (whole_put (codes "Freq") report.rate.freq refl fits.freq
+    (whole_put (codes "DataRate") (dr_number report.rate.dr) refl fits.dr h))))
+
+whole_or_null-plain : (number : Option ℕ) → IfSome number (λ n. n < 2 ^ 32) → IsPlain (whole_or_null number)
+whole_or_null-plain (Some n) fits = omega (arith, fits)
+whole_or_null-plain None fits = tt
 
 with_body-plain : (m : Message) (ms : Members) → IsMessage m → HasPlain ms → HasPlain (with_body m ms)
 with_body-plain (SenderAdd sender role) ms s h =
@@ -64,6 +99,10 @@ with_body-plain (DeviceAdd dev_eui join_eui owner) ms m h =
 with_body-plain (DeviceMove dev_eui owner) ms m h =
     text_put (codes "Owner") owner refl (IsUtf8-name owner m.1)
     (text_put (codes "DevEUI") (eui_digits dev_eui) refl (IsUtf8-eui_digits dev_eui) h)
+with_body-plain (JoinHeard report verdict) ms r h =
+    text_put (codes "Verdict") (join_verdict_name verdict) refl (IsUtf8-join_verdict_name verdict) (with_report-plain report ms r h)
+with_body-plain (FrameHeard report verdict) ms m h =
+    plain_put (codes "Verdict") (whole_or_null verdict) refl (whole_or_null-plain verdict m.1) (with_report-plain report ms m.0 h)
 
 plain : (receiver sender : List ℕ) (n : ℕ) (m : Message) → IsName receiver → IsName sender → n < 2 ^ 64 → IsMessage m
     → IsPlain (message_value receiver sender n m)
@@ -73,14 +112,32 @@ plain receiver sender n m r s fits h =
 
 -- ---- the text is read as the value
 
+of_json-whole_or_null : (number : Option ℕ) → IfSome number (λ n. n < 2 ^ 32)
+    → let d : Data = whole_or_null number in of_json (outline d) ≡ Some d
+of_json-whole_or_null (Some n) fits =
+    let small : n < 2 ^ 64 = omega (arith, fits) in
+    rw (number_of-decimal n small) refl
+of_json-whole_or_null None fits = refl
+
+of_json-heard_value : (receiver sender : List ℕ) (n : ℕ) (type_name : List ℕ) (report : Report) (verdict : Data)
+    → n < 2 ^ 64 → IsReport report → of_json (outline verdict) ≡ Some verdict
+    → let d : Data = heard_value receiver sender n type_name report verdict in of_json (outline d) ≡ Some d
+of_json-heard_value receiver sender n type_name report verdict fits h same =
+    let r : FitsWords report = fits_words report h in
+    rw (number_of-decimal n fits, number_of-decimal report.time r.time, number_of-decimal report.rate.freq r.freq, number_of-decimal (dr_number report.rate.dr) r.dr, same) refl
+
 -- each member once, in order
-of_json-outline : (receiver sender : List ℕ) (n : ℕ) (m : Message) → n < 2 ^ 64
+of_json-outline : (receiver sender : List ℕ) (n : ℕ) (m : Message) → n < 2 ^ 64 → IsMessage m
     → let d : Data = message_value receiver sender n m in of_json (outline d) ≡ Some d
-of_json-outline receiver sender n (SenderAdd added role) fits = rw (number_of-decimal n fits) refl
-of_json-outline receiver sender n (OwnerAdd owner) fits = rw (number_of-decimal n fits) refl
-of_json-outline receiver sender n (GatewayAdd gateway) fits = rw (number_of-decimal n fits) refl
-of_json-outline receiver sender n (DeviceAdd dev_eui join_eui owner) fits = rw (number_of-decimal n fits) refl
-of_json-outline receiver sender n (DeviceMove dev_eui owner) fits = rw (number_of-decimal n fits) refl
+of_json-outline receiver sender n (SenderAdd added role) fits h = rw (number_of-decimal n fits) refl
+of_json-outline receiver sender n (OwnerAdd owner) fits h = rw (number_of-decimal n fits) refl
+of_json-outline receiver sender n (GatewayAdd gateway) fits h = rw (number_of-decimal n fits) refl
+of_json-outline receiver sender n (DeviceAdd dev_eui join_eui owner) fits h = rw (number_of-decimal n fits) refl
+of_json-outline receiver sender n (DeviceMove dev_eui owner) fits h = rw (number_of-decimal n fits) refl
+of_json-outline receiver sender n (JoinHeard report verdict) fits h =
+    of_json-heard_value receiver sender n (codes "JoinHeard") report (string (join_verdict_name verdict)) fits h refl
+of_json-outline receiver sender n (FrameHeard report verdict) fits h =
+    of_json-heard_value receiver sender n (codes "FrameHeard") report (whole_or_null verdict) fits h.0 (of_json-whole_or_null verdict h.1)
 
 depth-outline : (receiver sender : List ℕ) (n : ℕ) (m : Message) → depth (outline (message_value receiver sender n m)) ≤ max_depth
 depth-outline receiver sender n (SenderAdd added role) = omega arith
@@ -88,6 +145,9 @@ depth-outline receiver sender n (OwnerAdd owner) = omega arith
 depth-outline receiver sender n (GatewayAdd gateway) = omega arith
 depth-outline receiver sender n (DeviceAdd dev_eui join_eui owner) = omega arith
 depth-outline receiver sender n (DeviceMove dev_eui owner) = omega arith
+depth-outline receiver sender n (JoinHeard report verdict) = omega arith
+depth-outline receiver sender n (FrameHeard report (Some counter)) = omega arith
+depth-outline receiver sender n (FrameHeard report None) = omega arith
 
 value_of-text : (d : Data) → IsPlain d → read (compact_text d) ≡ Some d → value_of (compact_text d) ≡ Some d
 value_of-text d plain same = rw (is_utf8-from_IsUtf8 _ (IsUtf8-compact_text d plain)) same
@@ -97,7 +157,7 @@ value_of-message : (receiver sender : List ℕ) (n : ℕ) (m : Message) → IsNa
 value_of-message receiver sender n m r s fits h =
     let d : Data = message_value receiver sender n m in
     let p : IsPlain d = plain receiver sender n m r s fits h in
-    value_of-text d p (read-compact_text d p (depth-outline receiver sender n m) (of_json-outline receiver sender n m fits))
+    value_of-text d p (read-compact_text d p (depth-outline receiver sender n m) (of_json-outline receiver sender n m fits h))
 
 -- ---- the members are found
 
@@ -112,19 +172,51 @@ common_members_of-message receiver sender n (OwnerAdd owner) r s fits = rw (s, r
 common_members_of-message receiver sender n (GatewayAdd gateway) r s fits = rw (s, r, lt-ltb n (2 ^ 32) fits) refl
 common_members_of-message receiver sender n (DeviceAdd dev_eui join_eui owner) r s fits = rw (s, r, lt-ltb n (2 ^ 32) fits) refl
 common_members_of-message receiver sender n (DeviceMove dev_eui owner) r s fits = rw (s, r, lt-ltb n (2 ^ 32) fits) refl
+common_members_of-message receiver sender n (JoinHeard report verdict) r s fits = rw (s, r, lt-ltb n (2 ^ 32) fits) refl
+common_members_of-message receiver sender n (FrameHeard report verdict) r s fits = rw (s, r, lt-ltb n (2 ^ 32) fits) refl
 
 role_named-role_name : (role : Role) → role_named (role_name role) ≡ Some role
 role_named-role_name Operator = refl
 role_named-role_name Radio = refl
 
+join_verdict_named-join_verdict_name : (verdict : JoinVerdict) → join_verdict_named (join_verdict_name verdict) ≡ Some verdict
+join_verdict_named-join_verdict_name Good = refl
+join_verdict_named-join_verdict_name Bad = refl
+
+whole_or_null_at-verdict : (receiver sender : List ℕ) (n : ℕ) (report : Report) (verdict : Option ℕ) → IfSome verdict (λ counter. counter < 2 ^ 32)
+    → whole_or_null_at (codes "Verdict") (2 ^ 32) (message_value receiver sender n (FrameHeard report verdict)) ≡ Some verdict
+whole_or_null_at-verdict receiver sender n report (Some counter) fits = rw (lt-ltb counter (2 ^ 32) fits) refl
+whole_or_null_at-verdict receiver sender n report None fits = refl
+
+report_of-heard_value : (receiver sender : List ℕ) (n : ℕ) (type_name : List ℕ) (report : Report) (verdict : Data) → IsReport report
+    → report_of (heard_value receiver sender n type_name report verdict) ≡ Some report
+unfolding report_of rate_of
+report_of-heard_value receiver sender n type_name report verdict h =
+    let soon : report.time < 2 ^ 53 = omega (arith, h.time) in
+    rw (
+      h.gateway,
+      lt-ltb report.time (2 ^ 53) soon,
+      lt-ltb report.rate.freq (2 ^ 32) h.freq,
+      data_rate_numbered-dr_number report.rate.dr,
+      octets_in-octet_digits report.octets h.octets.each h.octets.few,
+    ) refl
+
 message_of-message : (receiver sender : List ℕ) (n : ℕ) (m : Message) → IsMessage m
     → message_of (common receiver sender n m).head (message_value receiver sender n m) ≡ Ok m
-unfolding common message_of sender_add_of owner_add_of gateway_add_of device_add_of device_move_of
+unfolding common message_of sender_add_of owner_add_of gateway_add_of device_add_of device_move_of join_heard_of frame_heard_of
 message_of-message receiver sender n (SenderAdd added role) a = rw (a, role_named-role_name role) refl
 message_of-message receiver sender n (OwnerAdd owner) o = rw o refl
 message_of-message receiver sender n (GatewayAdd gateway) g = rw g refl
 message_of-message receiver sender n (DeviceAdd dev_eui join_eui owner) m = rw (eui_in-eui_digits dev_eui m.0, eui_in-eui_digits join_eui m.1, m.2) refl
 message_of-message receiver sender n (DeviceMove dev_eui owner) m = rw (eui_in-eui_digits dev_eui m.0, m.1) refl
+message_of-message receiver sender n (JoinHeard report verdict) m =
+    let verdict_value : Data = string (join_verdict_name verdict) in
+    rw (report_of-heard_value receiver sender n (codes "JoinHeard") report verdict_value m, join_verdict_named-join_verdict_name verdict) refl
+message_of-message receiver sender n (FrameHeard report verdict) m =
+    rw (
+      report_of-heard_value receiver sender n (codes "FrameHeard") report (whole_or_null verdict) m.0,
+      whole_or_null_at-verdict receiver sender n report verdict m.1,
+    ) refl
 
 -- ---- the whole
 

@@ -1,13 +1,17 @@
 -- The members of each type: which message they are, and how a message's are put beside others.
-use Rattle.std.specs.Prelude.{ℕ, List, Option, Some, codes}
+use Rattle.std.specs.Prelude.{ℕ, ◌^◌, List, Option, Some, codes}
 use Rattle.serde_json.specs.Data.{Data, string, Members, put}
+use Rattle.registry_core.specs.declared.messages.JoinVerdict.{JoinVerdict}
 use Rattle.registry_core.specs.declared.messages.Message.{Message}
-use Rattle.registry_core.specs.declared.messages.Message.TheVariants.{SenderAdd, OwnerAdd, GatewayAdd, DeviceAdd, DeviceMove}
+use Rattle.registry_core.specs.declared.messages.Message.TheVariants.{SenderAdd, OwnerAdd, GatewayAdd, DeviceAdd, DeviceMove, JoinHeard, FrameHeard}
+use Rattle.registry_core.specs.declared.messages.Report.{Report}
 use Rattle.registry_core.specs.declared.messages.Role.{Role}
 use Rattle.desk_wire.specs.Hexadecimal.{eui_digits}
-use Rattle.desk_wire.specs.Members.{name_at, eui_at, role_at}
+use Rattle.desk_wire.specs.Members.{name_at, whole_or_null_at, eui_at, role_at, join_verdict_at, whole_or_null}
 use Rattle.desk_wire.specs.Optional.{◌>>=◌}
+use Rattle.desk_wire.specs.Reports.{report_of, with_report}
 use Rattle.desk_wire.specs.Roles.{role_name}
+use Rattle.desk_wire.specs.Verdicts.{join_verdict_name}
 
 -- ---- read
 
@@ -40,6 +44,18 @@ device_move_of value = do
   owner ← name_at (codes "Owner") value
   Some (DeviceMove dev_eui owner)
 
+unfoldable pub join_heard_of : Data → Option Message
+join_heard_of value = do
+  report ← report_of value
+  verdict ← join_verdict_at (codes "Verdict") value
+  Some (JoinHeard report verdict)
+
+unfoldable pub frame_heard_of : Data → Option Message
+frame_heard_of value = do
+  report ← report_of value
+  verdict ← whole_or_null_at (codes "Verdict") (2 ^ 32) value
+  Some (FrameHeard report verdict)
+
 -- ---- put beside others
 
 abbrev pub with_sender_add : List ℕ → Role → Members → Members
@@ -63,3 +79,11 @@ abbrev pub with_device_move : ℕ → List ℕ → Members → Members
 with_device_move dev_eui owner members =
     put (codes "Owner") (string owner)
     (put (codes "DevEUI") (string (eui_digits dev_eui)) members)
+
+abbrev pub with_join_heard : Report → JoinVerdict → Members → Members
+with_join_heard report verdict members =
+    put (codes "Verdict") (string (join_verdict_name verdict)) (with_report report members)
+
+abbrev pub with_frame_heard : Report → Option ℕ → Members → Members
+with_frame_heard report verdict members =
+    put (codes "Verdict") (whole_or_null verdict) (with_report report members)

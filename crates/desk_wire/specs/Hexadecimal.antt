@@ -1,6 +1,7 @@
--- Hexadecimal text: which octets or which EUI a text is, and how an EUI is written (this project's form).
+-- Hexadecimal text: which octets or which EUI a text is, and how octets, EUIs and device addresses are written (this
+-- project's form).
 use Rattle.std.specs.Prelude.{ℕ, List, length, take, drop, codes, nat_le, ◌==◌, Option, option_map, if◌then◌else◌}
-use Rattle.std.specs.Int.{w64, from_be_bytes, to_be_bytes}
+use Rattle.std.specs.Int.{w32, w64, from_be_bytes, to_be_bytes}
 use Rattle.std.specs.Result.{result_ok}
 use Rattle.std.specs.Str.{bytes_eq}
 use Rattle.hex.specs.Hex.{decode_of, encode_lower}
@@ -22,6 +23,14 @@ octets_in text = decoded (unprefixed text)
 unfoldable pub eui_in : List ℕ → Option ℕ
 eui_in text = option_map (from_be_bytes w64) (octets_in text >>= only_if (λ octets. length octets == 8))
 
+-- the text of octets: two digits for each, in lower case
+unfoldable pub octet_digits : List ℕ → List ℕ
+octet_digits octets = encode_lower octets
+
 -- the text of an EUI: 16 digits in lower case, the most significant first
 unfoldable pub eui_digits : ℕ → List ℕ
-eui_digits eui = encode_lower (to_be_bytes w64 eui)
+eui_digits eui = octet_digits (to_be_bytes w64 eui)
+
+-- the text of a device address: 8 digits in lower case, the most significant first
+unfoldable pub addr_digits : ℕ → List ℕ
+addr_digits addr = octet_digits (to_be_bytes w32 addr)

@@ -1,12 +1,17 @@
 pub mod Answers
+pub mod Bands
 pub mod Bodies
+pub mod DataRates
 pub mod Faults
 pub mod Hexadecimal
 pub mod Laws
 pub mod Members
 pub mod Optional
+pub mod Outcomes
 pub mod Reading
+pub mod Reports
 pub mod Results
 pub mod Roles
 pub mod TypeNames
+pub mod Verdicts
 pub mod Writing

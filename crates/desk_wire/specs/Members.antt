@@ -1,13 +1,18 @@
 -- The members of a JSON object, each in its form, and the members that every message and every answer to one have.
-use Rattle.std.specs.Prelude.{ℕ, List, Option, codes, nat_lt}
-use Rattle.serde_json.specs.Data.{Data, string, number, unsigned, Members, put}
-use Rattle.serde_json.specs.Find.{get, as_str, as_number, as_u64}
+use Rattle.std.specs.Prelude.{ℕ, List, Bool, Option, Some, None, unwrap_or, option_map, codes, nat_lt, if◌then◌else◌}
+use Rattle.std.specs.Option.{is_some}
+use Rattle.serde_json.specs.Data.{Data, null, string, number, unsigned, Members, put}
+use Rattle.serde_json.specs.Find.{get, as_null, as_str, as_number, as_u64}
 use Rattle.radio_core.specs.Names.{is_name}
+use Rattle.radio_core.specs.declared.data_rates.DataRate.{DataRate}
+use Rattle.registry_core.specs.declared.messages.JoinVerdict.{JoinVerdict}
 use Rattle.registry_core.specs.declared.messages.Role.{Role}
-use Rattle.desk_wire.specs.Hexadecimal.{eui_in}
+use Rattle.desk_wire.specs.DataRates.{data_rate_numbered}
+use Rattle.desk_wire.specs.Hexadecimal.{octets_in, eui_in}
 use Rattle.desk_wire.specs.Optional.{◌>>=◌, only_if}
 use Rattle.desk_wire.specs.Roles.{role_named}
 use Rattle.desk_wire.specs.TypeNames.{is_type_name}
+use Rattle.desk_wire.specs.Verdicts.{join_verdict_named}
 
 -- ---- a member of an object, in its form
 
@@ -20,9 +25,30 @@ name_at member value = text_at member value >>= only_if is_name
 abbrev pub type_name_at : List ℕ → Data → Option (List ℕ)
 type_name_at member value = text_at member value >>= only_if is_type_name
 
+-- a number that serde_json gives as an unsigned whole number: `1.0`, `1e0` and `-0` aren't
+abbrev pub unsigned_at : List ℕ → Data → Option ℕ
+unsigned_at member value = get member value >>= as_number >>= as_u64
+
 -- a whole number below the limit
 abbrev pub whole_at : List ℕ → ℕ → Data → Option ℕ
-whole_at member limit value = get member value >>= as_number >>= as_u64 >>= only_if (λ n. nat_lt n limit)
+whole_at member limit value = unsigned_at member value >>= only_if (λ n. nat_lt n limit)
+
+-- whether it is null, as one that isn't there is
+abbrev pub is_null_at : List ℕ → Data → Bool
+is_null_at member value = is_some (as_null (unwrap_or (get member value) null))
+
+-- a whole number below the limit, or null
+abbrev pub whole_or_null_at : List ℕ → ℕ → Data → Option (Option ℕ)
+whole_or_null_at member limit value =
+    if is_null_at member value then Some None else option_map Some (whole_at member limit value)
+
+-- a whole number, 0 to 6
+abbrev pub data_rate_at : List ℕ → Data → Option DataRate
+data_rate_at member value = unsigned_at member value >>= data_rate_numbered
+
+-- 0 to 510 hexadecimal digits, an even number of them
+abbrev pub octets_at : List ℕ → Data → Option (List ℕ)
+octets_at member value = text_at member value >>= octets_in
 
 -- 16 hexadecimal digits
 abbrev pub eui_at : List ℕ → Data → Option ℕ
@@ -32,7 +58,16 @@ eui_at member value = text_at member value >>= eui_in
 abbrev pub role_at : List ℕ → Data → Option Role
 role_at member value = text_at member value >>= role_named
 
+-- `Good` or `Bad`
+abbrev pub join_verdict_at : List ℕ → Data → Option JoinVerdict
+join_verdict_at member value = text_at member value >>= join_verdict_named
+
 -- ---- members put beside others
+
+-- the value of a whole number, or null
+abbrev pub whole_or_null : Option ℕ → Data
+whole_or_null (Some n) = number (unsigned n)
+whole_or_null None = null
 
 -- those of the envelope (LoRaWAN Backend Interfaces 1.0)
 abbrev pub with_envelope : List ℕ → List ℕ → List ℕ → ℕ → Members → Members

@@ -2,12 +2,32 @@
 use Rattle.std.specs.Prelude.{ℕ, List, codes}
 use Rattle.serde_json.specs.Data.{Data, string, number, unsigned, object, Members, no_members, member}
 use Rattle.serde_json.specs.Written.{compact_text}
+use Rattle.radio_core.specs.DataRates.{dr_number}
 use Rattle.registry_core.specs.declared.messages.Envelope.{Envelope}
 use Rattle.registry_core.specs.declared.messages.Message.{Message}
-use Rattle.registry_core.specs.declared.messages.Message.TheVariants.{SenderAdd, OwnerAdd, GatewayAdd, DeviceAdd, DeviceMove}
-use Rattle.desk_wire.specs.Bodies.{with_sender_add, with_owner_add, with_gateway_add, with_device_add, with_device_move}
-use Rattle.desk_wire.specs.Hexadecimal.{eui_digits}
+use Rattle.registry_core.specs.declared.messages.Message.TheVariants.{SenderAdd, OwnerAdd, GatewayAdd, DeviceAdd, DeviceMove, JoinHeard, FrameHeard}
+use Rattle.registry_core.specs.declared.messages.Report.{Report}
+use Rattle.desk_wire.specs.Bodies.{with_sender_add, with_owner_add, with_gateway_add, with_device_add, with_device_move, with_join_heard, with_frame_heard}
+use Rattle.desk_wire.specs.Hexadecimal.{octet_digits, eui_digits}
+use Rattle.desk_wire.specs.Members.{whole_or_null}
 use Rattle.desk_wire.specs.Roles.{role_name}
+use Rattle.desk_wire.specs.Verdicts.{join_verdict_name}
+
+-- the message of a sender to a receiver that reports a frame as a value, its members in byte order of their names
+abbrev pub heard_value : List ℕ → List ℕ → ℕ → List ℕ → Report → Data → Data
+heard_value receiver sender transaction type_name report verdict = object
+    (member (codes "DataRate") (number (unsigned (dr_number report.rate.dr)))
+    (member (codes "Freq") (number (unsigned report.rate.freq))
+    (member (codes "Gateway") (string report.gateway)
+    (member (codes "MessageType") (string type_name)
+    (member (codes "PHYPayload") (string (octet_digits report.octets))
+    (member (codes "ProtocolVersion") (string (codes "1.0"))
+    (member (codes "ReceiverID") (string receiver)
+    (member (codes "SenderID") (string sender)
+    (member (codes "Time") (number (unsigned report.time))
+    (member (codes "TransactionID") (number (unsigned transaction))
+    (member (codes "Verdict") verdict
+    no_members)))))))))))
 
 -- the message of a sender to a receiver as a value, its members in byte order of their names
 abbrev pub message_value : List ℕ → List ℕ → ℕ → Message → Data
@@ -55,6 +75,10 @@ message_value receiver sender transaction (DeviceMove dev_eui owner) = object
     (member (codes "SenderID") (string sender)
     (member (codes "TransactionID") (number (unsigned transaction))
     no_members)))))))
+message_value receiver sender transaction (JoinHeard report verdict) =
+    heard_value receiver sender transaction (codes "JoinHeard") report (string (join_verdict_name verdict))
+message_value receiver sender transaction (FrameHeard report verdict) =
+    heard_value receiver sender transaction (codes "FrameHeard") report (whole_or_null verdict)
 
 -- the one text of an envelope for a receiver
 unfoldable pub message_text : List ℕ → Envelope → List ℕ
@@ -67,3 +91,5 @@ with_body (OwnerAdd owner) members = with_owner_add owner members
 with_body (GatewayAdd gateway) members = with_gateway_add gateway members
 with_body (DeviceAdd dev_eui join_eui owner) members = with_device_add dev_eui join_eui owner members
 with_body (DeviceMove dev_eui owner) members = with_device_move dev_eui owner members
+with_body (JoinHeard report verdict) members = with_join_heard report verdict members
+with_body (FrameHeard report verdict) members = with_frame_heard report verdict members

@@ -6,6 +6,7 @@ ghost use Rattle.desk_wire.specs.Answers.{head_of_envelope, result_value, answer
 
 use crate::heads::{Head, head_of};
 use crate::members::{put_envelope, put_text};
+use crate::outcomes::put_outcome;
 use crate::results::{result_code, result_description};
 use radio_core::Name;
 use registry_core::{Answer, Envelope, Refusal};
@@ -13,7 +14,9 @@ use serde_json::{Map, Value, put};
 use std::alloc::{AllocError, Global};
 
 /// The text of the receiver's answer to an envelope: the members of the envelope, with the sender as ReceiverID and
-/// `Ans` behind the MessageType, and Result with ResultCode and Description (LoRaWAN Backend Interfaces 1.0).
+/// `Ans` behind the MessageType, and Result with ResultCode and Description (LoRaWAN Backend Interfaces 1.0). A join's
+/// success adds Airtime in microseconds, Band, Copy, DevAddr and Uplink, and a data frame's Airtime, Band, Copy, Counter,
+/// DevEUI and Uplink (this project's members).
 #[tactic(auto, unfolding(crate::specs::Answers::answer_text))]
 pub fn write_answer(
     alloc: Global,
@@ -61,6 +64,7 @@ fn refusal_value(
     }
 }
 
+#[tactic(auto, using(crate::proofs::PutMembers::put_answer))]
 fn answer_value(
     alloc: Global,
     head: &Head,
@@ -82,6 +86,7 @@ fn answer_value(
         head.transaction,
     )?;
     put(&mut members, alloc, "Result", told)?;
+    put_outcome(alloc, &mut members, answer)?;
     Ok(Value::Object(members))
 }
 

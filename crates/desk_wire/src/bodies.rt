@@ -1,12 +1,16 @@
 //! The members of each type: read as a message, and put beside those of the envelope.
 ghost use Rattle.std.specs.Prelude.{◌≡◌, OnOk};
 ghost use Rattle.serde_json.specs.View.{view, members_view};
-ghost use Rattle.desk_wire.specs.Bodies.{sender_add_of, owner_add_of, gateway_add_of, device_add_of, device_move_of, with_sender_add, with_owner_add, with_gateway_add, with_device_add, with_device_move};
+ghost use Rattle.desk_wire.specs.Bodies.{sender_add_of, owner_add_of, gateway_add_of, device_add_of, device_move_of, join_heard_of, frame_heard_of, with_sender_add, with_owner_add, with_gateway_add, with_device_add, with_device_move, with_join_heard, with_frame_heard};
 
-use crate::members::{eui_at, name_at, put_eui, put_text, role_at};
+use crate::members::{
+    eui_at, join_verdict_at, name_at, put_eui, put_text, put_u32_or_null, role_at, u32_or_null_at,
+};
+use crate::reports::{put_report, report_of};
 use crate::roles::role_name;
+use crate::verdicts::join_verdict_name;
 use radio_core::{Eui, Name};
-use registry_core::{Message, Role};
+use registry_core::{JoinVerdict, Message, Report, Role};
 use serde_json::{Map, Value};
 use std::alloc::{AllocError, Global};
 
@@ -56,6 +60,24 @@ pub(crate) fn device_move_of(value: &Value) -> Option<Message>
     let dev_eui = eui_at(value, "DevEUI")?;
     let owner = name_at(value, "Owner")?;
     Some(Message::DeviceMove { dev_eui, owner })
+}
+
+#[tactic(auto, unfolding(crate::specs::Bodies::join_heard_of))]
+pub(crate) fn join_heard_of(value: &Value) -> Option<Message>
+    ensures { result ≡ join_heard_of (view value.now) }
+{
+    let report = report_of(value)?;
+    let verdict = join_verdict_at(value, "Verdict")?;
+    Some(Message::JoinHeard { report, verdict })
+}
+
+#[tactic(auto, unfolding(crate::specs::Bodies::frame_heard_of))]
+pub(crate) fn frame_heard_of(value: &Value) -> Option<Message>
+    ensures { result ≡ frame_heard_of (view value.now) }
+{
+    let report = report_of(value)?;
+    let verdict = u32_or_null_at(value, "Verdict")?;
+    Some(Message::FrameHeard { report, verdict })
 }
 
 pub(crate) fn put_sender_add(
@@ -119,4 +141,30 @@ pub(crate) fn put_device_move(
 {
     put_eui(alloc, members, "DevEUI", dev_eui)?;
     put_text(alloc, members, "Owner", owner.as_str())
+}
+
+pub(crate) fn put_join_heard(
+    alloc: Global,
+    members: &mut Map<String, Value>,
+    report: &Report,
+    verdict: JoinVerdict,
+) -> Result<(), AllocError>
+    ensures { OnOk result (members_view members.new.entries ≡ with_join_heard report.now verdict
+        (members_view members.old.entries)) }
+{
+    put_report(alloc, members, report)?;
+    put_text(alloc, members, "Verdict", join_verdict_name(verdict))
+}
+
+pub(crate) fn put_frame_heard(
+    alloc: Global,
+    members: &mut Map<String, Value>,
+    report: &Report,
+    verdict: Option<u32>,
+) -> Result<(), AllocError>
+    ensures { OnOk result (members_view members.new.entries ≡ with_frame_heard report.now verdict
+        (members_view members.old.entries)) }
+{
+    put_report(alloc, members, report)?;
+    put_u32_or_null(alloc, members, "Verdict", verdict)
 }

@@ -1,9 +1,9 @@
-//! Hexadecimal text: octets and EUIs read from digits, and written in them.
+//! Hexadecimal text: octets and EUIs read from digits, and octets, EUIs and device addresses written in them.
 ghost use Rattle.std.specs.Prelude.{◌≡◌, ◌/◌, IfOk, length};
 ghost use Rattle.std.specs.String.{string_bytes};
-ghost use Rattle.desk_wire.specs.Hexadecimal.{unprefixed, decoded, octets_in, eui_in, eui_digits};
+ghost use Rattle.desk_wire.specs.Hexadecimal.{unprefixed, decoded, octets_in, eui_in, octet_digits, eui_digits, addr_digits};
 
-use radio_core::{Eui, Octets};
+use radio_core::{DevAddr, Eui, Octets};
 use std::alloc::{AllocError, Global};
 
 /// The digits: what stands behind a `0x`, where the text begins with one.
@@ -48,10 +48,26 @@ pub(crate) fn eui_of(text: &str) -> Option<Eui>
     Some(Eui::new(u64::from_be_bytes(number)))
 }
 
+/// The text of octets: two digits for each, in lower case.
+#[tactic(auto, unfolding(crate::specs::Hexadecimal::octet_digits))]
+pub(crate) fn octet_digits(alloc: Global, octets: &[u8]) -> Result<String, AllocError>
+    ensures { IfOk result (λ text. string_bytes text ≡ octet_digits octets.now) }
+{
+    hex::encode(alloc, octets)
+}
+
 /// The text of an EUI: 16 digits in lower case, the most significant first.
 #[tactic(auto, unfolding(crate::specs::Hexadecimal::eui_digits))]
 pub(crate) fn eui_digits(alloc: Global, eui: Eui) -> Result<String, AllocError>
     ensures { IfOk result (λ text. string_bytes text ≡ eui_digits eui) }
 {
-    hex::encode(alloc, eui.get().to_be_bytes())
+    octet_digits(alloc, &eui.get().to_be_bytes())
+}
+
+/// The text of a device address: 8 digits in lower case, the most significant first.
+#[tactic(auto, unfolding(crate::specs::Hexadecimal::addr_digits))]
+pub(crate) fn addr_digits(alloc: Global, addr: DevAddr) -> Result<String, AllocError>
+    ensures { IfOk result (λ text. string_bytes text ≡ addr_digits addr) }
+{
+    octet_digits(alloc, &addr.get().to_be_bytes())
 }

@@ -2,18 +2,22 @@
 #![tactic(auto)]
 
 mod answers;
+mod bands;
 mod bodies;
 mod faults;
 mod heads;
 mod hexadecimal;
 pub mod laws;
 mod members;
+mod outcomes;
 mod reading;
+mod reports;
 mod results;
 mod roles;
 #[cfg(test)]
 mod tests;
 mod type_names;
+mod verdicts;
 mod writing;
 
 pub use answers::{write_answer, write_refusal};

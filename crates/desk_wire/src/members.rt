@@ -2,14 +2,15 @@
 ghost use Rattle.std.specs.Prelude.{◌≡◌, ◌^◌, OnOk, option_map};
 ghost use Rattle.serde_json.specs.Data.{string, put};
 ghost use Rattle.serde_json.specs.View.{view, members_view};
-ghost use Rattle.desk_wire.specs.Hexadecimal.{eui_digits};
-ghost use Rattle.desk_wire.specs.Members.{text_at, name_at, type_name_at, whole_at, eui_at, role_at, with_envelope};
+ghost use Rattle.desk_wire.specs.Hexadecimal.{octet_digits, eui_digits, addr_digits};
+ghost use Rattle.desk_wire.specs.Members.{text_at, name_at, type_name_at, whole_at, is_null_at, whole_or_null_at, data_rate_at, octets_at, eui_at, role_at, join_verdict_at, whole_or_null, with_envelope};
 
-use crate::hexadecimal::{eui_digits, eui_of};
+use crate::hexadecimal::{addr_digits, eui_digits, eui_of, octet_digits, octets_of};
 use crate::roles::role_named;
 use crate::type_names::TypeName;
-use radio_core::{Eui, Name};
-use registry_core::Role;
+use crate::verdicts::join_verdict_named;
+use radio_core::{DataRate, DevAddr, Eui, Name, Octets};
+use registry_core::{JoinVerdict, Role, Whole};
 use serde_json::{Map, Value, put};
 use std::alloc::{AllocError, Global};
 
@@ -37,6 +38,42 @@ pub(crate) fn u32_at(value: &Value, member: &str) -> Option<u32>
     u32::try_from(value.get(member)?.as_u64()?).ok()
 }
 
+/// Whether the member is `null`, as one that isn't there is.
+fn is_null_at(value: &Value, member: &str) -> bool
+    ensures { result ≡ is_null_at member.now (view value.now) }
+{
+    value.get(member).is_none_or(Value::is_null)
+}
+
+/// A whole number of 32 bits, or `Some(None)` where the member is `null`.
+pub(crate) fn u32_or_null_at(value: &Value, member: &str) -> Option<Option<u32>>
+    ensures { result ≡ whole_or_null_at member.now (2 ^ 32) (view value.now) }
+{
+    if is_null_at(value, member) {
+        Some(None)
+    } else {
+        u32_at(value, member).map(Some)
+    }
+}
+
+pub(crate) fn whole_at(value: &Value, member: &str) -> Option<Whole>
+    ensures { result ≡ whole_at member.now (2 ^ 53) (view value.now) }
+{
+    Whole::new(value.get(member)?.as_u64()?)
+}
+
+pub(crate) fn data_rate_at(value: &Value, member: &str) -> Option<DataRate>
+    ensures { result ≡ data_rate_at member.now (view value.now) }
+{
+    DataRate::new(u8::try_from(value.get(member)?.as_u64()?).ok()?)
+}
+
+pub(crate) fn octets_at(value: &Value, member: &str) -> Option<Octets>
+    ensures { result ≡ octets_at member.now (view value.now) }
+{
+    octets_of(text_at(value, member)?)
+}
+
 pub(crate) fn eui_at(value: &Value, member: &str) -> Option<Eui>
     ensures { result ≡ eui_at member.now (view value.now) }
 {
@@ -49,6 +86,12 @@ pub(crate) fn role_at(value: &Value, member: &str) -> Option<Role>
     role_named(text_at(value, member)?)
 }
 
+pub(crate) fn join_verdict_at(value: &Value, member: &str) -> Option<JoinVerdict>
+    ensures { result ≡ join_verdict_at member.now (view value.now) }
+{
+    join_verdict_named(text_at(value, member)?)
+}
+
 pub(crate) fn put_text(
     alloc: Global,
     members: &mut Map<String, Value>,
@@ -59,6 +102,39 @@ pub(crate) fn put_text(
         (members_view members.old.entries)) }
 {
     put(members, alloc, member, Value::try_from_str(alloc, text)?)
+}
+
+pub(crate) fn put_u32_or_null(
+    alloc: Global,
+    members: &mut Map<String, Value>,
+    member: &str,
+    number: Option<u32>,
+) -> Result<(), AllocError>
+    ensures { OnOk result (members_view members.new.entries
+        ≡ put member.now (whole_or_null number) (members_view members.old.entries)) }
+{
+    let value = match number {
+        Some(number) => Value::from(number),
+        None => Value::Null,
+    };
+    put(members, alloc, member, value)
+}
+
+pub(crate) fn put_octets(
+    alloc: Global,
+    members: &mut Map<String, Value>,
+    member: &str,
+    octets: &Octets,
+) -> Result<(), AllocError>
+    ensures { OnOk result (members_view members.new.entries
+        ≡ put member.now (string (octet_digits octets.now)) (members_view members.old.entries)) }
+{
+    put(
+        members,
+        alloc,
+        member,
+        Value::String(octet_digits(alloc, octets.get())?),
+    )
 }
 
 pub(crate) fn put_eui(
@@ -75,6 +151,23 @@ pub(crate) fn put_eui(
         alloc,
         member,
         Value::String(eui_digits(alloc, eui)?),
+    )
+}
+
+pub(crate) fn put_addr(
+    alloc: Global,
+    members: &mut Map<String, Value>,
+    member: &str,
+    addr: DevAddr,
+) -> Result<(), AllocError>
+    ensures { OnOk result (members_view members.new.entries
+        ≡ put member.now (string (addr_digits addr)) (members_view members.old.entries)) }
+{
+    put(
+        members,
+        alloc,
+        member,
+        Value::String(addr_digits(alloc, addr)?),
     )
 }
 

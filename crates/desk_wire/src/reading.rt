@@ -3,7 +3,10 @@ ghost use Rattle.std.specs.Prelude.{◌≡◌, IfOk, option_map};
 ghost use Rattle.serde_json.specs.View.{view};
 ghost use Rattle.desk_wire.specs.Reading.{common_members_of, message_of, envelope_addressed, envelope_of, value_of, reads, Gives};
 
-use crate::bodies::{device_add_of, device_move_of, gateway_add_of, owner_add_of, sender_add_of};
+use crate::bodies::{
+    device_add_of, device_move_of, frame_heard_of, gateway_add_of, join_heard_of, owner_add_of,
+    sender_add_of,
+};
 use crate::faults::WireFault;
 use crate::heads::Head;
 use crate::members::{name_at, text_at, type_name_at, u32_at};
@@ -32,9 +35,13 @@ struct CommonMembers {
 /// | GatewayAdd | Gateway: a name |
 /// | DeviceAdd | DevEUI and JoinEUI: EUIs; Owner: a name |
 /// | DeviceMove | DevEUI: an EUI; Owner: a name |
+/// | JoinHeard | those of a report; Verdict: `Good` or `Bad` |
+/// | FrameHeard | those of a report; Verdict: a whole number of 32 bits, or `null`, or not there, which is `null` |
 ///
 /// An EUI is a text of 16 hexadecimal digits, the most significant first, in either case, with or without `0x` before
-/// them.
+/// them. The members of a report are Gateway: a name; Time: a whole number of 53 bits, in microseconds since 1970 UTC;
+/// Freq: a whole number of 32 bits, in hertz; DataRate: a whole number, 0 to 6; PHYPayload: a text of 0 to 510
+/// hexadecimal digits, an even number of them, in either case, with or without `0x` before them.
 pub fn read_message(alloc: Global, text: &[u8], receiver: &Name) -> Result<Envelope, WireFault>
     ensures { Gives result (reads receiver.now text.now) }
 {
@@ -123,6 +130,8 @@ fn message_of(head: Head, value: &Value) -> Result<Message, WireFault>
         "GatewayAdd" => gateway_add_of(value),
         "DeviceAdd" => device_add_of(value),
         "DeviceMove" => device_move_of(value),
+        "JoinHeard" => join_heard_of(value),
+        "FrameHeard" => frame_heard_of(value),
         _ => return Err(WireFault::UnknownType(head)),
     };
     message.ok_or(WireFault::BadBody(head))

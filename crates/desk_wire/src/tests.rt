@@ -1,4 +1,7 @@
 //! The worked texts, letter for letter.
+mod frames_heard;
+mod heard;
+
 use crate::hexadecimal::octets_of;
 use crate::{
     Head, TypeName, WireFault, head_of, read_message, write_answer, write_message, write_refusal,

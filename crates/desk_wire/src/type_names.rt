@@ -72,6 +72,8 @@ pub(crate) fn type_name_of(message: &Message) -> TypeName
         Message::GatewayAdd { .. } => b"GatewayAdd",
         Message::DeviceAdd { .. } => b"DeviceAdd",
         Message::DeviceMove { .. } => b"DeviceMove",
+        Message::JoinHeard { .. } => b"JoinHeard",
+        Message::FrameHeard { .. } => b"FrameHeard",
     };
     TypeName::new(text).unwrap()
 }

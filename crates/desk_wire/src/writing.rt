@@ -4,7 +4,8 @@ ghost use Rattle.serde_json.specs.View.{view, members_view};
 ghost use Rattle.desk_wire.specs.Writing.{message_value, message_text, with_body};
 
 use crate::bodies::{
-    put_device_add, put_device_move, put_gateway_add, put_owner_add, put_sender_add,
+    put_device_add, put_device_move, put_frame_heard, put_gateway_add, put_join_heard,
+    put_owner_add, put_sender_add,
 };
 use crate::members::put_envelope;
 use crate::type_names::type_name_of;
@@ -64,5 +65,9 @@ fn put_body(
             owner,
         } => put_device_add(alloc, members, *dev_eui, *join_eui, owner),
         Message::DeviceMove { dev_eui, owner } => put_device_move(alloc, members, *dev_eui, owner),
+        Message::JoinHeard { report, verdict } => put_join_heard(alloc, members, report, *verdict),
+        Message::FrameHeard { report, verdict } => put_frame_heard(
+            alloc, members, report, *verdict,
+        ),
     }
 }

@@ -1,64 +1,327 @@
--- What a step changes adds only what isn't there, and names only what is.
-use Rattle.std.proofs.Common.{◌≡◌, Bool, true, false, List, ℕ, Option, Some, None, refl, ap, sym, ◌∙◌}
-use Rattle.std.specs.Prelude.{not, Ok, is_some, is_none}
+-- What a step decides: it adds only what isn't there and names only what is, and a copy books nothing.
+use Rattle.std.proofs.Common.{◌≡◌, Bool, true, false, List, [], ◌∷◌, length, ℕ, ◌+◌, ◌-◌, ◌%◌, Option, Some, None, refl, ap, sym, ◌∙◌, arith, if◌then◌else◌}
+use Rattle.std.specs.Prelude.{not, ◌==◌, ◌&&◌, IsTrue, Ok, Err, is_some, is_none, nat_le, nat_lt, bytes_eq, option_and_then, option_map}
+use Rattle.std.proofs.lemmas.Bool.{ltb-true, and_parts}
+use Rattle.std.proofs.lemmas.Bool.Decides.{nat_tests}
+use Rattle.radio_core.specs.declared.bands.Band.{Band}
+use Rattle.radio_core.specs.declared.data_rates.DataRate.{DataRate}
+use Rattle.radio_core.specs.Bands.{band_at}
+use Rattle.radio_core.specs.Counters.{is_candidate}
+use Rattle.radio_core.specs.DataRates.{max_length}
+use Rattle.radio_core.specs.Frames.{frame_of}
 use Rattle.registry_core.specs.declared.answers.Answer.TheVariants.{Success}
-use Rattle.registry_core.specs.declared.answers.Refusal.TheVariants.{WrongRole, Exists, UnknownOwner, UnknownDevEui}
-use Rattle.registry_core.specs.declared.effects.Effect.TheVariants.{AddsSender, AddsOwner, AddsGateway, AddsDevice, MovesDevice}
+use Rattle.registry_core.specs.declared.answers.Refusal.{Refusal}
+use Rattle.registry_core.specs.declared.answers.Refusal.TheVariants.{WrongRole, Exists, UnknownOwner, UnknownGateway, UnknownDevEui, UnknownDevAddr, BadFrame, OutOfBand, MicFailed, JoinEui, Nonce, Addresses, Replayed, Late, Gap, SessionEnded, Time}
+use Rattle.registry_core.specs.declared.effects.Effect.{Effect}
+use Rattle.registry_core.specs.declared.effects.Effect.TheVariants.{Nothing, AddsSender, AddsOwner, AddsGateway, AddsDevice, MovesDevice, AddsSession, AddsUplink, AddsCopy}
 use Rattle.registry_core.specs.declared.facts.Device.{Device}
+use Rattle.registry_core.specs.declared.facts.Kind.TheVariants.{Join, Data}
+use Rattle.registry_core.specs.declared.facts.Reception.{Reception}
+use Rattle.registry_core.specs.declared.facts.Session.{Session}
+use Rattle.registry_core.specs.declared.facts.Uplink.{Uplink}
+use Rattle.registry_core.specs.declared.frames.DataFrame.{DataFrame}
+use Rattle.registry_core.specs.declared.frames.JoinRequest.{JoinRequest}
 use Rattle.registry_core.specs.declared.messages.Envelope.{Envelope}
+use Rattle.registry_core.specs.declared.messages.JoinVerdict.{JoinVerdict}
 use Rattle.registry_core.specs.declared.messages.Message.{Message}
-use Rattle.registry_core.specs.declared.messages.Message.TheVariants.{SenderAdd, OwnerAdd, GatewayAdd, DeviceAdd, DeviceMove}
+use Rattle.registry_core.specs.declared.messages.Message.TheVariants.{SenderAdd, OwnerAdd, GatewayAdd, DeviceAdd, DeviceMove, JoinHeard, FrameHeard}
+use Rattle.registry_core.specs.declared.messages.Report.{Report}
 use Rattle.registry_core.specs.declared.messages.Role.{Role}
-use Rattle.registry_core.specs.Checks.{Checked, ◌>>◌, wants}
-use Rattle.registry_core.specs.Fits.{Fits, DecisionsFit}
-use Rattle.registry_core.specs.Heard.{state_of}
+use Rattle.registry_core.specs.Checks.{Checked, ◌>>=◌, ◌>>◌, wants, needs, unless}
+use Rattle.registry_core.specs.Administration.{is_operator, sender_add, owner_add, gateway_add, device_add, device_move}
+use Rattle.registry_core.specs.Decision.{Decision, decision_or_refusal}
+use Rattle.registry_core.specs.Derived.{address_of, data_with, is_above, is_below, is_below_floor, is_data_with, is_join_with, join_with, last_counter, last_nonce, session_with}
+use Rattle.registry_core.specs.DataFrames.{original_data, data_copied, data_added, frame_heard}
+use Rattle.registry_core.specs.Frames.{data_up, frame_at, join_request}
+use Rattle.registry_core.specs.Fits.{Fits, SessionFits, UplinkFits, DecisionsFit}
+use Rattle.registry_core.specs.Heard.{state_after, state_of}
+use Rattle.registry_core.specs.Laws.{tells_copy}
+use Rattle.registry_core.specs.Joins.{is_good, original_join, join_copied, join_added, join_heard}
+use Rattle.registry_core.specs.Numbered.{item_at}
 use Rattle.registry_core.specs.Settings.{Settings}
-use Rattle.registry_core.specs.State.{State}
-use Rattle.registry_core.specs.Step.{Decision, is_operator, sender_add, owner_add, gateway_add, device_add, device_move, checked_decision, decision_of, decision_or_refusal}
+use Rattle.registry_core.specs.State.{State, next_uplink, opening}
+use Rattle.registry_core.specs.Step.{checked_decision, decision_of, step}
+use Rattle.registry_core.specs.Uplinks.{is_time, copy_added, same_octets, uplink_of}
+use Rattle.registry_core.proofs.HeardStates.{IsSound, IsAllowed, opening_sound, change_sound}
+use Rattle.registry_core.proofs.Items.{first_is, item_within, some_is}
 
-sender_fits : (s : State) (sender : List ℕ) (role : Role) (may : Bool) (there : Option Role) → s.senders sender ≡ there
-    → Fits (decision_or_refusal (wants may WrongRole >> (wants (is_none there) Exists >> Ok (AddsSender sender role, Success)))).0 s
-sender_fits s sender role false there e = tt
-sender_fits s sender role true (Some r) e = tt
-sender_fits s sender role true None e = e
+-- ---- what every decision is
 
-owner_fits : (s : State) (owner : List ℕ) (may there : Bool) → s.owners owner ≡ there
-    → Fits (decision_or_refusal (wants may WrongRole >> (wants (not there) Exists >> Ok (AddsOwner owner, Success)))).0 s
-owner_fits s owner false there e = tt
-owner_fits s owner true true e = tt
-owner_fits s owner true false e = e
+-- it adds no session and no uplink
+abbrev pub BooksNothing : Effect → Type 0
+BooksNothing (AddsSession session u gateway reception) = ⊥
+BooksNothing (AddsUplink u gateway reception) = ⊥
+BooksNothing effect = Unit {0}
 
-gateway_fits : (s : State) (gateway : List ℕ) (may there : Bool) → s.gateways gateway ≡ there
-    → Fits (decision_or_refusal (wants may WrongRole >> (wants (not there) Exists >> Ok (AddsGateway gateway, Success)))).0 s
-gateway_fits s gateway false there e = tt
-gateway_fits s gateway true true e = tt
-gateway_fits s gateway true false e = e
+pub record IsDecision (c : Settings) (s : State) (d : Decision) : Type 0 where
+  pub allowed : IsAllowed c s d.0
+  pub copy : IsTrue (tells_copy d.1) → BooksNothing d.0
 
-device_fits : (s : State) (dev_eui : ℕ) (device : Device) (may known : Bool) (there : Option Device) → s.owners device.owner ≡ known → s.devices dev_eui ≡ there
-    → Fits (decision_or_refusal (wants may WrongRole >> (wants known UnknownOwner >> (wants (is_none there) Exists >> Ok (AddsDevice dev_eui device, Success))))).0 s
-device_fits s dev_eui device false known there o e = tt
-device_fits s dev_eui device true false there o e = tt
-device_fits s dev_eui device true true (Some d) o e = tt
-device_fits s dev_eui device true true None o e = (e, o)
+Decides : Settings → State → Checked Decision → Type 0
+Decides c s checked = IsDecision c s (decision_or_refusal checked)
 
-move_fits : (s : State) (dev_eui : ℕ) (owner : List ℕ) (may there known : Bool) → is_some (s.devices dev_eui) ≡ there → s.owners owner ≡ known
-    → Fits (decision_or_refusal (wants may WrongRole >> (wants there UnknownDevEui >> (wants known UnknownOwner >> Ok (MovesDevice dev_eui owner, Success))))).0 s
-move_fits s dev_eui owner false there known e o = tt
-move_fits s dev_eui owner true false known e o = tt
-move_fits s dev_eui owner true true false e o = tt
-move_fits s dev_eui owner true true true e o = (e, o)
+-- ---- checks in a row
 
-fits_by : (c : Settings) (s : State) (e : Envelope) (m : Message) → Fits (decision_or_refusal (checked_decision c s e m)).0 s
-unfolding sender_add owner_add gateway_add device_add device_move
-fits_by c s e (SenderAdd sender role) = sender_fits s sender role (is_operator (s.senders e.sender)) (s.senders sender) refl
-fits_by c s e (OwnerAdd owner) = owner_fits s owner (is_operator (s.senders e.sender)) (s.owners owner) refl
-fits_by c s e (GatewayAdd gateway) = gateway_fits s gateway (is_operator (s.senders e.sender)) (s.gateways gateway) refl
-fits_by c s e (DeviceAdd dev_eui join_eui owner) =
-    device_fits s dev_eui (record { join_eui = join_eui; owner = owner }) (is_operator (s.senders e.sender)) (s.owners owner) (s.devices dev_eui) refl refl
-fits_by c s e (DeviceMove dev_eui owner) = move_fits s dev_eui owner (is_operator (s.senders e.sender)) (is_some (s.devices dev_eui)) (s.owners owner) refl refl
+refused : (c : Settings) (s : State) (r : Refusal) → Decides c s (Err r)
+unfolding Decides
+refused c s r = record { allowed = tt; copy = λ h. cc }
+
+after_wants : (c : Settings) (s : State) (b : Bool) (r : Refusal) (rest : Checked Decision) → (b ≡ true → Decides c s rest) → Decides c s (wants b r >> rest)
+after_wants c s true r rest h = h refl
+after_wants c s false r rest h = refused c s r
+
+after_needs : {X : Type 0} (c : Settings) (s : State) (x : Option X) (r : Refusal) (rest : X → Checked Decision) → ((y : X) → x ≡ Some y → Decides c s (rest y)) → Decides c s (needs x r >>= rest)
+after_needs c s (Some x) r rest h = h x refl
+after_needs c s None r rest h = refused c s r
+
+-- ---- the messages of an operator
+
+succeeds : (c : Settings) (s : State) (effect : Effect) → IsAllowed c s effect → Decides c s (Ok (effect, Success))
+unfolding Decides
+succeeds c s effect k = record { allowed = k; copy = λ h. cc }
+
+is_absent : {X : Type 0} (x : Option X) → is_none x ≡ true → x ≡ None
+is_absent None h = refl
+is_absent (Some x) h = cc
+
+is_false : (b : Bool) → not b ≡ true → b ≡ false
+is_false false h = refl
+is_false true h = cc
+
+sender_decides : (c : Settings) (s : State) (e : Envelope) (sender : List ℕ) (role : Role) → Decides c s (sender_add s e sender role)
+unfolding sender_add
+sender_decides c s e sender role =
+    after_wants c s (is_operator (s.senders e.sender)) WrongRole _ (λ _.
+    after_wants c s (is_none (s.senders sender)) Exists _ (λ new.
+    succeeds c s (AddsSender sender role) (is_absent (s.senders sender) new)))
+
+owner_decides : (c : Settings) (s : State) (e : Envelope) (owner : List ℕ) → Decides c s (owner_add s e owner)
+unfolding owner_add
+owner_decides c s e owner =
+    after_wants c s (is_operator (s.senders e.sender)) WrongRole _ (λ _.
+    after_wants c s (not (s.owners owner)) Exists _ (λ new.
+    succeeds c s (AddsOwner owner) (is_false (s.owners owner) new)))
+
+gateway_decides : (c : Settings) (s : State) (e : Envelope) (gateway : List ℕ) → Decides c s (gateway_add s e gateway)
+unfolding gateway_add
+gateway_decides c s e gateway =
+    after_wants c s (is_operator (s.senders e.sender)) WrongRole _ (λ _.
+    after_wants c s (not (s.gateways gateway)) Exists _ (λ new.
+    succeeds c s (AddsGateway gateway) (is_false (s.gateways gateway) new)))
+
+device_decides : (c : Settings) (s : State) (e : Envelope) (dev_eui join_eui : ℕ) (owner : List ℕ) → Decides c s (device_add s e dev_eui join_eui owner)
+unfolding device_add
+device_decides c s e dev_eui join_eui owner =
+    after_wants c s (is_operator (s.senders e.sender)) WrongRole _ (λ _.
+    after_wants c s (s.owners owner) UnknownOwner _ (λ known.
+    after_wants c s (is_none (s.devices dev_eui)) Exists _ (λ new.
+    succeeds c s (AddsDevice dev_eui (record { join_eui = join_eui; owner = owner })) (is_absent (s.devices dev_eui) new, known))))
+
+move_decides : (c : Settings) (s : State) (e : Envelope) (dev_eui : ℕ) (owner : List ℕ) → Decides c s (device_move s e dev_eui owner)
+unfolding device_move
+move_decides c s e dev_eui owner =
+    after_wants c s (is_operator (s.senders e.sender)) WrongRole _ (λ _.
+    after_wants c s (is_some (s.devices dev_eui)) UnknownDevEui _ (λ there.
+    after_wants c s (s.owners owner) UnknownOwner _ (λ known.
+    succeeds c s (MovesDevice dev_eui owner) (there, known))))
+
+-- ---- a join
+
+is_there : {X : Type 0} (x : Option X) (y : X) → x ≡ Some y → is_some x ≡ true
+is_there (Some x) y e = refl
+is_there None y e = cc
+
+-- the next uplink has no copy
+no_copy : (c : Settings) (s : State) (gateway : List ℕ) (found : Option Reception) → IsSound c s → s.copies (next_uplink s) gateway ≡ found → found ≡ None
+no_copy c s gateway None h e = refl
+no_copy c s gateway (Some r) h e = absurd (omega (arith, h.of_uplinks (next_uplink s) gateway r e))
+
+added_decides : (c : Settings) (s : State) (report : Report) (join : JoinRequest) (device : Device) (band : Band) → IsSound c s → s.gateways report.gateway ≡ true → s.devices join.dev_eui ≡ Some device
+    → Decides c s (join_added c s report join band)
+unfolding join_added Decides
+added_decides c s report join device band h gateway there =
+    after_wants c s (is_above join.nonce (last_nonce s join.dev_eui)) Nonce _ (λ above.
+    after_wants c s (nat_lt (length s.sessions) c.addresses) Addresses _ (λ room. record { allowed = (fits above, ltb-true (length s.sessions) c.addresses room); copy = λ k. cc }))
+  where
+    fits : is_above join.nonce (last_nonce s join.dev_eui) ≡ true
+        → SessionFits (record { device = join.dev_eui; nonce = join.nonce }) (uplink_of report (length s.sessions + 1) Join join.nonce band) report.gateway s
+    fits above = record {
+      device = is_there (s.devices join.dev_eui) device there;
+      nonce = above;
+      number = refl;
+      kind = refl;
+      counter = refl;
+      gateway = gateway;
+      no_copy = no_copy c s report.gateway (s.copies (next_uplink s) report.gateway) h refl;
+    }
+
+copied_fits : (c : Settings) (s : State) (report : Report) (found : ℕ × Uplink) (at : Option Reception) → s.gateways report.gateway ≡ true → item_at s.uplinks found.0 ≡ Some found.1
+    → s.copies found.0 report.gateway ≡ at → IsAllowed c s (copy_added found.0 at report)
+copied_fits c s report found (Some r) gateway there is = tt
+copied_fits c s report found None gateway there is = record { uplink = is_there (item_at s.uplinks found.0) found.1 there; gateway = gateway; no_copy = is }
+
+-- a copy is one of an uplink that is there
+copied_is : (join : Option (ℕ × Uplink)) (octets : List ℕ) (found : ℕ × Uplink)
+    → option_and_then (same_octets octets) join ≡ Some found → join ≡ Some found
+copied_is None octets found e = cc
+copied_is (Some u) octets found e = by_octets u found (bytes_eq u.1.octets octets) e
+  where
+    by_octets : (u found : ℕ × Uplink) (b : Bool) → (if b then Some u else None) ≡ Some found → Some u ≡ Some found
+    by_octets u found true e = e
+    by_octets u found false e = cc
+
+uplink_there : (s : State) (join : JoinRequest) (octets : List ℕ) (found : ℕ × Uplink) → original_join s join octets ≡ Some found → item_at s.uplinks found.0 ≡ Some found.1
+unfolding original_join join_with
+uplink_there s join octets found e = (first_is (is_join_with s join.dev_eui join.nonce) s.uplinks found (copied_is _ octets found e)).0
+
+copy_books : (number : ℕ) (at : Option Reception) (report : Report) → BooksNothing (copy_added number at report)
+copy_books number (Some r) report = tt
+copy_books number None report = tt
+
+ended_decides : (c : Settings) (s : State) (report : Report) (join : JoinRequest) (device : Device) (band : Band) (found : Option (ℕ × Uplink)) → IsSound c s → s.gateways report.gateway ≡ true
+    → s.devices join.dev_eui ≡ Some device → original_join s join report.octets ≡ found
+    → Decides c s (unless found (join_copied c s report) (join_added c s report join band))
+unfolding Decides
+ended_decides c s report join device band None h gateway there is = added_decides c s report join device band h gateway there
+ended_decides c s report join device band (Some found) h gateway there is =
+    record {
+      allowed = copied_fits c s report found (s.copies found.0 report.gateway) gateway (uplink_there s join report.octets found is) refl;
+      copy = λ k. copy_books found.0 (s.copies found.0 report.gateway) report;
+    }
+
+join_decides : (c : Settings) (s : State) (report : Report) (verdict : JoinVerdict) → IsSound c s → Decides c s (join_heard c s report verdict)
+unfolding join_heard
+join_decides c s report verdict h =
+    after_wants c s (is_time report.time) Time _ (λ _.
+    after_wants c s (s.gateways report.gateway) UnknownGateway _ (λ gateway.
+    after_needs c s (join_request (frame_at report.rate.dr report.octets)) BadFrame _ (λ join _.
+    after_needs c s (band_at report.rate.freq report.rate.dr) OutOfBand _ (λ band _.
+    after_needs c s (s.devices join.dev_eui) UnknownDevEui _ (λ device there.
+    after_wants c s (device.join_eui == join.join_eui) JoinEui _ (λ _.
+    after_wants c s (is_good verdict) MicFailed _ (λ _.
+    ended_decides c s report join device band (original_join s join report.octets) h gateway there refl)))))))
+
+-- ---- a data frame
+
+pub session_there : (c : Settings) (s : State) (addr : ℕ) (found : ℕ × Session) → session_with c s addr ≡ Some found → (item_at s.sessions found.0 ≡ Some found.1) × (addr ≡ address_of c found.0)
+unfolding session_with
+session_there c s addr found e = by_session (item_at s.sessions (addr + 1 - c.base)) refl e
+  where
+    by_session : (session : Option Session) → item_at s.sessions (addr + 1 - c.base) ≡ session → option_map (λ (x : Session). (addr + 1 - c.base, x)) session ≡ Some found
+        → (item_at s.sessions found.0 ≡ Some found.1) × (addr ≡ address_of c found.0)
+    by_session None is e = cc
+    by_session (Some x) is e =
+        let same : (addr + 1 - c.base, x) ≡ found = some_is (addr + 1 - c.base, x) found e in
+        let number : addr + 1 - c.base ≡ found.0 = ap (λ q. q.0) same in
+        let there = is ∙ ap (λ q. Some q.1) same in
+        (ap (item_at s.sessions) (sym number) ∙ there, omega (arith, number, (item_within s.sessions (addr + 1 - c.base) x is).0))
+
+number_told : (n m : ℕ) → (n == m) ≡ true → n ≡ m
+number_told n m h = grind (arith, nat_tests)
+
+low_bits : (counter low : ℕ) → counter % 65536 ≡ low → low % 65536 ≡ counter % 65536
+low_bits counter low same = omega (arith, same)
+
+-- the candidate counter is above the last, and has the frame's low bits
+candidate_is : (last : Option ℕ) (low counter : ℕ) → is_candidate last low counter ≡ true → (is_above counter last ≡ true) × (low % 65536 ≡ counter % 65536)
+candidate_is None low counter h = (refl, let same : counter ≡ low = grind (arith, nat_tests) in ap (λ n. n % 65536) (sym same))
+candidate_is (Some n) low counter h =
+    let front : (nat_lt n counter && nat_le counter (n + 65536) && counter % 65536 == low) ≡ true = (and_parts _ _ h).0 in
+    let edges : (nat_lt n counter && nat_le counter (n + 65536)) ≡ true = (and_parts _ _ front).0 in
+    ((and_parts _ _ edges).0, low_bits counter low (number_told (counter % 65536) low (and_parts _ _ front).1))
+
+data_added_decides : (c : Settings) (s : State) (report : Report) (frame : DataFrame) (session : ℕ × Session) (counter : ℕ) (band : Band) → IsSound c s → s.gateways report.gateway ≡ true
+    → data_up (frame_of report.octets) ≡ Some frame → session_with c s frame.addr ≡ Some session
+    → Decides c s (data_added s report frame session.0 session.1.device counter band)
+unfolding data_added Decides
+data_added_decides c s report frame session counter band h gateway is at =
+    after_wants c s (not (is_below_floor s session.1.device session.0)) SessionEnded _ (λ _.
+    after_wants c s (is_none (data_with s session.0 counter)) Replayed _ (λ _.
+    after_wants c s (not (is_below counter (last_counter s session.0))) Late _ (λ _.
+    after_wants c s (is_candidate (last_counter s session.0) frame.fcnt counter) Gap _ (λ follows.
+    record { allowed = (fits_new follows, (frame, is, there.1, (candidate_is (last_counter s session.0) frame.fcnt counter follows).1)); copy = λ k. cc }))))
+  where
+    there : (item_at s.sessions session.0 ≡ Some session.1) × (frame.addr ≡ address_of c session.0)
+    there = session_there c s frame.addr session at
+
+    fits_new : is_candidate (last_counter s session.0) frame.fcnt counter ≡ true → UplinkFits (uplink_of report session.0 Data counter band) report.gateway s
+    fits_new follows = record {
+      session = is_there (item_at s.sessions session.0) session.1 there.0;
+      kind = refl;
+      counter = (candidate_is (last_counter s session.0) frame.fcnt counter follows).0;
+      gateway = gateway;
+      no_copy = no_copy c s report.gateway (s.copies (next_uplink s) report.gateway) h refl;
+    }
+
+data_there : (s : State) (session counter : ℕ) (octets : List ℕ) (found : ℕ × Uplink) → original_data s session counter octets ≡ Some found → item_at s.uplinks found.0 ≡ Some found.1
+unfolding original_data data_with
+data_there s session counter octets found e = (first_is (is_data_with session counter) s.uplinks found (copied_is _ octets found e)).0
+
+frame_ended : (c : Settings) (s : State) (report : Report) (frame : DataFrame) (session : ℕ × Session) (counter : ℕ) (band : Band) (found : Option (ℕ × Uplink)) → IsSound c s → s.gateways report.gateway ≡ true
+    → data_up (frame_of report.octets) ≡ Some frame → session_with c s frame.addr ≡ Some session → original_data s session.0 counter report.octets ≡ found
+    → Decides c s (unless found (data_copied s report session.1.device counter) (data_added s report frame session.0 session.1.device counter band))
+unfolding Decides
+frame_ended c s report frame session counter band None h gateway told at is = data_added_decides c s report frame session counter band h gateway told at
+frame_ended c s report frame session counter band (Some found) h gateway told at is = record {
+  allowed = copied_fits c s report found (s.copies found.0 report.gateway) gateway (data_there s session.0 counter report.octets found is) refl;
+  copy = λ k. copy_books found.0 (s.copies found.0 report.gateway) report;
+}
+
+-- a frame that its data rate carries is what its octets are
+carried : (dr : DataRate) (octets : List ℕ) (frame : DataFrame) (b : Bool) → nat_le (length octets) (max_length dr) ≡ b → data_up (if b then frame_of octets else None) ≡ Some frame
+    → data_up (frame_of octets) ≡ Some frame
+carried dr octets frame true is e = e
+carried dr octets frame false is e = cc
+
+frame_decides : (c : Settings) (s : State) (report : Report) (verdict : Option ℕ) → IsSound c s → Decides c s (frame_heard c s report verdict)
+unfolding frame_heard
+frame_decides c s report verdict h =
+    after_wants c s (is_time report.time) Time _ (λ _.
+    after_wants c s (s.gateways report.gateway) UnknownGateway _ (λ gateway.
+    after_needs c s (data_up (frame_at report.rate.dr report.octets)) BadFrame _ (λ frame told.
+    after_needs c s (band_at report.rate.freq report.rate.dr) OutOfBand _ (λ band _.
+    after_needs c s (session_with c s frame.addr) UnknownDevAddr _ (λ session at.
+    after_needs c s verdict MicFailed _ (λ counter _.
+    frame_ended c s report frame session counter band (original_data s session.0 counter report.octets) h gateway
+    (carried report.rate.dr report.octets frame _ refl told) at refl))))))
+
+-- ---- each message
+
+decides : (c : Settings) (s : State) (e : Envelope) (m : Message) → IsSound c s → Decides c s (checked_decision c s e m)
+decides c s e (SenderAdd sender role) h = sender_decides c s e sender role
+decides c s e (OwnerAdd owner) h = owner_decides c s e owner
+decides c s e (GatewayAdd gateway) h = gateway_decides c s e gateway
+decides c s e (DeviceAdd dev_eui join_eui owner) h = device_decides c s e dev_eui join_eui owner
+decides c s e (DeviceMove dev_eui owner) h = move_decides c s e dev_eui owner
+decides c s e (JoinHeard report verdict) h = join_decides c s report verdict h
+decides c s e (FrameHeard report verdict) h = frame_decides c s report verdict h
+
+pub is_decision : (c : Settings) (s : State) (e : Envelope) → IsSound c s → IsDecision c s (decision_of c s e)
+unfolding Decides
+is_decision c s e h = decides c s e e.message h
+
+-- every state that messages leave is sound
+pub sound_after : (c : Settings) (s : State) (es : List Envelope) → IsSound c s → IsSound c (state_after c s es)
+sound_after c s [] h = h
+sound_after c s (e ∷ es) h = sound_after c (step c s e).0 es (change_sound c s (decision_of c s e).0 h (is_decision c s e h).allowed)
+
+pub sound_of : (c : Settings) (heard : List Envelope) → IsSound c (state_of c heard)
+sound_of c heard = sound_after c (opening c) heard (opening_sound c)
+
+-- what is allowed fits
+fits : (c : Settings) (s : State) (effect : Effect) → IsAllowed c s effect → Fits effect s
+fits c s Nothing k = k
+fits c s (AddsSender name role) k = k
+fits c s (AddsOwner name) k = k
+fits c s (AddsGateway name) k = k
+fits c s (AddsDevice dev_eui device) k = k
+fits c s (MovesDevice dev_eui owner) k = k
+fits c s (AddsSession session u gateway reception) k = k.0
+fits c s (AddsUplink u gateway reception) k = k.0
+fits c s (AddsCopy number gateway reception) k = k
 
 pub decisions_fit : DecisionsFit
-decisions_fit c heard e list = fits_by c (state_of c heard) e e.message
+decisions_fit c heard e list = fits c (state_of c heard) (decision_of c (state_of c heard) e).0 (is_decision c (state_of c heard) e (sound_of c heard)).allowed
 
 -- what the checks of a message's type decide is what its step decides
 pub checked_decides : (c : Settings) (s : State) (e : Envelope) (m : Message) (checked : Checked Decision) → checked ≡ checked_decision c s e m → e.message ≡ m

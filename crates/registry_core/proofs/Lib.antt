@@ -1,3 +1,11 @@
+pub mod CopyLaws
+pub mod DataByView
+pub mod DataLaws
 pub mod Decisions
 pub mod HeardLists
+pub mod HeardStates
+pub mod Items
+pub mod JoinLaws
+pub mod JoinsByView
+pub mod Rooms
 pub mod Sameness

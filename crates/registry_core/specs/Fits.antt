@@ -1,12 +1,41 @@
 -- What a change asks of the facts that it is made to.
-use Rattle.std.specs.Prelude.{◌≡◌, false, List, None, is_some, IsTrue}
+use Rattle.std.specs.Prelude.{◌≡◌, ℕ, ◌+◌, false, List, length, None, is_some, IsTrue}
 use Rattle.registry_core.specs.declared.effects.Effect.{Effect}
-use Rattle.registry_core.specs.declared.effects.Effect.TheVariants.{Nothing, AddsSender, AddsOwner, AddsGateway, AddsDevice, MovesDevice}
+use Rattle.registry_core.specs.declared.effects.Effect.TheVariants.{Nothing, AddsSender, AddsOwner, AddsGateway, AddsDevice, MovesDevice, AddsSession, AddsUplink, AddsCopy}
+use Rattle.registry_core.specs.declared.facts.Kind.TheVariants.{Join, Data}
+use Rattle.registry_core.specs.declared.facts.Session.{Session}
+use Rattle.registry_core.specs.declared.facts.Uplink.{Uplink}
 use Rattle.registry_core.specs.declared.messages.Envelope.{Envelope}
+use Rattle.registry_core.specs.Derived.{is_above, last_counter, last_nonce}
 use Rattle.registry_core.specs.Heard.{IsHeard, state_of}
+use Rattle.registry_core.specs.Numbered.{item_at}
 use Rattle.registry_core.specs.Settings.{Settings}
-use Rattle.registry_core.specs.State.{State}
+use Rattle.registry_core.specs.State.{State, next_uplink}
 use Rattle.registry_core.specs.Step.{decision_of}
+
+-- a new session of a device that is there, with a nonce above its last, and its join uplink
+pub record SessionFits (session : Session) (uplink : Uplink) (at : List ℕ) (s : State) : Type 0 where
+  pub device : IsTrue (is_some (s.devices session.device))
+  pub nonce : IsTrue (is_above session.nonce (last_nonce s session.device))
+  pub number : uplink.session ≡ length s.sessions + 1
+  pub kind : uplink.kind ≡ Join
+  pub counter : uplink.counter ≡ session.nonce
+  pub gateway : IsTrue (s.gateways at)
+  pub no_copy : s.copies (next_uplink s) at ≡ None
+
+-- a new data uplink of a session that is there, with a counter above its last
+pub record UplinkFits (uplink : Uplink) (at : List ℕ) (s : State) : Type 0 where
+  pub session : IsTrue (is_some (item_at s.sessions uplink.session))
+  pub kind : uplink.kind ≡ Data
+  pub counter : IsTrue (is_above uplink.counter (last_counter s uplink.session))
+  pub gateway : IsTrue (s.gateways at)
+  pub no_copy : s.copies (next_uplink s) at ≡ None
+
+-- a new copy of an uplink that is there
+pub record CopyFits (number : ℕ) (at : List ℕ) (s : State) : Type 0 where
+  pub uplink : IsTrue (is_some (item_at s.uplinks number))
+  pub gateway : IsTrue (s.gateways at)
+  pub no_copy : s.copies number at ≡ None
 
 -- it adds only what isn't there, and names only what is
 abbrev pub Fits : Effect → State → Type 0
@@ -16,6 +45,9 @@ Fits (AddsOwner name) s = s.owners name ≡ false
 Fits (AddsGateway name) s = s.gateways name ≡ false
 Fits (AddsDevice dev_eui device) s = (s.devices dev_eui ≡ None) × IsTrue (s.owners device.owner)
 Fits (MovesDevice dev_eui owner) s = IsTrue (is_some (s.devices dev_eui)) × IsTrue (s.owners owner)
+Fits (AddsSession session uplink gateway reception) s = SessionFits session uplink gateway s
+Fits (AddsUplink uplink gateway reception) s = UplinkFits uplink gateway s
+Fits (AddsCopy number gateway reception) s = CopyFits number gateway s
 
 -- whatever was heard, what a step changes fits
 abbrev pub DecisionsFit : Type 0

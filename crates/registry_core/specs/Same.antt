@@ -1,7 +1,11 @@
 -- Whether two messages are equal, after reading.
-use Rattle.std.specs.Prelude.{◌≡◌, ◌↔◌, ◌==◌, Bool, true, false, ◌&&◌, bytes_eq, IsTrue}
+use Rattle.std.specs.Prelude.{◌≡◌, ◌↔◌, ℕ, ◌==◌, Option, Some, None, Bool, true, false, ◌&&◌, bytes_eq, IsTrue}
+use Rattle.radio_core.specs.DataRates.{dr_number}
+use Rattle.registry_core.specs.declared.messages.JoinVerdict.{JoinVerdict}
+use Rattle.registry_core.specs.declared.messages.JoinVerdict.TheVariants.{Good, Bad}
 use Rattle.registry_core.specs.declared.messages.Message.{Message}
-use Rattle.registry_core.specs.declared.messages.Message.TheVariants.{SenderAdd, OwnerAdd, GatewayAdd, DeviceAdd, DeviceMove}
+use Rattle.registry_core.specs.declared.messages.Message.TheVariants.{SenderAdd, OwnerAdd, GatewayAdd, DeviceAdd, DeviceMove, JoinHeard, FrameHeard}
+use Rattle.registry_core.specs.declared.messages.Report.{Report}
 use Rattle.registry_core.specs.declared.messages.Role.{Role}
 use Rattle.registry_core.specs.declared.messages.Role.TheVariants.{Operator, Radio}
 
@@ -10,12 +14,28 @@ same_role Operator Operator = true
 same_role Radio Radio = true
 same_role _ _ = false
 
+abbrev pub same_verdict : JoinVerdict → JoinVerdict → Bool
+same_verdict Good Good = true
+same_verdict Bad Bad = true
+same_verdict _ _ = false
+
+abbrev pub same_counter : Option ℕ → Option ℕ → Bool
+same_counter None None = true
+same_counter (Some n) (Some m) = n == m
+same_counter _ _ = false
+
+abbrev pub same_report : Report → Report → Bool
+same_report a b = bytes_eq a.gateway b.gateway && a.time == b.time && a.rate.freq == b.rate.freq
+    && dr_number a.rate.dr == dr_number b.rate.dr && bytes_eq a.octets b.octets
+
 unfoldable pub same_message : Message → Message → Bool
 same_message (SenderAdd a r) (SenderAdd b q) = bytes_eq a b && same_role r q
 same_message (OwnerAdd a) (OwnerAdd b) = bytes_eq a b
 same_message (GatewayAdd a) (GatewayAdd b) = bytes_eq a b
 same_message (DeviceAdd d j a) (DeviceAdd e k b) = d == e && j == k && bytes_eq a b
 same_message (DeviceMove d a) (DeviceMove e b) = d == e && bytes_eq a b
+same_message (JoinHeard a v) (JoinHeard b w) = same_report a b && same_verdict v w
+same_message (FrameHeard a v) (FrameHeard b w) = same_report a b && same_counter v w
 same_message _ _ = false
 
 -- the test tells whether they are equal

@@ -1,11 +1,15 @@
 -- What the registry holds, and how a message's change goes into it.
--- What has a name or an EUI is looked up by it, so that nothing depends on an order in which a store keeps it.
-use Rattle.std.specs.Prelude.{ℕ, ◌==◌, Bool, true, false, List, Option, Some, None, option_map, bytes_eq, if◌then◌else◌}
+-- What has a name or an EUI is looked up by it, so that nothing depends on an order in which a store keeps it. Sessions
+-- and uplinks are numbered by their place from 1, in the order in which they were accepted.
+use Rattle.std.specs.Prelude.{ℕ, ◌+◌, ◌==◌, Bool, true, false, List, [], ◌∷◌, ◌++◌, length, Option, Some, None, option_map, bytes_eq, if◌then◌else◌}
 use Rattle.registry_core.specs.declared.facts.Device.{Device}
+use Rattle.registry_core.specs.declared.facts.Reception.{Reception}
+use Rattle.registry_core.specs.declared.facts.Session.{Session}
+use Rattle.registry_core.specs.declared.facts.Uplink.{Uplink}
 use Rattle.registry_core.specs.declared.messages.Role.{Role}
 use Rattle.registry_core.specs.declared.messages.Role.TheVariants.{Operator}
 use Rattle.registry_core.specs.declared.effects.Effect.{Effect}
-use Rattle.registry_core.specs.declared.effects.Effect.TheVariants.{Nothing, AddsSender, AddsOwner, AddsGateway, AddsDevice, MovesDevice}
+use Rattle.registry_core.specs.declared.effects.Effect.TheVariants.{Nothing, AddsSender, AddsOwner, AddsGateway, AddsDevice, MovesDevice, AddsSession, AddsUplink, AddsCopy}
 use Rattle.registry_core.specs.Settings.{Settings}
 
 -- ---- facts
@@ -19,6 +23,10 @@ pub record State : Type 0 where
   pub gateways : List ℕ → Bool
   -- a device by its DevEUI
   pub devices : ℕ → Option Device
+  pub sessions : List Session
+  pub uplinks : List Uplink
+  -- the copy of an uplink, by its number, at a gateway
+  pub copies : ℕ → List ℕ → Option Reception
 
 -- what is looked up by a name, with this at the name
 abbrev pub at_name : {X : Type 0} → (List ℕ → X) → List ℕ → X → List ℕ → X
@@ -35,6 +43,9 @@ opening c = record {
   owners = λ _. false;
   gateways = λ _. false;
   devices = λ _. None;
+  sessions = [];
+  uplinks = [];
+  copies = λ _ _. None;
 }
 
 -- ---- changes
@@ -58,6 +69,19 @@ owned_by owner device = record device { owner = owner }
 abbrev pub with_move : State → ℕ → List ℕ → State
 with_move s dev_eui owner = record s { devices = at_number s.devices dev_eui (option_map (owned_by owner) (s.devices dev_eui)) }
 
+abbrev pub with_session : State → Session → State
+with_session s session = record s { sessions = s.sessions ++ session ∷ [] }
+
+abbrev pub with_uplink : State → Uplink → State
+with_uplink s uplink = record s { uplinks = s.uplinks ++ uplink ∷ [] }
+
+abbrev pub with_copy : State → ℕ → List ℕ → Reception → State
+with_copy s number gateway reception = record s { copies = at_number s.copies number (at_name (s.copies number) gateway (Some reception)) }
+
+-- the number that the next uplink gets
+abbrev pub next_uplink : State → ℕ
+next_uplink s = length s.uplinks + 1
+
 -- the state with a message's change
 abbrev pub state_with : State → Effect → State
 state_with s Nothing = s
@@ -66,3 +90,6 @@ state_with s (AddsOwner name) = with_owner s name
 state_with s (AddsGateway name) = with_gateway s name
 state_with s (AddsDevice dev_eui device) = with_device s dev_eui device
 state_with s (MovesDevice dev_eui owner) = with_move s dev_eui owner
+state_with s (AddsSession session uplink gateway reception) = with_copy (with_uplink (with_session s session) uplink) (next_uplink s) gateway reception
+state_with s (AddsUplink uplink gateway reception) = with_copy (with_uplink s uplink) (next_uplink s) gateway reception
+state_with s (AddsCopy number gateway reception) = with_copy s number gateway reception

@@ -1,15 +1,24 @@
 -- What the registry holds for one message. What the message doesn't ask for is false or absent.
-use Rattle.std.specs.Prelude.{◌≡◌, Bool, false, List, Option, Some, None, is_some}
+use Rattle.std.specs.Prelude.{◌≡◌, ℕ, Bool, false, List, length, Option, Some, None, is_some, option_map, option_and_then}
+use Rattle.radio_core.specs.Frames.{frame_of}
 use Rattle.registry_core.specs.declared.facts.Device.{Device}
+use Rattle.registry_core.specs.declared.facts.Session.{Session}
+use Rattle.registry_core.specs.declared.facts.Uplink.{Uplink}
+use Rattle.registry_core.specs.declared.frames.JoinRequest.{JoinRequest}
 use Rattle.registry_core.specs.declared.messages.Envelope.{Envelope}
 use Rattle.registry_core.specs.declared.messages.Message.{Message}
-use Rattle.registry_core.specs.declared.messages.Message.TheVariants.{SenderAdd, OwnerAdd, GatewayAdd, DeviceAdd, DeviceMove}
+use Rattle.registry_core.specs.declared.messages.Message.TheVariants.{SenderAdd, OwnerAdd, GatewayAdd, DeviceAdd, DeviceMove, JoinHeard, FrameHeard}
+use Rattle.registry_core.specs.declared.views.SessionView.{SessionView}
+use Rattle.registry_core.specs.declared.views.UplinkView.{UplinkView}
 use Rattle.registry_core.specs.declared.views.View.{View}
 use Rattle.registry_core.specs.Checks.{Checked}
+use Rattle.registry_core.specs.Decision.{Decision}
+use Rattle.registry_core.specs.Derived.{last_nonce, join_with, session_with, data_with, last_counter, is_below_floor}
+use Rattle.registry_core.specs.Frames.{data_up, join_request}
 use Rattle.registry_core.specs.Heard.{IsHeard, state_of}
 use Rattle.registry_core.specs.Settings.{Settings, IsBlock}
 use Rattle.registry_core.specs.State.{State}
-use Rattle.registry_core.specs.Step.{Decision, checked_decision, decision_of}
+use Rattle.registry_core.specs.Step.{checked_decision, decision_of}
 
 -- ---- what the message names
 
@@ -28,31 +37,78 @@ owner_known s _ = false
 -- the gateway is there
 abbrev pub gateway_known : State → Message → Bool
 gateway_known s (GatewayAdd gateway) = s.gateways gateway
+gateway_known s (JoinHeard report verdict) = s.gateways report.gateway
+gateway_known s (FrameHeard report verdict) = s.gateways report.gateway
 gateway_known s _ = false
 
--- the device, if it is there
+-- the join request that it tells of
+abbrev pub join_told : Message → Option JoinRequest
+join_told (JoinHeard report verdict) = join_request (frame_of report.octets)
+join_told _ = None
+
+-- the device, or that of the join request, if it is there
 abbrev pub device_named : State → Message → Option Device
 device_named s (DeviceAdd dev_eui join_eui owner) = s.devices dev_eui
 device_named s (DeviceMove dev_eui owner) = s.devices dev_eui
-device_named s _ = None
+device_named s m = option_and_then (λ join. s.devices join.dev_eui) (join_told m)
+
+-- the last nonce of the join request's device
+abbrev pub last_nonce_told : State → Message → Option ℕ
+last_nonce_told s m = option_and_then (λ join. last_nonce s join.dev_eui) (join_told m)
+
+-- ---- the session whose data frame it tells of
+
+abbrev pub session_told : Settings → State → Message → Option (ℕ × Session)
+session_told c s (FrameHeard report verdict) = option_and_then (λ frame. session_with c s frame.addr) (data_up (frame_of report.octets))
+session_told c s _ = None
+
+abbrev pub view_of_session : State → ℕ × Session → SessionView
+view_of_session s found = record {
+  number = found.0;
+  device = found.1.device;
+  last_counter = last_counter s found.0;
+  below_floor = is_below_floor s found.1.device found.0;
+}
+
+-- ---- the uplink that may be the same as what it tells of
+
+-- the session's data uplink with the verdict's counter
+abbrev pub data_told : State → Option (ℕ × Session) → Option ℕ → Option (ℕ × Uplink)
+data_told s session verdict = option_and_then (λ found. option_and_then (data_with s found.0) verdict) session
+
+abbrev pub view_of_uplink : State → List ℕ → ℕ × Uplink → UplinkView
+view_of_uplink s gateway found = record { number = found.0; uplink = found.1; at_gateway = s.copies found.0 gateway }
+
+abbrev pub uplink_told : Settings → State → Message → Option UplinkView
+uplink_told c s (JoinHeard report verdict) = option_map (view_of_uplink s report.gateway) (option_and_then (join_with s) (join_request (frame_of report.octets)))
+uplink_told c s (FrameHeard report verdict) = option_map (view_of_uplink s report.gateway) (data_told s (session_told c s (FrameHeard report verdict)) verdict)
+uplink_told c s _ = None
 
 -- ---- the view
 
 -- the view is what the state holds for the envelope
 pub record IsView (c : Settings) (s : State) (e : Envelope) (v : View) : Type 0 where
   pub role : s.senders e.sender ≡ Some v.role
+  pub base : v.base ≡ c.base
+  pub addresses : v.addresses ≡ c.addresses
+  pub sessions : v.sessions ≡ length s.sessions
+  pub uplinks : v.uplinks ≡ length s.uplinks
   pub sender : v.sender_known ≡ sender_known s e.message
   pub owner : v.owner_known ≡ owner_known s e.message
   pub gateway : v.gateway_known ≡ gateway_known s e.message
   pub device : v.device ≡ device_named s e.message
+  pub last_nonce : v.last_nonce ≡ last_nonce_told s e.message
+  pub session : v.session ≡ option_map (view_of_session s) (session_told c s e.message)
+  pub uplink : v.uplink ≡ uplink_told c s e.message
 
--- With the view that a state holds for the message, this is what the message's checks let through, or the refusal of
--- the first that fails.
+-- With the view that the registry after some heard list holds for the message, this is what the message's checks let
+-- through, or the refusal of the first that fails.
 unfoldable pub IsChecked : Message → View → Checked Decision → Type 0
-IsChecked message view checked = (c : Settings) (s : State) (e : Envelope) → e.message ≡ message → IsView c s e view
-    → checked ≡ checked_decision c s e message
+IsChecked message view checked = (c : Settings) (heard : List Envelope) (e : Envelope)
+    → IsBlock c.base c.addresses → IsHeard c heard → e.message ≡ message → IsView c (state_of c heard) e view
+    → checked ≡ checked_decision c (state_of c heard) e message
 
--- With the view that the registry after some heard list holds for it, this is one step of the registry.
+-- And this is one step of the registry.
 abbrev pub IsStep : Message → View → Decision → Type 0
 IsStep message view decision = (c : Settings) (heard : List Envelope) (e : Envelope)
     → IsBlock c.base c.addresses → IsHeard c heard → e.message ≡ message → IsView c (state_of c heard) e view

@@ -1,4 +1,6 @@
 //! Answers and refusals.
+use radio_core::{Band, DevAddr, Eui};
+
 /// Why something isn't done. The first has number 1, and the last 34 (this project's numbers).
 #[derive(Clone, Copy, Debug, PartialEq, Eq)]
 pub enum Refusal {
@@ -54,5 +56,24 @@ impl Refusal {
 #[derive(Clone, Copy, Debug, PartialEq, Eq)]
 pub enum Answer {
     Success,
+    /// A join: the time on air in microseconds and the band, whether it is a copy, the session's address, and the number
+    /// of its uplink.
+    JoinSuccess {
+        airtime: u32,
+        band: Band,
+        copy: bool,
+        addr: DevAddr,
+        uplink: u64,
+    },
+    /// A data frame: the time on air in microseconds and the band, whether it is a copy, its counter, its device, and the
+    /// number of its uplink.
+    FrameSuccess {
+        airtime: u32,
+        band: Band,
+        copy: bool,
+        counter: u32,
+        dev_eui: Eui,
+        uplink: u64,
+    },
     Refused(Refusal),
 }

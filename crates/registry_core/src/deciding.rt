@@ -1,11 +1,13 @@
 //! What a message changes and how it is answered.
 ghost use Rattle.std.specs.Prelude.{◌≡◌};
-ghost use Rattle.registry_core.specs.Step.{decision_or_refusal};
+ghost use Rattle.registry_core.specs.Decision.{decision_or_refusal};
 ghost use Rattle.registry_core.specs.Viewed.{IsChecked, IsStep};
 
 use crate::administration::{device_add, device_move, gateway_add, owner_add, sender_add};
 use crate::answers::{Answer, Refusal};
+use crate::data_frames::frame_heard;
 use crate::effects::Effect;
+use crate::joins::join_heard;
 use crate::messages::Message;
 use crate::views::View;
 
@@ -42,5 +44,7 @@ fn checked_decision(message: &Message, view: &View) -> Result<(Effect, Answer), 
             owner,
         } => device_add(*dev_eui, *join_eui, *owner, view),
         Message::DeviceMove { dev_eui, owner } => device_move(*dev_eui, *owner, view),
+        Message::JoinHeard { report, verdict } => join_heard(report, *verdict, view),
+        Message::FrameHeard { report, verdict } => frame_heard(report, *verdict, view),
     }
 }

@@ -1,16 +1,48 @@
 //! What a message changes in the registry.
-use crate::facts::Device;
+use crate::facts::{Device, Reception, Session, Uplink};
 use crate::messages::Role;
 use radio_core::{Eui, Name};
 
-/// The one change that a message makes.
+/// The one change that a message makes. What is numbered goes to the end of its list.
 #[derive(Clone, Copy, Debug, PartialEq, Eq)]
 pub enum Effect {
     Nothing,
-    AddsSender { name: Name, role: Role },
-    AddsOwner { name: Name },
-    AddsGateway { name: Name },
-    AddsDevice { dev_eui: Eui, device: Device },
+    AddsSender {
+        name: Name,
+        role: Role,
+    },
+    AddsOwner {
+        name: Name,
+    },
+    AddsGateway {
+        name: Name,
+    },
+    AddsDevice {
+        dev_eui: Eui,
+        device: Device,
+    },
     /// The device has this owner, and keeps all else.
-    MovesDevice { dev_eui: Eui, owner: Name },
+    MovesDevice {
+        dev_eui: Eui,
+        owner: Name,
+    },
+    /// The session, its join uplink, and the copy of that at the gateway.
+    AddsSession {
+        session: Session,
+        uplink: Uplink,
+        gateway: Name,
+        reception: Reception,
+    },
+    /// The data uplink, and its copy at the gateway.
+    AddsUplink {
+        uplink: Uplink,
+        gateway: Name,
+        reception: Reception,
+    },
+    /// The copy at the gateway of the uplink with this number.
+    AddsCopy {
+        uplink: u64,
+        gateway: Name,
+        reception: Reception,
+    },
 }

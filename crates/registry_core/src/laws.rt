@@ -1,12 +1,14 @@
 //! Laws of the definitions: each is the contract of a function that does nothing, or only reads what its
 //! arguments keep.
+ghost use Rattle.std.specs.Prelude.{ℕ, ◌<◌, ◌^◌, IfSome, get_or};
 ghost use Rattle.registry_core.specs.Fits.{DecisionsFit};
 ghost use Rattle.registry_core.specs.Heard.{HeardListsStay, NothingIsHeard};
-ghost use Rattle.registry_core.specs.Ranges.{IsEnvelope, IsSettings};
+ghost use Rattle.registry_core.specs.Laws.{AddressesAreApart, AddressesLieInBlock, CopiesBookNothing, CountersAgreeWithFrames, CountersRise, DataCopiesAreFound, FramesAreBookedOnce, JoinCopiesAreFound, NoncesRise, SessionsAreFound, UplinksHaveCopies, UplinksStay};
+ghost use Rattle.registry_core.specs.Ranges.{IsEnvelope, IsReport, IsSettings};
 ghost use Rattle.registry_core.specs.Same.{SameMessageTells};
 
 use crate::configuration::Config;
-use crate::messages::{Envelope, Message};
+use crate::messages::{Envelope, Message, Report};
 
 /// The test of two messages tells whether they are equal.
 pub fn same_message_tells()
@@ -26,6 +28,68 @@ pub fn nothing_is_heard()
 /// One more message leaves a heard list, while there is room.
 pub fn heard_lists_stay()
     ensures { HeardListsStay }
+{}
+
+/// Whatever was heard, the address of each session lies in the block.
+pub fn addresses_lie_in_block()
+    ensures { AddressesLieInBlock }
+{}
+
+/// Whatever was heard, no two sessions have one address.
+pub fn addresses_are_apart()
+    ensures { AddressesAreApart }
+{}
+
+/// Whatever was heard, a device's nonces rise from session to session.
+pub fn nonces_rise()
+    ensures { NoncesRise }
+{}
+
+/// Whatever was heard, no two uplinks have one session, one kind and one counter: each frame is booked once.
+pub fn frames_are_booked_once()
+    ensures { FramesAreBookedOnce }
+{}
+
+/// Whatever was heard, the counters of a session's data uplinks rise from uplink to uplink.
+pub fn counters_rise()
+    ensures { CountersRise }
+{}
+
+/// Whatever was heard, the octets of a data uplink are a data frame of its session's address with the low 16 bits of its
+/// counter.
+pub fn counters_agree_with_frames()
+    ensures { CountersAgreeWithFrames }
+{}
+
+/// Whatever was heard, the session that is looked up by an address is the one that has it.
+pub fn sessions_are_found()
+    ensures { SessionsAreFound }
+{}
+
+/// Whatever was heard, what is found as a copy of a join is the one join uplink of the device with the nonce and the octets.
+pub fn join_copies_are_found()
+    ensures { JoinCopiesAreFound }
+{}
+
+/// Whatever was heard, what is found as a copy of a data frame is the one data uplink of the session with the counter and
+/// the octets.
+pub fn data_copies_are_found()
+    ensures { DataCopiesAreFound }
+{}
+
+/// Whatever was heard, each uplink has a copy at some gateway.
+pub fn uplinks_have_copies()
+    ensures { UplinksHaveCopies }
+{}
+
+/// No message changes an uplink that is booked.
+pub fn uplinks_stay()
+    ensures { UplinksStay }
+{}
+
+/// Whatever was heard, what is answered as a copy adds no session and no uplink.
+pub fn copies_book_nothing()
+    ensures { CopiesBookNothing }
 {}
 
 /// What was made of a receiver, an operator and a block keeps their forms.
@@ -66,5 +130,35 @@ pub fn envelopes_keep_ranges(envelope: &Envelope)
             let _dev_eui = dev_eui.get();
             let _owner = owner.get();
         }
+        Message::JoinHeard { report, verdict: _ } => report_keeps_ranges(report),
+        Message::FrameHeard { report, verdict } => {
+            report_keeps_ranges(report);
+            counter_fits(verdict);
+        }
     }
+}
+
+fn report_keeps_ranges(report: &Report)
+    ensures { IsReport report.now }
+{
+    let _gateway = report.gateway.get();
+    let _time = report.time.get();
+    let _freq = report.rate.freq;
+    octets_fit(report.octets.get());
+}
+
+/// A frame counter has 32 bits.
+fn counter_fits(counter: &Option<u32>)
+    ensures { IfSome counter.now (λ n. n < 2 ^ 32) }
+{
+    if let Some(n) = counter {
+        let _n = *n;
+    }
+}
+
+/// An octet has eight bits.
+fn octets_fit(octets: &[u8])
+    ensures { (i : ℕ) → get_or octets.now i 0 < 2 ^ 8 }
+{
+    let _ = octets;
 }

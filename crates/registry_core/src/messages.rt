@@ -1,11 +1,29 @@
 //! Messages, after reading.
-use radio_core::{Eui, Name};
+use crate::wholes::Whole;
+use radio_core::{Eui, Name, Octets, Rate};
 
 /// What a sender may send.
 #[derive(Clone, Copy, Debug, PartialEq, Eq)]
 pub enum Role {
     Operator,
     Radio,
+}
+
+/// What the security module found of a join request's integrity code.
+#[derive(Clone, Copy, Debug, PartialEq, Eq)]
+pub enum JoinVerdict {
+    Good,
+    Bad,
+}
+
+/// What a gateway reports of a frame: when its last symbol ended, in microseconds since 1970 UTC, how it was sent, and
+/// its octets.
+#[derive(Clone, Copy, Debug, PartialEq, Eq)]
+pub struct Report {
+    pub gateway: Name,
+    pub time: Whole,
+    pub rate: Rate,
+    pub octets: Octets,
 }
 
 /// What a sender asks.
@@ -29,6 +47,15 @@ pub enum Message {
     DeviceMove {
         dev_eui: Eui,
         owner: Name,
+    },
+    JoinHeard {
+        report: Report,
+        verdict: JoinVerdict,
+    },
+    /// The verdict is the counter at which the security module found the integrity code right, if there is one.
+    FrameHeard {
+        report: Report,
+        verdict: Option<u32>,
     },
 }
 

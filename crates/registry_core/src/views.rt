@@ -1,18 +1,55 @@
 //! What the registry holds for one message.
-use crate::facts::Device;
+use crate::facts::{Device, Reception, Uplink};
 use crate::messages::Role;
+use radio_core::Eui;
 
 /// What the registry holds for one message. What the message doesn't ask for is false or absent.
 #[derive(Clone, Copy, Debug, PartialEq, Eq)]
 pub struct View {
     /// The sender's.
     pub role: Role,
+    /// The first address of the block.
+    pub base: u32,
+    /// How many addresses the block has.
+    pub addresses: u32,
+    /// How many sessions there are.
+    pub sessions: u64,
+    /// How many uplinks there are.
+    pub uplinks: u64,
     /// The sender that the message names is there.
     pub sender_known: bool,
     /// The owner that the message names is there.
     pub owner_known: bool,
     /// The gateway that the message names is there.
     pub gateway_known: bool,
-    /// The device that the message names.
+    /// The device that the message names, or whose join request it tells of.
     pub device: Option<Device>,
+    /// The greatest nonce among the sessions of the device whose join request the message tells of.
+    pub last_nonce: Option<u16>,
+    /// The session whose data frame the message tells of.
+    pub session: Option<SessionView>,
+    /// The uplink that may be the same as what the message tells of.
+    pub uplink: Option<UplinkView>,
+}
+
+/// What the registry holds of a session for one message.
+#[derive(Clone, Copy, Debug, PartialEq, Eq)]
+pub struct SessionView {
+    /// Its number, from 1.
+    pub number: u64,
+    pub device: Eui,
+    /// The greatest counter among its data uplinks.
+    pub last_counter: Option<u32>,
+    /// A later session of its device has a data uplink.
+    pub below_floor: bool,
+}
+
+/// What the registry holds of an uplink for one message.
+#[derive(Clone, Copy, Debug, PartialEq, Eq)]
+pub struct UplinkView {
+    /// Its number, from 1.
+    pub number: u64,
+    pub uplink: Uplink,
+    /// Its copy at the gateway that the message names.
+    pub at_gateway: Option<Reception>,
 }

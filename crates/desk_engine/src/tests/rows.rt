@@ -1,36 +1,59 @@
 //! What is delivered in each run, and what goes back: whole texts where their letters matter, and else the parts in
 //! which requests differ.
-use Row::{Asks, Letters};
+use Row::{Asks, Frames, Joins, Letters};
+use Told::{Framed, Joined, Plain};
 use std::alloc::{AllocError, Global};
 
-/// What a request is told: the number of its refusal (0: this is the answer of what is heard), the Description and the
-/// ResultCode.
+/// What a request is told.
 #[derive(Clone, Copy)]
-pub(super) struct Told(u8, &'static str, &'static str);
+pub(super) enum Told {
+    /// The number of its refusal (0: this is the answer of what is heard), the Description and the ResultCode.
+    Plain(u8, &'static str, &'static str),
+    /// A join's success: Airtime, Band, Copy, DevAddr and Uplink.
+    Joined(u32, &'static str, bool, &'static str, u64),
+    /// A data frame's success: Airtime, Band, Copy, Counter, DevEUI and Uplink.
+    Framed(u32, &'static str, bool, u32, &'static str, u64),
+}
 
-const SUCCESS: Told = Told(0, "", "Success");
+pub(super) const SUCCESS: Told = Plain(0, "", "Success");
 
-const ROLE: Told = Told(0, "role", "Other");
+const ROLE: Told = Plain(0, "role", "Other");
 
-const EXISTS: Told = Told(0, "exists", "Other");
+const EXISTS: Told = Plain(0, "exists", "Other");
 
-const UNKNOWN_OWNER: Told = Told(0, "owner", "Other");
+const UNKNOWN_OWNER: Told = Plain(0, "owner", "Other");
 
-const UNKNOWN_DEVICE: Told = Told(0, "", "UnknownDevEUI");
+pub(super) const UNKNOWN_DEVICE: Told = Plain(0, "", "UnknownDevEUI");
 
-const UNKNOWN_SENDER: Told = Told(4, "", "UnknownSender");
+const UNKNOWN_SENDER: Told = Plain(4, "", "UnknownSender");
 
-const REUSED: Told = Told(5, "transaction", "Other");
+pub(super) const REUSED: Told = Plain(5, "transaction", "Other");
 
-const BODY: Told = Told(7, "body", "Other");
+pub(super) const BODY: Told = Plain(7, "body", "Other");
 
-const TYPE: Told = Told(8, "type", "Other");
+const TYPE: Told = Plain(8, "type", "Other");
+
+/// A frame that a gateway heard: when its last symbol ended, its frequency, its data rate, its octets as hexadecimal
+/// digits, and the verdict.
+#[derive(Clone, Copy)]
+pub(super) struct Heard {
+    pub(super) gateway: &'static str,
+    pub(super) time: u64,
+    pub(super) freq: u32,
+    pub(super) rate: u8,
+    pub(super) octets: &'static str,
+    pub(super) verdict: &'static str,
+}
 
 /// What is delivered, and what it is told.
 #[derive(Clone, Copy)]
 pub(super) enum Row {
     /// A request of a sender: its transaction number, its type, and the members of the type.
     Asks(&'static str, u32, &'static str, &'static str, Told),
+    /// A JoinHeard of a sender: its transaction number, and the join request.
+    Joins(&'static str, u32, Heard, Told),
+    /// A FrameHeard of a sender: its transaction number, and the data frame.
+    Frames(&'static str, u32, Heard, Told),
     /// A whole text, the number of its refusal (0: it is heard), and the whole text that goes back.
     Letters(&'static str, u8, &'static str),
 }
@@ -56,17 +79,67 @@ pub(super) fn deliveries_of(alloc: Global, rows: &[Row]) -> Result<Vec<Delivery>
 
 fn delivery_of(alloc: Global, row: &Row) -> Result<Delivery, AllocError> {
     match *row {
-        Asks(sender, transaction, type_name, members, told) => Ok(Delivery {
-            text: request(alloc, sender, transaction, type_name, members)?,
-            number: told.0,
-            wanted: answer(alloc, sender, transaction, type_name, told)?,
-        }),
+        Asks(sender, transaction, type_name, members, told) => {
+            asked(alloc, sender, transaction, type_name, members, told)
+        }
+        Joins(sender, transaction, heard, told) => {
+            let members = heard_members(alloc, &heard, "\"")?;
+            asked(
+                alloc,
+                sender,
+                transaction,
+                "JoinHeard",
+                members.as_str(),
+                told,
+            )
+        }
+        Frames(sender, transaction, heard, told) => {
+            let members = heard_members(alloc, &heard, "")?;
+            asked(
+                alloc,
+                sender,
+                transaction,
+                "FrameHeard",
+                members.as_str(),
+                told,
+            )
+        }
         Letters(text, number, wanted) => Ok(Delivery {
             text: format!(in alloc; "{text}")?,
             number,
             wanted: format!(in alloc; "{wanted}")?,
         }),
     }
+}
+
+fn asked(
+    alloc: Global,
+    sender: &str,
+    transaction: u32,
+    type_name: &str,
+    members: &str,
+    told: Told,
+) -> Result<Delivery, AllocError> {
+    Ok(Delivery {
+        text: request(alloc, sender, transaction, type_name, members)?,
+        number: number_of(told),
+        wanted: answer(alloc, sender, transaction, type_name, told)?,
+    })
+}
+
+/// The members of a report, the verdict between quotes where it is a text.
+fn heard_members(alloc: Global, heard: &Heard, quote: &str) -> Result<String, AllocError> {
+    let Heard {
+        gateway,
+        time,
+        freq,
+        rate,
+        octets,
+        verdict,
+    } = *heard;
+    format!(in alloc;
+        r#""Gateway":"{gateway}","Time":{time},"Freq":{freq},"DataRate":{rate},"PHYPayload":"{octets}","Verdict":{quote}{verdict}{quote}"#
+    )
 }
 
 fn request(
@@ -88,10 +161,24 @@ fn answer(
     type_name: &str,
     told: Told,
 ) -> Result<String, AllocError> {
-    let Told(_, description, code) = told;
-    format!(in alloc;
-        r#"{{"MessageType":"{type_name}Ans","ProtocolVersion":"1.0","ReceiverID":"{receiver}","Result":{{"Description":"{description}","ResultCode":"{code}"}},"SenderID":"desk","TransactionID":{transaction}}}"#
-    )
+    match told {
+        Plain(_, description, code) => format!(in alloc;
+            r#"{{"MessageType":"{type_name}Ans","ProtocolVersion":"1.0","ReceiverID":"{receiver}","Result":{{"Description":"{description}","ResultCode":"{code}"}},"SenderID":"desk","TransactionID":{transaction}}}"#
+        ),
+        Framed(airtime, band, copy, counter, dev_eui, uplink) => format!(in alloc;
+            r#"{{"Airtime":{airtime},"Band":"{band}","Copy":{copy},"Counter":{counter},"DevEUI":"{dev_eui}","MessageType":"{type_name}Ans","ProtocolVersion":"1.0","ReceiverID":"{receiver}","Result":{{"Description":"","ResultCode":"Success"}},"SenderID":"desk","TransactionID":{transaction},"Uplink":{uplink}}}"#
+        ),
+        Joined(airtime, band, copy, addr, uplink) => format!(in alloc;
+            r#"{{"Airtime":{airtime},"Band":"{band}","Copy":{copy},"DevAddr":"{addr}","MessageType":"{type_name}Ans","ProtocolVersion":"1.0","ReceiverID":"{receiver}","Result":{{"Description":"","ResultCode":"Success"}},"SenderID":"desk","TransactionID":{transaction},"Uplink":{uplink}}}"#
+        ),
+    }
+}
+
+fn number_of(told: Told) -> u8 {
+    match told {
+        Plain(number, _, _) => number,
+        Joined(..) | Framed(..) => 0,
+    }
 }
 
 /// The worked request, letter for letter.
@@ -154,7 +241,8 @@ const GATEWAY_B: &str = r#""Gateway":"gw-b""#;
 
 const GATEWAY_C: &str = r#""Gateway":"gw-c""#;
 
-const DEVICE: &str = r#""DevEUI":"0004a30b001a2b3c","JoinEUI":"70b3d57ed0000001","Owner":"town""#;
+pub(super) const DEVICE: &str =
+    r#""DevEUI":"0004a30b001a2b3c","JoinEUI":"70b3d57ed0000001","Owner":"town""#;
 
 const DEVICE_IN_CAPITALS: &str =
     r#""DevEUI":"0x0004A30B001A2B3C","JoinEUI":"70B3D57ED0000001","Owner":"town""#;
@@ -162,7 +250,8 @@ const DEVICE_IN_CAPITALS: &str =
 const DEVICE_OF_CITY: &str =
     r#""DevEUI":"0004a30b001a2b3c","JoinEUI":"70b3d57ed0000001","Owner":"city""#;
 
-const OTHER: &str = r#""DevEUI":"0004a30b001a2b3d","JoinEUI":"70b3d57ed0000001","Owner":"town""#;
+pub(super) const OTHER: &str =
+    r#""DevEUI":"0004a30b001a2b3d","JoinEUI":"70b3d57ed0000001","Owner":"town""#;
 
 const OTHER_OF_CITY: &str =
     r#""DevEUI":"0004a30b001a2b3d","JoinEUI":"70b3d57ed0000001","Owner":"city""#;
@@ -197,12 +286,16 @@ const SHORT_TO_TOWN: &str = r#""DevEUI":"0004a30b001a2b3","Owner":"town""#;
 /// A DevEUI of 18 digits.
 const LONG_TO_TOWN: &str = r#""DevEUI":"0004a30b001a2b3c00","Owner":"town""#;
 
-/// Senders, owners, gateways and devices, with each refusal that their messages may have.
-pub(super) static REGISTRY: [Row; 49] = [
+/// A sender, an owner and two gateways.
+pub(super) static SETUP: [Row; 4] = [
     Asks("office", 900_000, "SenderAdd", BRIDGE, SUCCESS),
     Asks("office", 900_001, "OwnerAdd", TOWN, SUCCESS),
     Asks("office", 900_002, "GatewayAdd", GATEWAY_A, SUCCESS),
     Asks("office", 900_003, "GatewayAdd", GATEWAY_B, SUCCESS),
+];
+
+/// After the setup: senders, owners, gateways and devices, with each refusal that their messages may have.
+pub(super) static REGISTRY: [Row; 45] = [
     Asks("office", 2, "DeviceAdd", DEVICE, SUCCESS),
     Asks("office", 3, "DeviceAdd", DEVICE, EXISTS),
     Asks("office", 2, "DeviceAdd", OTHER, REUSED),

@@ -1,7 +1,7 @@
 use Rattle.std.proofs.Common.{◌∷◌, [], ◌++◌, ◌∙◌, ap, sym, subst, Err, refl, is_some, is_ok, List, ℕ}
 use Rattle.registry_core.specs.Ranges.{IsSettings}
 use Rattle.registry_core.specs.Settings.{Settings}
-use Rattle.registry_core.specs.Step.{Decision}
+use Rattle.registry_core.specs.Decision.{Decision}
 use Rattle.desk_store.specs.Kept.{Kept}
 use Rattle.desk_wire.specs.Answers.{answer_text, head_of_envelope}
 use Rattle.desk_wire.specs.Writing.{message_text}

@@ -1,5 +1,5 @@
 use Rattle.std.proofs.Common.{◌≡◌, ◌++◌, drop, take, map}
-use Rattle.desk_store.specs.Facts.{row_moved}
+use Rattle.desk_store.specs.Lookups.{row_moved}
 use Rattle.desk_store.proofs.facts.move_in.Given as goal
 
 -- with what is still to be looked through moved, it is what it has to become

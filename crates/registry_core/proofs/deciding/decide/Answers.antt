@@ -8,4 +8,4 @@ pub returns : goal.returns
 unfolding IsChecked
 returns c = λ c' heard e block list same v.
     c.decision_or_refusal.ensures
-    ∙ checked_decides c' (state_of c' heard) e _ _ (c.checked_decision.ensures c' (state_of c' heard) e same v) same
+    ∙ checked_decides c' (state_of c' heard) e _ _ (c.checked_decision.ensures c' heard e block list same v) same

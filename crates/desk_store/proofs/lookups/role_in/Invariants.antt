@@ -1,6 +1,6 @@
 use Rattle.std.proofs.Common.{◌≡◌, drop}
-use Rattle.desk_store.specs.Facts.{role_in}
-use Rattle.desk_store.proofs.facts.role_in.Given as goal
+use Rattle.desk_store.specs.Lookups.{role_in}
+use Rattle.desk_store.proofs.lookups.role_in.Given as goal
 
 -- the name, if a sender has it, stands in what is still to be looked through
 abbrev pub invariant-loop-row : goal.invariant-loop-row

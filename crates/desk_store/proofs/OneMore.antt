@@ -1,15 +1,16 @@
 -- One more row is one more fact, and a row that is moved is its device moved.
 use Rattle.std.proofs.Common.{◌≡◌, ℕ, Bool, true, false, List, [], ◌∷◌, ◌++◌, Option, Some, None, map, option_map, cond, refl, ◌∙◌, ap, arith, inl, inr}
-use Rattle.std.specs.Prelude.{◌==◌, find, bytes_eq}
+use Rattle.std.specs.Prelude.{◌==◌, ◌&&◌, find, bytes_eq}
 use Rattle.std.specs.Option.{option_or}
-use Rattle.std.proofs.lemmas.Bool.{cases_Bool}
+use Rattle.std.proofs.lemmas.Bool.{cases_Bool, and_parts}
 use Rattle.std.proofs.lemmas.Bool.Decides.{nat_tests}
 use Rattle.std.proofs.lemmas.List.Folds.{find-append}
 use Rattle.std.proofs.lemmas.Slice.Eq.{bytes_eq-Decides}
 use Rattle.registry_core.specs.State.{at_name, at_number, owned_by}
-use Rattle.desk_store.specs.declared.facts.DeviceRow.{DeviceRow}
-use Rattle.desk_store.specs.declared.facts.SenderRow.{SenderRow}
-use Rattle.desk_store.specs.Facts.{role_in, device_in, row_moved}
+use Rattle.desk_store.specs.declared.rows.CopyRow.{CopyRow}
+use Rattle.desk_store.specs.declared.rows.DeviceRow.{DeviceRow}
+use Rattle.desk_store.specs.declared.rows.SenderRow.{SenderRow}
+use Rattle.desk_store.specs.Lookups.{role_in, copy_in, device_in, row_moved}
 
 -- functions with one value at each argument are one
 at_each : {X Y : Type 0} {f g : X → Y} → ((x : X) → f x ≡ g x) → f ≡ g
@@ -42,14 +43,34 @@ device_in-more rows row new = at_each (λ dev_eui.
     ∙ found_more (λ (r : DeviceRow). r.device) (find (λ (r : DeviceRow). dev_eui == r.dev_eui) rows) row (dev_eui == row.dev_eui)
     (λ same. rw (number_told dev_eui row.dev_eui same) new))
 
+number_self : (n : ℕ) → (n == n) ≡ true
+number_self n = grind (arith, nat_tests)
+
+copy_found : (rows : List CopyRow) (row : CopyRow) (number : ℕ) (gateway : List ℕ) → (number == row.uplink && bytes_eq gateway row.gateway) ≡ true → copy_in rows row.uplink row.gateway ≡ None
+    → copy_in rows number gateway ≡ None
+copy_found rows row number gateway same new =
+    let both : ((number == row.uplink) ≡ true) × (bytes_eq gateway row.gateway ≡ true) = and_parts _ _ same in
+    rw (number_told number row.uplink both.0, (bytes_eq-Decides gateway row.gateway).0 both.1) new
+
+copy_key : (rows : List CopyRow) (row : CopyRow) (number : ℕ) (gateway : List ℕ) (b : Bool) → (number == row.uplink) ≡ b
+    → cond (number == row.uplink && bytes_eq gateway row.gateway) (Some row.reception) (copy_in rows number gateway)
+    ≡ at_number (copy_in rows) row.uplink (at_name (copy_in rows row.uplink) row.gateway (Some row.reception)) number gateway
+copy_key rows row number gateway true is = rw (number_told number row.uplink is, number_self row.uplink) refl
+copy_key rows row number gateway false is = rw is refl
+
+pub copy_in-more : (rows : List CopyRow) (row : CopyRow) → copy_in rows row.uplink row.gateway ≡ None
+    → copy_in (rows ++ row ∷ []) ≡ at_number (copy_in rows) row.uplink (at_name (copy_in rows row.uplink) row.gateway (Some row.reception))
+copy_in-more rows row new = at_each (λ number. at_each (λ gateway.
+    ap (option_map (λ (r : CopyRow). r.reception)) (find-append (λ (r : CopyRow). number == r.uplink && bytes_eq gateway r.gateway) rows (row ∷ []))
+    ∙ found_more (λ (r : CopyRow). r.reception) (find (λ (r : CopyRow). number == r.uplink && bytes_eq gateway r.gateway) rows) row (number == row.uplink && bytes_eq gateway row.gateway)
+    (λ same. copy_found rows row number gateway same new)
+    ∙ copy_key rows row number gateway (number == row.uplink) refl))
+
 -- ---- a row moved
 
 -- of the two ways round to compare, each tells what the other tells
 never_one_way : {X : Type 0} (n m : ℕ) → (n == m) ≡ true → (m == n) ≡ false → X
 never_one_way n m h k = absurd (grind (arith, nat_tests))
-
-number_self : (n : ℕ) → (n == n) ≡ true
-number_self n = grind (arith, nat_tests)
 
 never_between : {X : Type 0} (q n d : ℕ) → (q == d) ≡ false → (n == d) ≡ true → (q == n) ≡ true → X
 never_between q n d apart h k = absurd (grind (arith, nat_tests))

@@ -1,0 +1,25 @@
+//! What verdicts are called.
+ghost use Rattle.std.specs.Prelude.{◌≡◌};
+ghost use Rattle.desk_wire.specs.Verdicts.{join_verdict_name, join_verdict_named};
+
+use registry_core::JoinVerdict;
+
+/// The verdict of this name, exactly.
+pub(crate) fn join_verdict_named(text: &str) -> Option<JoinVerdict>
+    ensures { result ≡ join_verdict_named text.now }
+{
+    match text {
+        "Good" => Some(JoinVerdict::Good),
+        "Bad" => Some(JoinVerdict::Bad),
+        _ => None,
+    }
+}
+
+pub(crate) fn join_verdict_name(verdict: JoinVerdict) -> &'static str
+    ensures { result.now ≡ join_verdict_name verdict }
+{
+    match verdict {
+        JoinVerdict::Good => "Good",
+        JoinVerdict::Bad => "Bad",
+    }
+}

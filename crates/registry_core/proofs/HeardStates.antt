@@ -1,0 +1,259 @@
+-- What holds of the registry after every list of messages.
+use Rattle.std.proofs.Common.{◌≡◌, ℕ, ◌+◌, ◌%◌, ◌<◌, ◌≤◌, List, [], ◌∷◌, ◌++◌, length, map, filter, Bool, true, false, Option, Some, None, refl, sym, ◌∙◌, ap, subst, arith, inl, inr}
+use Rattle.std.specs.Prelude.{◌⊎◌, ◌==◌, bytes_eq, is_some}
+use Rattle.std.proofs.lemmas.Bool.Decides.{nat_tests}
+use Rattle.std.proofs.lemmas.Slice.Eq.{bytes_eq-Decides}
+use Rattle.radio_core.specs.Frames.{frame_of}
+use Rattle.registry_core.specs.declared.effects.Effect.{Effect}
+use Rattle.registry_core.specs.declared.effects.Effect.TheVariants.{Nothing, AddsSender, AddsOwner, AddsGateway, AddsDevice, MovesDevice, AddsSession, AddsUplink, AddsCopy}
+use Rattle.registry_core.specs.declared.facts.Kind.{Kind}
+use Rattle.registry_core.specs.declared.facts.Kind.TheVariants.{Join, Data}
+use Rattle.registry_core.specs.declared.facts.Reception.{Reception}
+use Rattle.registry_core.specs.declared.facts.Session.{Session}
+use Rattle.registry_core.specs.declared.facts.Uplink.{Uplink}
+use Rattle.registry_core.specs.declared.frames.DataFrame.{DataFrame}
+use Rattle.registry_core.specs.Derived.{address_of, is_above, is_data_of, is_session_of, last_counter, last_nonce}
+use Rattle.registry_core.specs.Frames.{data_up}
+use Rattle.registry_core.specs.Fits.{Fits}
+use Rattle.registry_core.specs.Numbered.{item_at, greatest}
+use Rattle.registry_core.specs.Settings.{Settings}
+use Rattle.registry_core.specs.State.{State, at_name, at_number, next_uplink, opening, state_with}
+use Rattle.registry_core.proofs.Items.{above_each, never_both, item_last, item_new, item_stays, item_within, longer}
+
+-- ---- nonces rise
+
+abbrev pub NoncesRise : List Session → Type 0
+NoncesRise sessions = (m n : ℕ) (a b : Session) → item_at sessions m ≡ Some a → item_at sessions n ≡ Some b → a.device ≡ b.device → m < n → a.nonce < b.nonce
+
+number_tells : (n m : ℕ) → n ≡ m → (n == m) ≡ true
+number_tells n m h = grind (arith, nat_tests)
+
+nonces_rise_with : (sessions : List Session) (new : Session) → NoncesRise sessions
+    → is_above new.nonce (greatest (map (λ (x : Session). x.nonce) (filter (is_session_of new.device) sessions))) ≡ true → NoncesRise (sessions ++ new ∷ [])
+nonces_rise_with sessions new rise above m n a b em en same lt = both (item_last sessions new m a em) (item_last sessions new n b en)
+  where
+    both : (item_at sessions m ≡ Some a) ⊎ ((m ≡ length sessions + 1) × (new ≡ a)) → (item_at sessions n ≡ Some b) ⊎ ((n ≡ length sessions + 1) × (new ≡ b)) → a.nonce < b.nonce
+    both (inl x) (inl y) = rise m n a b x y same lt
+    both (inl x) (inr y) = subst (λ (z : Session). a.nonce < z.nonce) y.1
+        (above_each (λ (z : Session). z.nonce) (is_session_of new.device) sessions new.nonce m a x (number_tells a.device new.device (same ∙ sym (ap (λ (z : Session). z.device) y.1))) above)
+    both (inr x) (inl y) = absurd (omega (arith, x.0, lt, (item_within sessions n b y).1))
+    both (inr x) (inr y) = absurd (omega (arith, x.0, y.0, lt))
+
+-- ---- a session has one join, and its counters rise
+
+abbrev pub JoinsAreApart : List Uplink → Type 0
+JoinsAreApart uplinks = (m n : ℕ) (u v : Uplink) → item_at uplinks m ≡ Some u → item_at uplinks n ≡ Some v → u.kind ≡ Join → v.kind ≡ Join → u.session ≡ v.session → m ≡ n
+
+abbrev pub CountersRise : List Uplink → Type 0
+CountersRise uplinks = (m n : ℕ) (u v : Uplink) → item_at uplinks m ≡ Some u → item_at uplinks n ≡ Some v → u.kind ≡ Data → v.kind ≡ Data → u.session ≡ v.session → m < n → u.counter < v.counter
+
+joins_apart_with : (uplinks : List Uplink) (new : Uplink) → JoinsAreApart uplinks
+    → ((n : ℕ) (u : Uplink) → item_at uplinks n ≡ Some u → new.kind ≡ Join → u.session ≡ new.session → ⊥) → JoinsAreApart (uplinks ++ new ∷ [])
+joins_apart_with uplinks new apart fresh m n u v em en ju jv same = both (item_last uplinks new m u em) (item_last uplinks new n v en)
+  where
+    both : (item_at uplinks m ≡ Some u) ⊎ ((m ≡ length uplinks + 1) × (new ≡ u)) → (item_at uplinks n ≡ Some v) ⊎ ((n ≡ length uplinks + 1) × (new ≡ v)) → m ≡ n
+    both (inl x) (inl y) = apart m n u v x y ju jv same
+    both (inl x) (inr y) = absurd (fresh m u x (ap (λ (z : Uplink). z.kind) y.1 ∙ jv) (same ∙ sym (ap (λ (z : Uplink). z.session) y.1)))
+    both (inr x) (inl y) = absurd (fresh n v y (ap (λ (z : Uplink). z.kind) x.1 ∙ ju) (sym same ∙ sym (ap (λ (z : Uplink). z.session) x.1)))
+    both (inr x) (inr y) = x.0 ∙ sym y.0
+
+counters_rise_with : (uplinks : List Uplink) (new : Uplink) → CountersRise uplinks
+    → ((n : ℕ) (u : Uplink) → item_at uplinks n ≡ Some u → new.kind ≡ Data → u.kind ≡ Data → u.session ≡ new.session → u.counter < new.counter) → CountersRise (uplinks ++ new ∷ [])
+counters_rise_with uplinks new rise above m n u v em en du dv same lt = both (item_last uplinks new m u em) (item_last uplinks new n v en)
+  where
+    both : (item_at uplinks m ≡ Some u) ⊎ ((m ≡ length uplinks + 1) × (new ≡ u)) → (item_at uplinks n ≡ Some v) ⊎ ((n ≡ length uplinks + 1) × (new ≡ v)) → u.counter < v.counter
+    both (inl x) (inl y) = rise m n u v x y du dv same lt
+    both (inl x) (inr y) = subst (λ (z : Uplink). u.counter < z.counter) y.1
+        (above m u x (ap (λ (z : Uplink). z.kind) y.1 ∙ dv) du (same ∙ sym (ap (λ (z : Uplink). z.session) y.1)))
+    both (inr x) (inl y) = absurd (omega (arith, x.0, lt, (item_within uplinks n v y).1))
+    both (inr x) (inr y) = absurd (omega (arith, x.0, y.0, lt))
+
+never_kinds : {X : Type 0} (k : Kind) → k ≡ Join → k ≡ Data → X
+never_kinds k j d = let e : Join ≡ Data = sym j ∙ d in cc
+
+-- the uplink's session has its counter as its nonce
+abbrev pub HasNonce : List Session → Uplink → Type 0
+HasNonce sessions u = (a : Session) × (item_at sessions u.session ≡ Some a) × (a.nonce ≡ u.counter)
+
+-- a data uplink's frame has its session's address and the low bits of its counter
+abbrev pub IsFrameOf : Settings → Uplink → Type 0
+IsFrameOf c u = (frame : DataFrame) × (data_up (frame_of u.octets) ≡ Some frame) × (frame.addr ≡ address_of c u.session) × (frame.fcnt % 65536 ≡ u.counter % 65536)
+
+-- ---- what every state keeps
+
+abbrev IsCopied : State → ℕ → Type 0
+IsCopied s n = (gateway : List ℕ) × (reception : Reception) × (s.copies n gateway ≡ Some reception)
+
+pub record IsSound (c : Settings) (s : State) : Type 0 where
+  pub block : length s.sessions ≤ c.addresses
+  pub nonces : NoncesRise s.sessions
+  pub sessions : (n : ℕ) (u : Uplink) → item_at s.uplinks n ≡ Some u → (1 ≤ u.session) × (u.session ≤ length s.sessions)
+  pub copied : (n : ℕ) (u : Uplink) → item_at s.uplinks n ≡ Some u → IsCopied s n
+  pub joins : JoinsAreApart s.uplinks
+  pub join_nonces : (n : ℕ) (u : Uplink) → item_at s.uplinks n ≡ Some u → u.kind ≡ Join → HasNonce s.sessions u
+  pub counters : CountersRise s.uplinks
+  pub frames : (n : ℕ) (u : Uplink) → item_at s.uplinks n ≡ Some u → u.kind ≡ Data → IsFrameOf c u
+  pub of_uplinks : (n : ℕ) (gateway : List ℕ) (reception : Reception) → s.copies n gateway ≡ Some reception → n ≤ length s.uplinks
+
+pub opening_sound : (c : Settings) → IsSound c (opening c)
+opening_sound c = record {
+  block = omega arith;
+  nonces = λ m n a b em en same lt. absurd (omega (arith, item_within [] m a em));
+  sessions = λ n u e. absurd (omega (arith, item_within [] n u e));
+  copied = λ n u e. absurd (omega (arith, item_within [] n u e));
+  joins = λ m n u v em en ju jv same. absurd (omega (arith, item_within [] m u em));
+  join_nonces = λ n u e j. absurd (omega (arith, item_within [] n u e));
+  counters = λ m n u v em en du dv same lt. absurd (omega (arith, item_within [] m u em));
+  frames = λ n u e d. absurd (omega (arith, item_within [] n u e));
+  of_uplinks = λ n gateway reception e. cc;
+}
+
+-- what a change may be: it fits, a session has an address, and a data uplink is one of its frames
+abbrev pub IsAllowed : Settings → State → Effect → Type 0
+IsAllowed c s (AddsSession session uplink gateway reception) = Fits (AddsSession session uplink gateway reception) s × (length s.sessions < c.addresses)
+IsAllowed c s (AddsUplink uplink gateway reception) = Fits (AddsUplink uplink gateway reception) s × IsFrameOf c uplink
+IsAllowed c s effect = Fits effect s
+
+-- ---- one more copy
+
+number_told : (n m : ℕ) → (n == m) ≡ true → n ≡ m
+number_told n m h = grind (arith, nat_tests)
+
+bytes_self : (a : List ℕ) → bytes_eq a a ≡ true
+bytes_self a = (bytes_eq-Decides a a).1 refl
+
+copies_with : (ℕ → List ℕ → Option Reception) → ℕ → List ℕ → Reception → ℕ → List ℕ → Option Reception
+copies_with copies number gateway reception = at_number copies number (at_name (copies number) gateway (Some reception))
+
+HasCopy : (ℕ → List ℕ → Option Reception) → ℕ → Type 0
+HasCopy copies n = (gateway : List ℕ) × (reception : Reception) × (copies n gateway ≡ Some reception)
+
+-- what had a copy has one, and so does the number
+copy_stays : (copies : ℕ → List ℕ → Option Reception) (number : ℕ) (gateway : List ℕ) (reception : Reception) (n : ℕ) (b : Bool) → (n == number) ≡ b
+    → HasCopy copies n ⊎ (n ≡ number) → HasCopy (copies_with copies number gateway reception) n
+unfolding HasCopy copies_with
+copy_stays copies number gateway reception n true is either = (gateway, reception, rw (is, bytes_self gateway) refl)
+copy_stays copies number gateway reception n false is (inl old) = (old.0, old.1, rw is old.2)
+copy_stays copies number gateway reception n false is (inr same) = never_both (n == number) (number_tells n number same) is
+
+-- a copy was there before, or is one of the number
+copy_was : (copies : ℕ → List ℕ → Option Reception) (number : ℕ) (gateway : List ℕ) (reception : Reception) (n : ℕ) (at : List ℕ) (r : Reception) (b : Bool) → (n == number) ≡ b
+    → copies_with copies number gateway reception n at ≡ Some r → (copies n at ≡ Some r) ⊎ (n ≡ number)
+unfolding copies_with
+copy_was copies number gateway reception n at r true is e = inr (number_told n number is)
+copy_was copies number gateway reception n at r false is e = inl (rw is at e)
+
+-- ---- each change keeps it
+
+session_sound : (c : Settings) (s : State) (session : Session) (u : Uplink) (gateway : List ℕ) (reception : Reception) → IsSound c s → IsAllowed c s (AddsSession session u gateway reception)
+    → IsSound c (state_with s (AddsSession session u gateway reception))
+unfolding last_nonce HasCopy copies_with
+session_sound c s session u gateway reception h k = record {
+  block = omega (arith, longer s.sessions session, k.1);
+  nonces = nonces_rise_with s.sessions session h.nonces k.0.nonce;
+  sessions = λ n v e. numbers n v (item_last s.uplinks u n v e);
+  copied = λ n v e. copy_stays s.copies (next_uplink s) gateway reception n (n == next_uplink s) refl (has n v (item_last s.uplinks u n v e));
+  joins = joins_apart_with s.uplinks u h.joins (λ n v there join same. omega (arith, same, k.0.number, (h.sessions n v there).1));
+  join_nonces = λ n v e j. nonce n v j (item_last s.uplinks u n v e);
+  counters = counters_rise_with s.uplinks u h.counters (λ n v there d _ _. never_kinds u.kind k.0.kind d);
+  frames = λ n v e d. frame n v d (item_last s.uplinks u n v e);
+  of_uplinks = λ n at r e. within n at r (copy_was s.copies (next_uplink s) gateway reception n at r (n == next_uplink s) refl e);
+}
+  where
+    nonce : (n : ℕ) (v : Uplink) → v.kind ≡ Join → (item_at s.uplinks n ≡ Some v) ⊎ ((n ≡ length s.uplinks + 1) × (u ≡ v)) → HasNonce (s.sessions ++ session ∷ []) v
+    nonce n v j (inl old) = let was = h.join_nonces n v old j in (was.0, item_stays s.sessions session v.session was.0 was.1, was.2)
+    nonce n v j (inr new) = subst (HasNonce (s.sessions ++ session ∷ [])) new.1 (session, item_new s.sessions session u.session k.0.number, sym k.0.counter)
+
+    frame : (n : ℕ) (v : Uplink) → v.kind ≡ Data → (item_at s.uplinks n ≡ Some v) ⊎ ((n ≡ length s.uplinks + 1) × (u ≡ v)) → IsFrameOf c v
+    frame n v d (inl old) = h.frames n v old d
+    frame n v d (inr new) = never_kinds v.kind (ap (λ (z : Uplink). z.kind) (sym new.1) ∙ k.0.kind) d
+
+    numbers : (n : ℕ) (v : Uplink) → (item_at s.uplinks n ≡ Some v) ⊎ ((n ≡ length s.uplinks + 1) × (u ≡ v)) → (1 ≤ v.session) × (v.session ≤ length (s.sessions ++ session ∷ []))
+    numbers n v (inl old) = let was = h.sessions n v old in (was.0, omega (arith, longer s.sessions session, was.1))
+    numbers n v (inr new) = subst (λ (w : Uplink). (1 ≤ w.session) × (w.session ≤ length (s.sessions ++ session ∷ []))) new.1
+        (omega (arith, k.0.number), omega (arith, longer s.sessions session, k.0.number))
+
+    has : (n : ℕ) (v : Uplink) → (item_at s.uplinks n ≡ Some v) ⊎ ((n ≡ length s.uplinks + 1) × (u ≡ v)) → IsCopied s n ⊎ (n ≡ next_uplink s)
+    has n v (inl old) = inl (h.copied n v old)
+    has n v (inr new) = inr new.0
+
+    within : (n : ℕ) (at : List ℕ) (r : Reception) → (s.copies n at ≡ Some r) ⊎ (n ≡ next_uplink s) → n ≤ length (s.uplinks ++ u ∷ [])
+    within n at r (inl old) = omega (arith, longer s.uplinks u, h.of_uplinks n at r old)
+    within n at r (inr new) = omega (arith, longer s.uplinks u, new)
+
+uplink_sound : (c : Settings) (s : State) (u : Uplink) (gateway : List ℕ) (reception : Reception) → IsSound c s → IsAllowed c s (AddsUplink u gateway reception)
+    → IsSound c (state_with s (AddsUplink u gateway reception))
+unfolding last_counter HasCopy copies_with
+uplink_sound c s u gateway reception h k = record {
+  block = h.block;
+  nonces = h.nonces;
+  sessions = λ n v e. numbers n v (item_last s.uplinks u n v e);
+  copied = λ n v e. copy_stays s.copies (next_uplink s) gateway reception n (n == next_uplink s) refl (has n v (item_last s.uplinks u n v e));
+  joins = joins_apart_with s.uplinks u h.joins (λ n v there join same. never_kinds u.kind join k.0.kind);
+  join_nonces = λ n v e j. nonce n v j (item_last s.uplinks u n v e);
+  counters = counters_rise_with s.uplinks u h.counters (λ n v there _ d same.
+      above_each (λ (z : Uplink). z.counter) (is_data_of u.session) s.uplinks u.counter n v there (data_of v d same) k.0.counter);
+  frames = λ n v e d. frame n v d (item_last s.uplinks u n v e);
+  of_uplinks = λ n at r e. within n at r (copy_was s.copies (next_uplink s) gateway reception n at r (n == next_uplink s) refl e);
+}
+  where
+    nonce : (n : ℕ) (v : Uplink) → v.kind ≡ Join → (item_at s.uplinks n ≡ Some v) ⊎ ((n ≡ length s.uplinks + 1) × (u ≡ v)) → HasNonce s.sessions v
+    nonce n v j (inl old) = h.join_nonces n v old j
+    nonce n v j (inr new) = never_kinds v.kind j (ap (λ (z : Uplink). z.kind) (sym new.1) ∙ k.0.kind)
+
+    data_of : (v : Uplink) → v.kind ≡ Data → v.session ≡ u.session → is_data_of u.session v ≡ true
+    data_of v d same = rw (d, number_tells v.session u.session same) refl
+
+    frame : (n : ℕ) (v : Uplink) → v.kind ≡ Data → (item_at s.uplinks n ≡ Some v) ⊎ ((n ≡ length s.uplinks + 1) × (u ≡ v)) → IsFrameOf c v
+    frame n v d (inl old) = h.frames n v old d
+    frame n v d (inr new) = subst (IsFrameOf c) new.1 k.1
+
+    at_session : (found : Option Session) → item_at s.sessions u.session ≡ found → is_some found ≡ true → (1 ≤ u.session) × (u.session ≤ length s.sessions)
+    at_session (Some x) e h = item_within s.sessions u.session x e
+    at_session None e h = cc
+
+    numbers : (n : ℕ) (v : Uplink) → (item_at s.uplinks n ≡ Some v) ⊎ ((n ≡ length s.uplinks + 1) × (u ≡ v)) → (1 ≤ v.session) × (v.session ≤ length s.sessions)
+    numbers n v (inl old) = h.sessions n v old
+    numbers n v (inr new) = subst (λ (w : Uplink). (1 ≤ w.session) × (w.session ≤ length s.sessions)) new.1 (at_session (item_at s.sessions u.session) refl k.0.session)
+
+    has : (n : ℕ) (v : Uplink) → (item_at s.uplinks n ≡ Some v) ⊎ ((n ≡ length s.uplinks + 1) × (u ≡ v)) → IsCopied s n ⊎ (n ≡ next_uplink s)
+    has n v (inl old) = inl (h.copied n v old)
+    has n v (inr new) = inr new.0
+
+    within : (n : ℕ) (at : List ℕ) (r : Reception) → (s.copies n at ≡ Some r) ⊎ (n ≡ next_uplink s) → n ≤ length (s.uplinks ++ u ∷ [])
+    within n at r (inl old) = omega (arith, longer s.uplinks u, h.of_uplinks n at r old)
+    within n at r (inr new) = omega (arith, longer s.uplinks u, new)
+
+copy_sound : (c : Settings) (s : State) (number : ℕ) (gateway : List ℕ) (reception : Reception) → IsSound c s → IsAllowed c s (AddsCopy number gateway reception)
+    → IsSound c (state_with s (AddsCopy number gateway reception))
+unfolding HasCopy copies_with
+copy_sound c s number gateway reception h k = record {
+  block = h.block;
+  nonces = h.nonces;
+  sessions = h.sessions;
+  joins = h.joins;
+  join_nonces = h.join_nonces;
+  counters = h.counters;
+  frames = h.frames;
+  copied = λ n v e. copy_stays s.copies number gateway reception n (n == number) refl (inl (h.copied n v e));
+  of_uplinks = λ n at r e. within n at r (copy_was s.copies number gateway reception n at r (n == number) refl e);
+}
+  where
+    there : (found : Option Uplink) → item_at s.uplinks number ≡ found → is_some found ≡ true → number ≤ length s.uplinks
+    there (Some u) e h = (item_within s.uplinks number u e).1
+    there None e h = cc
+
+    within : (n : ℕ) (at : List ℕ) (r : Reception) → (s.copies n at ≡ Some r) ⊎ (n ≡ number) → n ≤ length s.uplinks
+    within n at r (inl old) = h.of_uplinks n at r old
+    within n at r (inr same) = omega (arith, same, there (item_at s.uplinks number) refl k.uplink)
+
+pub change_sound : (c : Settings) (s : State) (effect : Effect) → IsSound c s → IsAllowed c s effect → IsSound c (state_with s effect)
+change_sound c s Nothing h k = h
+change_sound c s (AddsSender name role) h k = record { block = h.block; nonces = h.nonces; sessions = h.sessions; copied = h.copied; joins = h.joins; join_nonces = h.join_nonces; counters = h.counters; frames = h.frames; of_uplinks = h.of_uplinks }
+change_sound c s (AddsOwner name) h k = record { block = h.block; nonces = h.nonces; sessions = h.sessions; copied = h.copied; joins = h.joins; join_nonces = h.join_nonces; counters = h.counters; frames = h.frames; of_uplinks = h.of_uplinks }
+change_sound c s (AddsGateway name) h k = record { block = h.block; nonces = h.nonces; sessions = h.sessions; copied = h.copied; joins = h.joins; join_nonces = h.join_nonces; counters = h.counters; frames = h.frames; of_uplinks = h.of_uplinks }
+change_sound c s (AddsDevice dev_eui device) h k = record { block = h.block; nonces = h.nonces; sessions = h.sessions; copied = h.copied; joins = h.joins; join_nonces = h.join_nonces; counters = h.counters; frames = h.frames; of_uplinks = h.of_uplinks }
+change_sound c s (MovesDevice dev_eui owner) h k = record { block = h.block; nonces = h.nonces; sessions = h.sessions; copied = h.copied; joins = h.joins; join_nonces = h.join_nonces; counters = h.counters; frames = h.frames; of_uplinks = h.of_uplinks }
+change_sound c s (AddsSession session u gateway reception) h k = session_sound c s session u gateway reception h k
+change_sound c s (AddsUplink u gateway reception) h k = uplink_sound c s u gateway reception h k
+change_sound c s (AddsCopy number gateway reception) h k = copy_sound c s number gateway reception h k

@@ -1,0 +1,97 @@
+-- The numbers of a view have room: those of a heard list are few.
+use Rattle.std.proofs.Common.{◌≡◌, ℕ, ◌+◌, ◌≤◌, List, [], ◌∷◌, length, Option, Some, None, refl, sym, ◌∙◌, ap, subst, arith}
+use Rattle.std.specs.Prelude.{IfSome, option_map, option_and_then}
+use Rattle.radio_core.specs.Frames.{frame_of}
+use Rattle.registry_core.specs.declared.effects.Effect.{Effect}
+use Rattle.registry_core.specs.declared.effects.Effect.TheVariants.{Nothing, AddsSender, AddsOwner, AddsGateway, AddsDevice, MovesDevice, AddsSession, AddsUplink, AddsCopy}
+use Rattle.registry_core.specs.declared.facts.Session.{Session}
+use Rattle.registry_core.specs.declared.facts.Uplink.{Uplink}
+use Rattle.registry_core.specs.declared.frames.JoinRequest.{JoinRequest}
+use Rattle.registry_core.specs.declared.messages.Envelope.{Envelope}
+use Rattle.registry_core.specs.declared.messages.JoinVerdict.{JoinVerdict}
+use Rattle.registry_core.specs.declared.messages.Message.TheVariants.{JoinHeard, FrameHeard}
+use Rattle.registry_core.specs.declared.messages.Report.{Report}
+use Rattle.registry_core.specs.declared.views.View.{View}
+use Rattle.registry_core.specs.ByView.{HasRoom, frame_heard_by, join_heard_by}
+use Rattle.registry_core.specs.Checks.{Checked}
+use Rattle.registry_core.specs.Decision.{Decision}
+use Rattle.registry_core.specs.Derived.{data_with, is_data_with, is_join_with, join_with}
+use Rattle.registry_core.specs.DataFrames.{frame_heard}
+use Rattle.registry_core.specs.Frames.{join_request}
+use Rattle.registry_core.specs.Heard.{IsHeard, state_after, state_of}
+use Rattle.registry_core.specs.Joins.{join_heard}
+use Rattle.registry_core.specs.Settings.{Settings, IsBlock}
+use Rattle.registry_core.specs.State.{State, opening, state_with}
+use Rattle.registry_core.specs.Step.{decision_of, step}
+use Rattle.registry_core.specs.Viewed.{IsView, data_told, session_told, view_of_uplink, uplink_told}
+use Rattle.registry_core.proofs.DataByView.{frame_heard_same}
+use Rattle.registry_core.proofs.Decisions.{sound_of}
+use Rattle.registry_core.proofs.HeardStates.{IsSound}
+use Rattle.registry_core.proofs.Items.{first_is, longer}
+use Rattle.registry_core.proofs.JoinsByView.{join_heard_same}
+
+-- a change adds one uplink at most
+one_more : (s : State) (effect : Effect) → length (state_with s effect).uplinks ≤ length s.uplinks + 1
+one_more s Nothing = omega arith
+one_more s (AddsSender name role) = omega arith
+one_more s (AddsOwner name) = omega arith
+one_more s (AddsGateway name) = omega arith
+one_more s (AddsDevice dev_eui device) = omega arith
+one_more s (MovesDevice dev_eui owner) = omega arith
+one_more s (AddsSession session u gateway reception) = omega (arith, longer s.uplinks u)
+one_more s (AddsUplink u gateway reception) = omega (arith, longer s.uplinks u)
+one_more s (AddsCopy number gateway reception) = omega arith
+
+few_after : (c : Settings) (s : State) (es : List Envelope) → length (state_after c s es).uplinks ≤ length s.uplinks + length es
+few_after c s [] = omega arith
+few_after c s (e ∷ es) = omega (arith, few_after c (step c s e).0 es, one_more s (decision_of c s e).0)
+
+-- the uplink that a view shows has a session
+session_within : (c : Settings) (s : State) (gateway : List ℕ) (found : Option (ℕ × Uplink)) → IsSound c s
+    → ((p : ℕ × Uplink) → found ≡ Some p → (1 ≤ p.1.session) × (p.1.session ≤ c.addresses))
+    → IfSome (option_map (view_of_uplink s gateway) found) (λ seen. (1 ≤ seen.uplink.session) × (seen.uplink.session ≤ c.addresses))
+session_within c s gateway None h k = tt
+session_within c s gateway (Some p) h k = k p refl
+
+join_within : (c : Settings) (s : State) (told : Option JoinRequest) → IsSound c s → (p : ℕ × Uplink) → option_and_then (join_with s) told ≡ Some p → (1 ≤ p.1.session) × (p.1.session ≤ c.addresses)
+unfolding join_with
+join_within c s None h p e = cc
+join_within c s (Some join) h p e =
+    let within = h.sessions p.0 p.1 (first_is (is_join_with s join.dev_eui join.nonce) s.uplinks p e).0 in
+    (within.0, omega (arith, within.1, h.block))
+
+data_within : (c : Settings) (s : State) (session : Option (ℕ × Session)) (verdict : Option ℕ) → IsSound c s → (p : ℕ × Uplink) → data_told s session verdict ≡ Some p
+    → (1 ≤ p.1.session) × (p.1.session ≤ c.addresses)
+unfolding data_with
+data_within c s None verdict h p e = cc
+data_within c s (Some found) None h p e = cc
+data_within c s (Some found) (Some counter) h p e =
+    let within = h.sessions p.0 p.1 (first_is (is_data_with found.0 counter) s.uplinks p e).0 in
+    (within.0, omega (arith, within.1, h.block))
+
+has_room : (c : Settings) (heard : List Envelope) (e : Envelope) (v : View) (gateway : List ℕ) (found : Option (ℕ × Uplink)) → IsBlock c.base c.addresses → IsHeard c heard → IsView c (state_of c heard) e v
+    → v.uplink ≡ option_map (view_of_uplink (state_of c heard) gateway) found → ((p : ℕ × Uplink) → found ≡ Some p → (1 ≤ p.1.session) × (p.1.session ≤ c.addresses)) → HasRoom v
+has_room c heard e v gateway found block list sees shown within = record {
+  block = rw (sees.base, sees.addresses) block.room;
+  uplinks = omega (arith, sees.uplinks, few_after c (opening c) heard, list.few);
+  session =
+      subst (λ limit. IfSome v.uplink (λ seen. (1 ≤ seen.uplink.session) × (seen.uplink.session ≤ limit))) (sym sees.addresses)
+      (subst (λ seen_one. IfSome seen_one (λ seen. (1 ≤ seen.uplink.session) × (seen.uplink.session ≤ c.addresses))) (sym shown)
+      (session_within c (state_of c heard) gateway found (sound_of c heard) within));
+}
+
+pub join_checked : (c : Settings) (heard : List Envelope) (e : Envelope) (v : View) (report : Report) (verdict : JoinVerdict) (checked : Checked Decision) → IsBlock c.base c.addresses → IsHeard c heard
+    → e.message ≡ JoinHeard report verdict → IsView c (state_of c heard) e v → (HasRoom v → checked ≡ join_heard_by v report verdict)
+    → checked ≡ join_heard c (state_of c heard) report verdict
+join_checked c heard e v report verdict checked block list same sees decided =
+    decided (has_room c heard e v report.gateway _ block list sees (sees.uplink ∙ ap (uplink_told c (state_of c heard)) same)
+    (join_within c (state_of c heard) (join_request (frame_of report.octets)) (sound_of c heard)))
+    ∙ join_heard_same c (state_of c heard) e v report verdict same sees
+
+pub frame_checked : (c : Settings) (heard : List Envelope) (e : Envelope) (v : View) (report : Report) (verdict : Option ℕ) (checked : Checked Decision) → IsBlock c.base c.addresses → IsHeard c heard
+    → e.message ≡ FrameHeard report verdict → IsView c (state_of c heard) e v → (HasRoom v → checked ≡ frame_heard_by v report verdict)
+    → checked ≡ frame_heard c (state_of c heard) report verdict
+frame_checked c heard e v report verdict checked block list same sees decided =
+    decided (has_room c heard e v report.gateway _ block list sees (sees.uplink ∙ ap (uplink_told c (state_of c heard)) same)
+    (data_within c (state_of c heard) (session_told c (state_of c heard) (FrameHeard report verdict)) verdict (sound_of c heard)))
+    ∙ frame_heard_same c (state_of c heard) e v report verdict same sees

@@ -1,0 +1,14 @@
+use Rattle.std.proofs.Common.{◌∙◌}
+use Rattle.registry_core.specs.Viewed.{IsChecked}
+use Rattle.registry_core.proofs.Rooms.{frame_checked, join_checked}
+use Rattle.registry_core.proofs.deciding.checked_decision.Goals as goal
+
+pub returns-in-JoinHeard : goal.returns-in-JoinHeard
+unfolding IsChecked
+returns-in-JoinHeard c = λ c' heard e block list same v.
+    rw c.in-JoinHeard.is (join_checked c' heard e _ _ _ _ block list (same ∙ c.in-JoinHeard.is) v c.join_heard.ensures)
+
+pub returns-in-FrameHeard : goal.returns-in-FrameHeard
+unfolding IsChecked
+returns-in-FrameHeard c = λ c' heard e block list same v.
+    rw c.in-FrameHeard.is (frame_checked c' heard e _ _ _ _ block list (same ∙ c.in-FrameHeard.is) v c.frame_heard.ensures)

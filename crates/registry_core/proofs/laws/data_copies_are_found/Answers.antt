@@ -1,0 +1,5 @@
+use Rattle.registry_core.proofs.CopyLaws.{data_copies_are_found}
+use Rattle.registry_core.proofs.laws.data_copies_are_found.Goals as goal
+
+pub returns : goal.returns
+returns c = data_copies_are_found

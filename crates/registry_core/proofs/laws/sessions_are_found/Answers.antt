@@ -1,0 +1,5 @@
+use Rattle.registry_core.proofs.DataLaws.{sessions_are_found}
+use Rattle.registry_core.proofs.laws.sessions_are_found.Goals as goal
+
+pub returns : goal.returns
+returns c = sessions_are_found

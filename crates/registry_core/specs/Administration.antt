@@ -1,0 +1,52 @@
+-- The messages of an operator: what each asks, in order, and what it adds. Checks and refusals are this project's.
+use Rattle.std.specs.Prelude.{ℕ, Bool, true, false, not, List, Option, Some, is_none, is_some, Ok}
+use Rattle.registry_core.specs.declared.answers.Answer.TheVariants.{Success}
+use Rattle.registry_core.specs.declared.answers.Refusal.TheVariants.{WrongRole, Exists, UnknownOwner, UnknownDevEui}
+use Rattle.registry_core.specs.declared.effects.Effect.TheVariants.{AddsSender, AddsOwner, AddsGateway, AddsDevice, MovesDevice}
+use Rattle.registry_core.specs.declared.messages.Envelope.{Envelope}
+use Rattle.registry_core.specs.declared.messages.Role.{Role}
+use Rattle.registry_core.specs.declared.messages.Role.TheVariants.{Operator}
+use Rattle.registry_core.specs.Checks.{Checked, ◌>>◌, wants}
+use Rattle.registry_core.specs.Decision.{Decision}
+use Rattle.registry_core.specs.State.{State}
+
+abbrev pub is_operator : Option Role → Bool
+is_operator (Some Operator) = true
+is_operator _ = false
+
+-- an operator adds a sender with its role
+unfoldable pub sender_add : State → Envelope → List ℕ → Role → Checked Decision
+sender_add s e sender role = do
+  wants (is_operator (s.senders e.sender)) WrongRole
+  wants (is_none (s.senders sender)) Exists
+  Ok (AddsSender sender role, Success)
+
+-- an operator adds an owner
+unfoldable pub owner_add : State → Envelope → List ℕ → Checked Decision
+owner_add s e owner = do
+  wants (is_operator (s.senders e.sender)) WrongRole
+  wants (not (s.owners owner)) Exists
+  Ok (AddsOwner owner, Success)
+
+-- an operator adds a gateway
+unfoldable pub gateway_add : State → Envelope → List ℕ → Checked Decision
+gateway_add s e gateway = do
+  wants (is_operator (s.senders e.sender)) WrongRole
+  wants (not (s.gateways gateway)) Exists
+  Ok (AddsGateway gateway, Success)
+
+-- an operator adds a device of an owner
+unfoldable pub device_add : State → Envelope → ℕ → ℕ → List ℕ → Checked Decision
+device_add s e dev_eui join_eui owner = do
+  wants (is_operator (s.senders e.sender)) WrongRole
+  wants (s.owners owner) UnknownOwner
+  wants (is_none (s.devices dev_eui)) Exists
+  Ok (AddsDevice dev_eui (record { join_eui = join_eui; owner = owner }), Success)
+
+-- an operator gives a device to an owner, which may be the one that it has
+unfoldable pub device_move : State → Envelope → ℕ → List ℕ → Checked Decision
+device_move s e dev_eui owner = do
+  wants (is_operator (s.senders e.sender)) WrongRole
+  wants (is_some (s.devices dev_eui)) UnknownDevEui
+  wants (s.owners owner) UnknownOwner
+  Ok (MovesDevice dev_eui owner, Success)

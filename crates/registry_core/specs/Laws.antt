@@ -1,0 +1,89 @@
+-- What holds of the registry, whatever was heard.
+use Rattle.std.specs.Prelude.{◌≡◌, ◌↔◌, ℕ, ◌+◌, ◌%◌, ◌<◌, ◌≤◌, Bool, false, List, Some, IsTrue}
+use Rattle.radio_core.specs.Frames.{frame_of}
+use Rattle.registry_core.specs.declared.answers.Answer.{Answer}
+use Rattle.registry_core.specs.declared.answers.Answer.TheVariants.{JoinSuccess, FrameSuccess}
+use Rattle.registry_core.specs.declared.facts.Kind.TheVariants.{Data}
+use Rattle.registry_core.specs.declared.facts.Reception.{Reception}
+use Rattle.registry_core.specs.declared.facts.Session.{Session}
+use Rattle.registry_core.specs.declared.facts.Uplink.{Uplink}
+use Rattle.registry_core.specs.declared.frames.DataFrame.{DataFrame}
+use Rattle.registry_core.specs.declared.frames.JoinRequest.{JoinRequest}
+use Rattle.registry_core.specs.declared.messages.Envelope.{Envelope}
+use Rattle.registry_core.specs.DataFrames.{original_data}
+use Rattle.registry_core.specs.Derived.{address_of, is_data_with, is_join_with, session_with}
+use Rattle.registry_core.specs.Frames.{data_up}
+use Rattle.registry_core.specs.Heard.{state_of}
+use Rattle.registry_core.specs.Joins.{original_join}
+use Rattle.registry_core.specs.Numbered.{item_at}
+use Rattle.registry_core.specs.Settings.{Settings}
+use Rattle.registry_core.specs.State.{State}
+use Rattle.registry_core.specs.Step.{step}
+
+-- ---- sessions
+
+-- each session's address lies in the block
+abbrev pub AddressesLieInBlock : Type 0
+AddressesLieInBlock = (c : Settings) (heard : List Envelope) (n : ℕ) (a : Session) → item_at (state_of c heard).sessions n ≡ Some a
+    → (c.base ≤ address_of c n) × (address_of c n < c.base + c.addresses)
+
+-- no two sessions have one address
+abbrev pub AddressesAreApart : Type 0
+AddressesAreApart = (c : Settings) (heard : List Envelope) (m n : ℕ) (a b : Session) → item_at (state_of c heard).sessions m ≡ Some a
+    → item_at (state_of c heard).sessions n ≡ Some b → address_of c m ≡ address_of c n → m ≡ n
+
+-- a device's nonces rise from session to session
+abbrev pub NoncesRise : Type 0
+NoncesRise = (c : Settings) (heard : List Envelope) (m n : ℕ) (a b : Session) → item_at (state_of c heard).sessions m ≡ Some a
+    → item_at (state_of c heard).sessions n ≡ Some b → a.device ≡ b.device → m < n → a.nonce < b.nonce
+
+-- the session that is looked up by an address is the one that has it
+abbrev pub SessionsAreFound : Type 0
+SessionsAreFound = (c : Settings) (s : State) (addr n : ℕ) (a : Session)
+    → (session_with c s addr ≡ Some (n, a)) ↔ ((item_at s.sessions n ≡ Some a) × (address_of c n ≡ addr))
+
+-- ---- uplinks
+
+-- no two uplinks have one session, one kind and one counter
+abbrev pub FramesAreBookedOnce : Type 0
+FramesAreBookedOnce = (c : Settings) (heard : List Envelope) (m n : ℕ) (u v : Uplink) → item_at (state_of c heard).uplinks m ≡ Some u
+    → item_at (state_of c heard).uplinks n ≡ Some v → u.session ≡ v.session → u.kind ≡ v.kind → u.counter ≡ v.counter → m ≡ n
+
+-- a session's counters rise from data uplink to data uplink
+abbrev pub CountersRise : Type 0
+CountersRise = (c : Settings) (heard : List Envelope) (m n : ℕ) (u v : Uplink) → item_at (state_of c heard).uplinks m ≡ Some u
+    → item_at (state_of c heard).uplinks n ≡ Some v → u.kind ≡ Data → v.kind ≡ Data → u.session ≡ v.session → m < n → u.counter < v.counter
+
+-- the octets of a data uplink are a data frame of its session's address with the low 16 bits of its counter
+abbrev pub CountersAgreeWithFrames : Type 0
+CountersAgreeWithFrames = (c : Settings) (heard : List Envelope) (n : ℕ) (u : Uplink) → item_at (state_of c heard).uplinks n ≡ Some u → u.kind ≡ Data
+    → (frame : DataFrame) × (data_up (frame_of u.octets) ≡ Some frame) × (frame.addr ≡ address_of c u.session) × (frame.fcnt % 65536 ≡ u.counter % 65536)
+
+-- each uplink has a copy at some gateway
+abbrev pub UplinksHaveCopies : Type 0
+UplinksHaveCopies = (c : Settings) (heard : List Envelope) (n : ℕ) (u : Uplink) → item_at (state_of c heard).uplinks n ≡ Some u
+    → (gateway : List ℕ) × (reception : Reception) × ((state_of c heard).copies n gateway ≡ Some reception)
+
+-- an uplink that stands at a number stays as it is
+abbrev pub UplinksStay : Type 0
+UplinksStay = (c : Settings) (s : State) (e : Envelope) (n : ℕ) (u : Uplink) → item_at s.uplinks n ≡ Some u → item_at (step c s e).0.uplinks n ≡ Some u
+
+-- What is found as a copy of a join is the one join uplink of the device with the nonce and the octets.
+abbrev pub JoinCopiesAreFound : Type 0
+JoinCopiesAreFound = (c : Settings) (heard : List Envelope) (join : JoinRequest) (octets : List ℕ) (n : ℕ) (u : Uplink) → let s : State = state_of c heard in
+    (original_join s join octets ≡ Some (n, u)) ↔ ((item_at s.uplinks n ≡ Some u) × IsTrue (is_join_with s join.dev_eui join.nonce u) × (u.octets ≡ octets))
+
+-- What is found as a copy of a data frame is the one data uplink of the session with the counter and the octets.
+abbrev pub DataCopiesAreFound : Type 0
+DataCopiesAreFound = (c : Settings) (heard : List Envelope) (session counter : ℕ) (octets : List ℕ) (n : ℕ) (u : Uplink) → let s : State = state_of c heard in
+    (original_data s session counter octets ≡ Some (n, u)) ↔ ((item_at s.uplinks n ≡ Some u) × IsTrue (is_data_with session counter u) × (u.octets ≡ octets))
+
+abbrev pub tells_copy : Answer → Bool
+tells_copy (JoinSuccess airtime band copy addr uplink) = copy
+tells_copy (FrameSuccess airtime band copy counter dev_eui uplink) = copy
+tells_copy _ = false
+
+-- what is answered as a copy adds no session and no uplink
+abbrev pub CopiesBookNothing : Type 0
+CopiesBookNothing = (c : Settings) (heard : List Envelope) (e : Envelope) → let s : State = state_of c heard in IsTrue (tells_copy (step c s e).1)
+    → ((step c s e).0.sessions ≡ s.sessions) × ((step c s e).0.uplinks ≡ s.uplinks)

@@ -1,0 +1,22 @@
+-- Items that are numbered by their place from 1.
+use Rattle.std.specs.Prelude.{ℕ, zero, suc, ◌+◌, Bool, List, [], ◌∷◌, max, Option, Some, None, slice_get, if◌then◌else◌}
+use Rattle.std.specs.Option.{option_map_or}
+
+-- the item with this number
+abbrev pub item_at : {X : Type 0} → List X → ℕ → Option X
+item_at xs zero = None
+item_at xs (suc n) = slice_get xs n
+
+-- the first item that passes the test, with its number, where the items are numbered from first
+abbrev pub first_from : {X : Type 0} → ℕ → (X → Bool) → List X → Option (ℕ × X)
+first_from first test [] = None
+first_from first test (x ∷ xs) = if test x then Some (first, x) else first_from (first + 1) test xs
+
+-- and from 1
+abbrev pub first_that : {X : Type 0} → (X → Bool) → List X → Option (ℕ × X)
+first_that test xs = first_from 1 test xs
+
+-- the greatest number, if there is one
+abbrev pub greatest : List ℕ → Option ℕ
+greatest [] = None
+greatest (n ∷ ns) = Some (option_map_or (max n) (greatest ns) n)

@@ -1,0 +1,74 @@
+//! The receive windows of Class A (LoRaWAN L2 1.0.4; RP002-1.0.4, EU863-870).
+ghost use Rattle.std.specs.Prelude.{◌≡◌};
+ghost use Rattle.registry_core.specs.Windows.{delay, rate_in, window_of};
+
+use crate::facts::Kind;
+use crate::wholes::Whole;
+use radio_core::{DataRate, Rate};
+
+/// One of the two receive windows that a device opens after it has sent.
+#[derive(Clone, Copy, Debug, PartialEq, Eq)]
+pub enum Window {
+    First,
+    Second,
+}
+
+/// Where a downlink in the window begins, in microseconds, and how it is sent. `end` is when the last symbol of the uplink
+/// ended at the gateway, `rate` how the gateway heard it.
+pub fn receive(kind: Kind, end: Whole, rate: Rate, window: Window) -> (u64, Rate)
+    ensures { result ≡ window_of kind end rate window }
+{
+    (end.get() + delay(kind, window), rate_in(window, rate))
+}
+
+fn delay(kind: Kind, window: Window) -> u64
+    ensures { result ≡ delay kind window }
+{
+    match (kind, window) {
+        (Kind::Data, Window::First) => 1_000_000,
+        (Kind::Data, Window::Second) => 2_000_000,
+        (Kind::Join, Window::First) => 5_000_000,
+        (Kind::Join, Window::Second) => 6_000_000,
+    }
+}
+
+fn rate_in(window: Window, rate: Rate) -> Rate
+    ensures { result ≡ rate_in window rate }
+{
+    match window {
+        Window::First => rate,
+        Window::Second => Rate {
+            freq: 869_525_000,
+            dr: DataRate::Dr0,
+        },
+    }
+}
+
+#[cfg(test)]
+mod tests {
+    use super::*;
+    use std::test::Fail;
+
+    #[test]
+    fn windows_open_after_the_uplink(rt: HostRuntime) -> Result<(), Fail> {
+        let rate = Rate {
+            freq: 868_300_000,
+            dr: DataRate::Dr5,
+        };
+        let second = Rate {
+            freq: 869_525_000,
+            dr: DataRate::Dr0,
+        };
+        let end = Whole::new(1_706_745_700_041_216).ok_or("too great")?;
+        let rows = [
+            (Kind::Data, Window::First, 1_706_745_701_041_216, rate),
+            (Kind::Data, Window::Second, 1_706_745_702_041_216, second),
+            (Kind::Join, Window::First, 1_706_745_705_041_216, rate),
+            (Kind::Join, Window::Second, 1_706_745_706_041_216, second),
+        ];
+        for (kind, window, start, sent) in &rows {
+            assert!(rt; receive(*kind, end, rate, *window) == (*start, *sent));
+        }
+        Ok(())
+    }
+}
