@@ -1,8 +1,10 @@
 -- What one more envelope makes of what is kept.
-use Rattle.std.proofs.Common.{◌≡◌, ℕ, suc, List, [], ◌∷◌, ◌++◌, length, map, refl, ap, sym, ◌∙◌}
+use Rattle.std.proofs.Common.{◌≡◌, ℕ, suc, List, [], ◌∷◌, ◌++◌, length, map, refl, ap, sym, subst, ◌∙◌}
 use Rattle.std.proofs.lemmas.List.{map-append}
 use Rattle.registry_core.specs.declared.answers.Answer.{Answer}
 use Rattle.registry_core.specs.declared.messages.Envelope.{Envelope}
+use Rattle.registry_core.specs.Bookings.{EveryHourKept}
+use Rattle.registry_core.specs.DownlinkLaws.{HoursAreKept}
 use Rattle.registry_core.specs.Heard.{state_after, state_of, answers_after, answers_of}
 use Rattle.registry_core.specs.Settings.{Settings}
 use Rattle.registry_core.specs.State.{State, opening}
@@ -13,11 +15,11 @@ use Rattle.desk_wire.specs.Answers.{answer_text, head_of_envelope}
 use Rattle.desk_wire.specs.Writing.{message_text}
 use Rattle.desk_engine.specs.InOrder.{entry_at, kept_after}
 
-state_after-push : (c : Settings) (s : State) (heard : List Envelope) (e : Envelope) → state_after c s (heard ++ e ∷ []) ≡ (step c (state_after c s heard) e).0
+pub state_after-push : (c : Settings) (s : State) (heard : List Envelope) (e : Envelope) → state_after c s (heard ++ e ∷ []) ≡ (step c (state_after c s heard) e).0
 state_after-push c s [] e = refl
 state_after-push c s (h ∷ hs) e = state_after-push c (step c s h).0 hs e
 
-answers_after-push : (c : Settings) (s : State) (heard : List Envelope) (e : Envelope)
+pub answers_after-push : (c : Settings) (s : State) (heard : List Envelope) (e : Envelope)
     → answers_after c s (heard ++ e ∷ []) ≡ answers_after c s heard ++ (e, (step c (state_after c s heard) e).1) ∷ []
 answers_after-push c s [] e = refl
 answers_after-push c s (h ∷ hs) e = ap (λ (l : List (Envelope × Answer)). (h, (step c s h).1) ∷ l) (answers_after-push c (step c s h).0 hs e)
@@ -53,3 +55,8 @@ with_entry-kept_after c heard e message d text decided messaged answered =
     ∙ ap (λ t. kept_with c heard e (message_text c.receiver e) d t) answered
     ∙ ap (λ (x : Decision). kept_with c heard e (message_text c.receiver e) x (answer_text c.receiver (head_of_envelope e) x.1)) decided
     ∙ with_own_texts c heard e
+
+-- and no hour holds more than its limit in it
+pub hours_of : HoursAreKept → (c : Settings) (heard : List Envelope) (kept : Kept) → kept_after c heard ≡ kept → EveryHourKept kept.facts
+unfolding kept_after
+hours_of law c heard kept same = subst (λ (k : Kept). EveryHourKept k.facts) same (law c heard)

@@ -1,4 +1,5 @@
 pub mod Arms
+pub mod HearingAgain
 pub mod HeardTexts
 pub mod Keeping
 pub mod LineCuts

@@ -1,12 +1,43 @@
 -- Laws of what is heard of texts.
-use Rattle.std.specs.Prelude.{◌<◌, List, length}
+use Rattle.std.specs.Prelude.{◌≡◌, ℕ, ◌<◌, false, List, [], ◌∷◌, length, map, All, Some, IfOk}
+use Rattle.registry_core.specs.declared.answers.Answer.{Answer}
 use Rattle.registry_core.specs.declared.messages.Envelope.{Envelope}
-use Rattle.registry_core.specs.Heard.{IsHeard, most_heard}
+use Rattle.registry_core.specs.Heard.{IsHeard, most_heard, place_of}
+use Rattle.registry_core.specs.Laws.{adds_sender}
 use Rattle.registry_core.specs.Ranges.{IsSettings}
 use Rattle.registry_core.specs.Settings.{Settings}
-use Rattle.desk_engine.specs.Deliveries.{Delivery, heard_after}
+use Rattle.desk_engine.specs.Deliveries.{Delivery, heard_after, heard_all}
+use Rattle.desk_engine.specs.Told.{Told, envelope_of_text, text_told}
 
 -- one more delivery leaves a heard list, while there is room
 abbrev pub DeliveriesLeaveHeardLists : Type 0
 DeliveriesLeaveHeardLists = (c : Settings) (heard : List Envelope) (d : Delivery) → IsSettings c → IsHeard c heard → length heard < most_heard
     → IsHeard c (heard_after c heard d)
+
+-- ---- what was told stays
+
+-- whatever is delivered, by whichever sender, the place of an envelope that was heard stays, with the answer that was given there
+abbrev pub KeptAnswersStay : Type 0
+KeptAnswersStay = (c : Settings) (heard : List Envelope) (d : Delivery) (e : Envelope) (kept : Envelope × Answer) → place_of c heard e ≡ Some kept
+    → place_of c (heard_after c heard d) e ≡ Some kept
+
+-- ---- the same texts again
+
+-- the text as a delivery that isn't answered Unavailable
+abbrev pub completed : List ℕ → Delivery
+completed text = record { text = text; unavailable = false }
+
+-- what each text is told, after the ones before it
+abbrev pub told_each : Settings → List Envelope → List (List ℕ) → List Told
+told_each c heard [] = []
+told_each c heard (text ∷ texts) = text_told c heard text ∷ told_each c (heard_after c heard (completed text)) texts
+
+-- the text adds no sender
+abbrev pub AddsNoSender : Settings → List ℕ → Type 0
+AddsNoSender c text = IfOk (envelope_of_text c text) (λ e. adds_sender e.message ≡ false)
+
+-- Texts of which none adds a sender, delivered again at once, and again none of them answered Unavailable, are told what they
+-- were told, and leave what is heard as it was.
+abbrev pub HeardAgain : Type 0
+HeardAgain = (c : Settings) (heard : List Envelope) (texts : List (List ℕ)) → All (AddsNoSender c) texts → let after : List Envelope = heard_all c heard (map completed texts) in
+    (told_each c after texts ≡ told_each c heard texts) × (heard_all c after (map completed texts) ≡ after)

@@ -1,6 +1,8 @@
 //! Texts in, outcomes out: one delivery, or many in order.
-ghost use Rattle.std.specs.Prelude.{◌≡◌, ◌||◌, ℕ, List, map, Option, IfOk, OnErr};
+ghost use Rattle.std.specs.Prelude.{◌≡◌, ◌||◌, ℕ, List, map, take, Option, IfOk, OnErr};
 ghost use Rattle.registry_core.specs.declared.messages.Envelope.{Envelope};
+ghost use Rattle.registry_core.specs.Bookings.{EveryHourKept};
+ghost use Rattle.registry_core.specs.Heard.{state_of};
 ghost use Rattle.registry_core.specs.Settings.{Settings};
 ghost use Rattle.desk_wire.specs.Reading.{Gives};
 ghost use Rattle.desk_engine.specs.Deliveries.{heard_after, heard_all};
@@ -12,6 +14,7 @@ use crate::hearing::{hear, refuse};
 use crate::outcomes::Outcome;
 use desk_store::{Keeper, StoreFault};
 use desk_wire::{WireFault, read_message};
+use registry_core::laws::hours_are_kept;
 use registry_core::{Config, Envelope};
 use std::alloc::{AllocError, Global};
 
@@ -52,7 +55,13 @@ pub fn deliver<K: Keeper>(alloc: Global, keeper: &mut K, text: &[u8]) -> Outcome
         → K.sound keeper.new → IsInOrder K.holds c keeper.old heard → Survives K.leaves K.down c keeper.old heard doubt
         → Survives K.leaves K.down c keeper.new (heard_after c heard (delivery_of text.now result))
         (doubt_after (K.down keeper.old) doubt (doubt_of_text c text.now result)) }
+
+    // No hour of any gateway's band holds more downlinks than the limit.
+    ensures hours { (c : Settings) (heard : List Envelope) → c ≡ K.configuration keeper.old → K.sound keeper.new
+        → IsInOrder K.holds c keeper.old heard
+        → EveryHourKept (state_of c (heard_after c heard (delivery_of text.now result))) }
 {
+    hours_are_kept();
     match read_delivery(alloc, keeper.config(), text) {
         Ok(envelope) => hear(alloc, keeper, &envelope),
         Err(fault) => refuse_text(alloc, keeper.config(), &fault),
@@ -81,7 +90,14 @@ pub fn run<K: Keeper>(
         (heard_all c heard (deliveries_of (map (λ t. t.now) texts.now) outcomes.items))
         (doubt_after (K.down keeper.old) doubt (first_doubt c (map (λ t. t.now) texts.now) outcomes.items))) }
     ensures err { OnErr result (keeper.new ≡ keeper.old) }
+
+    // After each beginning of the list, no hour of any gateway's band holds more downlinks than the limit.
+    ensures hours { (c : Settings) (heard : List Envelope) → c ≡ K.configuration keeper.old → K.sound keeper.new
+        → IsInOrder K.holds c keeper.old heard
+        → IfOk result (λ outcomes. (n : ℕ) → EveryHourKept (state_of c
+        (heard_all c heard (take n (deliveries_of (map (λ t. t.now) texts.now) outcomes.items))))) }
 {
+    hours_are_kept();
     let mut outcomes = Vec::with_capacity(alloc, texts.len())?;
     for text in texts {
         let outcome = deliver(alloc, keeper, text);

@@ -1,6 +1,7 @@
 //! Hears a message once: the first time it is decided and kept, and each later time its first answer is given.
 ghost use Rattle.std.specs.Prelude.{◌≡◌, ◌||◌, ℕ, true, false, List, Option, Some, None, option_map};
 ghost use Rattle.registry_core.specs.declared.messages.Envelope.{Envelope};
+ghost use Rattle.registry_core.specs.Bookings.{EveryHourKept};
 ghost use Rattle.registry_core.specs.Heard.{state_of};
 ghost use Rattle.registry_core.specs.Settings.{Settings};
 ghost use Rattle.registry_core.specs.Viewed.{IsView};
@@ -16,7 +17,8 @@ use desk_store::{Keeper, Loaded, StoreFault};
 use desk_wire::laws::message_reads_back;
 use desk_wire::{Head, head_of, write_answer, write_message, write_refusal};
 use registry_core::laws::{
-    configs_keep_ranges, decisions_fit, envelopes_keep_ranges, heard_lists_stay, same_message_tells,
+    configs_keep_ranges, decisions_fit, envelopes_keep_ranges, heard_lists_stay, hours_are_kept,
+    same_message_tells,
 };
 use registry_core::{Config, Envelope, Refusal, View, decide};
 use std::alloc::Global;
@@ -115,7 +117,13 @@ pub fn hear<K: Keeper>(alloc: Global, keeper: &mut K, envelope: &Envelope) -> Ou
         → K.sound keeper.new → IsInOrder K.holds c keeper.old heard → Survives K.leaves K.down c keeper.old heard doubt
         → Survives K.leaves K.down c keeper.new (heard_unless (is_unavailable result) c heard envelope.now)
         (doubt_after (K.down keeper.old) doubt (doubt_of envelope.now result)) }
+
+    // No hour of any gateway's band holds more downlinks than the limit.
+    ensures hours { (c : Settings) (heard : List Envelope) → c ≡ K.configuration keeper.old → K.sound keeper.new
+        → IsInOrder K.holds c keeper.old heard
+        → EveryHourKept (state_of c (heard_unless (is_unavailable result) c heard envelope.now)) }
 {
+    hours_are_kept();
     same_message_tells();
     message_reads_back();
     configs_keep_ranges(keeper.config());

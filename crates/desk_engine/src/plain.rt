@@ -1,5 +1,7 @@
 //! The whole over plain lists, from nothing, with no premise.
-ghost use Rattle.std.specs.Prelude.{◌≡◌, [], map, IfOk};
+ghost use Rattle.std.specs.Prelude.{◌≡◌, ℕ, [], map, take, IfOk};
+ghost use Rattle.registry_core.specs.Bookings.{EveryHourKept};
+ghost use Rattle.registry_core.specs.Heard.{state_of};
 ghost use Rattle.desk_store.specs.Lists.{kept_of};
 ghost use Rattle.desk_engine.specs.Deliveries.{heard_all};
 ghost use Rattle.desk_engine.specs.InOrder.{kept_after};
@@ -9,7 +11,7 @@ use crate::delivering::run;
 use crate::outcomes::Outcome;
 use desk_store::Lists;
 use registry_core::Config;
-use registry_core::laws::nothing_is_heard;
+use registry_core::laws::{hours_are_kept, nothing_is_heard};
 use std::alloc::{AllocError, Global};
 
 /// Answers texts in order over lists made for it, for every configuration and every list of texts.
@@ -23,7 +25,14 @@ pub fn run_from_nothing(
     // What the lists keep is what the registry and the heard list give.
     ensures kept { IfOk result (λ ran. kept_of ran.0
         ≡ kept_after config (heard_all config [] (deliveries_of (map (λ t. t.now) texts.now) ran.1.items))) }
+
+    // No hour of any gateway's band holds more downlinks than the limit: after each beginning of the list, and in what the
+    // lists keep.
+    ensures hours { IfOk result (λ ran. (n : ℕ) → EveryHourKept (state_of config
+        (heard_all config [] (take n (deliveries_of (map (λ t. t.now) texts.now) ran.1.items))))) }
+    ensures hours_kept { IfOk result (λ ran. EveryHourKept (kept_of ran.0).facts) }
 {
+    hours_are_kept();
     nothing_is_heard();
     let mut lists = Lists::new(alloc, config)?;
     let outcomes = run(alloc, &mut lists, texts)?;

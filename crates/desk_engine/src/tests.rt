@@ -1,11 +1,15 @@
 //! The messages of runs from the opening state, through `deliver` one by one and through `run` at once.
 mod data_frames;
+mod downlinks;
 mod joins;
 mod rows;
 
 use crate::{Outcome, deliver, run};
 use data_frames::{DATA, SESSIONS};
 use desk_store::Lists;
+use downlinks::{
+    BETWEEN, BETWEEN_ABOVE, COLLISIONS, DOWNLINKS, HOURS, HOURS_ABOVE, LENGTHS, WORKED_DOWNLINKS,
+};
 use joins::{JOINS, ONE_ADDRESS};
 use radio_core::Name;
 use registry_core::Config;
@@ -84,6 +88,14 @@ fn one_by_one(rt: HostRuntime) -> Result<(), Fail> {
         (1, &ONE_ADDRESS),
         (65_536, &DATA),
         (65_536, &SESSIONS),
+        (65_536, &WORKED_DOWNLINKS),
+        (65_536, &HOURS),
+        (65_536, &HOURS_ABOVE),
+        (65_536, &BETWEEN),
+        (65_536, &BETWEEN_ABOVE),
+        (65_536, &COLLISIONS),
+        (65_536, &DOWNLINKS),
+        (65_536, &LENGTHS),
     ] {
         let mut lists = opening(rt.alloc(), addresses)?;
         deliver_each(&rt, &mut lists, &SETUP)?;
@@ -102,6 +114,14 @@ fn at_once(rt: HostRuntime) -> Result<(), Fail> {
         (1, &ONE_ADDRESS),
         (65_536, &DATA),
         (65_536, &SESSIONS),
+        (65_536, &WORKED_DOWNLINKS),
+        (65_536, &HOURS),
+        (65_536, &HOURS_ABOVE),
+        (65_536, &BETWEEN),
+        (65_536, &BETWEEN_ABOVE),
+        (65_536, &COLLISIONS),
+        (65_536, &DOWNLINKS),
+        (65_536, &LENGTHS),
     ] {
         let mut lists = opening(rt.alloc(), addresses)?;
         run_all(&rt, &mut lists, &SETUP)?;

@@ -12,4 +12,5 @@ facts_of facts = record {
   sessions = facts.sessions.items;
   uplinks = facts.uplinks.items;
   copies = copy_in facts.copies.items;
+  bookings = facts.bookings.items;
 }

@@ -1,4 +1,5 @@
 pub mod Calls
+pub mod Downlinks
 pub mod Facts
 pub mod Kept
 pub mod Lists

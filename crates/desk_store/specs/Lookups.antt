@@ -1,12 +1,17 @@
 -- What rows in memory hold. Of rows with one key the first counts.
-use Rattle.std.specs.Prelude.{ℕ, ◌+◌, ◌-◌, ◌==◌, ◌&&◌, nat_lt, List, Bool, false, Option, find, filter, map, option_map, bytes_eq, if◌then◌else◌}
+use Rattle.std.specs.Prelude.{ℕ, ◌+◌, ◌-◌, ◌==◌, ◌&&◌, nat_lt, pos, List, Bool, false, Option, Some, None, find, filter, map, count_by, option_map, bytes_eq, if◌then◌else◌}
 use Rattle.std.specs.List.{list_any}
 use Rattle.std.specs.Option.{option_map_or}
+use Rattle.radio_core.specs.declared.bands.Band.{Band}
+use Rattle.duty_core.specs.Near.{near_ones}
+use Rattle.duty_core.specs.Use.{Interval}
+use Rattle.registry_core.specs.declared.facts.Booking.{Booking}
 use Rattle.registry_core.specs.declared.facts.Device.{Device}
 use Rattle.registry_core.specs.declared.facts.Reception.{Reception}
 use Rattle.registry_core.specs.declared.facts.Session.{Session}
 use Rattle.registry_core.specs.declared.facts.Uplink.{Uplink}
 use Rattle.registry_core.specs.declared.messages.Role.{Role}
+use Rattle.registry_core.specs.Bookings.{stands_at, stands_in}
 use Rattle.registry_core.specs.Derived.{is_data, is_data_of, is_data_with, is_join, is_session_of}
 use Rattle.registry_core.specs.Numbered.{item_at, first_that, greatest}
 use Rattle.registry_core.specs.State.{owned_by}
@@ -62,3 +67,22 @@ last_counter_in uplinks session = greatest (map (λ uplink. uplink.counter) (fil
 -- a session of the device later than this one has a data uplink
 abbrev pub is_below_floor_in : List Uplink → List Session → ℕ → ℕ → Bool
 is_below_floor_in uplinks sessions device session = list_any (λ u. is_data u.kind && nat_lt session u.session && is_of_device_in sessions device u.session) uplinks
+
+-- ---- and from bookings
+
+-- the booking answers a data uplink of the session
+abbrev pub is_down_in : List Uplink → ℕ → Booking → Bool
+is_down_in uplinks session booking = option_map_or (is_data_of session) (item_at uplinks booking.uplink) false
+
+-- how many bookings answer the session's data uplinks
+abbrev pub next_down_in : List Booking → List Uplink → ℕ → ℕ
+next_down_in bookings uplinks session = count_by (is_down_in uplinks session) bookings
+
+-- the booking stands at the gateway, and in the band if there is one
+abbrev pub stands_within : List ℕ → Option Band → Booking → Bool
+stands_within gateway None booking = stands_at gateway booking
+stands_within gateway (Some band) booking = stands_in gateway band booking
+
+-- when those bookings are on the air that begin near the start
+abbrev pub downlinks_near : List Booking → List ℕ → Option Band → ℕ → List Interval
+downlinks_near bookings gateway band start = near_ones (pos start) (map (λ booking. booking.span) (filter (stands_within gateway band) bookings))

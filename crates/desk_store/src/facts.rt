@@ -1,13 +1,14 @@
 //! The registry's facts in the plain form: rows in the order in which they came.
 ghost use Rattle.std.specs.Prelude.{◌≡◌, ◌+◌, [], ◌∷◌, ◌++◌, length, IfOk, OnOk, OnErr, map};
 ghost use Rattle.registry_core.specs.Fits.{Fits};
-ghost use Rattle.registry_core.specs.State.{opening, state_with};
+ghost use Rattle.registry_core.specs.Numbered.{item_changed};
+ghost use Rattle.registry_core.specs.State.{ended, opening, state_with};
 ghost use Rattle.desk_store.specs.Facts.{facts_of};
 ghost use Rattle.desk_store.specs.Lookups.{row_moved};
 
 use crate::rows::{CopyRow, DeviceRow, SenderRow};
 use radio_core::{Eui, Name};
-use registry_core::{Config, Effect, Reception, Role, Session, Uplink};
+use registry_core::{Booking, Config, Effect, Reception, Role, Session, Standing, Uplink};
 use std::alloc::{AllocError, Global};
 
 /// The registry's facts. Contracts see what they are by `facts_of`.
@@ -20,6 +21,7 @@ pub(crate) struct Facts {
     pub(crate) sessions: Vec<Session>,
     pub(crate) uplinks: Vec<Uplink>,
     pub(crate) copies: Vec<CopyRow>,
+    pub(crate) bookings: Vec<Booking>,
 }
 
 impl Facts {
@@ -40,6 +42,7 @@ impl Facts {
             sessions: Vec::new(alloc),
             uplinks: Vec::new(alloc),
             copies: Vec::new(alloc),
+            bookings: Vec::new(alloc),
         })
     }
 
@@ -94,6 +97,8 @@ impl Facts {
                 gateway,
                 reception,
             })?,
+            Effect::AddsBooking { booking } => self.bookings.push(booking)?,
+            Effect::EndsBooking { booking, sent } => end_in(&mut self.bookings, booking, sent),
         }
         Ok(())
     }
@@ -132,5 +137,18 @@ fn move_in(devices: &mut [DeviceRow], dev_eui: Eui, owner: Name)
         if row.dev_eui == dev_eui {
             row.device.owner = owner;
         }
+    }
+}
+
+/// The booking with this number, from 1, is sent, or else dropped, and all else stays.
+fn end_in(bookings: &mut [Booking], number: u64, sent: bool)
+    ensures { bookings.new ≡ item_changed (ended sent) bookings.old number }
+{
+    if 1 <= number && number <= bookings.len() as u64 {
+        bookings[number as usize - 1].standing = if sent {
+            Standing::Sent
+        } else {
+            Standing::Dropped
+        };
     }
 }

@@ -2,6 +2,8 @@
 //! its plain form in memory.
 #![tactic(auto)]
 
+mod bookings;
+mod downlinks;
 mod facts;
 mod faults;
 mod keeper;

@@ -92,7 +92,10 @@ impl Keeper for Lists {
             let answer = row.answer.to_vec(self.alloc)?;
             return Ok(Loaded::Heard { message, answer });
         }
-        Ok(Loaded::Fresh(self.facts.view(&self.config, role, &envelope.message)))
+        let view = self
+            .facts
+            .view(self.alloc, &self.config, role, &envelope.message)?;
+        Ok(Loaded::Fresh(view))
     }
 
     fn commit(

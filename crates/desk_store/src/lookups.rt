@@ -62,19 +62,19 @@ pub(crate) fn last_nonce_in(sessions: &[Session], device: Eui) -> Option<u16>
     last
 }
 
-/// The session with this number, from 1.
-fn session_at(sessions: &[Session], number: u64) -> Option<Session>
-    ensures { result ≡ item_at sessions.now number }
+/// The item with this number, from 1.
+pub(crate) fn item_at<T: Copy>(items: &[T], number: u64) -> Option<T>
+    ensures { result ≡ item_at items.now number }
 {
     let place = usize::try_from(number.checked_sub(1)?).ok()?;
-    sessions.get(place).copied()
+    items.get(place).copied()
 }
 
 /// The session with this number is one of the device.
 fn is_of_device(sessions: &[Session], device: Eui, number: u64) -> bool
     ensures { result ≡ is_of_device_in sessions.now device number }
 {
-    match session_at(sessions, number) {
+    match item_at(sessions, number) {
         Some(session) => session.device == device,
         None => false,
     }
@@ -105,7 +105,7 @@ pub(crate) fn session_in(sessions: &[Session], base: u32, addr: DevAddr) -> Opti
     ensures { result ≡ session_in sessions.now base addr }
 {
     let number = (u64::from(addr.get()) + 1).checked_sub(u64::from(base))?;
-    let session = session_at(sessions, number)?;
+    let session = item_at(sessions, number)?;
     Some((number, session))
 }
 

@@ -1,4 +1,6 @@
 //! The plain form, called through the bound as the engine calls it.
+mod downlinks;
+
 use crate::{Keeper, Lists, Loaded};
 use radio_core::{Band, DataRate, Eui, Name, Octets, Rate};
 use registry_core::{
@@ -30,11 +32,10 @@ fn keeps<K: Keeper>(keeper: &mut K, envelope: &Envelope, effect: &Effect) -> boo
 }
 
 fn fresh_view<K: Keeper>(keeper: &mut K, envelope: &Envelope) -> Option<View> {
-    let loaded = keeper.load(envelope);
-    match &loaded {
-        Ok(Loaded::Fresh(view)) => Some(*view),
-        _ => None,
-    }
+    let Ok(Loaded::Fresh(view)) = keeper.load(envelope) else {
+        return None;
+    };
+    Some(view)
 }
 
 #[test]
@@ -47,7 +48,8 @@ fn what_is_committed_is_loaded(rt: HostRuntime) -> Result<(), Fail> {
     assert!(rt; view.role == Role::Operator);
     assert!(rt; !view.owner_known);
     assert!(rt; keeps(&mut lists, &message, &Effect::AddsOwner { name: owner }));
-    match lists.load(&message) {
+    let loaded = lists.load(&message);
+    match &loaded {
         Ok(Loaded::Heard { message, answer }) => {
             assert!(rt; message.as_slice() == b"message".as_slice());
             assert!(rt; answer.as_slice() == b"answer".as_slice());
@@ -58,7 +60,8 @@ fn what_is_committed_is_loaded(rt: HostRuntime) -> Result<(), Fail> {
     let view = fresh_view(&mut lists, &message).ok_or("not fresh")?;
     assert!(rt; view.owner_known);
     message.sender = name("desk")?;
-    match lists.load(&message) {
+    let loaded = lists.load(&message);
+    match &loaded {
         Ok(Loaded::Stranger) => {}
         _ => assert!(rt; false),
     }

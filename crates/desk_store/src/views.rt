@@ -1,22 +1,24 @@
 //! What the facts hold for one message.
-ghost use Rattle.std.specs.Prelude.{◌≡◌, Some, option_and_then, option_map};
+ghost use Rattle.std.specs.Prelude.{◌≡◌, Some, option_and_then, option_map, IfOk};
 ghost use Rattle.registry_core.specs.Derived.{join_with, last_nonce};
 ghost use Rattle.registry_core.specs.declared.frames.JoinRequest.{JoinRequest};
 ghost use Rattle.registry_core.specs.Settings.{Settings};
-ghost use Rattle.registry_core.specs.Viewed.{IsView, sender_known, owner_known, gateway_known, join_told, device_named, data_told, session_told, uplink_told, view_of_session, view_of_uplink};
+ghost use Rattle.registry_core.specs.Viewed.{IsView, sender_known, owner_known, gateway_known, join_told, device_named, data_told, session_told, uplink_numbered, uplink_told, view_of_session, view_of_uplink};
 ghost use Rattle.registry_core.specs.declared.messages.Envelope.{Envelope};
 ghost use Rattle.desk_store.specs.Facts.{facts_of};
 
+use crate::downlinks::DownlinkView;
 use crate::facts::Facts;
 use crate::lookups::{
-    copy_in, data_in, device_in, is_below_floor, join_in, last_counter_in, last_nonce_in, name_in,
-    role_in, session_in,
+    copy_in, data_in, device_in, is_below_floor, item_at, join_in, last_counter_in, last_nonce_in,
+    name_in, role_in, session_in,
 };
 use radio_core::Name;
 use registry_core::{
     Config, Device, JoinRequest, Message, Role, Session, SessionView, Uplink, UplinkView, View,
     data_up, join_request,
 };
+use std::alloc::{AllocError, Global};
 
 impl Facts {
     /// The role of a sender.
@@ -27,27 +29,46 @@ impl Facts {
     }
 
     /// What the facts hold for a message of a sender with this role.
-    pub(crate) fn view(&self, config: &Config, role: Role, message: &Message) -> View
+    pub(crate) fn view(
+        &self,
+        alloc: Global,
+        config: &Config,
+        role: Role,
+        message: &Message,
+    ) -> Result<View, AllocError>
         ensures { (e : Envelope) → e.message ≡ message.now → (facts_of self.now).senders e.sender ≡ Some role
-            → IsView config.now (facts_of self.now) e result }
+            → IfOk result (IsView config.now (facts_of self.now) e) }
     {
         let join = join_told(message);
         let session = self.session_told(config, message);
         let session_view = self.view_of(&session);
-        View {
+        let uplink = self.uplink_told(&join, &session, message);
+        let DownlinkView {
+            answered,
+            next_down,
+            near,
+            near_in_band,
+        } = self.downlink_told(alloc, &uplink, message)?;
+        Ok(View {
             role,
             base: config.base(),
             addresses: config.addresses(),
             sessions: self.sessions.len() as u64,
             uplinks: self.uplinks.len() as u64,
+            bookings: self.bookings.len() as u64,
             sender_known: self.sender_known(message),
             owner_known: self.owner_known(message),
             gateway_known: self.gateway_known(message),
             device: self.device_named(&join, message),
             last_nonce: self.last_nonce_told(&join),
             session: session_view,
-            uplink: self.uplink_told(&join, &session, message),
-        }
+            uplink,
+            answered,
+            next_down,
+            booking: self.booking_told(message),
+            near,
+            near_in_band,
+        })
     }
 
     fn sender_known(&self, message: &Message) -> bool
@@ -74,7 +95,9 @@ impl Facts {
         ensures { result ≡ gateway_known (facts_of self.now) message.now }
     {
         match message {
-            Message::GatewayAdd { gateway } => name_in(&self.gateways, gateway),
+            Message::GatewayAdd { gateway } | Message::DownBook { gateway, .. } => {
+                name_in(&self.gateways, gateway)
+            }
             Message::JoinHeard { report, .. } | Message::FrameHeard { report, .. } => {
                 name_in(&self.gateways, &report.gateway)
             }
@@ -149,6 +172,11 @@ impl Facts {
             Message::FrameHeard { report, verdict } => {
                 self.view_of_uplink(self.data_found(session, *verdict), &report.gateway)
             }
+            Message::DownBook {
+                uplink,
+                gateway,
+                ..
+            } => self.view_of_uplink(self.uplink_numbered(uplink.get()), gateway),
             _ => None,
         }
     }
@@ -162,6 +190,13 @@ impl Facts {
             uplink,
             at_gateway: copy_in(&self.copies, number, gateway),
         })
+    }
+
+    /// The uplink with this number, from 1, with its number.
+    fn uplink_numbered(&self, number: u64) -> Option<(u64, Uplink)>
+        ensures { result ≡ uplink_numbered (facts_of self.now) number }
+    {
+        Some((number, item_at(&self.uplinks, number)?))
     }
 
     #[tactic(auto, unfolding(registry_core::specs::Derived::join_with))]

@@ -5,8 +5,8 @@ use Rattle.serde_json.specs.Data.{Data}
 use Rattle.radio_core.specs.Names.{is_name}
 use Rattle.registry_core.specs.declared.messages.Message.{Message}
 use Rattle.registry_core.specs.Ranges.{IsName, IsOctets, IsEui, IsReport, IsMessage, IsEnvelope}
-use Rattle.desk_wire.specs.Bodies.{sender_add_of, owner_add_of, gateway_add_of, device_add_of, device_move_of, join_heard_of, frame_heard_of}
-use Rattle.desk_wire.specs.Members.{text_at, name_at, unsigned_at, whole_at, is_null_at, whole_or_null_at, data_rate_at, octets_at, type_name_at, eui_at, role_at, join_verdict_at}
+use Rattle.desk_wire.specs.Bodies.{sender_add_of, owner_add_of, gateway_add_of, device_add_of, device_move_of, join_heard_of, frame_heard_of, down_book_of, down_done_of}
+use Rattle.desk_wire.specs.Members.{text_at, name_at, unsigned_at, whole_at, is_null_at, whole_or_null_at, data_rate_at, octets_at, type_name_at, eui_at, role_at, join_verdict_at, window_at, boolean_at}
 use Rattle.desk_wire.specs.Reading.{reads_value, value_of, envelope_of, common_members_of, envelope_addressed, message_of, with_message}
 use Rattle.desk_wire.specs.Reports.{rate_of, report_of}
 use Rattle.desk_wire.specs.Laws.{ReadsInRange}
@@ -122,6 +122,22 @@ frame_heard_kept value =
     after _ (whole_or_null_kept (codes "Verdict") (2 ^ 32) value) (λ verdict v.
     made (r, v)))
 
+down_book_kept : (value : Data) → Keeps IsMessage (down_book_of value)
+unfolding down_book_of
+down_book_kept value =
+    after _ (whole_kept (codes "Uplink") (2 ^ 53) value) (λ uplink u.
+    after _ (name_kept (codes "Gateway") value) (λ gateway g.
+    after _ (any (window_at (codes "Window") value)) (λ window _.
+    after _ (octets_at_kept (codes "PHYPayload") value) (λ octets o.
+    made (omega (arith, u), g, o)))))
+
+down_done_kept : (value : Data) → Keeps IsMessage (down_done_of value)
+unfolding down_done_of
+down_done_kept value =
+    after _ (whole_kept (codes "Booking") (2 ^ 53) value) (λ booking b.
+    after _ (any (boolean_at (codes "Sent") value)) (λ sent _.
+    made (omega (arith, b))))
+
 message_kept : (head : Head) (value : Data) → KeepsOk IsMessage (message_of head value)
 unfolding message_of
 message_kept head value =
@@ -132,7 +148,9 @@ message_kept head value =
     (either _ (ok_if_found _ (device_move_kept value))
     (either _ (ok_if_found _ (join_heard_kept value))
     (either _ (ok_if_found _ (frame_heard_kept value))
-    refused))))))
+    (either _ (ok_if_found _ (down_book_kept value))
+    (either _ (ok_if_found _ (down_done_kept value))
+    refused))))))))
 
 -- ---- the envelope
 

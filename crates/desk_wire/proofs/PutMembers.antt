@@ -2,9 +2,9 @@
 use Rattle.std.proofs.Common.{◌≡◌, ℕ, List, ◌++◌, codes, refl}
 use Rattle.serde_json.specs.Data.{object, no_members, put}
 use Rattle.registry_core.specs.declared.answers.Answer.{Answer}
-use Rattle.registry_core.specs.declared.answers.Answer.TheVariants.{Success, JoinSuccess, FrameSuccess, Refused}
+use Rattle.registry_core.specs.declared.answers.Answer.TheVariants.{Success, JoinSuccess, FrameSuccess, DownSuccess, Refused}
 use Rattle.registry_core.specs.declared.messages.Message.{Message}
-use Rattle.registry_core.specs.declared.messages.Message.TheVariants.{SenderAdd, OwnerAdd, GatewayAdd, DeviceAdd, DeviceMove, JoinHeard, FrameHeard}
+use Rattle.registry_core.specs.declared.messages.Message.TheVariants.{SenderAdd, OwnerAdd, GatewayAdd, DeviceAdd, DeviceMove, JoinHeard, FrameHeard, DownBook, DownDone}
 use Rattle.desk_wire.specs.Answers.{result_value, answer_value}
 use Rattle.desk_wire.specs.Members.{with_envelope}
 use Rattle.desk_wire.specs.Outcomes.{with_outcome}
@@ -21,6 +21,8 @@ put_message receiver sender transaction (DeviceAdd dev_eui join_eui owner) = ref
 put_message receiver sender transaction (DeviceMove dev_eui owner) = refl
 put_message receiver sender transaction (JoinHeard report verdict) = refl
 put_message receiver sender transaction (FrameHeard report verdict) = refl
+put_message receiver sender transaction (DownBook uplink gateway window octets) = refl
+put_message receiver sender transaction (DownDone booking sent) = refl
 
 pub put_answer : (receiver : List ℕ) (head : Head) (answer : Answer)
     → object (with_outcome answer (put (codes "Result") (result_value answer) (with_envelope (head.type_name ++ codes "Ans") receiver head.sender head.transaction no_members)))
@@ -28,4 +30,5 @@ pub put_answer : (receiver : List ℕ) (head : Head) (answer : Answer)
 put_answer receiver head Success = refl
 put_answer receiver head (JoinSuccess airtime band copy addr uplink) = refl
 put_answer receiver head (FrameSuccess airtime band copy counter dev_eui uplink) = refl
+put_answer receiver head (DownSuccess airtime band booking start) = refl
 put_answer receiver head (Refused refusal) = refl

@@ -1,10 +1,10 @@
 -- The text of a message is read as that message.
-use Rattle.std.proofs.Common.{◌≡◌, ℕ, ◌<◌, ◌≤◌, ◌^◌, List, true, Option, Some, None, IfSome, Ok, IsUtf8, codes, refl, ap, subst, ◌∙◌, arith}
+use Rattle.std.proofs.Common.{◌≡◌, ℕ, ◌<◌, ◌≤◌, ◌^◌, List, nat_lt, true, Option, Some, None, IfSome, Ok, IsUtf8, codes, refl, ap, subst, ◌∙◌, arith}
 use Rattle.std.specs.Str.{bytes_eq}
 use Rattle.std.proofs.lemmas.Str.{is_utf8-from_IsUtf8}
 use Rattle.std.proofs.lemmas.Bool.{lt-ltb}
 use Rattle.std.proofs.lemmas.Slice.Eq.{bytes_eq-Decides}
-use Rattle.serde_json.specs.Data.{Data, string, Members, no_members}
+use Rattle.serde_json.specs.Data.{Data, string, boolean, Members, no_members}
 use Rattle.serde_json.specs.Read.{read, of_json, max_depth}
 use Rattle.json.specs.Tree.{depth}
 use Rattle.serde_json.specs.Written.{compact_text, outline}
@@ -17,9 +17,12 @@ use Rattle.registry_core.specs.declared.messages.Report.{Report}
 use Rattle.registry_core.specs.declared.messages.Role.{Role}
 use Rattle.registry_core.specs.declared.messages.Role.TheVariants.{Operator, Radio}
 use Rattle.registry_core.specs.declared.messages.Message.{Message}
-use Rattle.registry_core.specs.declared.messages.Message.TheVariants.{SenderAdd, OwnerAdd, GatewayAdd, DeviceAdd, DeviceMove, JoinHeard, FrameHeard}
+use Rattle.registry_core.specs.declared.messages.Message.TheVariants.{SenderAdd, OwnerAdd, GatewayAdd, DeviceAdd, DeviceMove, JoinHeard, FrameHeard, DownBook, DownDone}
+use Rattle.registry_core.specs.declared.windows.Window.{Window}
+use Rattle.registry_core.specs.declared.windows.Window.TheVariants.{First, Second}
 use Rattle.registry_core.specs.Ranges.{IsName, IsReport, IsMessage}
-use Rattle.desk_wire.specs.Bodies.{sender_add_of, owner_add_of, gateway_add_of, device_add_of, device_move_of, join_heard_of, frame_heard_of}
+use Rattle.registry_core.specs.Wholes.{IsWhole}
+use Rattle.desk_wire.specs.Bodies.{sender_add_of, owner_add_of, gateway_add_of, device_add_of, device_move_of, join_heard_of, frame_heard_of, down_book_of, down_done_of}
 use Rattle.desk_wire.specs.Hexadecimal.{octet_digits, eui_digits}
 use Rattle.desk_wire.specs.Members.{whole_or_null_at, whole_or_null, with_envelope}
 use Rattle.desk_wire.specs.Reading.{reads, reads_value, value_of, envelope_of, common_members_of, envelope_addressed, message_of}
@@ -27,6 +30,7 @@ use Rattle.desk_wire.specs.Reports.{rate_of, report_of, with_report}
 use Rattle.desk_wire.specs.Roles.{role_name, role_named}
 use Rattle.desk_wire.specs.TypeNames.{type_name_of}
 use Rattle.desk_wire.specs.Verdicts.{join_verdict_name, join_verdict_named}
+use Rattle.desk_wire.specs.Windows.{window_number, window_numbered}
 use Rattle.desk_wire.specs.Writing.{heard_value, message_value, message_text, with_body}
 use Rattle.desk_wire.specs.Laws.{MessageReadsBack}
 use Rattle.desk_wire.specs.declared.reading.CommonMembers.{CommonMembers}
@@ -54,6 +58,8 @@ IsUtf8-type_name_of (DeviceAdd dev_eui join_eui owner) = IsUtf8-are_ascii _ refl
 IsUtf8-type_name_of (DeviceMove dev_eui owner) = IsUtf8-are_ascii _ refl
 IsUtf8-type_name_of (JoinHeard report verdict) = IsUtf8-are_ascii _ refl
 IsUtf8-type_name_of (FrameHeard report verdict) = IsUtf8-are_ascii _ refl
+IsUtf8-type_name_of (DownBook uplink gateway window octets) = IsUtf8-are_ascii _ refl
+IsUtf8-type_name_of (DownDone booking sent) = IsUtf8-are_ascii _ refl
 
 with_envelope-plain : (type_name receiver sender : List ℕ) (n : ℕ) → IsUtf8 type_name → IsName receiver → IsName sender → n < 2 ^ 64
     → HasPlain (with_envelope type_name sender receiver n no_members)
@@ -64,6 +70,9 @@ with_envelope-plain type_name receiver sender n t r s fits =
     (text_put (codes "ProtocolVersion") (codes "1.0") refl (IsUtf8-are_ascii _ refl)
     (text_put (codes "MessageType") type_name refl t nothing_plain))))
 
+whole_fits : (n : ℕ) → IsWhole n → n < 2 ^ 64
+whole_fits n h = omega (arith, h)
+
 -- each number of a report fits 64 bits
 record FitsWords (report : Report) : Type 0 where
   time : report.time < 2 ^ 64
@@ -71,7 +80,7 @@ record FitsWords (report : Report) : Type 0 where
   dr : dr_number report.rate.dr < 2 ^ 64
 
 fits_words : (report : Report) → IsReport report → FitsWords report
-fits_words report h = record { time = omega (arith, h.time); freq = omega (arith, h.freq); dr = omega (arith, dr_number-fits report.rate.dr) }
+fits_words report h = record { time = whole_fits report.time h.time; freq = omega (arith, h.freq); dr = omega (arith, dr_number-fits report.rate.dr) }
 
 with_report-plain : (report : Report) (ms : Members) → IsReport report → HasPlain ms → HasPlain (with_report report ms)
 with_report-plain report ms r h =
@@ -85,6 +94,10 @@ with_report-plain report ms r h =
 whole_or_null-plain : (number : Option ℕ) → IfSome number (λ n. n < 2 ^ 32) → IsPlain (whole_or_null number)
 whole_or_null-plain (Some n) fits = omega (arith, fits)
 whole_or_null-plain None fits = tt
+
+window_fits : (window : Window) → window_number window < 2 ^ 64
+window_fits First = omega arith
+window_fits Second = omega arith
 
 with_body-plain : (m : Message) (ms : Members) → IsMessage m → HasPlain ms → HasPlain (with_body m ms)
 with_body-plain (SenderAdd sender role) ms s h =
@@ -103,6 +116,14 @@ with_body-plain (JoinHeard report verdict) ms r h =
     text_put (codes "Verdict") (join_verdict_name verdict) refl (IsUtf8-join_verdict_name verdict) (with_report-plain report ms r h)
 with_body-plain (FrameHeard report verdict) ms m h =
     plain_put (codes "Verdict") (whole_or_null verdict) refl (whole_or_null-plain verdict m.1) (with_report-plain report ms m.0 h)
+with_body-plain (DownBook uplink gateway window octets) ms m h =
+    whole_put (codes "Window") (window_number window) refl (window_fits window)
+    (whole_put (codes "Uplink") uplink refl (whole_fits uplink m.0)
+    (text_put (codes "PHYPayload") (octet_digits octets) refl (IsUtf8-octet_digits octets)
+    (text_put (codes "Gateway") gateway refl (IsUtf8-name gateway m.1) h)))
+with_body-plain (DownDone booking sent) ms b h =
+    plain_put (codes "Sent") (boolean sent) refl tt
+    (whole_put (codes "Booking") booking refl (whole_fits booking b) h)
 
 plain : (receiver sender : List ℕ) (n : ℕ) (m : Message) → IsName receiver → IsName sender → n < 2 ^ 64 → IsMessage m
     → IsPlain (message_value receiver sender n m)
@@ -138,6 +159,10 @@ of_json-outline receiver sender n (JoinHeard report verdict) fits h =
     of_json-heard_value receiver sender n (codes "JoinHeard") report (string (join_verdict_name verdict)) fits h refl
 of_json-outline receiver sender n (FrameHeard report verdict) fits h =
     of_json-heard_value receiver sender n (codes "FrameHeard") report (whole_or_null verdict) fits h.0 (of_json-whole_or_null verdict h.1)
+of_json-outline receiver sender n (DownBook uplink gateway window octets) fits h =
+    rw (number_of-decimal n fits, number_of-decimal uplink (whole_fits uplink h.0), number_of-decimal (window_number window) (window_fits window)) refl
+of_json-outline receiver sender n (DownDone booking sent) fits h =
+    rw (number_of-decimal n fits, number_of-decimal booking (whole_fits booking h)) refl
 
 depth-outline : (receiver sender : List ℕ) (n : ℕ) (m : Message) → depth (outline (message_value receiver sender n m)) ≤ max_depth
 depth-outline receiver sender n (SenderAdd added role) = omega arith
@@ -148,6 +173,8 @@ depth-outline receiver sender n (DeviceMove dev_eui owner) = omega arith
 depth-outline receiver sender n (JoinHeard report verdict) = omega arith
 depth-outline receiver sender n (FrameHeard report (Some counter)) = omega arith
 depth-outline receiver sender n (FrameHeard report None) = omega arith
+depth-outline receiver sender n (DownBook uplink gateway window octets) = omega arith
+depth-outline receiver sender n (DownDone booking sent) = omega arith
 
 value_of-text : (d : Data) → IsPlain d → read (compact_text d) ≡ Some d → value_of (compact_text d) ≡ Some d
 value_of-text d plain same = rw (is_utf8-from_IsUtf8 _ (IsUtf8-compact_text d plain)) same
@@ -174,6 +201,8 @@ common_members_of-message receiver sender n (DeviceAdd dev_eui join_eui owner) r
 common_members_of-message receiver sender n (DeviceMove dev_eui owner) r s fits = rw (s, r, lt-ltb n (2 ^ 32) fits) refl
 common_members_of-message receiver sender n (JoinHeard report verdict) r s fits = rw (s, r, lt-ltb n (2 ^ 32) fits) refl
 common_members_of-message receiver sender n (FrameHeard report verdict) r s fits = rw (s, r, lt-ltb n (2 ^ 32) fits) refl
+common_members_of-message receiver sender n (DownBook uplink gateway window octets) r s fits = rw (s, r, lt-ltb n (2 ^ 32) fits) refl
+common_members_of-message receiver sender n (DownDone booking sent) r s fits = rw (s, r, lt-ltb n (2 ^ 32) fits) refl
 
 role_named-role_name : (role : Role) → role_named (role_name role) ≡ Some role
 role_named-role_name Operator = refl
@@ -182,6 +211,13 @@ role_named-role_name Radio = refl
 join_verdict_named-join_verdict_name : (verdict : JoinVerdict) → join_verdict_named (join_verdict_name verdict) ≡ Some verdict
 join_verdict_named-join_verdict_name Good = refl
 join_verdict_named-join_verdict_name Bad = refl
+
+window_numbered-window_number : (window : Window) → window_numbered (window_number window) ≡ Some window
+window_numbered-window_number First = refl
+window_numbered-window_number Second = refl
+
+whole_below : (n : ℕ) → IsWhole n → nat_lt n (2 ^ 53) ≡ true
+whole_below n h = lt-ltb n (2 ^ 53) (omega (arith, h))
 
 whole_or_null_at-verdict : (receiver sender : List ℕ) (n : ℕ) (report : Report) (verdict : Option ℕ) → IfSome verdict (λ counter. counter < 2 ^ 32)
     → whole_or_null_at (codes "Verdict") (2 ^ 32) (message_value receiver sender n (FrameHeard report verdict)) ≡ Some verdict
@@ -192,10 +228,9 @@ report_of-heard_value : (receiver sender : List ℕ) (n : ℕ) (type_name : List
     → report_of (heard_value receiver sender n type_name report verdict) ≡ Some report
 unfolding report_of rate_of
 report_of-heard_value receiver sender n type_name report verdict h =
-    let soon : report.time < 2 ^ 53 = omega (arith, h.time) in
     rw (
       h.gateway,
-      lt-ltb report.time (2 ^ 53) soon,
+      whole_below report.time h.time,
       lt-ltb report.rate.freq (2 ^ 32) h.freq,
       data_rate_numbered-dr_number report.rate.dr,
       octets_in-octet_digits report.octets h.octets.each h.octets.few,
@@ -203,7 +238,7 @@ report_of-heard_value receiver sender n type_name report verdict h =
 
 message_of-message : (receiver sender : List ℕ) (n : ℕ) (m : Message) → IsMessage m
     → message_of (common receiver sender n m).head (message_value receiver sender n m) ≡ Ok m
-unfolding common message_of sender_add_of owner_add_of gateway_add_of device_add_of device_move_of join_heard_of frame_heard_of
+unfolding common message_of sender_add_of owner_add_of gateway_add_of device_add_of device_move_of join_heard_of frame_heard_of down_book_of down_done_of
 message_of-message receiver sender n (SenderAdd added role) a = rw (a, role_named-role_name role) refl
 message_of-message receiver sender n (OwnerAdd owner) o = rw o refl
 message_of-message receiver sender n (GatewayAdd gateway) g = rw g refl
@@ -217,6 +252,14 @@ message_of-message receiver sender n (FrameHeard report verdict) m =
       report_of-heard_value receiver sender n (codes "FrameHeard") report (whole_or_null verdict) m.0,
       whole_or_null_at-verdict receiver sender n report verdict m.1,
     ) refl
+message_of-message receiver sender n (DownBook uplink gateway window octets) m =
+    rw (
+      whole_below uplink m.0,
+      m.1,
+      window_numbered-window_number window,
+      octets_in-octet_digits octets m.2.each m.2.few,
+    ) refl
+message_of-message receiver sender n (DownDone booking sent) b = rw (whole_below booking b) refl
 
 -- ---- the whole
 

@@ -3,7 +3,7 @@ use Rattle.std.specs.Prelude.{ℕ, List, Option, Some, None, codes, ◌++◌}
 use Rattle.serde_json.specs.Data.{Data, string, number, unsigned, boolean, object, no_members, member}
 use Rattle.serde_json.specs.Written.{compact_text}
 use Rattle.registry_core.specs.declared.answers.Answer.{Answer}
-use Rattle.registry_core.specs.declared.answers.Answer.TheVariants.{Success, JoinSuccess, FrameSuccess, Refused}
+use Rattle.registry_core.specs.declared.answers.Answer.TheVariants.{Success, JoinSuccess, FrameSuccess, DownSuccess, Refused}
 use Rattle.registry_core.specs.declared.answers.Refusal.{Refusal}
 use Rattle.registry_core.specs.declared.messages.Envelope.{Envelope}
 use Rattle.desk_wire.specs.Bands.{band_name}
@@ -66,6 +66,18 @@ answer_value receiver head (FrameSuccess airtime band copy counter dev_eui uplin
     (member (codes "TransactionID") (number (unsigned head.transaction))
     (member (codes "Uplink") (number (unsigned uplink))
     no_members))))))))))))
+answer_value receiver head (DownSuccess airtime band booking start) = object
+    (member (codes "Airtime") (number (unsigned airtime))
+    (member (codes "Band") (string (band_name band))
+    (member (codes "Booking") (number (unsigned booking))
+    (member (codes "MessageType") (string (head.type_name ++ codes "Ans"))
+    (member (codes "ProtocolVersion") (string (codes "1.0"))
+    (member (codes "ReceiverID") (string head.sender)
+    (member (codes "Result") (result_value (DownSuccess airtime band booking start))
+    (member (codes "SenderID") (string receiver)
+    (member (codes "Start") (number (unsigned start))
+    (member (codes "TransactionID") (number (unsigned head.transaction))
+    no_members))))))))))
 answer_value receiver head (Refused refusal) = plain_answer_value receiver head (Refused refusal)
 
 -- the receiver's answer to a text of which no head was read

@@ -14,4 +14,5 @@ pub mod Results
 pub mod Roles
 pub mod TypeNames
 pub mod Verdicts
+pub mod Windows
 pub mod Writing

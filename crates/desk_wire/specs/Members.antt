@@ -2,17 +2,19 @@
 use Rattle.std.specs.Prelude.{ℕ, List, Bool, Option, Some, None, unwrap_or, option_map, codes, nat_lt, if◌then◌else◌}
 use Rattle.std.specs.Option.{is_some}
 use Rattle.serde_json.specs.Data.{Data, null, string, number, unsigned, Members, put}
-use Rattle.serde_json.specs.Find.{get, as_null, as_str, as_number, as_u64}
+use Rattle.serde_json.specs.Find.{get, as_null, as_bool, as_str, as_number, as_u64}
 use Rattle.radio_core.specs.Names.{is_name}
 use Rattle.radio_core.specs.declared.data_rates.DataRate.{DataRate}
 use Rattle.registry_core.specs.declared.messages.JoinVerdict.{JoinVerdict}
 use Rattle.registry_core.specs.declared.messages.Role.{Role}
+use Rattle.registry_core.specs.declared.windows.Window.{Window}
 use Rattle.desk_wire.specs.DataRates.{data_rate_numbered}
 use Rattle.desk_wire.specs.Hexadecimal.{octets_in, eui_in}
 use Rattle.desk_wire.specs.Optional.{◌>>=◌, only_if}
 use Rattle.desk_wire.specs.Roles.{role_named}
 use Rattle.desk_wire.specs.TypeNames.{is_type_name}
 use Rattle.desk_wire.specs.Verdicts.{join_verdict_named}
+use Rattle.desk_wire.specs.Windows.{window_numbered}
 
 -- ---- a member of an object, in its form
 
@@ -61,6 +63,14 @@ role_at member value = text_at member value >>= role_named
 -- `Good` or `Bad`
 abbrev pub join_verdict_at : List ℕ → Data → Option JoinVerdict
 join_verdict_at member value = text_at member value >>= join_verdict_named
+
+-- the whole number 1 or 2
+abbrev pub window_at : List ℕ → Data → Option Window
+window_at member value = unsigned_at member value >>= window_numbered
+
+-- `true` or `false`
+abbrev pub boolean_at : List ℕ → Data → Option Bool
+boolean_at member value = get member value >>= as_bool
 
 -- ---- members put beside others
 

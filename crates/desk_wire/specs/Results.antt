@@ -4,7 +4,7 @@ use Rattle.std.specs.Prelude.{ℕ, List, codes}
 use Rattle.registry_core.specs.declared.answers.Refusal.{Refusal}
 use Rattle.registry_core.specs.declared.answers.Refusal.TheVariants.{Malformed, InvalidProtocolVersion, UnknownReceiver, UnknownSender, TransactionReused, WrongRole, BadBody, UnknownType, Exists, UnknownOwner, UnknownGateway, UnknownDevEui, UnknownDevAddr, BadFrame, OutOfBand, MicFailed, JoinEui, Nonce, Addresses, Replayed, Late, Gap, SessionEnded, NoUplink, DownCounter, Collision, Duty, Answered, NoBooking, Done, Time, Unavailable, NotADesk, SchemaVersion}
 use Rattle.registry_core.specs.declared.answers.Answer.{Answer}
-use Rattle.registry_core.specs.declared.answers.Answer.TheVariants.{Success, JoinSuccess, FrameSuccess, Refused}
+use Rattle.registry_core.specs.declared.answers.Answer.TheVariants.{Success, JoinSuccess, FrameSuccess, DownSuccess, Refused}
 
 -- ---- the table of refusals. The last three are no answers: their lines make the table total
 
@@ -86,10 +86,12 @@ abbrev pub result_code : Answer → List ℕ
 result_code Success = codes "Success"
 result_code (JoinSuccess airtime band copy addr uplink) = codes "Success"
 result_code (FrameSuccess airtime band copy counter dev_eui uplink) = codes "Success"
+result_code (DownSuccess airtime band booking start) = codes "Success"
 result_code (Refused refusal) = refusal_code refusal
 
 abbrev pub result_description : Answer → List ℕ
 result_description Success = codes ""
 result_description (JoinSuccess airtime band copy addr uplink) = codes ""
 result_description (FrameSuccess airtime band copy counter dev_eui uplink) = codes ""
+result_description (DownSuccess airtime band booking start) = codes ""
 result_description (Refused refusal) = refusal_description refusal

@@ -3,7 +3,7 @@ use Rattle.std.specs.Prelude.{ℕ, Bool, ◌&&◌, List, length, nat_le, codes}
 use Rattle.std.specs.Char.{is_ascii_alphabetic}
 use Rattle.std.specs.List.{list_all}
 use Rattle.registry_core.specs.declared.messages.Message.{Message}
-use Rattle.registry_core.specs.declared.messages.Message.TheVariants.{SenderAdd, OwnerAdd, GatewayAdd, DeviceAdd, DeviceMove, JoinHeard, FrameHeard}
+use Rattle.registry_core.specs.declared.messages.Message.TheVariants.{SenderAdd, OwnerAdd, GatewayAdd, DeviceAdd, DeviceMove, JoinHeard, FrameHeard, DownBook, DownDone}
 
 -- 1 to 32 ASCII letters
 abbrev pub is_type_name : List ℕ → Bool
@@ -18,3 +18,5 @@ type_name_of (DeviceAdd dev_eui join_eui owner) = codes "DeviceAdd"
 type_name_of (DeviceMove dev_eui owner) = codes "DeviceMove"
 type_name_of (JoinHeard report verdict) = codes "JoinHeard"
 type_name_of (FrameHeard report verdict) = codes "FrameHeard"
+type_name_of (DownBook uplink gateway window octets) = codes "DownBook"
+type_name_of (DownDone booking sent) = codes "DownDone"

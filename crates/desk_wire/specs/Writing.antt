@@ -1,17 +1,18 @@
 -- The texts of messages.
 use Rattle.std.specs.Prelude.{ℕ, List, codes}
-use Rattle.serde_json.specs.Data.{Data, string, number, unsigned, object, Members, no_members, member}
+use Rattle.serde_json.specs.Data.{Data, string, number, unsigned, boolean, object, Members, no_members, member}
 use Rattle.serde_json.specs.Written.{compact_text}
 use Rattle.radio_core.specs.DataRates.{dr_number}
 use Rattle.registry_core.specs.declared.messages.Envelope.{Envelope}
 use Rattle.registry_core.specs.declared.messages.Message.{Message}
-use Rattle.registry_core.specs.declared.messages.Message.TheVariants.{SenderAdd, OwnerAdd, GatewayAdd, DeviceAdd, DeviceMove, JoinHeard, FrameHeard}
+use Rattle.registry_core.specs.declared.messages.Message.TheVariants.{SenderAdd, OwnerAdd, GatewayAdd, DeviceAdd, DeviceMove, JoinHeard, FrameHeard, DownBook, DownDone}
 use Rattle.registry_core.specs.declared.messages.Report.{Report}
-use Rattle.desk_wire.specs.Bodies.{with_sender_add, with_owner_add, with_gateway_add, with_device_add, with_device_move, with_join_heard, with_frame_heard}
+use Rattle.desk_wire.specs.Bodies.{with_sender_add, with_owner_add, with_gateway_add, with_device_add, with_device_move, with_join_heard, with_frame_heard, with_down_book, with_down_done}
 use Rattle.desk_wire.specs.Hexadecimal.{octet_digits, eui_digits}
 use Rattle.desk_wire.specs.Members.{whole_or_null}
 use Rattle.desk_wire.specs.Roles.{role_name}
 use Rattle.desk_wire.specs.Verdicts.{join_verdict_name}
+use Rattle.desk_wire.specs.Windows.{window_number}
 
 -- the message of a sender to a receiver that reports a frame as a value, its members in byte order of their names
 abbrev pub heard_value : List ℕ → List ℕ → ℕ → List ℕ → Report → Data → Data
@@ -79,6 +80,26 @@ message_value receiver sender transaction (JoinHeard report verdict) =
     heard_value receiver sender transaction (codes "JoinHeard") report (string (join_verdict_name verdict))
 message_value receiver sender transaction (FrameHeard report verdict) =
     heard_value receiver sender transaction (codes "FrameHeard") report (whole_or_null verdict)
+message_value receiver sender transaction (DownBook uplink gateway window octets) = object
+    (member (codes "Gateway") (string gateway)
+    (member (codes "MessageType") (string (codes "DownBook"))
+    (member (codes "PHYPayload") (string (octet_digits octets))
+    (member (codes "ProtocolVersion") (string (codes "1.0"))
+    (member (codes "ReceiverID") (string receiver)
+    (member (codes "SenderID") (string sender)
+    (member (codes "TransactionID") (number (unsigned transaction))
+    (member (codes "Uplink") (number (unsigned uplink))
+    (member (codes "Window") (number (unsigned (window_number window)))
+    no_members)))))))))
+message_value receiver sender transaction (DownDone booking sent) = object
+    (member (codes "Booking") (number (unsigned booking))
+    (member (codes "MessageType") (string (codes "DownDone"))
+    (member (codes "ProtocolVersion") (string (codes "1.0"))
+    (member (codes "ReceiverID") (string receiver)
+    (member (codes "SenderID") (string sender)
+    (member (codes "Sent") (boolean sent)
+    (member (codes "TransactionID") (number (unsigned transaction))
+    no_members)))))))
 
 -- the one text of an envelope for a receiver
 unfoldable pub message_text : List ℕ → Envelope → List ℕ
@@ -93,3 +114,5 @@ with_body (DeviceAdd dev_eui join_eui owner) members = with_device_add dev_eui j
 with_body (DeviceMove dev_eui owner) members = with_device_move dev_eui owner members
 with_body (JoinHeard report verdict) members = with_join_heard report verdict members
 with_body (FrameHeard report verdict) members = with_frame_heard report verdict members
+with_body (DownBook uplink gateway window octets) members = with_down_book uplink gateway window octets members
+with_body (DownDone booking sent) members = with_down_done booking sent members

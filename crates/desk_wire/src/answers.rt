@@ -15,8 +15,9 @@ use std::alloc::{AllocError, Global};
 
 /// The text of the receiver's answer to an envelope: the members of the envelope, with the sender as ReceiverID and
 /// `Ans` behind the MessageType, and Result with ResultCode and Description (LoRaWAN Backend Interfaces 1.0). A join's
-/// success adds Airtime in microseconds, Band, Copy, DevAddr and Uplink, and a data frame's Airtime, Band, Copy, Counter,
-/// DevEUI and Uplink (this project's members).
+/// success adds Airtime in microseconds, Band, Copy, DevAddr and Uplink, a data frame's Airtime, Band, Copy, Counter,
+/// DevEUI and Uplink, and a downlink's Airtime, Band, Booking and Start in microseconds since 1970 UTC (this project's
+/// members).
 #[tactic(auto, unfolding(crate::specs::Answers::answer_text))]
 pub fn write_answer(
     alloc: Global,

@@ -1,17 +1,19 @@
 //! The members of each type: read as a message, and put beside those of the envelope.
 ghost use Rattle.std.specs.Prelude.{◌≡◌, OnOk};
 ghost use Rattle.serde_json.specs.View.{view, members_view};
-ghost use Rattle.desk_wire.specs.Bodies.{sender_add_of, owner_add_of, gateway_add_of, device_add_of, device_move_of, join_heard_of, frame_heard_of, with_sender_add, with_owner_add, with_gateway_add, with_device_add, with_device_move, with_join_heard, with_frame_heard};
+ghost use Rattle.desk_wire.specs.Bodies.{sender_add_of, owner_add_of, gateway_add_of, device_add_of, device_move_of, join_heard_of, frame_heard_of, down_book_of, down_done_of, with_sender_add, with_owner_add, with_gateway_add, with_device_add, with_device_move, with_join_heard, with_frame_heard, with_down_book, with_down_done};
 
 use crate::members::{
-    eui_at, join_verdict_at, name_at, put_eui, put_text, put_u32_or_null, role_at, u32_or_null_at,
+    bool_at, eui_at, join_verdict_at, name_at, octets_at, put_eui, put_octets, put_text,
+    put_u32_or_null, role_at, u32_or_null_at, whole_at, window_at,
 };
 use crate::reports::{put_report, report_of};
 use crate::roles::role_name;
 use crate::verdicts::join_verdict_name;
-use radio_core::{Eui, Name};
-use registry_core::{JoinVerdict, Message, Report, Role};
-use serde_json::{Map, Value};
+use crate::windows::window_number;
+use radio_core::{Eui, Name, Octets};
+use registry_core::{JoinVerdict, Message, Report, Role, Whole, Window};
+use serde_json::{Map, Value, put};
 use std::alloc::{AllocError, Global};
 
 #[tactic(auto, unfolding(crate::specs::Bodies::sender_add_of))]
@@ -78,6 +80,31 @@ pub(crate) fn frame_heard_of(value: &Value) -> Option<Message>
     let report = report_of(value)?;
     let verdict = u32_or_null_at(value, "Verdict")?;
     Some(Message::FrameHeard { report, verdict })
+}
+
+#[tactic(auto, unfolding(crate::specs::Bodies::down_book_of))]
+pub(crate) fn down_book_of(value: &Value) -> Option<Message>
+    ensures { result ≡ down_book_of (view value.now) }
+{
+    let uplink = whole_at(value, "Uplink")?;
+    let gateway = name_at(value, "Gateway")?;
+    let window = window_at(value, "Window")?;
+    let octets = octets_at(value, "PHYPayload")?;
+    Some(Message::DownBook {
+        uplink,
+        gateway,
+        window,
+        octets,
+    })
+}
+
+#[tactic(auto, unfolding(crate::specs::Bodies::down_done_of))]
+pub(crate) fn down_done_of(value: &Value) -> Option<Message>
+    ensures { result ≡ down_done_of (view value.now) }
+{
+    let booking = whole_at(value, "Booking")?;
+    let sent = bool_at(value, "Sent")?;
+    Some(Message::DownDone { booking, sent })
 }
 
 pub(crate) fn put_sender_add(
@@ -167,4 +194,34 @@ pub(crate) fn put_frame_heard(
 {
     put_report(alloc, members, report)?;
     put_u32_or_null(alloc, members, "Verdict", verdict)
+}
+
+pub(crate) fn put_down_book(
+    alloc: Global,
+    members: &mut Map<String, Value>,
+    uplink: Whole,
+    gateway: &Name,
+    window: Window,
+    octets: &Octets,
+) -> Result<(), AllocError>
+    ensures { OnOk result (members_view members.new.entries ≡ with_down_book uplink gateway.now
+        window octets.now (members_view members.old.entries)) }
+{
+    put_text(alloc, members, "Gateway", gateway.as_str())?;
+    put_octets(alloc, members, "PHYPayload", octets)?;
+    put(members, alloc, "Uplink", Value::from(uplink.get()))?;
+    put(members, alloc, "Window", Value::from(window_number(window)))
+}
+
+pub(crate) fn put_down_done(
+    alloc: Global,
+    members: &mut Map<String, Value>,
+    booking: Whole,
+    sent: bool,
+) -> Result<(), AllocError>
+    ensures { OnOk result (members_view members.new.entries ≡ with_down_done booking sent
+        (members_view members.old.entries)) }
+{
+    put(members, alloc, "Booking", Value::from(booking.get()))?;
+    put(members, alloc, "Sent", Value::from(sent))
 }

@@ -18,6 +18,7 @@ mod roles;
 mod tests;
 mod type_names;
 mod verdicts;
+mod windows;
 mod writing;
 
 pub use answers::{write_answer, write_refusal};

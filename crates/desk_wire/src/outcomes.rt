@@ -1,7 +1,7 @@
 //! The members that an answer's success adds: put beside others.
 ghost use Rattle.std.specs.Prelude.{◌≡◌, OnOk};
 ghost use Rattle.serde_json.specs.View.{members_view};
-ghost use Rattle.desk_wire.specs.Outcomes.{with_heard, with_join_success, with_frame_success, with_outcome};
+ghost use Rattle.desk_wire.specs.Outcomes.{with_airtime, with_heard, with_join_success, with_frame_success, with_down_success, with_outcome};
 
 use crate::bands::band_name;
 use crate::members::{put_addr, put_eui, put_text};
@@ -37,6 +37,12 @@ pub(crate) fn put_outcome(
         } => put_frame_success(
             alloc, members, *airtime, *band, *copy, *counter, *dev_eui, *uplink,
         ),
+        Answer::DownSuccess {
+            airtime,
+            band,
+            booking,
+            start,
+        } => put_down_success(alloc, members, *airtime, *band, *booking, *start),
         Answer::Success | Answer::Refused(_) => Ok(()),
     }
 }
@@ -76,6 +82,22 @@ fn put_frame_success(
     put_eui(alloc, members, "DevEUI", dev_eui)
 }
 
+fn put_down_success(
+    alloc: Global,
+    members: &mut Map<String, Value>,
+    airtime: u32,
+    band: Band,
+    booking: u64,
+    start: u64,
+) -> Result<(), AllocError>
+    ensures { OnOk result (members_view members.new.entries
+        ≡ with_down_success airtime band booking start (members_view members.old.entries)) }
+{
+    put_airtime(alloc, members, airtime, band)?;
+    put(members, alloc, "Booking", Value::from(booking))?;
+    put(members, alloc, "Start", Value::from(start))
+}
+
 /// What is answered of every frame that was heard.
 fn put_heard(
     alloc: Global,
@@ -88,8 +110,21 @@ fn put_heard(
     ensures { OnOk result (members_view members.new.entries
         ≡ with_heard airtime band copy uplink (members_view members.old.entries)) }
 {
-    put(members, alloc, "Airtime", Value::from(airtime))?;
-    put_text(alloc, members, "Band", band_name(band))?;
+    put_airtime(alloc, members, airtime, band)?;
     put(members, alloc, "Copy", Value::from(copy))?;
     put(members, alloc, "Uplink", Value::from(uplink))
+}
+
+/// What is answered of every frame on the air.
+fn put_airtime(
+    alloc: Global,
+    members: &mut Map<String, Value>,
+    airtime: u32,
+    band: Band,
+) -> Result<(), AllocError>
+    ensures { OnOk result (members_view members.new.entries
+        ≡ with_airtime airtime band (members_view members.old.entries)) }
+{
+    put(members, alloc, "Airtime", Value::from(airtime))?;
+    put_text(alloc, members, "Band", band_name(band))
 }

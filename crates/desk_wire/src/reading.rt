@@ -4,8 +4,8 @@ ghost use Rattle.serde_json.specs.View.{view};
 ghost use Rattle.desk_wire.specs.Reading.{common_members_of, message_of, envelope_addressed, envelope_of, value_of, reads, Gives};
 
 use crate::bodies::{
-    device_add_of, device_move_of, frame_heard_of, gateway_add_of, join_heard_of, owner_add_of,
-    sender_add_of,
+    device_add_of, device_move_of, down_book_of, down_done_of, frame_heard_of, gateway_add_of,
+    join_heard_of, owner_add_of, sender_add_of,
 };
 use crate::faults::WireFault;
 use crate::heads::Head;
@@ -37,6 +37,8 @@ struct CommonMembers {
 /// | DeviceMove | DevEUI: an EUI; Owner: a name |
 /// | JoinHeard | those of a report; Verdict: `Good` or `Bad` |
 /// | FrameHeard | those of a report; Verdict: a whole number of 32 bits, or `null`, or not there, which is `null` |
+/// | DownBook | Uplink: a whole number of 53 bits; Gateway: a name; Window: 1 or 2; PHYPayload: as of a report |
+/// | DownDone | Booking: a whole number of 53 bits; Sent: `true` or `false` |
 ///
 /// An EUI is a text of 16 hexadecimal digits, the most significant first, in either case, with or without `0x` before
 /// them. The members of a report are Gateway: a name; Time: a whole number of 53 bits, in microseconds since 1970 UTC;
@@ -132,6 +134,8 @@ fn message_of(head: Head, value: &Value) -> Result<Message, WireFault>
         "DeviceMove" => device_move_of(value),
         "JoinHeard" => join_heard_of(value),
         "FrameHeard" => frame_heard_of(value),
+        "DownBook" => down_book_of(value),
+        "DownDone" => down_done_of(value),
         _ => return Err(WireFault::UnknownType(head)),
     };
     message.ok_or(WireFault::BadBody(head))

@@ -8,7 +8,10 @@ pub(crate) fn result_code(answer: &Answer) -> &'static str
     ensures { result.now ≡ result_code answer.now }
 {
     match answer {
-        Answer::Success | Answer::JoinSuccess { .. } | Answer::FrameSuccess { .. } => "Success",
+        Answer::Success
+        | Answer::JoinSuccess { .. }
+        | Answer::FrameSuccess { .. }
+        | Answer::DownSuccess { .. } => "Success",
         Answer::Refused(refusal) => refusal_code(*refusal),
     }
 }
@@ -17,7 +20,10 @@ pub(crate) fn result_description(answer: &Answer) -> &'static str
     ensures { result.now ≡ result_description answer.now }
 {
     match answer {
-        Answer::Success | Answer::JoinSuccess { .. } | Answer::FrameSuccess { .. } => "",
+        Answer::Success
+        | Answer::JoinSuccess { .. }
+        | Answer::FrameSuccess { .. }
+        | Answer::DownSuccess { .. } => "",
         Answer::Refused(refusal) => refusal_description(*refusal),
     }
 }

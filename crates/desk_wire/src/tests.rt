@@ -1,4 +1,5 @@
 //! The worked texts, letter for letter.
+mod downlinks;
 mod frames_heard;
 mod heard;
 

@@ -74,6 +74,8 @@ pub(crate) fn type_name_of(message: &Message) -> TypeName
         Message::DeviceMove { .. } => b"DeviceMove",
         Message::JoinHeard { .. } => b"JoinHeard",
         Message::FrameHeard { .. } => b"FrameHeard",
+        Message::DownBook { .. } => b"DownBook",
+        Message::DownDone { .. } => b"DownDone",
     };
     TypeName::new(text).unwrap()
 }

@@ -4,8 +4,8 @@ ghost use Rattle.serde_json.specs.View.{view, members_view};
 ghost use Rattle.desk_wire.specs.Writing.{message_value, message_text, with_body};
 
 use crate::bodies::{
-    put_device_add, put_device_move, put_frame_heard, put_gateway_add, put_join_heard,
-    put_owner_add, put_sender_add,
+    put_device_add, put_device_move, put_down_book, put_down_done, put_frame_heard,
+    put_gateway_add, put_join_heard, put_owner_add, put_sender_add,
 };
 use crate::members::put_envelope;
 use crate::type_names::type_name_of;
@@ -69,5 +69,12 @@ fn put_body(
         Message::FrameHeard { report, verdict } => put_frame_heard(
             alloc, members, report, *verdict,
         ),
+        Message::DownBook {
+            uplink,
+            gateway,
+            window,
+            octets,
+        } => put_down_book(alloc, members, *uplink, gateway, *window, octets),
+        Message::DownDone { booking, sent } => put_down_done(alloc, members, *booking, *sent),
     }
 }

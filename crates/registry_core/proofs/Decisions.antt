@@ -1,39 +1,48 @@
 -- What a step decides: it adds only what isn't there and names only what is, and a copy books nothing.
-use Rattle.std.proofs.Common.{◌≡◌, Bool, true, false, List, [], ◌∷◌, length, ℕ, ◌+◌, ◌-◌, ◌%◌, Option, Some, None, refl, ap, sym, ◌∙◌, arith, if◌then◌else◌}
+use Rattle.std.proofs.Common.{◌≡◌, Bool, true, false, List, [], ◌∷◌, ◌++◌, length, ℕ, ◌+◌, ◌≤◌, ◌-◌, ◌%◌, Option, Some, None, refl, ap, sym, ◌∙◌, arith, if◌then◌else◌}
 use Rattle.std.specs.Prelude.{not, ◌==◌, ◌&&◌, IsTrue, Ok, Err, is_some, is_none, nat_le, nat_lt, bytes_eq, option_and_then, option_map}
-use Rattle.std.proofs.lemmas.Bool.{ltb-true, and_parts}
+use Rattle.std.proofs.lemmas.Bool.{leb-true, ltb-true, and_parts}
 use Rattle.std.proofs.lemmas.Bool.Decides.{nat_tests}
 use Rattle.radio_core.specs.declared.bands.Band.{Band}
 use Rattle.radio_core.specs.declared.data_rates.DataRate.{DataRate}
-use Rattle.radio_core.specs.Bands.{band_at}
+use Rattle.radio_core.specs.Bands.{band_at, limit_of}
 use Rattle.radio_core.specs.Counters.{is_candidate}
 use Rattle.radio_core.specs.DataRates.{max_length}
 use Rattle.radio_core.specs.Frames.{frame_of}
-use Rattle.registry_core.specs.declared.answers.Answer.TheVariants.{Success}
+use Rattle.duty_core.specs.Computed.{is_clear, hours_within}
+use Rattle.duty_core.specs.Use.{Interval}
+use Rattle.registry_core.specs.declared.answers.Answer.TheVariants.{Success, Refused}
 use Rattle.registry_core.specs.declared.answers.Refusal.{Refusal}
-use Rattle.registry_core.specs.declared.answers.Refusal.TheVariants.{WrongRole, Exists, UnknownOwner, UnknownGateway, UnknownDevEui, UnknownDevAddr, BadFrame, OutOfBand, MicFailed, JoinEui, Nonce, Addresses, Replayed, Late, Gap, SessionEnded, Time}
+use Rattle.registry_core.specs.declared.answers.Refusal.TheVariants.{WrongRole, Exists, UnknownOwner, UnknownGateway, UnknownDevEui, UnknownDevAddr, BadFrame, OutOfBand, MicFailed, JoinEui, Nonce, Addresses, Replayed, Late, Gap, SessionEnded, NoUplink, DownCounter, Collision, Duty, Answered, NoBooking, Done, Time}
 use Rattle.registry_core.specs.declared.effects.Effect.{Effect}
-use Rattle.registry_core.specs.declared.effects.Effect.TheVariants.{Nothing, AddsSender, AddsOwner, AddsGateway, AddsDevice, MovesDevice, AddsSession, AddsUplink, AddsCopy}
+use Rattle.registry_core.specs.declared.effects.Effect.TheVariants.{Nothing, AddsSender, AddsOwner, AddsGateway, AddsDevice, MovesDevice, AddsSession, AddsUplink, AddsCopy, AddsBooking, EndsBooking}
 use Rattle.registry_core.specs.declared.facts.Device.{Device}
+use Rattle.registry_core.specs.declared.facts.Kind.{Kind}
 use Rattle.registry_core.specs.declared.facts.Kind.TheVariants.{Join, Data}
 use Rattle.registry_core.specs.declared.facts.Reception.{Reception}
 use Rattle.registry_core.specs.declared.facts.Session.{Session}
+use Rattle.registry_core.specs.declared.facts.Standing.{Standing}
+use Rattle.registry_core.specs.declared.facts.Standing.TheVariants.{Booked, Sent, Dropped}
 use Rattle.registry_core.specs.declared.facts.Uplink.{Uplink}
 use Rattle.registry_core.specs.declared.frames.DataFrame.{DataFrame}
+use Rattle.registry_core.specs.declared.frames.Downlink.{Downlink}
 use Rattle.registry_core.specs.declared.frames.JoinRequest.{JoinRequest}
 use Rattle.registry_core.specs.declared.messages.Envelope.{Envelope}
 use Rattle.registry_core.specs.declared.messages.JoinVerdict.{JoinVerdict}
 use Rattle.registry_core.specs.declared.messages.Message.{Message}
-use Rattle.registry_core.specs.declared.messages.Message.TheVariants.{SenderAdd, OwnerAdd, GatewayAdd, DeviceAdd, DeviceMove, JoinHeard, FrameHeard}
+use Rattle.registry_core.specs.declared.messages.Message.TheVariants.{SenderAdd, OwnerAdd, GatewayAdd, DeviceAdd, DeviceMove, JoinHeard, FrameHeard, DownBook, DownDone}
 use Rattle.registry_core.specs.declared.messages.Report.{Report}
 use Rattle.registry_core.specs.declared.messages.Role.{Role}
+use Rattle.registry_core.specs.declared.windows.Window.{Window}
+use Rattle.registry_core.specs.Bookings.{downlinks, downlinks_in, is_answered, is_booked, next_down}
 use Rattle.registry_core.specs.Checks.{Checked, ◌>>=◌, ◌>>◌, wants, needs, unless}
 use Rattle.registry_core.specs.Administration.{is_operator, sender_add, owner_add, gateway_add, device_add, device_move}
 use Rattle.registry_core.specs.Decision.{Decision, decision_or_refusal}
 use Rattle.registry_core.specs.Derived.{address_of, data_with, is_above, is_below, is_below_floor, is_data_with, is_join_with, join_with, last_counter, last_nonce, session_with}
 use Rattle.registry_core.specs.DataFrames.{original_data, data_copied, data_added, frame_heard}
-use Rattle.registry_core.specs.Frames.{data_up, frame_at, join_request}
-use Rattle.registry_core.specs.Fits.{Fits, SessionFits, UplinkFits, DecisionsFit}
+use Rattle.registry_core.specs.Frames.{counts_as, data_up, downlink_to, frame_at, goes_to, join_request}
+use Rattle.registry_core.specs.Fits.{Fits, BookingFits, SessionFits, UplinkFits, DecisionsFit}
+use Rattle.registry_core.specs.Downlinks.{down_added, down_book, down_done, on_air}
 use Rattle.registry_core.specs.Heard.{state_after, state_of}
 use Rattle.registry_core.specs.Laws.{tells_copy}
 use Rattle.registry_core.specs.Joins.{is_good, original_join, join_copied, join_added, join_heard}
@@ -41,21 +50,25 @@ use Rattle.registry_core.specs.Numbered.{item_at}
 use Rattle.registry_core.specs.Settings.{Settings}
 use Rattle.registry_core.specs.State.{State, next_uplink, opening}
 use Rattle.registry_core.specs.Step.{checked_decision, decision_of, step}
-use Rattle.registry_core.specs.Uplinks.{is_time, copy_added, same_octets, uplink_of}
-use Rattle.registry_core.proofs.HeardStates.{IsSound, IsAllowed, opening_sound, change_sound}
+use Rattle.registry_core.specs.Uplinks.{is_time, copy_added, reception_of, same_octets, uplink_of}
+use Rattle.registry_core.specs.Windows.{delay, rate_in}
+use Rattle.registry_core.proofs.HeardStates.{IsSound, IsAllowed, IsInBand, IsTimeDown, opening_sound, change_sound}
 use Rattle.registry_core.proofs.Items.{first_is, item_within, some_is}
 
 -- ---- what every decision is
 
--- it adds no session and no uplink
+-- it adds no session, no uplink and no booking, and ends none
 abbrev pub BooksNothing : Effect → Type 0
 BooksNothing (AddsSession session u gateway reception) = ⊥
 BooksNothing (AddsUplink u gateway reception) = ⊥
+BooksNothing (AddsBooking booking) = ⊥
+BooksNothing (EndsBooking number sent) = ⊥
 BooksNothing effect = Unit {0}
 
 pub record IsDecision (c : Settings) (s : State) (d : Decision) : Type 0 where
   pub allowed : IsAllowed c s d.0
   pub copy : IsTrue (tells_copy d.1) → BooksNothing d.0
+  pub refusal : (r : Refusal) → d.1 ≡ Refused r → d.0 ≡ Nothing
 
 Decides : Settings → State → Checked Decision → Type 0
 Decides c s checked = IsDecision c s (decision_or_refusal checked)
@@ -64,7 +77,7 @@ Decides c s checked = IsDecision c s (decision_or_refusal checked)
 
 refused : (c : Settings) (s : State) (r : Refusal) → Decides c s (Err r)
 unfolding Decides
-refused c s r = record { allowed = tt; copy = λ h. cc }
+refused c s r = record { allowed = tt; copy = λ h. cc; refusal = λ x h. refl }
 
 after_wants : (c : Settings) (s : State) (b : Bool) (r : Refusal) (rest : Checked Decision) → (b ≡ true → Decides c s rest) → Decides c s (wants b r >> rest)
 after_wants c s true r rest h = h refl
@@ -78,7 +91,7 @@ after_needs c s None r rest h = refused c s r
 
 succeeds : (c : Settings) (s : State) (effect : Effect) → IsAllowed c s effect → Decides c s (Ok (effect, Success))
 unfolding Decides
-succeeds c s effect k = record { allowed = k; copy = λ h. cc }
+succeeds c s effect k = record { allowed = k; copy = λ h. cc; refusal = λ x h. cc }
 
 is_absent : {X : Type 0} (x : Option X) → is_none x ≡ true → x ≡ None
 is_absent None h = refl
@@ -137,11 +150,11 @@ no_copy c s gateway None h e = refl
 no_copy c s gateway (Some r) h e = absurd (omega (arith, h.of_uplinks (next_uplink s) gateway r e))
 
 added_decides : (c : Settings) (s : State) (report : Report) (join : JoinRequest) (device : Device) (band : Band) → IsSound c s → s.gateways report.gateway ≡ true → s.devices join.dev_eui ≡ Some device
-    → Decides c s (join_added c s report join band)
+    → IsInBand (reception_of report) → Decides c s (join_added c s report join band)
 unfolding join_added Decides
-added_decides c s report join device band h gateway there =
+added_decides c s report join device band h gateway there lies =
     after_wants c s (is_above join.nonce (last_nonce s join.dev_eui)) Nonce _ (λ above.
-    after_wants c s (nat_lt (length s.sessions) c.addresses) Addresses _ (λ room. record { allowed = (fits above, ltb-true (length s.sessions) c.addresses room); copy = λ k. cc }))
+    after_wants c s (nat_lt (length s.sessions) c.addresses) Addresses _ (λ room. record { allowed = (fits above, ltb-true (length s.sessions) c.addresses room, lies); copy = λ k. cc; refusal = λ x h. cc }))
   where
     fits : is_above join.nonce (last_nonce s join.dev_eui) ≡ true
         → SessionFits (record { device = join.dev_eui; nonce = join.nonce }) (uplink_of report (length s.sessions + 1) Join join.nonce band) report.gateway s
@@ -156,9 +169,9 @@ added_decides c s report join device band h gateway there =
     }
 
 copied_fits : (c : Settings) (s : State) (report : Report) (found : ℕ × Uplink) (at : Option Reception) → s.gateways report.gateway ≡ true → item_at s.uplinks found.0 ≡ Some found.1
-    → s.copies found.0 report.gateway ≡ at → IsAllowed c s (copy_added found.0 at report)
-copied_fits c s report found (Some r) gateway there is = tt
-copied_fits c s report found None gateway there is = record { uplink = is_there (item_at s.uplinks found.0) found.1 there; gateway = gateway; no_copy = is }
+    → IsInBand (reception_of report) → s.copies found.0 report.gateway ≡ at → IsAllowed c s (copy_added found.0 at report)
+copied_fits c s report found (Some r) gateway there lies is = tt
+copied_fits c s report found None gateway there lies is = (record { uplink = is_there (item_at s.uplinks found.0) found.1 there; gateway = gateway; no_copy = is }, lies)
 
 -- a copy is one of an uplink that is there
 copied_is : (join : Option (ℕ × Uplink)) (octets : List ℕ) (found : ℕ × Uplink)
@@ -179,14 +192,15 @@ copy_books number (Some r) report = tt
 copy_books number None report = tt
 
 ended_decides : (c : Settings) (s : State) (report : Report) (join : JoinRequest) (device : Device) (band : Band) (found : Option (ℕ × Uplink)) → IsSound c s → s.gateways report.gateway ≡ true
-    → s.devices join.dev_eui ≡ Some device → original_join s join report.octets ≡ found
+    → s.devices join.dev_eui ≡ Some device → IsInBand (reception_of report) → original_join s join report.octets ≡ found
     → Decides c s (unless found (join_copied c s report) (join_added c s report join band))
 unfolding Decides
-ended_decides c s report join device band None h gateway there is = added_decides c s report join device band h gateway there
-ended_decides c s report join device band (Some found) h gateway there is =
+ended_decides c s report join device band None h gateway there lies is = added_decides c s report join device band h gateway there lies
+ended_decides c s report join device band (Some found) h gateway there lies is =
     record {
-      allowed = copied_fits c s report found (s.copies found.0 report.gateway) gateway (uplink_there s join report.octets found is) refl;
+      allowed = copied_fits c s report found (s.copies found.0 report.gateway) gateway (uplink_there s join report.octets found is) lies refl;
       copy = λ k. copy_books found.0 (s.copies found.0 report.gateway) report;
+      refusal = λ x h. cc;
     }
 
 join_decides : (c : Settings) (s : State) (report : Report) (verdict : JoinVerdict) → IsSound c s → Decides c s (join_heard c s report verdict)
@@ -195,11 +209,12 @@ join_decides c s report verdict h =
     after_wants c s (is_time report.time) Time _ (λ _.
     after_wants c s (s.gateways report.gateway) UnknownGateway _ (λ gateway.
     after_needs c s (join_request (frame_at report.rate.dr report.octets)) BadFrame _ (λ join _.
-    after_needs c s (band_at report.rate.freq report.rate.dr) OutOfBand _ (λ band _.
+    after_needs c s (band_at report.rate.freq report.rate.dr) OutOfBand _ (λ band lies.
     after_needs c s (s.devices join.dev_eui) UnknownDevEui _ (λ device there.
     after_wants c s (device.join_eui == join.join_eui) JoinEui _ (λ _.
     after_wants c s (is_good verdict) MicFailed _ (λ _.
-    ended_decides c s report join device band (original_join s join report.octets) h gateway there refl)))))))
+    ended_decides c s report join device band (original_join s join report.octets) h gateway there
+    (is_there (band_at report.rate.freq report.rate.dr) band lies) refl)))))))
 
 -- ---- a data frame
 
@@ -231,15 +246,15 @@ candidate_is (Some n) low counter h =
     ((and_parts _ _ edges).0, low_bits counter low (number_told (counter % 65536) low (and_parts _ _ front).1))
 
 data_added_decides : (c : Settings) (s : State) (report : Report) (frame : DataFrame) (session : ℕ × Session) (counter : ℕ) (band : Band) → IsSound c s → s.gateways report.gateway ≡ true
-    → data_up (frame_of report.octets) ≡ Some frame → session_with c s frame.addr ≡ Some session
+    → data_up (frame_of report.octets) ≡ Some frame → session_with c s frame.addr ≡ Some session → IsInBand (reception_of report)
     → Decides c s (data_added s report frame session.0 session.1.device counter band)
 unfolding data_added Decides
-data_added_decides c s report frame session counter band h gateway is at =
+data_added_decides c s report frame session counter band h gateway is at lies =
     after_wants c s (not (is_below_floor s session.1.device session.0)) SessionEnded _ (λ _.
     after_wants c s (is_none (data_with s session.0 counter)) Replayed _ (λ _.
     after_wants c s (not (is_below counter (last_counter s session.0))) Late _ (λ _.
     after_wants c s (is_candidate (last_counter s session.0) frame.fcnt counter) Gap _ (λ follows.
-    record { allowed = (fits_new follows, (frame, is, there.1, (candidate_is (last_counter s session.0) frame.fcnt counter follows).1)); copy = λ k. cc }))))
+    record { allowed = (fits_new follows, (frame, is, there.1, (candidate_is (last_counter s session.0) frame.fcnt counter follows).1), lies); copy = λ k. cc; refusal = λ x h. cc }))))
   where
     there : (item_at s.sessions session.0 ≡ Some session.1) × (frame.addr ≡ address_of c session.0)
     there = session_there c s frame.addr session at
@@ -258,13 +273,14 @@ unfolding original_data data_with
 data_there s session counter octets found e = (first_is (is_data_with session counter) s.uplinks found (copied_is _ octets found e)).0
 
 frame_ended : (c : Settings) (s : State) (report : Report) (frame : DataFrame) (session : ℕ × Session) (counter : ℕ) (band : Band) (found : Option (ℕ × Uplink)) → IsSound c s → s.gateways report.gateway ≡ true
-    → data_up (frame_of report.octets) ≡ Some frame → session_with c s frame.addr ≡ Some session → original_data s session.0 counter report.octets ≡ found
+    → data_up (frame_of report.octets) ≡ Some frame → session_with c s frame.addr ≡ Some session → IsInBand (reception_of report) → original_data s session.0 counter report.octets ≡ found
     → Decides c s (unless found (data_copied s report session.1.device counter) (data_added s report frame session.0 session.1.device counter band))
 unfolding Decides
-frame_ended c s report frame session counter band None h gateway told at is = data_added_decides c s report frame session counter band h gateway told at
-frame_ended c s report frame session counter band (Some found) h gateway told at is = record {
-  allowed = copied_fits c s report found (s.copies found.0 report.gateway) gateway (data_there s session.0 counter report.octets found is) refl;
+frame_ended c s report frame session counter band None h gateway told at lies is = data_added_decides c s report frame session counter band h gateway told at lies
+frame_ended c s report frame session counter band (Some found) h gateway told at lies is = record {
+  allowed = copied_fits c s report found (s.copies found.0 report.gateway) gateway (data_there s session.0 counter report.octets found is) lies refl;
   copy = λ k. copy_books found.0 (s.copies found.0 report.gateway) report;
+  refusal = λ x h. cc;
 }
 
 -- a frame that its data rate carries is what its octets are
@@ -279,11 +295,62 @@ frame_decides c s report verdict h =
     after_wants c s (is_time report.time) Time _ (λ _.
     after_wants c s (s.gateways report.gateway) UnknownGateway _ (λ gateway.
     after_needs c s (data_up (frame_at report.rate.dr report.octets)) BadFrame _ (λ frame told.
-    after_needs c s (band_at report.rate.freq report.rate.dr) OutOfBand _ (λ band _.
+    after_needs c s (band_at report.rate.freq report.rate.dr) OutOfBand _ (λ band lies.
     after_needs c s (session_with c s frame.addr) UnknownDevAddr _ (λ session at.
     after_needs c s verdict MicFailed _ (λ counter _.
     frame_ended c s report frame session counter band (original_data s session.0 counter report.octets) h gateway
-    (carried report.rate.dr report.octets frame _ refl told) at refl))))))
+    (carried report.rate.dr report.octets frame _ refl told) at
+    (is_there (band_at report.rate.freq report.rate.dr) band lies) refl))))))
+
+-- ---- a downlink
+
+-- a downlink that its data rate carries isn't longer than that allows
+pub carried_down : (kind : Kind) (dr : DataRate) (octets : List ℕ) (down : Downlink) (b : Bool) → nat_le (length octets) (max_length dr) ≡ b
+    → downlink_to kind (if b then frame_of octets else None) ≡ Some down → length octets ≤ max_length dr
+carried_down kind dr octets down true is e = leb-true (length octets) (max_length dr) is
+carried_down Join dr octets down false is e = cc
+carried_down Data dr octets down false is e = cc
+
+down_added_decides : (c : Settings) (s : State) (number : ℕ) (gateway : List ℕ) (band : Band) (start : ℕ) (span : Interval) (uplink : Uplink) (copy : Reception) → s.gateways gateway ≡ true
+    → item_at s.uplinks number ≡ Some uplink → s.copies number gateway ≡ Some copy → IsTimeDown span.len → Decides c s (down_added s number gateway band start span)
+unfolding down_added Decides
+down_added_decides c s number gateway band start span uplink copy known there heard time =
+    after_wants c s (is_clear (downlinks s gateway) span) Collision _ (λ _.
+    after_wants c s (hours_within (downlinks_in s gateway band ++ span ∷ []) (limit_of band)) Duty _ (λ within. record { allowed = (fits_new, time, within); copy = λ k. cc; refusal = λ x h. cc }))
+  where
+    fits_new : BookingFits (record { uplink = number; gateway = gateway; band = band; span = span; standing = Booked }) s
+    fits_new = record {
+      uplink = is_there (item_at s.uplinks number) uplink there;
+      gateway = known;
+      copy = is_there (s.copies number gateway) copy heard;
+      standing = refl;
+    }
+
+book_decides : (c : Settings) (s : State) (number : ℕ) (gateway : List ℕ) (window : Window) (octets : List ℕ) → Decides c s (down_book c s number gateway window octets)
+unfolding down_book
+book_decides c s number gateway window octets =
+    after_wants c s (s.gateways gateway) UnknownGateway _ (λ known.
+    after_needs c s (item_at s.uplinks number) NoUplink _ (λ uplink there.
+    after_needs c s (s.copies number gateway) NoUplink _ (λ copy heard.
+    after_needs c s (downlink_to uplink.kind (frame_at (rate_in window copy.rate).dr octets)) BadFrame _ (λ down told.
+    after_wants c s (goes_to (address_of c uplink.session) down) UnknownDevAddr _ (λ _.
+    after_wants c s (not (is_answered s number)) Answered _ (λ _.
+    after_wants c s (counts_as (next_down s uplink.session) down) DownCounter _ (λ _.
+    after_needs c s (band_at (rate_in window copy.rate).freq (rate_in window copy.rate).dr) OutOfBand _ (λ band _.
+    down_added_decides c s number gateway band (copy.end + delay uplink.kind window) (on_air (copy.end + delay uplink.kind window) (rate_in window copy.rate) octets) uplink copy known there heard
+    ((rate_in window copy.rate).dr, length octets, carried_down uplink.kind (rate_in window copy.rate).dr octets down _ refl told, refl)))))))))
+
+is_booked_told : (standing : Standing) → is_booked standing ≡ true → standing ≡ Booked
+is_booked_told Booked h = refl
+is_booked_told Sent h = cc
+is_booked_told Dropped h = cc
+
+done_decides : (c : Settings) (s : State) (number : ℕ) (sent : Bool) → Decides c s (down_done s number sent)
+unfolding down_done
+done_decides c s number sent =
+    after_needs c s (item_at s.bookings number) NoBooking _ (λ booking there.
+    after_wants c s (is_booked booking.standing) Done _ (λ booked.
+    succeeds c s (EndsBooking number sent) (record { booking = booking; there = there; standing = is_booked_told booking.standing booked })))
 
 -- ---- each message
 
@@ -295,6 +362,8 @@ decides c s e (DeviceAdd dev_eui join_eui owner) h = device_decides c s e dev_eu
 decides c s e (DeviceMove dev_eui owner) h = move_decides c s e dev_eui owner
 decides c s e (JoinHeard report verdict) h = join_decides c s report verdict h
 decides c s e (FrameHeard report verdict) h = frame_decides c s report verdict h
+decides c s e (DownBook uplink gateway window octets) h = book_decides c s uplink gateway window octets
+decides c s e (DownDone booking sent) h = done_decides c s booking sent
 
 pub is_decision : (c : Settings) (s : State) (e : Envelope) → IsSound c s → IsDecision c s (decision_of c s e)
 unfolding Decides
@@ -318,7 +387,9 @@ fits c s (AddsDevice dev_eui device) k = k
 fits c s (MovesDevice dev_eui owner) k = k
 fits c s (AddsSession session u gateway reception) k = k.0
 fits c s (AddsUplink u gateway reception) k = k.0
-fits c s (AddsCopy number gateway reception) k = k
+fits c s (AddsCopy number gateway reception) k = k.0
+fits c s (AddsBooking booking) k = k.0
+fits c s (EndsBooking number sent) k = k
 
 pub decisions_fit : DecisionsFit
 decisions_fit c heard e list = fits c (state_of c heard) (decision_of c (state_of c heard) e).0 (is_decision c (state_of c heard) e (sound_of c heard)).allowed

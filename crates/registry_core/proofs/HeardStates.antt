@@ -1,24 +1,30 @@
 -- What holds of the registry after every list of messages.
 use Rattle.std.proofs.Common.{◌≡◌, ℕ, ◌+◌, ◌%◌, ◌<◌, ◌≤◌, List, [], ◌∷◌, ◌++◌, length, map, filter, Bool, true, false, Option, Some, None, refl, sym, ◌∙◌, ap, subst, arith, inl, inr}
-use Rattle.std.specs.Prelude.{◌⊎◌, ◌==◌, bytes_eq, is_some}
+use Rattle.std.specs.Prelude.{◌⊎◌, ◌==◌, bytes_eq, is_some, IsTrue}
 use Rattle.std.proofs.lemmas.Bool.Decides.{nat_tests}
 use Rattle.std.proofs.lemmas.Slice.Eq.{bytes_eq-Decides}
+use Rattle.radio_core.specs.declared.data_rates.DataRate.{DataRate}
+use Rattle.radio_core.specs.Bands.{band_at, limit_of}
+use Rattle.radio_core.specs.DataRates.{max_length}
 use Rattle.radio_core.specs.Frames.{frame_of}
+use Rattle.radio_core.specs.TimeOnAir.{airtime_of}
+use Rattle.duty_core.specs.Computed.{hours_within}
 use Rattle.registry_core.specs.declared.effects.Effect.{Effect}
-use Rattle.registry_core.specs.declared.effects.Effect.TheVariants.{Nothing, AddsSender, AddsOwner, AddsGateway, AddsDevice, MovesDevice, AddsSession, AddsUplink, AddsCopy}
+use Rattle.registry_core.specs.declared.effects.Effect.TheVariants.{Nothing, AddsSender, AddsOwner, AddsGateway, AddsDevice, MovesDevice, AddsSession, AddsUplink, AddsCopy, AddsBooking, EndsBooking}
 use Rattle.registry_core.specs.declared.facts.Kind.{Kind}
 use Rattle.registry_core.specs.declared.facts.Kind.TheVariants.{Join, Data}
 use Rattle.registry_core.specs.declared.facts.Reception.{Reception}
 use Rattle.registry_core.specs.declared.facts.Session.{Session}
 use Rattle.registry_core.specs.declared.facts.Uplink.{Uplink}
 use Rattle.registry_core.specs.declared.frames.DataFrame.{DataFrame}
+use Rattle.registry_core.specs.Bookings.{downlinks_in}
 use Rattle.registry_core.specs.Derived.{address_of, is_above, is_data_of, is_session_of, last_counter, last_nonce}
 use Rattle.registry_core.specs.Frames.{data_up}
 use Rattle.registry_core.specs.Fits.{Fits}
 use Rattle.registry_core.specs.Numbered.{item_at, greatest}
 use Rattle.registry_core.specs.Settings.{Settings}
 use Rattle.registry_core.specs.State.{State, at_name, at_number, next_uplink, opening, state_with}
-use Rattle.registry_core.proofs.Items.{above_each, never_both, item_last, item_new, item_stays, item_within, longer}
+use Rattle.registry_core.proofs.Items.{above_each, never_both, item_last, item_new, item_stays, item_within, longer, some_is}
 
 -- ---- nonces rise
 
@@ -81,19 +87,32 @@ IsFrameOf c u = (frame : DataFrame) × (data_up (frame_of u.octets) ≡ Some fra
 
 -- ---- what every state keeps
 
-abbrev IsCopied : State → ℕ → Type 0
-IsCopied s n = (gateway : List ℕ) × (reception : Reception) × (s.copies n gateway ≡ Some reception)
+abbrev HasCopy : (ℕ → List ℕ → Option Reception) → ℕ → Type 0
+HasCopy copies n = (gateway : List ℕ) × (reception : Reception) × (copies n gateway ≡ Some reception)
 
-pub record IsSound (c : Settings) (s : State) : Type 0 where
-  pub block : length s.sessions ≤ c.addresses
-  pub nonces : NoncesRise s.sessions
-  pub sessions : (n : ℕ) (u : Uplink) → item_at s.uplinks n ≡ Some u → (1 ≤ u.session) × (u.session ≤ length s.sessions)
-  pub copied : (n : ℕ) (u : Uplink) → item_at s.uplinks n ≡ Some u → IsCopied s n
-  pub joins : JoinsAreApart s.uplinks
-  pub join_nonces : (n : ℕ) (u : Uplink) → item_at s.uplinks n ≡ Some u → u.kind ≡ Join → HasNonce s.sessions u
-  pub counters : CountersRise s.uplinks
-  pub frames : (n : ℕ) (u : Uplink) → item_at s.uplinks n ≡ Some u → u.kind ≡ Data → IsFrameOf c u
-  pub of_uplinks : (n : ℕ) (gateway : List ℕ) (reception : Reception) → s.copies n gateway ≡ Some reception → n ≤ length s.uplinks
+-- what the gateway received lies in a band
+abbrev pub IsInBand : Reception → Type 0
+IsInBand reception = IsTrue (is_some (band_at reception.rate.freq reception.rate.dr))
+
+-- a time on air of a downlink that its data rate carries
+abbrev pub IsTimeDown : ℕ → Type 0
+IsTimeDown time = (dr : DataRate) × (n : ℕ) × (n ≤ max_length dr) × (time ≡ airtime_of dr n false)
+
+pub record IsSoundOf (c : Settings) (all_sessions : List Session) (uplinks : List Uplink) (copies : ℕ → List ℕ → Option Reception) : Type 0 where
+  pub block : length all_sessions ≤ c.addresses
+  pub nonces : NoncesRise all_sessions
+  pub sessions : (n : ℕ) (u : Uplink) → item_at uplinks n ≡ Some u → (1 ≤ u.session) × (u.session ≤ length all_sessions)
+  pub copied : (n : ℕ) (u : Uplink) → item_at uplinks n ≡ Some u → HasCopy copies n
+  pub joins : JoinsAreApart uplinks
+  pub join_nonces : (n : ℕ) (u : Uplink) → item_at uplinks n ≡ Some u → u.kind ≡ Join → HasNonce all_sessions u
+  pub counters : CountersRise uplinks
+  pub frames : (n : ℕ) (u : Uplink) → item_at uplinks n ≡ Some u → u.kind ≡ Data → IsFrameOf c u
+  pub of_uplinks : (n : ℕ) (gateway : List ℕ) (reception : Reception) → copies n gateway ≡ Some reception → n ≤ length uplinks
+  pub in_bands : (n : ℕ) (gateway : List ℕ) (reception : Reception) → copies n gateway ≡ Some reception → IsInBand reception
+
+-- of the state nothing else is asked
+abbrev pub IsSound : Settings → State → Type 0
+IsSound c s = IsSoundOf c s.sessions s.uplinks s.copies
 
 pub opening_sound : (c : Settings) → IsSound c (opening c)
 opening_sound c = record {
@@ -106,12 +125,17 @@ opening_sound c = record {
   counters = λ m n u v em en du dv same lt. absurd (omega (arith, item_within [] m u em));
   frames = λ n u e d. absurd (omega (arith, item_within [] n u e));
   of_uplinks = λ n gateway reception e. cc;
+  in_bands = λ n gateway reception e. cc;
 }
 
--- what a change may be: it fits, a session has an address, and a data uplink is one of its frames
+-- What a change may be: it fits; a session has an address, and a data uplink is one of its frames; copies lie in bands;
+-- and a booking has a downlink's time on air, and keeps every hour within the limit.
 abbrev pub IsAllowed : Settings → State → Effect → Type 0
-IsAllowed c s (AddsSession session uplink gateway reception) = Fits (AddsSession session uplink gateway reception) s × (length s.sessions < c.addresses)
-IsAllowed c s (AddsUplink uplink gateway reception) = Fits (AddsUplink uplink gateway reception) s × IsFrameOf c uplink
+IsAllowed c s (AddsSession session uplink gateway reception) = Fits (AddsSession session uplink gateway reception) s × (length s.sessions < c.addresses) × IsInBand reception
+IsAllowed c s (AddsUplink uplink gateway reception) = Fits (AddsUplink uplink gateway reception) s × IsFrameOf c uplink × IsInBand reception
+IsAllowed c s (AddsCopy number gateway reception) = Fits (AddsCopy number gateway reception) s × IsInBand reception
+IsAllowed c s (AddsBooking booking) = Fits (AddsBooking booking) s × IsTimeDown booking.span.len
+    × IsTrue (hours_within (downlinks_in s booking.gateway booking.band ++ booking.span ∷ []) (limit_of booking.band))
 IsAllowed c s effect = Fits effect s
 
 -- ---- one more copy
@@ -125,13 +149,10 @@ bytes_self a = (bytes_eq-Decides a a).1 refl
 copies_with : (ℕ → List ℕ → Option Reception) → ℕ → List ℕ → Reception → ℕ → List ℕ → Option Reception
 copies_with copies number gateway reception = at_number copies number (at_name (copies number) gateway (Some reception))
 
-HasCopy : (ℕ → List ℕ → Option Reception) → ℕ → Type 0
-HasCopy copies n = (gateway : List ℕ) × (reception : Reception) × (copies n gateway ≡ Some reception)
-
 -- what had a copy has one, and so does the number
 copy_stays : (copies : ℕ → List ℕ → Option Reception) (number : ℕ) (gateway : List ℕ) (reception : Reception) (n : ℕ) (b : Bool) → (n == number) ≡ b
     → HasCopy copies n ⊎ (n ≡ number) → HasCopy (copies_with copies number gateway reception) n
-unfolding HasCopy copies_with
+unfolding copies_with
 copy_stays copies number gateway reception n true is either = (gateway, reception, rw (is, bytes_self gateway) refl)
 copy_stays copies number gateway reception n false is (inl old) = (old.0, old.1, rw is old.2)
 copy_stays copies number gateway reception n false is (inr same) = never_both (n == number) (number_tells n number same) is
@@ -143,11 +164,28 @@ unfolding copies_with
 copy_was copies number gateway reception n at r true is e = inr (number_told n number is)
 copy_was copies number gateway reception n at r false is e = inl (rw is at e)
 
+-- where what is put at a name is met, it is that or what was there
+put_was : (f : List ℕ → Option Reception) (gateway : List ℕ) (reception : Reception) (at : List ℕ) (r : Reception) (b : Bool) → bytes_eq at gateway ≡ b
+    → at_name f gateway (Some reception) at ≡ Some r → (f at ≡ Some r) ⊎ (reception ≡ r)
+put_was f gateway reception at r true is e = inr (some_is reception r (rw is at e))
+put_was f gateway reception at r false is e = inl (rw is at e)
+
+-- what holds of the new copy, and held of all, holds of all
+each_copy : (P : Reception → Type 0) (copies : ℕ → List ℕ → Option Reception) (number : ℕ) (gateway : List ℕ) (reception : Reception) (n : ℕ) (at : List ℕ) (r : Reception) (b : Bool)
+    → ((n : ℕ) (at : List ℕ) (r : Reception) → copies n at ≡ Some r → P r) → P reception → (n == number) ≡ b → copies_with copies number gateway reception n at ≡ Some r → P r
+unfolding copies_with
+each_copy P copies number gateway reception n at r true all new is e = by_name (put_was (copies number) gateway reception at r (bytes_eq at gateway) refl (rw is at e))
+  where
+    by_name : (copies number at ≡ Some r) ⊎ (reception ≡ r) → P r
+    by_name (inl old) = all number at r old
+    by_name (inr same) = subst P same new
+each_copy P copies number gateway reception n at r false all new is e = all n at r (rw is at e)
+
 -- ---- each change keeps it
 
 session_sound : (c : Settings) (s : State) (session : Session) (u : Uplink) (gateway : List ℕ) (reception : Reception) → IsSound c s → IsAllowed c s (AddsSession session u gateway reception)
     → IsSound c (state_with s (AddsSession session u gateway reception))
-unfolding last_nonce HasCopy copies_with
+unfolding last_nonce copies_with
 session_sound c s session u gateway reception h k = record {
   block = omega (arith, longer s.sessions session, k.1);
   nonces = nonces_rise_with s.sessions session h.nonces k.0.nonce;
@@ -158,6 +196,7 @@ session_sound c s session u gateway reception h k = record {
   counters = counters_rise_with s.uplinks u h.counters (λ n v there d _ _. never_kinds u.kind k.0.kind d);
   frames = λ n v e d. frame n v d (item_last s.uplinks u n v e);
   of_uplinks = λ n at r e. within n at r (copy_was s.copies (next_uplink s) gateway reception n at r (n == next_uplink s) refl e);
+  in_bands = λ n at r e. each_copy IsInBand s.copies (next_uplink s) gateway reception n at r (n == next_uplink s) h.in_bands k.2 refl e;
 }
   where
     nonce : (n : ℕ) (v : Uplink) → v.kind ≡ Join → (item_at s.uplinks n ≡ Some v) ⊎ ((n ≡ length s.uplinks + 1) × (u ≡ v)) → HasNonce (s.sessions ++ session ∷ []) v
@@ -173,7 +212,7 @@ session_sound c s session u gateway reception h k = record {
     numbers n v (inr new) = subst (λ (w : Uplink). (1 ≤ w.session) × (w.session ≤ length (s.sessions ++ session ∷ []))) new.1
         (omega (arith, k.0.number), omega (arith, longer s.sessions session, k.0.number))
 
-    has : (n : ℕ) (v : Uplink) → (item_at s.uplinks n ≡ Some v) ⊎ ((n ≡ length s.uplinks + 1) × (u ≡ v)) → IsCopied s n ⊎ (n ≡ next_uplink s)
+    has : (n : ℕ) (v : Uplink) → (item_at s.uplinks n ≡ Some v) ⊎ ((n ≡ length s.uplinks + 1) × (u ≡ v)) → HasCopy s.copies n ⊎ (n ≡ next_uplink s)
     has n v (inl old) = inl (h.copied n v old)
     has n v (inr new) = inr new.0
 
@@ -183,7 +222,7 @@ session_sound c s session u gateway reception h k = record {
 
 uplink_sound : (c : Settings) (s : State) (u : Uplink) (gateway : List ℕ) (reception : Reception) → IsSound c s → IsAllowed c s (AddsUplink u gateway reception)
     → IsSound c (state_with s (AddsUplink u gateway reception))
-unfolding last_counter HasCopy copies_with
+unfolding last_counter copies_with
 uplink_sound c s u gateway reception h k = record {
   block = h.block;
   nonces = h.nonces;
@@ -195,6 +234,7 @@ uplink_sound c s u gateway reception h k = record {
       above_each (λ (z : Uplink). z.counter) (is_data_of u.session) s.uplinks u.counter n v there (data_of v d same) k.0.counter);
   frames = λ n v e d. frame n v d (item_last s.uplinks u n v e);
   of_uplinks = λ n at r e. within n at r (copy_was s.copies (next_uplink s) gateway reception n at r (n == next_uplink s) refl e);
+  in_bands = λ n at r e. each_copy IsInBand s.copies (next_uplink s) gateway reception n at r (n == next_uplink s) h.in_bands k.2 refl e;
 }
   where
     nonce : (n : ℕ) (v : Uplink) → v.kind ≡ Join → (item_at s.uplinks n ≡ Some v) ⊎ ((n ≡ length s.uplinks + 1) × (u ≡ v)) → HasNonce s.sessions v
@@ -216,7 +256,7 @@ uplink_sound c s u gateway reception h k = record {
     numbers n v (inl old) = h.sessions n v old
     numbers n v (inr new) = subst (λ (w : Uplink). (1 ≤ w.session) × (w.session ≤ length s.sessions)) new.1 (at_session (item_at s.sessions u.session) refl k.0.session)
 
-    has : (n : ℕ) (v : Uplink) → (item_at s.uplinks n ≡ Some v) ⊎ ((n ≡ length s.uplinks + 1) × (u ≡ v)) → IsCopied s n ⊎ (n ≡ next_uplink s)
+    has : (n : ℕ) (v : Uplink) → (item_at s.uplinks n ≡ Some v) ⊎ ((n ≡ length s.uplinks + 1) × (u ≡ v)) → HasCopy s.copies n ⊎ (n ≡ next_uplink s)
     has n v (inl old) = inl (h.copied n v old)
     has n v (inr new) = inr new.0
 
@@ -226,7 +266,7 @@ uplink_sound c s u gateway reception h k = record {
 
 copy_sound : (c : Settings) (s : State) (number : ℕ) (gateway : List ℕ) (reception : Reception) → IsSound c s → IsAllowed c s (AddsCopy number gateway reception)
     → IsSound c (state_with s (AddsCopy number gateway reception))
-unfolding HasCopy copies_with
+unfolding copies_with
 copy_sound c s number gateway reception h k = record {
   block = h.block;
   nonces = h.nonces;
@@ -237,6 +277,7 @@ copy_sound c s number gateway reception h k = record {
   frames = h.frames;
   copied = λ n v e. copy_stays s.copies number gateway reception n (n == number) refl (inl (h.copied n v e));
   of_uplinks = λ n at r e. within n at r (copy_was s.copies number gateway reception n at r (n == number) refl e);
+  in_bands = λ n at r e. each_copy IsInBand s.copies number gateway reception n at r (n == number) h.in_bands k.1 refl e;
 }
   where
     there : (found : Option Uplink) → item_at s.uplinks number ≡ found → is_some found ≡ true → number ≤ length s.uplinks
@@ -245,15 +286,17 @@ copy_sound c s number gateway reception h k = record {
 
     within : (n : ℕ) (at : List ℕ) (r : Reception) → (s.copies n at ≡ Some r) ⊎ (n ≡ number) → n ≤ length s.uplinks
     within n at r (inl old) = h.of_uplinks n at r old
-    within n at r (inr same) = omega (arith, same, there (item_at s.uplinks number) refl k.uplink)
+    within n at r (inr same) = omega (arith, same, there (item_at s.uplinks number) refl k.0.uplink)
 
 pub change_sound : (c : Settings) (s : State) (effect : Effect) → IsSound c s → IsAllowed c s effect → IsSound c (state_with s effect)
 change_sound c s Nothing h k = h
-change_sound c s (AddsSender name role) h k = record { block = h.block; nonces = h.nonces; sessions = h.sessions; copied = h.copied; joins = h.joins; join_nonces = h.join_nonces; counters = h.counters; frames = h.frames; of_uplinks = h.of_uplinks }
-change_sound c s (AddsOwner name) h k = record { block = h.block; nonces = h.nonces; sessions = h.sessions; copied = h.copied; joins = h.joins; join_nonces = h.join_nonces; counters = h.counters; frames = h.frames; of_uplinks = h.of_uplinks }
-change_sound c s (AddsGateway name) h k = record { block = h.block; nonces = h.nonces; sessions = h.sessions; copied = h.copied; joins = h.joins; join_nonces = h.join_nonces; counters = h.counters; frames = h.frames; of_uplinks = h.of_uplinks }
-change_sound c s (AddsDevice dev_eui device) h k = record { block = h.block; nonces = h.nonces; sessions = h.sessions; copied = h.copied; joins = h.joins; join_nonces = h.join_nonces; counters = h.counters; frames = h.frames; of_uplinks = h.of_uplinks }
-change_sound c s (MovesDevice dev_eui owner) h k = record { block = h.block; nonces = h.nonces; sessions = h.sessions; copied = h.copied; joins = h.joins; join_nonces = h.join_nonces; counters = h.counters; frames = h.frames; of_uplinks = h.of_uplinks }
+change_sound c s (AddsSender name role) h k = h
+change_sound c s (AddsOwner name) h k = h
+change_sound c s (AddsGateway name) h k = h
+change_sound c s (AddsDevice dev_eui device) h k = h
+change_sound c s (MovesDevice dev_eui owner) h k = h
 change_sound c s (AddsSession session u gateway reception) h k = session_sound c s session u gateway reception h k
 change_sound c s (AddsUplink u gateway reception) h k = uplink_sound c s u gateway reception h k
 change_sound c s (AddsCopy number gateway reception) h k = copy_sound c s number gateway reception h k
+change_sound c s (AddsBooking booking) h k = h
+change_sound c s (EndsBooking number sent) h k = h

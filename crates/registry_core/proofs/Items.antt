@@ -5,7 +5,7 @@ use Rattle.std.specs.Option.{option_map_or}
 use Rattle.std.proofs.lemmas.Bool.Decides.{nat_tests}
 use Rattle.std.proofs.lemmas.List.{length-append}
 use Rattle.registry_core.specs.Derived.{is_above}
-use Rattle.registry_core.specs.Numbered.{item_at, first_from, first_that, greatest}
+use Rattle.registry_core.specs.Numbered.{item_at, item_changed, first_from, first_that, greatest, place_changed}
 
 pub some_is : {X : Type 0} (x y : X) → Some x ≡ Some y → x ≡ y
 some_is x y e = ap (λ o. unwrap_or o x) e
@@ -144,3 +144,15 @@ only_by test xs (suc i) y (Some p) is there passes only =
 pub first_only : {X : Type 0} (test : X → Bool) (xs : List X) (n : ℕ) (y : X) → item_at xs n ≡ Some y → test y ≡ true
     → ((m : ℕ) (z : X) → item_at xs m ≡ Some z → test z ≡ true → m ≡ n) → first_that test xs ≡ Some (n, y)
 first_only test xs n y there passes only = only_by test xs n y (first_that test xs) refl there passes only
+
+-- ---- one item changed
+
+place_changed_length : {X : Type 0} (f : X → X) (xs : List X) (n : ℕ) → length (place_changed f xs n) ≡ length xs
+place_changed_length f [] n = refl
+place_changed_length f (x ∷ xs) zero = refl
+place_changed_length f (x ∷ xs) (suc n) = ap suc (place_changed_length f xs n)
+
+-- as many as before
+pub item_changed_length : {X : Type 0} (f : X → X) (xs : List X) (n : ℕ) → length (item_changed f xs n) ≡ length xs
+item_changed_length f xs zero = refl
+item_changed_length f xs (suc n) = place_changed_length f xs n

@@ -1,7 +1,7 @@
 -- Addresses, nonces, uplinks and copies, whatever was heard.
 use Rattle.std.proofs.Common.{◌≡◌, ℕ, Some, refl, arith}
 use Rattle.registry_core.specs.declared.effects.Effect.{Effect}
-use Rattle.registry_core.specs.declared.effects.Effect.TheVariants.{Nothing, AddsSender, AddsOwner, AddsGateway, AddsDevice, MovesDevice, AddsSession, AddsUplink, AddsCopy}
+use Rattle.registry_core.specs.declared.effects.Effect.TheVariants.{Nothing, AddsSender, AddsOwner, AddsGateway, AddsDevice, MovesDevice, AddsSession, AddsUplink, AddsCopy, AddsBooking, EndsBooking}
 use Rattle.registry_core.specs.declared.facts.Uplink.{Uplink}
 use Rattle.registry_core.specs.Heard.{state_of}
 use Rattle.registry_core.specs.Laws.{AddressesLieInBlock, AddressesAreApart, NoncesRise, UplinksHaveCopies, UplinksStay, CopiesBookNothing}
@@ -35,20 +35,24 @@ stay_with s (MovesDevice dev_eui owner) n u e = e
 stay_with s (AddsSession session new gateway reception) n u e = item_stays s.uplinks new n u e
 stay_with s (AddsUplink new gateway reception) n u e = item_stays s.uplinks new n u e
 stay_with s (AddsCopy number gateway reception) n u e = e
+stay_with s (AddsBooking booking) n u e = e
+stay_with s (EndsBooking number sent) n u e = e
 
 pub uplinks_stay : UplinksStay
 uplinks_stay c s e n u there = stay_with s (decision_of c s e).0 n u there
 
-booked_nothing : (s : State) (effect : Effect) → BooksNothing effect → ((state_with s effect).sessions ≡ s.sessions) × ((state_with s effect).uplinks ≡ s.uplinks)
-booked_nothing s Nothing k = (refl, refl)
-booked_nothing s (AddsSender name role) k = (refl, refl)
-booked_nothing s (AddsOwner name) k = (refl, refl)
-booked_nothing s (AddsGateway name) k = (refl, refl)
-booked_nothing s (AddsDevice dev_eui device) k = (refl, refl)
-booked_nothing s (MovesDevice dev_eui owner) k = (refl, refl)
+booked_nothing : (s : State) (effect : Effect) → BooksNothing effect → ((state_with s effect).sessions ≡ s.sessions) × ((state_with s effect).uplinks ≡ s.uplinks) × ((state_with s effect).bookings ≡ s.bookings)
+booked_nothing s Nothing k = (refl, refl, refl)
+booked_nothing s (AddsSender name role) k = (refl, refl, refl)
+booked_nothing s (AddsOwner name) k = (refl, refl, refl)
+booked_nothing s (AddsGateway name) k = (refl, refl, refl)
+booked_nothing s (AddsDevice dev_eui device) k = (refl, refl, refl)
+booked_nothing s (MovesDevice dev_eui owner) k = (refl, refl, refl)
 booked_nothing s (AddsSession session new gateway reception) k = absurd k
 booked_nothing s (AddsUplink new gateway reception) k = absurd k
-booked_nothing s (AddsCopy number gateway reception) k = (refl, refl)
+booked_nothing s (AddsCopy number gateway reception) k = (refl, refl, refl)
+booked_nothing s (AddsBooking booking) k = absurd k
+booked_nothing s (EndsBooking number sent) k = absurd k
 
 pub copies_book_nothing : CopiesBookNothing
 copies_book_nothing c heard e copy =

@@ -1,7 +1,11 @@
+pub mod BookedHours
 pub mod CopyLaws
 pub mod DataByView
 pub mod DataLaws
 pub mod Decisions
+pub mod DownlinkLaws
+pub mod DownlinksByView
+pub mod EveryMessage
 pub mod HeardLists
 pub mod HeardStates
 pub mod Items

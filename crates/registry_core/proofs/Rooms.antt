@@ -2,49 +2,70 @@
 use Rattle.std.proofs.Common.{◌≡◌, ℕ, ◌+◌, ◌≤◌, List, [], ◌∷◌, length, Option, Some, None, refl, sym, ◌∙◌, ap, subst, arith}
 use Rattle.std.specs.Prelude.{IfSome, option_map, option_and_then}
 use Rattle.radio_core.specs.Frames.{frame_of}
+use Rattle.radio_core.specs.TimeOnAir.{AirtimeIsBounded}
+use Rattle.duty_core.specs.Laws.{HoursWithinByNearOnes, HoursWithinTells, IsClearByNearOnes}
 use Rattle.registry_core.specs.declared.effects.Effect.{Effect}
-use Rattle.registry_core.specs.declared.effects.Effect.TheVariants.{Nothing, AddsSender, AddsOwner, AddsGateway, AddsDevice, MovesDevice, AddsSession, AddsUplink, AddsCopy}
+use Rattle.registry_core.specs.declared.effects.Effect.TheVariants.{Nothing, AddsSender, AddsOwner, AddsGateway, AddsDevice, MovesDevice, AddsSession, AddsUplink, AddsCopy, AddsBooking, EndsBooking}
 use Rattle.registry_core.specs.declared.facts.Session.{Session}
 use Rattle.registry_core.specs.declared.facts.Uplink.{Uplink}
 use Rattle.registry_core.specs.declared.frames.JoinRequest.{JoinRequest}
 use Rattle.registry_core.specs.declared.messages.Envelope.{Envelope}
 use Rattle.registry_core.specs.declared.messages.JoinVerdict.{JoinVerdict}
-use Rattle.registry_core.specs.declared.messages.Message.TheVariants.{JoinHeard, FrameHeard}
+use Rattle.registry_core.specs.declared.messages.Message.TheVariants.{JoinHeard, FrameHeard, DownBook}
 use Rattle.registry_core.specs.declared.messages.Report.{Report}
 use Rattle.registry_core.specs.declared.views.View.{View}
+use Rattle.registry_core.specs.declared.windows.Window.{Window}
 use Rattle.registry_core.specs.ByView.{HasRoom, frame_heard_by, join_heard_by}
 use Rattle.registry_core.specs.Checks.{Checked}
 use Rattle.registry_core.specs.Decision.{Decision}
 use Rattle.registry_core.specs.Derived.{data_with, is_data_with, is_join_with, join_with}
 use Rattle.registry_core.specs.DataFrames.{frame_heard}
+use Rattle.registry_core.specs.Downlinks.{down_book}
+use Rattle.registry_core.specs.DownlinksByView.{down_book_by}
 use Rattle.registry_core.specs.Frames.{join_request}
 use Rattle.registry_core.specs.Heard.{IsHeard, state_after, state_of}
 use Rattle.registry_core.specs.Joins.{join_heard}
+use Rattle.registry_core.specs.Numbered.{item_at}
 use Rattle.registry_core.specs.Settings.{Settings, IsBlock}
-use Rattle.registry_core.specs.State.{State, opening, state_with}
+use Rattle.registry_core.specs.State.{State, ended, opening, state_with}
 use Rattle.registry_core.specs.Step.{decision_of, step}
 use Rattle.registry_core.specs.Viewed.{IsView, data_told, session_told, view_of_uplink, uplink_told}
+use Rattle.registry_core.proofs.BookedHours.{kept_of}
 use Rattle.registry_core.proofs.DataByView.{frame_heard_same}
 use Rattle.registry_core.proofs.Decisions.{sound_of}
+use Rattle.registry_core.proofs.DownlinksByView.{down_book_same}
 use Rattle.registry_core.proofs.HeardStates.{IsSound}
-use Rattle.registry_core.proofs.Items.{first_is, longer}
+use Rattle.registry_core.proofs.Items.{first_is, item_changed_length, longer, some_is}
 use Rattle.registry_core.proofs.JoinsByView.{join_heard_same}
 
--- a change adds one uplink at most
-one_more : (s : State) (effect : Effect) → length (state_with s effect).uplinks ≤ length s.uplinks + 1
-one_more s Nothing = omega arith
-one_more s (AddsSender name role) = omega arith
-one_more s (AddsOwner name) = omega arith
-one_more s (AddsGateway name) = omega arith
-one_more s (AddsDevice dev_eui device) = omega arith
-one_more s (MovesDevice dev_eui owner) = omega arith
-one_more s (AddsSession session u gateway reception) = omega (arith, longer s.uplinks u)
-one_more s (AddsUplink u gateway reception) = omega (arith, longer s.uplinks u)
-one_more s (AddsCopy number gateway reception) = omega arith
+record IsFew (s : State) (n : ℕ) : Type 0 where
+  uplinks : length s.uplinks ≤ n
+  bookings : length s.bookings ≤ n
 
-few_after : (c : Settings) (s : State) (es : List Envelope) → length (state_after c s es).uplinks ≤ length s.uplinks + length es
-few_after c s [] = omega arith
-few_after c s (e ∷ es) = omega (arith, few_after c (step c s e).0 es, one_more s (decision_of c s e).0)
+-- a change adds one uplink at most, and one booking
+one_more : (s : State) (effect : Effect) (n : ℕ) → IsFew s n → IsFew (state_with s effect) (n + 1)
+one_more s Nothing n h = record { uplinks = omega (arith, h.uplinks); bookings = omega (arith, h.bookings) }
+one_more s (AddsSender name role) n h = record { uplinks = omega (arith, h.uplinks); bookings = omega (arith, h.bookings) }
+one_more s (AddsOwner name) n h = record { uplinks = omega (arith, h.uplinks); bookings = omega (arith, h.bookings) }
+one_more s (AddsGateway name) n h = record { uplinks = omega (arith, h.uplinks); bookings = omega (arith, h.bookings) }
+one_more s (AddsDevice dev_eui device) n h = record { uplinks = omega (arith, h.uplinks); bookings = omega (arith, h.bookings) }
+one_more s (MovesDevice dev_eui owner) n h = record { uplinks = omega (arith, h.uplinks); bookings = omega (arith, h.bookings) }
+one_more s (AddsSession session u gateway reception) n h = record { uplinks = omega (arith, longer s.uplinks u, h.uplinks); bookings = omega (arith, h.bookings) }
+one_more s (AddsUplink u gateway reception) n h = record { uplinks = omega (arith, longer s.uplinks u, h.uplinks); bookings = omega (arith, h.bookings) }
+one_more s (AddsCopy number gateway reception) n h = record { uplinks = omega (arith, h.uplinks); bookings = omega (arith, h.bookings) }
+one_more s (AddsBooking booking) n h = record { uplinks = omega (arith, h.uplinks); bookings = omega (arith, longer s.bookings booking, h.bookings) }
+one_more s (EndsBooking number sent) n h = record { uplinks = omega (arith, h.uplinks); bookings = omega (arith, item_changed_length (ended sent) s.bookings number, h.bookings) }
+
+few_after : (c : Settings) (s : State) (es : List Envelope) (n : ℕ) → IsFew s n → IsFew (state_after c s es) (n + length es)
+few_after c s [] n h = record { uplinks = omega (arith, h.uplinks); bookings = omega (arith, h.bookings) }
+few_after c s (e ∷ es) n h =
+    let rest = few_after c (step c s e).0 es (n + 1) (one_more s (decision_of c s e).0 n h) in
+    record { uplinks = omega (arith, rest.uplinks); bookings = omega (arith, rest.bookings) }
+
+few : (c : Settings) (heard : List Envelope) → IsFew (state_of c heard) (length heard)
+few c heard =
+    let all = few_after c (opening c) heard 0 (record { uplinks = omega arith; bookings = omega arith }) in
+    record { uplinks = omega (arith, all.uplinks); bookings = omega (arith, all.bookings) }
 
 -- the uplink that a view shows has a session
 session_within : (c : Settings) (s : State) (gateway : List ℕ) (found : Option (ℕ × Uplink)) → IsSound c s
@@ -69,11 +90,19 @@ data_within c s (Some found) (Some counter) h p e =
     let within = h.sessions p.0 p.1 (first_is (is_data_with found.0 counter) s.uplinks p e).0 in
     (within.0, omega (arith, within.1, h.block))
 
+named_within : (c : Settings) (s : State) (number : ℕ) (uplink : Option Uplink) → IsSound c s → item_at s.uplinks number ≡ uplink → (p : ℕ × Uplink) → option_map (λ (u : Uplink). (number, u)) uplink ≡ Some p
+    → (1 ≤ p.1.session) × (p.1.session ≤ c.addresses)
+named_within c s number None h is p e = cc
+named_within c s number (Some uplink) h is p e =
+    let within = h.sessions number uplink is in
+    subst (λ (q : ℕ × Uplink). (1 ≤ q.1.session) × (q.1.session ≤ c.addresses)) (some_is (number, uplink) p e) (within.0, omega (arith, within.1, h.block))
+
 has_room : (c : Settings) (heard : List Envelope) (e : Envelope) (v : View) (gateway : List ℕ) (found : Option (ℕ × Uplink)) → IsBlock c.base c.addresses → IsHeard c heard → IsView c (state_of c heard) e v
     → v.uplink ≡ option_map (view_of_uplink (state_of c heard) gateway) found → ((p : ℕ × Uplink) → found ≡ Some p → (1 ≤ p.1.session) × (p.1.session ≤ c.addresses)) → HasRoom v
 has_room c heard e v gateway found block list sees shown within = record {
   block = rw (sees.base, sees.addresses) block.room;
-  uplinks = omega (arith, sees.uplinks, few_after c (opening c) heard, list.few);
+  uplinks = omega (arith, sees.uplinks, (few c heard).uplinks, list.few);
+  bookings = omega (arith, sees.bookings, (few c heard).bookings, list.few);
   session =
       subst (λ limit. IfSome v.uplink (λ seen. (1 ≤ seen.uplink.session) × (seen.uplink.session ≤ limit))) (sym sees.addresses)
       (subst (λ seen_one. IfSome seen_one (λ seen. (1 ≤ seen.uplink.session) × (seen.uplink.session ≤ c.addresses))) (sym shown)
@@ -95,3 +124,11 @@ frame_checked c heard e v report verdict checked block list same sees decided =
     decided (has_room c heard e v report.gateway _ block list sees (sees.uplink ∙ ap (uplink_told c (state_of c heard)) same)
     (data_within c (state_of c heard) (session_told c (state_of c heard) (FrameHeard report verdict)) verdict (sound_of c heard)))
     ∙ frame_heard_same c (state_of c heard) e v report verdict same sees
+
+pub book_checked : (bounded : AirtimeIsBounded) (tells : HoursWithinTells) (clear : IsClearByNearOnes) (hours : HoursWithinByNearOnes) (c : Settings) (heard : List Envelope) (e : Envelope) (v : View) (number : ℕ) (gateway : List ℕ) (window : Window) (octets : List ℕ)
+    (checked : Checked Decision) → IsBlock c.base c.addresses → IsHeard c heard → e.message ≡ DownBook number gateway window octets → IsView c (state_of c heard) e v
+    → (HasRoom v → checked ≡ down_book_by v gateway window octets) → checked ≡ down_book c (state_of c heard) number gateway window octets
+book_checked bounded tells clear hours c heard e v number gateway window octets checked block list same sees decided =
+    decided (has_room c heard e v gateway _ block list sees (sees.uplink ∙ ap (uplink_told c (state_of c heard)) same)
+    (named_within c (state_of c heard) number (item_at (state_of c heard).uplinks number) (sound_of c heard) refl))
+    ∙ down_book_same bounded clear hours c (state_of c heard) e v number gateway window octets (kept_of bounded tells c heard) same sees

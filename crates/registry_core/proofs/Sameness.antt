@@ -1,5 +1,5 @@
 -- Equal messages are those that the test finds the same.
-use Rattle.std.proofs.Common.{◌≡◌, ℕ, List, Option, Some, None, true, refl, sym, ◌∙◌, ap, subst, arith}
+use Rattle.std.proofs.Common.{◌≡◌, ℕ, List, Option, Some, None, Bool, true, false, refl, sym, ◌∙◌, ap, subst, arith}
 use Rattle.std.specs.Prelude.{◌&&◌, ◌==◌, bytes_eq, if◌then◌else◌}
 use Rattle.std.proofs.lemmas.Bool.{and_parts}
 use Rattle.std.proofs.lemmas.Bool.Decides.{nat_tests}
@@ -10,11 +10,13 @@ use Rattle.radio_core.specs.DataRates.{dr_number}
 use Rattle.registry_core.specs.declared.messages.JoinVerdict.{JoinVerdict}
 use Rattle.registry_core.specs.declared.messages.JoinVerdict.TheVariants.{Good, Bad}
 use Rattle.registry_core.specs.declared.messages.Message.{Message}
-use Rattle.registry_core.specs.declared.messages.Message.TheVariants.{SenderAdd, OwnerAdd, GatewayAdd, DeviceAdd, DeviceMove, JoinHeard, FrameHeard}
+use Rattle.registry_core.specs.declared.messages.Message.TheVariants.{SenderAdd, OwnerAdd, GatewayAdd, DeviceAdd, DeviceMove, JoinHeard, FrameHeard, DownBook, DownDone}
 use Rattle.registry_core.specs.declared.messages.Report.{Report}
 use Rattle.registry_core.specs.declared.messages.Role.{Role}
 use Rattle.registry_core.specs.declared.messages.Role.TheVariants.{Operator, Radio}
-use Rattle.registry_core.specs.Same.{same_role, same_verdict, same_counter, same_report, same_message, SameMessageTells}
+use Rattle.registry_core.specs.declared.windows.Window.{Window}
+use Rattle.registry_core.specs.declared.windows.Window.TheVariants.{First, Second}
+use Rattle.registry_core.specs.Same.{same_role, same_verdict, same_counter, same_window, same_sent, same_report, same_message, SameMessageTells}
 
 bytes_told : (a b : List ℕ) → bytes_eq a b ≡ true → a ≡ b
 bytes_told a b h = (bytes_eq-Decides a b).0 h
@@ -57,6 +59,26 @@ counter_told (Some n) None h = cc
 counter_self : (a : Option ℕ) → same_counter a a ≡ true
 counter_self None = refl
 counter_self (Some n) = number_self n
+
+window_told : (a b : Window) → same_window a b ≡ true → a ≡ b
+window_told First First h = refl
+window_told Second Second h = refl
+window_told First Second h = cc
+window_told Second First h = cc
+
+window_self : (a : Window) → same_window a a ≡ true
+window_self First = refl
+window_self Second = refl
+
+sent_told : (a b : Bool) → same_sent a b ≡ true → a ≡ b
+sent_told true true h = refl
+sent_told false false h = refl
+sent_told true false h = cc
+sent_told false true h = cc
+
+sent_self : (a : Bool) → same_sent a a ≡ true
+sent_self true = refl
+sent_self false = refl
 
 -- a data rate with its number given back
 rate_with : ℕ → DataRate
@@ -109,6 +131,14 @@ same_told (JoinHeard a v) (JoinHeard b w) h =
 same_told (FrameHeard a v) (FrameHeard b w) h =
     let both : (same_report a b ≡ true) × (same_counter v w ≡ true) = and_parts _ _ h in
     rw (report_told a b both.0, counter_told v w both.1) refl
+same_told (DownBook n a v o) (DownBook m b w p) h =
+    let all : ((n == m && bytes_eq a b && same_window v w) ≡ true) × (bytes_eq o p ≡ true) = and_parts _ _ h in
+    let windows : ((n == m && bytes_eq a b) ≡ true) × (same_window v w ≡ true) = and_parts _ _ all.0 in
+    let names : ((n == m) ≡ true) × (bytes_eq a b ≡ true) = and_parts _ _ windows.0 in
+    rw (number_told n m names.0, bytes_told a b names.1, window_told v w windows.1, bytes_told o p all.1) refl
+same_told (DownDone n a) (DownDone m b) h =
+    let both : ((n == m) ≡ true) × (same_sent a b ≡ true) = and_parts _ _ h in
+    rw (number_told n m both.0, sent_told a b both.1) refl
 same_told _ _ h = cc
 
 same_self : (a : Message) → same_message a a ≡ true
@@ -120,6 +150,8 @@ same_self (DeviceAdd d j a) = rw (number_self d, number_self j) (bytes_self a)
 same_self (DeviceMove d a) = rw (number_self d) (bytes_self a)
 same_self (JoinHeard a v) = rw (report_self a) (verdict_self v)
 same_self (FrameHeard a v) = rw (report_self a) (counter_self v)
+same_self (DownBook n a v o) = rw (number_self n, bytes_self a, window_self v) (bytes_self o)
+same_self (DownDone n a) = rw (number_self n) (sent_self a)
 
 pub same_message_tells : SameMessageTells
 same_message_tells a b = (same_told a b, λ same. subst (λ m. same_message a m ≡ true) same (same_self a))

@@ -25,6 +25,7 @@ use Rattle.registry_core.specs.Uplinks.{is_time, reception_of, time_up, uplink_o
 pub record HasRoom (v : View) : Type 0 where
   pub block : v.base + v.addresses ≤ 2 ^ 32
   pub uplinks : v.uplinks + 1 < 2 ^ 64
+  pub bookings : v.bookings + 1 < 2 ^ 64
   pub session : IfSome v.uplink (λ seen. (1 ≤ seen.uplink.session) × (seen.uplink.session ≤ v.addresses))
 
 -- ---- a join

@@ -1,9 +1,11 @@
 -- What a change asks of the facts that it is made to.
-use Rattle.std.specs.Prelude.{◌≡◌, ℕ, ◌+◌, false, List, length, None, is_some, IsTrue}
+use Rattle.std.specs.Prelude.{◌≡◌, ℕ, ◌+◌, false, List, length, Some, None, is_some, IsTrue}
 use Rattle.registry_core.specs.declared.effects.Effect.{Effect}
-use Rattle.registry_core.specs.declared.effects.Effect.TheVariants.{Nothing, AddsSender, AddsOwner, AddsGateway, AddsDevice, MovesDevice, AddsSession, AddsUplink, AddsCopy}
+use Rattle.registry_core.specs.declared.effects.Effect.TheVariants.{Nothing, AddsSender, AddsOwner, AddsGateway, AddsDevice, MovesDevice, AddsSession, AddsUplink, AddsCopy, AddsBooking, EndsBooking}
+use Rattle.registry_core.specs.declared.facts.Booking.{Booking}
 use Rattle.registry_core.specs.declared.facts.Kind.TheVariants.{Join, Data}
 use Rattle.registry_core.specs.declared.facts.Session.{Session}
+use Rattle.registry_core.specs.declared.facts.Standing.TheVariants.{Booked}
 use Rattle.registry_core.specs.declared.facts.Uplink.{Uplink}
 use Rattle.registry_core.specs.declared.messages.Envelope.{Envelope}
 use Rattle.registry_core.specs.Derived.{is_above, last_counter, last_nonce}
@@ -37,6 +39,19 @@ pub record CopyFits (number : ℕ) (at : List ℕ) (s : State) : Type 0 where
   pub gateway : IsTrue (s.gateways at)
   pub no_copy : s.copies number at ≡ None
 
+-- a new booking, for an uplink of which the gateway has a copy
+pub record BookingFits (booking : Booking) (s : State) : Type 0 where
+  pub uplink : IsTrue (is_some (item_at s.uplinks booking.uplink))
+  pub gateway : IsTrue (s.gateways booking.gateway)
+  pub copy : IsTrue (is_some (s.copies booking.uplink booking.gateway))
+  pub standing : booking.standing ≡ Booked
+
+-- a booking that is there, neither sent nor dropped
+pub record EndFits (number : ℕ) (s : State) : Type 0 where
+  pub booking : Booking
+  pub there : item_at s.bookings number ≡ Some booking
+  pub standing : booking.standing ≡ Booked
+
 -- it adds only what isn't there, and names only what is
 abbrev pub Fits : Effect → State → Type 0
 Fits Nothing s = Unit {0}
@@ -48,6 +63,8 @@ Fits (MovesDevice dev_eui owner) s = IsTrue (is_some (s.devices dev_eui)) × IsT
 Fits (AddsSession session uplink gateway reception) s = SessionFits session uplink gateway s
 Fits (AddsUplink uplink gateway reception) s = UplinkFits uplink gateway s
 Fits (AddsCopy number gateway reception) s = CopyFits number gateway s
+Fits (AddsBooking booking) s = BookingFits booking s
+Fits (EndsBooking number sent) s = EndFits number s
 
 -- whatever was heard, what a step changes fits
 abbrev pub DecisionsFit : Type 0

@@ -1,11 +1,15 @@
--- What reported frames say.
-use Rattle.std.specs.Prelude.{ℕ, List, length, Option, Some, None, nat_le, if◌then◌else◌}
+-- What frames say.
+use Rattle.std.specs.Prelude.{ℕ, ◌^◌, ◌%◌, ◌==◌, ◌&&◌, Bool, true, List, length, Option, Some, None, nat_le, nat_lt, if◌then◌else◌}
 use Rattle.radio_core.specs.declared.data_rates.DataRate.{DataRate}
 use Rattle.radio_core.specs.declared.frames.Phy.{Phy}
 use Rattle.radio_core.specs.declared.frames.Phy.TheVariants as frames
 use Rattle.radio_core.specs.DataRates.{max_length}
 use Rattle.radio_core.specs.Frames.{frame_of}
+use Rattle.registry_core.specs.declared.facts.Kind.{Kind}
+use Rattle.registry_core.specs.declared.facts.Kind.TheVariants.{Join, Data}
 use Rattle.registry_core.specs.declared.frames.DataFrame.{DataFrame}
+use Rattle.registry_core.specs.declared.frames.Downlink.{Downlink}
+use Rattle.registry_core.specs.declared.frames.Downlink.TheVariants as downlinks
 use Rattle.registry_core.specs.declared.frames.JoinRequest.{JoinRequest}
 
 -- the frame that was sent at this data rate: one that is longer than the rate allows is none
@@ -21,3 +25,19 @@ join_request _ = None
 abbrev pub data_up : Option Phy → Option DataFrame
 data_up (Some (frames.Up confirmed addr fcnt)) = Some (record { addr = addr; fcnt = fcnt })
 data_up _ = None
+
+-- where it is the frame that answers an uplink of the kind: a join accept, or a data frame for a device
+abbrev pub downlink_to : Kind → Option Phy → Option Downlink
+downlink_to Join (Some frames.Accept) = Some downlinks.Accept
+downlink_to Data (Some (frames.Down confirmed addr fcnt)) = Some (downlinks.Data (record { addr = addr; fcnt = fcnt }))
+downlink_to _ _ = None
+
+-- it goes to the address; a join accept names none
+abbrev pub goes_to : ℕ → Downlink → Bool
+goes_to addr downlinks.Accept = true
+goes_to addr (downlinks.Data frame) = frame.addr == addr
+
+-- it has the counter, which is one of 32 bits: FCnt has the low 16 of them; a join accept has none
+abbrev pub counts_as : ℕ → Downlink → Bool
+counts_as counter downlinks.Accept = true
+counts_as counter (downlinks.Data frame) = nat_lt counter (2 ^ 32) && frame.fcnt == counter % 65536

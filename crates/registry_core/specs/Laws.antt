@@ -1,8 +1,9 @@
 -- What holds of the registry, whatever was heard.
-use Rattle.std.specs.Prelude.{◌≡◌, ◌↔◌, ℕ, ◌+◌, ◌%◌, ◌<◌, ◌≤◌, Bool, false, List, Some, IsTrue}
+use Rattle.std.specs.Prelude.{◌≡◌, ◌↔◌, ℕ, ◌+◌, ◌%◌, ◌<◌, ◌≤◌, Bool, true, false, List, Some, IsTrue}
 use Rattle.radio_core.specs.Frames.{frame_of}
 use Rattle.registry_core.specs.declared.answers.Answer.{Answer}
-use Rattle.registry_core.specs.declared.answers.Answer.TheVariants.{JoinSuccess, FrameSuccess}
+use Rattle.registry_core.specs.declared.answers.Answer.TheVariants.{JoinSuccess, FrameSuccess, Refused}
+use Rattle.registry_core.specs.declared.answers.Refusal.{Refusal}
 use Rattle.registry_core.specs.declared.facts.Kind.TheVariants.{Data}
 use Rattle.registry_core.specs.declared.facts.Reception.{Reception}
 use Rattle.registry_core.specs.declared.facts.Session.{Session}
@@ -10,6 +11,8 @@ use Rattle.registry_core.specs.declared.facts.Uplink.{Uplink}
 use Rattle.registry_core.specs.declared.frames.DataFrame.{DataFrame}
 use Rattle.registry_core.specs.declared.frames.JoinRequest.{JoinRequest}
 use Rattle.registry_core.specs.declared.messages.Envelope.{Envelope}
+use Rattle.registry_core.specs.declared.messages.Message.{Message}
+use Rattle.registry_core.specs.declared.messages.Message.TheVariants.{SenderAdd}
 use Rattle.registry_core.specs.DataFrames.{original_data}
 use Rattle.registry_core.specs.Derived.{address_of, is_data_with, is_join_with, session_with}
 use Rattle.registry_core.specs.Frames.{data_up}
@@ -54,7 +57,7 @@ abbrev pub CountersRise : Type 0
 CountersRise = (c : Settings) (heard : List Envelope) (m n : ℕ) (u v : Uplink) → item_at (state_of c heard).uplinks m ≡ Some u
     → item_at (state_of c heard).uplinks n ≡ Some v → u.kind ≡ Data → v.kind ≡ Data → u.session ≡ v.session → m < n → u.counter < v.counter
 
--- the octets of a data uplink are a data frame of its session's address with the low 16 bits of its counter
+-- the octets of a data uplink are a data frame of its session's address, whose FCnt agrees with its counter modulo 65,536
 abbrev pub CountersAgreeWithFrames : Type 0
 CountersAgreeWithFrames = (c : Settings) (heard : List Envelope) (n : ℕ) (u : Uplink) → item_at (state_of c heard).uplinks n ≡ Some u → u.kind ≡ Data
     → (frame : DataFrame) × (data_up (frame_of u.octets) ≡ Some frame) × (frame.addr ≡ address_of c u.session) × (frame.fcnt % 65536 ≡ u.counter % 65536)
@@ -83,7 +86,22 @@ tells_copy (JoinSuccess airtime band copy addr uplink) = copy
 tells_copy (FrameSuccess airtime band copy counter dev_eui uplink) = copy
 tells_copy _ = false
 
--- what is answered as a copy adds no session and no uplink
+-- what is answered as a copy adds no session and no uplink, and changes no booking
 abbrev pub CopiesBookNothing : Type 0
 CopiesBookNothing = (c : Settings) (heard : List Envelope) (e : Envelope) → let s : State = state_of c heard in IsTrue (tells_copy (step c s e).1)
-    → ((step c s e).0.sessions ≡ s.sessions) × ((step c s e).0.uplinks ≡ s.uplinks)
+    → ((step c s e).0.sessions ≡ s.sessions) × ((step c s e).0.uplinks ≡ s.uplinks) × ((step c s e).0.bookings ≡ s.bookings)
+
+-- ---- every message
+
+-- a refusal changes nothing
+abbrev pub RefusalsChangeNothing : Type 0
+RefusalsChangeNothing = (c : Settings) (heard : List Envelope) (e : Envelope) (refusal : Refusal) → let s : State = state_of c heard in (step c s e).1 ≡ Refused refusal
+    → (step c s e).0 ≡ s
+
+abbrev pub adds_sender : Message → Bool
+adds_sender (SenderAdd sender role) = true
+adds_sender _ = false
+
+-- a message that adds no sender leaves the senders as they are
+abbrev pub SendersStay : Type 0
+SendersStay = (c : Settings) (s : State) (e : Envelope) → adds_sender e.message ≡ false → (step c s e).0.senders ≡ s.senders

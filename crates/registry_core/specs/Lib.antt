@@ -1,9 +1,13 @@
 pub mod Administration
+pub mod Bookings
 pub mod ByView
 pub mod Checks
 pub mod DataFrames
 pub mod Decision
 pub mod Derived
+pub mod DownlinkLaws
+pub mod Downlinks
+pub mod DownlinksByView
 pub mod Fits
 pub mod Frames
 pub mod Heard

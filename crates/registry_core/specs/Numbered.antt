@@ -20,3 +20,14 @@ first_that test xs = first_from 1 test xs
 abbrev pub greatest : List ℕ → Option ℕ
 greatest [] = None
 greatest (n ∷ ns) = Some (option_map_or (max n) (greatest ns) n)
+
+-- the items with this done to the one at a place, counted from 0
+abbrev pub place_changed : {X : Type 0} → (X → X) → List X → ℕ → List X
+place_changed f [] n = []
+place_changed f (x ∷ xs) zero = f x ∷ xs
+place_changed f (x ∷ xs) (suc n) = x ∷ place_changed f xs n
+
+-- the items with this done to the one with this number
+abbrev pub item_changed : {X : Type 0} → (X → X) → List X → ℕ → List X
+item_changed f xs zero = xs
+item_changed f xs (suc n) = place_changed f xs n

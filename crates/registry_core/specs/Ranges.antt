@@ -3,7 +3,7 @@ use Rattle.std.specs.Prelude.{ℕ, ◌^◌, ◌<◌, ◌≤◌, List, length, ge
 use Rattle.radio_core.specs.Names.{is_name}
 use Rattle.registry_core.specs.declared.messages.Envelope.{Envelope}
 use Rattle.registry_core.specs.declared.messages.Message.{Message}
-use Rattle.registry_core.specs.declared.messages.Message.TheVariants.{SenderAdd, OwnerAdd, GatewayAdd, DeviceAdd, DeviceMove, JoinHeard, FrameHeard}
+use Rattle.registry_core.specs.declared.messages.Message.TheVariants.{SenderAdd, OwnerAdd, GatewayAdd, DeviceAdd, DeviceMove, JoinHeard, FrameHeard, DownBook, DownDone}
 use Rattle.registry_core.specs.declared.messages.Report.{Report}
 use Rattle.registry_core.specs.Settings.{Settings, IsBlock}
 use Rattle.registry_core.specs.Wholes.{IsWhole}
@@ -34,6 +34,8 @@ IsMessage (DeviceAdd dev_eui join_eui owner) = IsEui dev_eui × IsEui join_eui �
 IsMessage (DeviceMove dev_eui owner) = IsEui dev_eui × IsName owner
 IsMessage (JoinHeard report verdict) = IsReport report
 IsMessage (FrameHeard report verdict) = IsReport report × IfSome verdict (λ counter. counter < 2 ^ 32)
+IsMessage (DownBook uplink gateway window octets) = IsWhole uplink × IsName gateway × IsOctets octets
+IsMessage (DownDone booking sent) = IsWhole booking
 
 pub record IsEnvelope (e : Envelope) : Type 0 where
   pub sender : IsName e.sender

@@ -1,15 +1,18 @@
 -- What the registry holds, and how a message's change goes into it.
--- What has a name or an EUI is looked up by it, so that nothing depends on an order in which a store keeps it. Sessions
--- and uplinks are numbered by their place from 1, in the order in which they were accepted.
+-- What has a name or an EUI is looked up by it, so that nothing depends on an order in which a store keeps it. Sessions,
+-- uplinks and bookings are numbered by their place from 1, in the order in which they were accepted.
 use Rattle.std.specs.Prelude.{ℕ, ◌+◌, ◌==◌, Bool, true, false, List, [], ◌∷◌, ◌++◌, length, Option, Some, None, option_map, bytes_eq, if◌then◌else◌}
+use Rattle.registry_core.specs.declared.facts.Booking.{Booking}
 use Rattle.registry_core.specs.declared.facts.Device.{Device}
 use Rattle.registry_core.specs.declared.facts.Reception.{Reception}
 use Rattle.registry_core.specs.declared.facts.Session.{Session}
+use Rattle.registry_core.specs.declared.facts.Standing.TheVariants.{Sent, Dropped}
 use Rattle.registry_core.specs.declared.facts.Uplink.{Uplink}
 use Rattle.registry_core.specs.declared.messages.Role.{Role}
 use Rattle.registry_core.specs.declared.messages.Role.TheVariants.{Operator}
 use Rattle.registry_core.specs.declared.effects.Effect.{Effect}
-use Rattle.registry_core.specs.declared.effects.Effect.TheVariants.{Nothing, AddsSender, AddsOwner, AddsGateway, AddsDevice, MovesDevice, AddsSession, AddsUplink, AddsCopy}
+use Rattle.registry_core.specs.declared.effects.Effect.TheVariants.{Nothing, AddsSender, AddsOwner, AddsGateway, AddsDevice, MovesDevice, AddsSession, AddsUplink, AddsCopy, AddsBooking, EndsBooking}
+use Rattle.registry_core.specs.Numbered.{item_changed}
 use Rattle.registry_core.specs.Settings.{Settings}
 
 -- ---- facts
@@ -27,6 +30,7 @@ pub record State : Type 0 where
   pub uplinks : List Uplink
   -- the copy of an uplink, by its number, at a gateway
   pub copies : ℕ → List ℕ → Option Reception
+  pub bookings : List Booking
 
 -- what is looked up by a name, with this at the name
 abbrev pub at_name : {X : Type 0} → (List ℕ → X) → List ℕ → X → List ℕ → X
@@ -46,6 +50,7 @@ opening c = record {
   sessions = [];
   uplinks = [];
   copies = λ _ _. None;
+  bookings = [];
 }
 
 -- ---- changes
@@ -78,6 +83,16 @@ with_uplink s uplink = record s { uplinks = s.uplinks ++ uplink ∷ [] }
 abbrev pub with_copy : State → ℕ → List ℕ → Reception → State
 with_copy s number gateway reception = record s { copies = at_number s.copies number (at_name (s.copies number) gateway (Some reception)) }
 
+abbrev pub with_booking : State → Booking → State
+with_booking s booking = record s { bookings = s.bookings ++ booking ∷ [] }
+
+-- the booking as one whose downlink was sent, or as one that is dropped
+abbrev pub ended : Bool → Booking → Booking
+ended sent booking = record booking { standing = if sent then Sent else Dropped }
+
+abbrev pub with_end : State → ℕ → Bool → State
+with_end s number sent = record s { bookings = item_changed (ended sent) s.bookings number }
+
 -- the number that the next uplink gets
 abbrev pub next_uplink : State → ℕ
 next_uplink s = length s.uplinks + 1
@@ -93,3 +108,5 @@ state_with s (MovesDevice dev_eui owner) = with_move s dev_eui owner
 state_with s (AddsSession session uplink gateway reception) = with_copy (with_uplink (with_session s session) uplink) (next_uplink s) gateway reception
 state_with s (AddsUplink uplink gateway reception) = with_copy (with_uplink s uplink) (next_uplink s) gateway reception
 state_with s (AddsCopy number gateway reception) = with_copy s number gateway reception
+state_with s (AddsBooking booking) = with_booking s booking
+state_with s (EndsBooking number sent) = with_end s number sent

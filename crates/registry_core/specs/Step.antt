@@ -3,11 +3,12 @@
 use Rattle.registry_core.specs.declared.answers.Answer.{Answer}
 use Rattle.registry_core.specs.declared.messages.Envelope.{Envelope}
 use Rattle.registry_core.specs.declared.messages.Message.{Message}
-use Rattle.registry_core.specs.declared.messages.Message.TheVariants.{SenderAdd, OwnerAdd, GatewayAdd, DeviceAdd, DeviceMove, JoinHeard, FrameHeard}
+use Rattle.registry_core.specs.declared.messages.Message.TheVariants.{SenderAdd, OwnerAdd, GatewayAdd, DeviceAdd, DeviceMove, JoinHeard, FrameHeard, DownBook, DownDone}
 use Rattle.registry_core.specs.Administration.{sender_add, owner_add, gateway_add, device_add, device_move}
 use Rattle.registry_core.specs.Checks.{Checked}
 use Rattle.registry_core.specs.DataFrames.{frame_heard}
 use Rattle.registry_core.specs.Decision.{Decision, decision_or_refusal}
+use Rattle.registry_core.specs.Downlinks.{down_book, down_done}
 use Rattle.registry_core.specs.Joins.{join_heard}
 use Rattle.registry_core.specs.Settings.{Settings}
 use Rattle.registry_core.specs.State.{State, state_with}
@@ -21,6 +22,8 @@ checked_decision c s e (DeviceAdd dev_eui join_eui owner) = device_add s e dev_e
 checked_decision c s e (DeviceMove dev_eui owner) = device_move s e dev_eui owner
 checked_decision c s e (JoinHeard report verdict) = join_heard c s report verdict
 checked_decision c s e (FrameHeard report verdict) = frame_heard c s report verdict
+checked_decision c s e (DownBook uplink gateway window octets) = down_book c s uplink gateway window octets
+checked_decision c s e (DownDone booking sent) = down_done s booking sent
 
 -- what the envelope changes, and what it is answered
 abbrev pub decision_of : Settings → State → Envelope → Decision

@@ -1,24 +1,34 @@
--- What the registry holds for one message. What the message doesn't ask for is false or absent.
-use Rattle.std.specs.Prelude.{◌≡◌, ℕ, Bool, false, List, length, Option, Some, None, is_some, option_map, option_and_then}
+-- What the registry holds for one message. What the message doesn't ask for is false, 0, absent or empty.
+use Rattle.std.specs.Prelude.{◌≡◌, ℕ, pos, Bool, false, List, [], length, Option, Some, None, is_some, option_map, option_and_then, IsPermutation}
+use Rattle.std.specs.Option.{option_map_or}
+use Rattle.radio_core.specs.declared.data_rates.Rate.{Rate}
+use Rattle.radio_core.specs.Bands.{band_at}
 use Rattle.radio_core.specs.Frames.{frame_of}
+use Rattle.duty_core.specs.Near.{near_ones}
+use Rattle.duty_core.specs.Use.{Interval}
 use Rattle.registry_core.specs.declared.facts.Device.{Device}
+use Rattle.registry_core.specs.declared.facts.Reception.{Reception}
 use Rattle.registry_core.specs.declared.facts.Session.{Session}
+use Rattle.registry_core.specs.declared.facts.Standing.{Standing}
 use Rattle.registry_core.specs.declared.facts.Uplink.{Uplink}
 use Rattle.registry_core.specs.declared.frames.JoinRequest.{JoinRequest}
 use Rattle.registry_core.specs.declared.messages.Envelope.{Envelope}
 use Rattle.registry_core.specs.declared.messages.Message.{Message}
-use Rattle.registry_core.specs.declared.messages.Message.TheVariants.{SenderAdd, OwnerAdd, GatewayAdd, DeviceAdd, DeviceMove, JoinHeard, FrameHeard}
+use Rattle.registry_core.specs.declared.messages.Message.TheVariants.{SenderAdd, OwnerAdd, GatewayAdd, DeviceAdd, DeviceMove, JoinHeard, FrameHeard, DownBook, DownDone}
 use Rattle.registry_core.specs.declared.views.SessionView.{SessionView}
 use Rattle.registry_core.specs.declared.views.UplinkView.{UplinkView}
 use Rattle.registry_core.specs.declared.views.View.{View}
+use Rattle.registry_core.specs.Bookings.{downlinks, downlinks_in, is_answered, next_down}
 use Rattle.registry_core.specs.Checks.{Checked}
 use Rattle.registry_core.specs.Decision.{Decision}
 use Rattle.registry_core.specs.Derived.{last_nonce, join_with, session_with, data_with, last_counter, is_below_floor}
 use Rattle.registry_core.specs.Frames.{data_up, join_request}
 use Rattle.registry_core.specs.Heard.{IsHeard, state_of}
+use Rattle.registry_core.specs.Numbered.{item_at}
 use Rattle.registry_core.specs.Settings.{Settings, IsBlock}
 use Rattle.registry_core.specs.State.{State}
 use Rattle.registry_core.specs.Step.{checked_decision, decision_of}
+use Rattle.registry_core.specs.Windows.{window_of}
 
 -- ---- what the message names
 
@@ -39,6 +49,7 @@ abbrev pub gateway_known : State → Message → Bool
 gateway_known s (GatewayAdd gateway) = s.gateways gateway
 gateway_known s (JoinHeard report verdict) = s.gateways report.gateway
 gateway_known s (FrameHeard report verdict) = s.gateways report.gateway
+gateway_known s (DownBook uplink gateway window octets) = s.gateways gateway
 gateway_known s _ = false
 
 -- the join request that it tells of
@@ -70,7 +81,11 @@ view_of_session s found = record {
   below_floor = is_below_floor s found.1.device found.0;
 }
 
--- ---- the uplink that may be the same as what it tells of
+-- ---- the uplink that it names, or that may be the same as what it tells of
+
+-- the uplink with this number
+abbrev pub uplink_numbered : State → ℕ → Option (ℕ × Uplink)
+uplink_numbered s number = option_map (λ uplink. (number, uplink)) (item_at s.uplinks number)
 
 -- the session's data uplink with the verdict's counter
 abbrev pub data_told : State → Option (ℕ × Session) → Option ℕ → Option (ℕ × Uplink)
@@ -82,7 +97,47 @@ view_of_uplink s gateway found = record { number = found.0; uplink = found.1; at
 abbrev pub uplink_told : Settings → State → Message → Option UplinkView
 uplink_told c s (JoinHeard report verdict) = option_map (view_of_uplink s report.gateway) (option_and_then (join_with s) (join_request (frame_of report.octets)))
 uplink_told c s (FrameHeard report verdict) = option_map (view_of_uplink s report.gateway) (data_told s (session_told c s (FrameHeard report verdict)) verdict)
+uplink_told c s (DownBook uplink gateway window octets) = option_map (view_of_uplink s gateway) (uplink_numbered s uplink)
 uplink_told c s _ = None
+
+-- ---- the downlink
+
+-- a booking that isn't dropped answers the uplink
+abbrev pub answered_told : State → Message → Bool
+answered_told s (DownBook uplink gateway window octets) = is_answered s uplink
+answered_told s _ = false
+
+-- the next downlink counter of the uplink's session
+abbrev pub next_down_told : State → Message → ℕ
+next_down_told s (DownBook uplink gateway window octets) = option_map_or (λ (found : Uplink). next_down s found.session) (item_at s.uplinks uplink) 0
+next_down_told s _ = 0
+
+-- how the booking that it names stands
+abbrev pub booking_told : State → Message → Option Standing
+booking_told s (DownDone booking sent) = option_map (λ found. found.standing) (item_at s.bookings booking)
+booking_told s _ = None
+
+-- where its receive window opens, and how it is sent
+abbrev pub window_told : State → Message → Option (ℕ × Rate)
+window_told s (DownBook uplink gateway window octets) =
+    option_and_then (λ (found : Uplink). option_map (λ (copy : Reception). window_of found.kind copy.end copy.rate window) (s.copies uplink gateway)) (item_at s.uplinks uplink)
+window_told s _ = None
+
+-- the gateway that is to send it
+abbrev pub gateway_told : Message → List ℕ
+gateway_told (DownBook uplink gateway window octets) = gateway
+gateway_told _ = []
+
+-- the downlinks of its gateway that aren't dropped and begin near it, in all bands
+abbrev pub near_told : State → Message → List Interval
+near_told s m = option_map_or (λ (opens : ℕ × Rate). near_ones (pos opens.0) (downlinks s (gateway_told m))) (window_told s m) []
+
+-- and in its band
+abbrev pub near_in : State → List ℕ → ℕ × Rate → List Interval
+near_in s gateway opens = option_map_or (λ band. near_ones (pos opens.0) (downlinks_in s gateway band)) (band_at opens.1.freq opens.1.dr) []
+
+abbrev pub near_in_band_told : State → Message → List Interval
+near_in_band_told s m = option_map_or (near_in s (gateway_told m)) (window_told s m) []
 
 -- ---- the view
 
@@ -100,6 +155,13 @@ pub record IsView (c : Settings) (s : State) (e : Envelope) (v : View) : Type 0 
   pub last_nonce : v.last_nonce ≡ last_nonce_told s e.message
   pub session : v.session ≡ option_map (view_of_session s) (session_told c s e.message)
   pub uplink : v.uplink ≡ uplink_told c s e.message
+  pub bookings : v.bookings ≡ length s.bookings
+  pub answered : v.answered ≡ answered_told s e.message
+  pub next_down : v.next_down ≡ next_down_told s e.message
+  pub booking : v.booking ≡ booking_told s e.message
+  -- in any order
+  pub near : IsPermutation (near_told s e.message) v.near.items
+  pub near_in_band : IsPermutation (near_in_band_told s e.message) v.near_in_band.items
 
 -- With the view that the registry after some heard list holds for the message, this is what the message's checks let
 -- through, or the refusal of the first that fails.

@@ -75,5 +75,13 @@ pub enum Answer {
         dev_eui: Eui,
         uplink: u64,
     },
+    /// A downlink: its time on air in microseconds and its band, the number of its booking, and where it begins, in
+    /// microseconds since 1970 UTC.
+    DownSuccess {
+        airtime: u32,
+        band: Band,
+        booking: u64,
+        start: u64,
+    },
     Refused(Refusal),
 }

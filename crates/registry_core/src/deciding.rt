@@ -6,6 +6,7 @@ ghost use Rattle.registry_core.specs.Viewed.{IsChecked, IsStep};
 use crate::administration::{device_add, device_move, gateway_add, owner_add, sender_add};
 use crate::answers::{Answer, Refusal};
 use crate::data_frames::frame_heard;
+use crate::downlinks::{down_book, down_done};
 use crate::effects::Effect;
 use crate::joins::join_heard;
 use crate::messages::Message;
@@ -46,5 +47,12 @@ fn checked_decision(message: &Message, view: &View) -> Result<(Effect, Answer), 
         Message::DeviceMove { dev_eui, owner } => device_move(*dev_eui, *owner, view),
         Message::JoinHeard { report, verdict } => join_heard(report, *verdict, view),
         Message::FrameHeard { report, verdict } => frame_heard(report, *verdict, view),
+        Message::DownBook {
+            uplink,
+            gateway,
+            window,
+            octets,
+        } => down_book(*uplink, gateway, *window, octets, view),
+        Message::DownDone { booking, sent } => down_done(*booking, *sent, view),
     }
 }

@@ -1,5 +1,5 @@
 //! What a message changes in the registry.
-use crate::facts::{Device, Reception, Session, Uplink};
+use crate::facts::{Booking, Device, Reception, Session, Uplink};
 use crate::messages::Role;
 use radio_core::{Eui, Name};
 
@@ -44,5 +44,13 @@ pub enum Effect {
         uplink: u64,
         gateway: Name,
         reception: Reception,
+    },
+    AddsBooking {
+        booking: Booking,
+    },
+    /// The downlink of the booking with this number was sent, or else it is dropped.
+    EndsBooking {
+        booking: u64,
+        sent: bool,
     },
 }

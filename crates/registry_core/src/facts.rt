@@ -1,5 +1,6 @@
-//! What the registry holds of a device, a session, an uplink and its copies.
+//! What the registry holds of a device, a session, an uplink and its copies, and a booking.
 use crate::wholes::Whole;
+use duty_core::Span;
 use radio_core::{Band, Eui, Name, Octets, Rate};
 
 /// A device, by its DevEUI.
@@ -40,4 +41,26 @@ pub struct Uplink {
 pub struct Reception {
     pub end: Whole,
     pub rate: Rate,
+}
+
+/// How a booking stands.
+#[derive(Clone, Copy, Debug, PartialEq, Eq)]
+pub enum Standing {
+    /// The downlink is to be sent.
+    Booked,
+    /// It was sent.
+    Sent,
+    /// It wasn't: its time on air is free again, and so is its uplink.
+    Dropped,
+}
+
+/// A downlink that a gateway is to send: the number of the uplink that it answers, and when it is on the air, in
+/// microseconds.
+#[derive(Clone, Copy, Debug, PartialEq, Eq)]
+pub struct Booking {
+    pub uplink: u64,
+    pub gateway: Name,
+    pub band: Band,
+    pub span: Span,
+    pub standing: Standing,
 }

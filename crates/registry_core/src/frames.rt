@@ -1,8 +1,9 @@
-//! What reported frames say.
+//! What frames say.
 ghost use Rattle.std.specs.Prelude.{◌≡◌, Some};
 ghost use Rattle.radio_core.specs.Frames.{frame_of};
-ghost use Rattle.registry_core.specs.Frames.{data_up, join_request, frame_at};
+ghost use Rattle.registry_core.specs.Frames.{data_up, downlink_to, join_request, frame_at};
 
+use crate::facts::Kind;
 use radio_core::{DataRate, DevAddr, Eui, Octets, Phy, max_phy, read_phy};
 
 /// What a join request says (LoRaWAN L2 1.0.4, section 6.2).
@@ -13,11 +14,45 @@ pub struct JoinRequest {
     pub nonce: u16,
 }
 
-/// What a data frame of a device says (LoRaWAN L2 1.0.4, section 4.3).
+/// What a data frame says (LoRaWAN L2 1.0.4, section 4.3).
 #[derive(Clone, Copy, Debug, PartialEq, Eq)]
 pub struct DataFrame {
     pub addr: DevAddr,
     pub fcnt: u16,
+}
+
+/// A frame for a device: what answers a join request, and what answers a data frame.
+#[derive(Clone, Copy, Debug, PartialEq, Eq)]
+pub(crate) enum Downlink {
+    Accept,
+    Data(DataFrame),
+}
+
+impl Downlink {
+    ghost use Rattle.std.specs.Prelude.{◌≡◌};
+    ghost use Rattle.registry_core.specs.Frames.{goes_to, counts_as};
+
+    /// It goes to the address; a join accept names none.
+    pub(crate) fn goes_to(&self, addr: DevAddr) -> bool
+        ensures { result ≡ goes_to addr self.now }
+    {
+        match self {
+            Downlink::Accept => true,
+            Downlink::Data(frame) => frame.addr == addr,
+        }
+    }
+
+    /// Its FCnt has the low 16 bits of the counter, which is one of 32 bits; a join accept has none.
+    pub(crate) fn counts_as(&self, counter: u64) -> bool
+        ensures { result ≡ counts_as counter self.now }
+    {
+        match self {
+            Downlink::Accept => true,
+            Downlink::Data(frame) => {
+                counter < 4_294_967_296 && u64::from(frame.fcnt) == counter % 65_536
+            }
+        }
+    }
 }
 
 /// What the octets say, where they are a join request.
@@ -50,6 +85,24 @@ pub(crate) fn data_at(dr: DataRate, octets: &Octets) -> Option<DataFrame>
 {
     let frame = frame_at(dr, octets)?;
     data_of(&frame)
+}
+
+/// What the octets say, where they are the frame that answers an uplink of the kind and the data rate carries so many.
+pub(crate) fn downlink_at(kind: Kind, dr: DataRate, octets: &Octets) -> Option<Downlink>
+    ensures { result ≡ downlink_to kind (frame_at dr octets.now) }
+{
+    match (kind, frame_at(dr, octets)?) {
+        (Kind::Join, Phy::Accept) => Some(Downlink::Accept),
+        (
+            Kind::Data,
+            Phy::Down {
+                confirmed: _,
+                addr,
+                fcnt,
+            },
+        ) => Some(Downlink::Data(DataFrame { addr, fcnt })),
+        _ => None,
+    }
 }
 
 /// The frame that the octets are, where the data rate carries so many.

@@ -3,6 +3,7 @@ ghost use Rattle.std.specs.Prelude.{◌≡◌, ◌+◌, ◌-◌, ◌^◌, ◌<�
 ghost use Rattle.radio_core.specs.DataRates.{max_length};
 ghost use Rattle.registry_core.specs.ByView.{HasRoom, address_by, join_copied_by, join_added_by, join_heard_by};
 
+use crate::addresses::address_of;
 use crate::answers::{Answer, Refusal};
 use crate::checks::wants;
 use crate::effects::Effect;
@@ -11,7 +12,7 @@ use crate::frames::{JoinRequest, join_at};
 use crate::messages::{JoinVerdict, Report};
 use crate::uplinks::{copy_added, is_time, original, reception_of, time_up, uplink_of};
 use crate::views::{UplinkView, View};
-use radio_core::{Band, DevAddr, band_of};
+use radio_core::{Band, band_of};
 
 /// A gateway heard a join request.
 #[tactic(auto, unfolding(crate::specs::ByView::join_heard_by))]
@@ -89,12 +90,4 @@ fn join_added(
         uplink: view.uplinks.wrapping_add(1),
     };
     Ok((effect, answer))
-}
-
-/// The address of the session with this number, where there is one.
-fn address_of(base: u32, session: u64) -> DevAddr
-    ensures { 1 ≤ session → base + session - 1 < 2 ^ 32 → result ≡ base + session - 1 }
-{
-    let address = u64::from(base).wrapping_add(session).wrapping_sub(1);
-    DevAddr::new(u32::try_from(address).unwrap_or(u32::MAX))
 }

@@ -1,14 +1,18 @@
 //! Laws of the definitions: each is the contract of a function that does nothing, or only reads what its
 //! arguments keep.
 ghost use Rattle.std.specs.Prelude.{ℕ, ◌<◌, ◌^◌, IfSome, get_or};
+ghost use Rattle.registry_core.specs.DownlinkLaws.{BookedExactly, DownlinksAreShort, DownlinksHaveBands, HoursAreKept};
 ghost use Rattle.registry_core.specs.Fits.{DecisionsFit};
 ghost use Rattle.registry_core.specs.Heard.{HeardListsStay, NothingIsHeard};
-ghost use Rattle.registry_core.specs.Laws.{AddressesAreApart, AddressesLieInBlock, CopiesBookNothing, CountersAgreeWithFrames, CountersRise, DataCopiesAreFound, FramesAreBookedOnce, JoinCopiesAreFound, NoncesRise, SessionsAreFound, UplinksHaveCopies, UplinksStay};
-ghost use Rattle.registry_core.specs.Ranges.{IsEnvelope, IsReport, IsSettings};
+ghost use Rattle.registry_core.specs.Laws.{AddressesAreApart, AddressesLieInBlock, CopiesBookNothing, CountersAgreeWithFrames, CountersRise, DataCopiesAreFound, FramesAreBookedOnce, JoinCopiesAreFound, NoncesRise, RefusalsChangeNothing, SendersStay, SessionsAreFound, UplinksHaveCopies, UplinksStay};
+ghost use Rattle.registry_core.specs.Ranges.{IsEnvelope, IsOctets, IsReport, IsSettings};
 ghost use Rattle.registry_core.specs.Same.{SameMessageTells};
 
 use crate::configuration::Config;
 use crate::messages::{Envelope, Message, Report};
+use duty_core::laws::computed_forms_tell;
+use radio_core::Octets;
+use radio_core::laws::airtime_is_bounded;
 
 /// The test of two messages tells whether they are equal.
 pub fn same_message_tells()
@@ -55,8 +59,8 @@ pub fn counters_rise()
     ensures { CountersRise }
 {}
 
-/// Whatever was heard, the octets of a data uplink are a data frame of its session's address with the low 16 bits of its
-/// counter.
+/// Whatever was heard, the octets of a data uplink are a data frame of its session's address, whose FCnt agrees with its
+/// counter modulo 65,536.
 pub fn counters_agree_with_frames()
     ensures { CountersAgreeWithFrames }
 {}
@@ -87,9 +91,48 @@ pub fn uplinks_stay()
     ensures { UplinksStay }
 {}
 
-/// Whatever was heard, what is answered as a copy adds no session and no uplink.
+/// Whatever was heard, what is answered as a copy adds no session and no uplink, and changes no booking.
 pub fn copies_book_nothing()
     ensures { CopiesBookNothing }
+{}
+
+/// Whatever was heard, no hour of any gateway's band holds more downlinks than the limit.
+pub fn hours_are_kept()
+    ensures { HoursAreKept }
+{
+    airtime_is_bounded();
+    computed_forms_tell();
+}
+
+/// Whatever was heard, no downlink is longer than 3,000,000 microseconds.
+pub fn downlinks_are_short()
+    ensures { DownlinksAreShort }
+{
+    airtime_is_bounded();
+    computed_forms_tell();
+}
+
+/// A downlink is booked exactly where every check holds, no microsecond is shared with a downlink of the gateway that isn't
+/// dropped, and every sliding hour of the gateway's band stays within the limit.
+pub fn booked_exactly()
+    ensures { BookedExactly }
+{
+    computed_forms_tell();
+}
+
+/// Whatever was heard, no downlink is refused for its band.
+pub fn downlinks_have_bands()
+    ensures { DownlinksHaveBands }
+{}
+
+/// Whatever was heard, a message that is refused changes nothing.
+pub fn refusals_change_nothing()
+    ensures { RefusalsChangeNothing }
+{}
+
+/// A message that adds no sender leaves the senders as they are.
+pub fn senders_stay()
+    ensures { SendersStay }
 {}
 
 /// What was made of a receiver, an operator and a block keeps their forms.
@@ -135,6 +178,19 @@ pub fn envelopes_keep_ranges(envelope: &Envelope)
             report_keeps_ranges(report);
             counter_fits(verdict);
         }
+        Message::DownBook {
+            uplink,
+            gateway,
+            window: _,
+            octets,
+        } => {
+            let _uplink = uplink.get();
+            let _gateway = gateway.get();
+            octets_keep_ranges(octets);
+        }
+        Message::DownDone { booking, sent: _ } => {
+            let _booking = booking.get();
+        }
     }
 }
 
@@ -144,7 +200,13 @@ fn report_keeps_ranges(report: &Report)
     let _gateway = report.gateway.get();
     let _time = report.time.get();
     let _freq = report.rate.freq;
-    octets_fit(report.octets.get());
+    octets_keep_ranges(&report.octets);
+}
+
+fn octets_keep_ranges(octets: &Octets)
+    ensures { IsOctets octets.now }
+{
+    octets_fit(octets.get());
 }
 
 /// A frame counter has 32 bits.

@@ -1,12 +1,14 @@
 //! The registry and its rules: what each message asks, what it changes and how it is answered.
 #![tactic(auto)]
 
+mod addresses;
 mod administration;
 mod answers;
 mod checks;
 mod configuration;
 mod data_frames;
 mod deciding;
+mod downlinks;
 mod effects;
 mod facts;
 mod frames;
@@ -22,7 +24,7 @@ pub use answers::{Answer, Refusal};
 pub use configuration::Config;
 pub use deciding::decide;
 pub use effects::Effect;
-pub use facts::{Device, Kind, Reception, Session, Uplink};
+pub use facts::{Booking, Device, Kind, Reception, Session, Standing, Uplink};
 pub use frames::{DataFrame, JoinRequest, data_up, join_request};
 pub use messages::{Envelope, JoinVerdict, Message, Report, Role};
 pub use views::{SessionView, UplinkView, View};

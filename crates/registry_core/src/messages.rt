@@ -1,5 +1,6 @@
 //! Messages, after reading.
 use crate::wholes::Whole;
+use crate::windows::Window;
 use radio_core::{Eui, Name, Octets, Rate};
 
 /// What a sender may send.
@@ -56,6 +57,18 @@ pub enum Message {
     FrameHeard {
         report: Report,
         verdict: Option<u32>,
+    },
+    /// The gateway is to answer the uplink with this number in the window.
+    DownBook {
+        uplink: Whole,
+        gateway: Name,
+        window: Window,
+        octets: Octets,
+    },
+    /// The downlink of the booking with this number was sent, or it wasn't.
+    DownDone {
+        booking: Whole,
+        sent: bool,
     },
 }
 

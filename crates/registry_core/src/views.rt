@@ -1,10 +1,11 @@
 //! What the registry holds for one message.
-use crate::facts::{Device, Reception, Uplink};
+use crate::facts::{Device, Reception, Standing, Uplink};
 use crate::messages::Role;
+use duty_core::Span;
 use radio_core::Eui;
 
-/// What the registry holds for one message. What the message doesn't ask for is false or absent.
-#[derive(Clone, Copy, Debug, PartialEq, Eq)]
+/// What the registry holds for one message. What the message doesn't ask for is false, 0, absent or empty.
+#[derive(Debug, Drop)]
 pub struct View {
     /// The sender's.
     pub role: Role,
@@ -16,6 +17,8 @@ pub struct View {
     pub sessions: u64,
     /// How many uplinks there are.
     pub uplinks: u64,
+    /// How many bookings there are.
+    pub bookings: u64,
     /// The sender that the message names is there.
     pub sender_known: bool,
     /// The owner that the message names is there.
@@ -28,8 +31,18 @@ pub struct View {
     pub last_nonce: Option<u16>,
     /// The session whose data frame the message tells of.
     pub session: Option<SessionView>,
-    /// The uplink that may be the same as what the message tells of.
+    /// The uplink that the message names, or that may be the same as what it tells of.
     pub uplink: Option<UplinkView>,
+    /// A booking that isn't dropped answers the uplink that a downlink is for.
+    pub answered: bool,
+    /// How many bookings answer data uplinks of that uplink's session, dropped ones too.
+    pub next_down: u64,
+    /// How the booking that the message names stands.
+    pub booking: Option<Standing>,
+    /// When the gateway is on the air near a new downlink, in all bands.
+    pub near: Vec<Span>,
+    /// And in the new downlink's band.
+    pub near_in_band: Vec<Span>,
 }
 
 /// What the registry holds of a session for one message.

@@ -1,5 +1,5 @@
 //! The receive windows of Class A (LoRaWAN L2 1.0.4; RP002-1.0.4, EU863-870).
-ghost use Rattle.std.specs.Prelude.{◌≡◌};
+ghost use Rattle.std.specs.Prelude.{◌≡◌, ◌^◌, ◌<◌};
 ghost use Rattle.registry_core.specs.Windows.{delay, rate_in, window_of};
 
 use crate::facts::Kind;
@@ -16,7 +16,8 @@ pub enum Window {
 /// Where a downlink in the window begins, in microseconds, and how it is sent. `end` is when the last symbol of the uplink
 /// ended at the gateway, `rate` how the gateway heard it.
 pub fn receive(kind: Kind, end: Whole, rate: Rate, window: Window) -> (u64, Rate)
-    ensures { result ≡ window_of kind end rate window }
+    ensures window { result ≡ window_of kind end rate window }
+    ensures range { result.0 < 2 ^ 62 }
 {
     (end.get() + delay(kind, window), rate_in(window, rate))
 }

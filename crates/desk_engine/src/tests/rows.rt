@@ -1,7 +1,7 @@
 //! What is delivered in each run, and what goes back: whole texts where their letters matter, and else the parts in
 //! which requests differ.
-use Row::{Asks, Frames, Joins, Letters};
-use Told::{Framed, Joined, Plain};
+use Row::{Asks, Books, Frames, Joins, Letters};
+use Told::{Booked, Framed, Joined, Plain};
 use std::alloc::{AllocError, Global};
 
 /// What a request is told.
@@ -13,6 +13,8 @@ pub(super) enum Told {
     Joined(u32, &'static str, bool, &'static str, u64),
     /// A data frame's success: Airtime, Band, Copy, Counter, DevEUI and Uplink.
     Framed(u32, &'static str, bool, u32, &'static str, u64),
+    /// A downlink's success: Airtime, Band, Booking and Start.
+    Booked(u32, &'static str, u64, u64),
 }
 
 pub(super) const SUCCESS: Told = Plain(0, "", "Success");
@@ -45,6 +47,16 @@ pub(super) struct Heard {
     pub(super) verdict: &'static str,
 }
 
+/// A downlink: the uplink that it answers, the gateway that is to send it, its receive window, and its octets as
+/// hexadecimal digits.
+#[derive(Clone, Copy)]
+pub(super) struct Down {
+    pub(super) uplink: u64,
+    pub(super) gateway: &'static str,
+    pub(super) window: u8,
+    pub(super) octets: &'static str,
+}
+
 /// What is delivered, and what it is told.
 #[derive(Clone, Copy)]
 pub(super) enum Row {
@@ -54,6 +66,8 @@ pub(super) enum Row {
     Joins(&'static str, u32, Heard, Told),
     /// A FrameHeard of a sender: its transaction number, and the data frame.
     Frames(&'static str, u32, Heard, Told),
+    /// A DownBook of a sender: its transaction number, and the downlink.
+    Books(&'static str, u32, Down, Told),
     /// A whole text, the number of its refusal (0: it is heard), and the whole text that goes back.
     Letters(&'static str, u8, &'static str),
 }
@@ -104,6 +118,17 @@ fn delivery_of(alloc: Global, row: &Row) -> Result<Delivery, AllocError> {
                 told,
             )
         }
+        Books(sender, transaction, down, told) => {
+            let members = down_members(alloc, &down)?;
+            asked(
+                alloc,
+                sender,
+                transaction,
+                "DownBook",
+                members.as_str(),
+                told,
+            )
+        }
         Letters(text, number, wanted) => Ok(Delivery {
             text: format!(in alloc; "{text}")?,
             number,
@@ -142,6 +167,18 @@ fn heard_members(alloc: Global, heard: &Heard, quote: &str) -> Result<String, Al
     )
 }
 
+fn down_members(alloc: Global, down: &Down) -> Result<String, AllocError> {
+    let Down {
+        uplink,
+        gateway,
+        window,
+        octets,
+    } = *down;
+    format!(in alloc;
+        r#""Uplink":{uplink},"Gateway":"{gateway}","Window":{window},"PHYPayload":"{octets}""#
+    )
+}
+
 fn request(
     alloc: Global,
     sender: &str,
@@ -168,6 +205,9 @@ fn answer(
         Framed(airtime, band, copy, counter, dev_eui, uplink) => format!(in alloc;
             r#"{{"Airtime":{airtime},"Band":"{band}","Copy":{copy},"Counter":{counter},"DevEUI":"{dev_eui}","MessageType":"{type_name}Ans","ProtocolVersion":"1.0","ReceiverID":"{receiver}","Result":{{"Description":"","ResultCode":"Success"}},"SenderID":"desk","TransactionID":{transaction},"Uplink":{uplink}}}"#
         ),
+        Booked(airtime, band, booking, start) => format!(in alloc;
+            r#"{{"Airtime":{airtime},"Band":"{band}","Booking":{booking},"MessageType":"{type_name}Ans","ProtocolVersion":"1.0","ReceiverID":"{receiver}","Result":{{"Description":"","ResultCode":"Success"}},"SenderID":"desk","Start":{start},"TransactionID":{transaction}}}"#
+        ),
         Joined(airtime, band, copy, addr, uplink) => format!(in alloc;
             r#"{{"Airtime":{airtime},"Band":"{band}","Copy":{copy},"DevAddr":"{addr}","MessageType":"{type_name}Ans","ProtocolVersion":"1.0","ReceiverID":"{receiver}","Result":{{"Description":"","ResultCode":"Success"}},"SenderID":"desk","TransactionID":{transaction},"Uplink":{uplink}}}"#
         ),
@@ -177,7 +217,7 @@ fn answer(
 fn number_of(told: Told) -> u8 {
     match told {
         Plain(number, _, _) => number,
-        Joined(..) | Framed(..) => 0,
+        Joined(..) | Framed(..) | Booked(..) => 0,
     }
 }
 

@@ -1,5 +1,6 @@
 use Rattle.std.proofs.Common.{[], sym}
 use Rattle.desk_engine.specs.InOrder.{kept_after}
+use Rattle.desk_engine.proofs.Keeping.{hours_of}
 use Rattle.desk_engine.proofs.plain.run_from_nothing.Goals as goal
 
 pub returns-clause-outcomes : goal.returns-clause-outcomes
@@ -11,3 +12,9 @@ pub returns-clause-kept : goal.returns-clause-kept
 unfolding kept_after
 returns-clause-kept c =
     sym (c.in_ok-outcomes.ensures.order c.args.config [] (sym c.in_ok-lists.ensures.config) tt (record { list = c.nothing_is_heard.ensures c.args.config; kept = sym c.in_ok-lists.ensures.opens })).kept
+
+pub returns-clause-hours_kept : goal.returns-clause-hours_kept
+unfolding kept_after
+returns-clause-hours_kept c =
+    let order = c.in_ok-outcomes.ensures.order c.args.config [] (sym c.in_ok-lists.ensures.config) tt (record { list = c.nothing_is_heard.ensures c.args.config; kept = sym c.in_ok-lists.ensures.opens }) in
+    hours_of c.hours_are_kept.ensures c.args.config _ _ order.kept

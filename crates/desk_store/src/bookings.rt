@@ -1,0 +1,79 @@
+//! Look-ups in bookings: each looks once through them, from the front.
+ghost use Rattle.std.specs.Prelude.{◌≡◌, pos, IfOk};
+ghost use Rattle.std.specs.List.{list_any};
+ghost use Rattle.duty_core.specs.Near.{is_near};
+ghost use Rattle.registry_core.specs.Bookings.{is_answer_to};
+ghost use Rattle.desk_store.specs.Lookups.{is_down_in, next_down_in, stands_within, downlinks_near};
+
+use crate::lookups::item_at;
+use duty_core::Span;
+use radio_core::{Band, Name};
+use registry_core::{Booking, Kind, Standing, Uplink};
+use std::alloc::{AllocError, Global};
+
+/// What begins less than this apart is near: an hour and the greatest time on air, in microseconds.
+const NEAR: i128 = 3_603_000_000;
+
+/// The booking answers a data uplink of the session.
+fn is_down_of(booking: &Booking, uplinks: &[Uplink], session: u64) -> bool
+    ensures { result ≡ is_down_in uplinks.now session booking.now }
+{
+    match item_at(uplinks, booking.uplink) {
+        Some(uplink) => uplink.kind == Kind::Data && uplink.session == session,
+        None => false,
+    }
+}
+
+/// How many bookings answer data uplinks of the session, dropped ones too.
+pub(crate) fn next_down(bookings: &[Booking], uplinks: &[Uplink], session: u64) -> u64
+    ensures { result ≡ next_down_in bookings.now uplinks.now session }
+{
+    bookings
+        .iter()
+        .filter(|booking| is_down_of(booking, uplinks, session))
+        .count() as u64
+}
+
+/// A booking that isn't dropped answers the uplink with this number.
+pub(crate) fn is_answered(bookings: &[Booking], uplink: u64) -> bool
+    ensures { result ≡ list_any (is_answer_to uplink) bookings.now }
+{
+    bookings.iter().any(|booking| booking.uplink == uplink && booking.standing != Standing::Dropped)
+}
+
+/// The booking isn't dropped and is the gateway's, in the band if one is given.
+fn stands_within(booking: &Booking, gateway: &Name, band: Option<Band>) -> bool
+    ensures { result ≡ stands_within gateway.now band booking.now }
+{
+    booking.gateway.get() == gateway.get()
+        && booking.standing != Standing::Dropped
+        && band.is_none_or(|band| booking.band == band)
+}
+
+/// It begins near the start, on either side.
+fn is_near(span: &Span, start: u64) -> bool
+    ensures { result ≡ is_near (pos start) span.now }
+{
+    let apart = i128::from(span.start()) - i128::from(start);
+    -NEAR < apart && apart < NEAR
+}
+
+/// When the gateway's bookings that aren't dropped and begin near the start are on the air: those in the band, or in all
+/// bands.
+pub(crate) fn downlinks_near(
+    alloc: Global,
+    bookings: &[Booking],
+    gateway: &Name,
+    band: Option<Band>,
+    start: u64,
+) -> Result<Vec<Span>, AllocError>
+    ensures { IfOk result (λ spans. spans.items ≡ downlinks_near bookings.now gateway.now band start) }
+{
+    let mut spans = Vec::new(alloc);
+    for booking in bookings {
+        if stands_within(booking, gateway, band) && is_near(&booking.span, start) {
+            spans.push(booking.span)?;
+        }
+    }
+    Ok(spans)
+}

@@ -1,0 +1,171 @@
+-- No hour holds more downlinks than the limit, and no downlink is longer than what makes one near, whatever was heard.
+use Rattle.std.proofs.Common.{◌≡◌, ℕ, zero, suc, ◌+◌, ◌≤◌, List, [], ◌∷◌, ◌++◌, map, filter, Bool, true, false, cond, Some, refl, sym, ◌∙◌, ap, subst, arith}
+use Rattle.std.specs.Prelude.{ℤ, ◌==◌, ◌&&◌, not, bytes_eq}
+use Rattle.std.specs.List.{AllByRecursion}
+use Rattle.std.proofs.lemmas.Bool.{and_parts}
+use Rattle.std.proofs.lemmas.Bool.Decides.{nat_tests}
+use Rattle.std.proofs.lemmas.List.Sums.{sum_by-cons, sum_by_push}
+use Rattle.std.proofs.lemmas.Slice.Eq.{bytes_eq-Decides}
+use Rattle.radio_core.specs.declared.bands.Band.{Band}
+use Rattle.radio_core.specs.declared.bands.Band.TheVariants.{B1, B2, B3, B4, B5, B6}
+use Rattle.radio_core.specs.Bands.{band_number, limit_of}
+use Rattle.radio_core.specs.TimeOnAir.{AirtimeIsBounded}
+use Rattle.duty_core.specs.Laws.{HoursWithinTells}
+use Rattle.duty_core.specs.Near.{greatest_length}
+use Rattle.duty_core.specs.Use.{EveryHourWithin, hour_from, shared_count, use_of}
+use Rattle.registry_core.specs.declared.effects.Effect.{Effect}
+use Rattle.registry_core.specs.declared.effects.Effect.TheVariants.{Nothing, AddsSender, AddsOwner, AddsGateway, AddsDevice, MovesDevice, AddsSession, AddsUplink, AddsCopy, AddsBooking, EndsBooking}
+use Rattle.registry_core.specs.declared.facts.Booking.{Booking}
+use Rattle.registry_core.specs.declared.facts.Standing.{Standing}
+use Rattle.registry_core.specs.declared.facts.Standing.TheVariants.{Booked, Sent, Dropped}
+use Rattle.registry_core.specs.declared.messages.Envelope.{Envelope}
+use Rattle.registry_core.specs.Bookings.{downlinks_in, is_dropped, stands_at, stands_in}
+use Rattle.registry_core.specs.Heard.{state_after, state_of}
+use Rattle.registry_core.specs.Numbered.{item_at, item_changed, place_changed}
+use Rattle.registry_core.specs.Settings.{Settings}
+use Rattle.registry_core.specs.State.{State, ended, opening, state_with}
+use Rattle.registry_core.specs.Step.{decision_of, step}
+use Rattle.registry_core.proofs.Decisions.{is_decision}
+use Rattle.registry_core.proofs.HeardStates.{IsAllowed, IsSound, change_sound, opening_sound}
+use Rattle.registry_core.proofs.Items.{some_is}
+
+-- the use of an hour by the bookings that pass a test
+abbrev pub use_by : (Booking → Bool) → List Booking → ℤ → ℕ
+use_by p bs t = use_of (map (λ b. b.span) (filter p bs)) t
+
+abbrev pub AreShort : List Booking → Type 0
+AreShort bs = AllByRecursion (λ b. b.span.len ≤ greatest_length) bs
+
+pub record IsKept (bookings : List Booking) : Type 0 where
+  pub short : AreShort bookings
+  pub hours : (gateway : List ℕ) (band : Band) (t : ℤ) → use_by (stands_in gateway band) bookings t ≤ limit_of band
+
+-- ---- one booking more
+
+use_by-cons : (p : Booking → Bool) (b : Booking) (bs : List Booking) (t : ℤ) (v : Bool) → p b ≡ v → use_by p (b ∷ bs) t ≡ cond v (shared_count b.span (hour_from t)) 0 + use_by p bs t
+use_by-cons p b bs t true e = ap (λ v. use_of (map (λ (x : Booking). x.span) (cond v (b ∷ filter p bs) (filter p bs))) t) e
+    ∙ sum_by-cons (λ a. shared_count a (hour_from t)) b.span (map (λ (x : Booking). x.span) (filter p bs))
+use_by-cons p b bs t false e = ap (λ v. use_of (map (λ (x : Booking). x.span) (cond v (b ∷ filter p bs) (filter p bs))) t) e ∙ omega arith
+
+use_by-last : (p : Booking → Bool) (bs : List Booking) (b : Booking) (t : ℤ) (v : Bool) → p b ≡ v → use_by p (bs ++ b ∷ []) t ≡ use_by p bs t + cond v (shared_count b.span (hour_from t)) 0
+use_by-last p [] b t v e = use_by-cons p b [] t v e ∙ omega arith
+use_by-last p (x ∷ bs) b t v e = use_by-cons p x (bs ++ b ∷ []) t (p x) refl ∙ omega (arith, use_by-last p bs b t v e, use_by-cons p x bs t (p x) refl)
+
+-- a band by its number
+band_with : ℕ → Band
+band_with n = cond (n == 1) B1 (cond (n == 2) B2 (cond (n == 3) B3 (cond (n == 4) B4 (cond (n == 5) B5 B6))))
+
+band_back : (band : Band) → band_with (band_number band) ≡ band
+unfolding band_with
+band_back B1 = refl
+band_back B2 = refl
+band_back B3 = refl
+band_back B4 = refl
+band_back B5 = refl
+band_back B6 = refl
+
+same_band : (a b : Band) → band_number a ≡ band_number b → a ≡ b
+same_band a b e = sym (band_back a) ∙ ap band_with e ∙ band_back b
+
+number_told : (n m : ℕ) → (n == m) ≡ true → n ≡ m
+number_told n m h = grind (arith, nat_tests)
+
+short_last : (bs : List Booking) (b : Booking) → AreShort bs → b.span.len ≤ greatest_length → AreShort (bs ++ b ∷ [])
+short_last [] b h k = (k, tt)
+short_last (x ∷ bs) b h k = (h.0, short_last bs b h.1 k)
+
+added_hours : (s : State) (b : Booking) (gateway : List ℕ) (band : Band) (t : ℤ) (v : Bool) → stands_in gateway band b ≡ v → use_by (stands_in gateway band) s.bookings t ≤ limit_of band
+    → EveryHourWithin (downlinks_in s b.gateway b.band ++ b.span ∷ []) (limit_of b.band) → use_by (stands_in gateway band) (s.bookings ++ b ∷ []) t ≤ limit_of band
+unfolding downlinks_in
+added_hours s b gateway band t true e old new =
+    let told : (stands_at gateway b ≡ true) × ((band_number b.band == band_number band) ≡ true) = and_parts _ _ e in
+    let at_gateway : (bytes_eq b.gateway gateway ≡ true) × (not (is_dropped b.standing) ≡ true) = and_parts _ _ told.0 in
+    let in_both : EveryHourWithin (downlinks_in s gateway band ++ b.span ∷ []) (limit_of band) =
+    subst (λ x. EveryHourWithin (downlinks_in s gateway x ++ b.span ∷ []) (limit_of x)) (same_band b.band band (number_told _ _ told.1))
+    (subst (λ x. EveryHourWithin (downlinks_in s x b.band ++ b.span ∷ []) (limit_of b.band)) ((bytes_eq-Decides b.gateway gateway).0 at_gateway.0) new) in
+    omega (arith, use_by-last (stands_in gateway band) s.bookings b t true e, in_both t, sum_by_push (λ a. shared_count a (hour_from t)) (downlinks_in s gateway band) b.span)
+added_hours s b gateway band t false e old new = omega (arith, use_by-last (stands_in gateway band) s.bookings b t false e, old)
+
+-- ---- one booking ended
+
+-- what a booking weighs in an hour, as it stands
+abbrev weight : List ℕ → Band → Booking → ℤ → Standing → ℕ
+weight gateway band b t standing = cond (bytes_eq b.gateway gateway && not (is_dropped standing) && band_number b.band == band_number band) (shared_count b.span (hour_from t)) 0
+
+none_less : (v w : Bool) (n : ℕ) → cond (v && false && w) n 0 ≤ cond (v && true && w) n 0
+none_less true w n = omega arith
+none_less false w n = omega arith
+
+-- sent, it weighs as booked, and dropped nothing
+no_heavier : (gateway : List ℕ) (band : Band) (b : Booking) (t : ℤ) (standing : Standing) → weight gateway band b t standing ≤ weight gateway band b t Booked
+no_heavier gateway band b t Booked = omega arith
+no_heavier gateway band b t Sent = omega arith
+no_heavier gateway band b t Dropped = none_less (bytes_eq b.gateway gateway) (band_number b.band == band_number band) (shared_count b.span (hour_from t))
+
+ended_weight : (gateway : List ℕ) (band : Band) (b : Booking) (sent : Bool) (t : ℤ) → b.standing ≡ Booked
+    → cond (stands_in gateway band (ended sent b)) (shared_count b.span (hour_from t)) 0 ≤ cond (stands_in gateway band b) (shared_count b.span (hour_from t)) 0
+ended_weight gateway band b sent t booked = subst (λ standing. weight gateway band b t (ended sent b).standing ≤ weight gateway band b t standing) (sym booked) (no_heavier gateway band b t (ended sent b).standing)
+
+place_hours : (gateway : List ℕ) (band : Band) (sent : Bool) (t : ℤ) (bs : List Booking) (n : ℕ) (b : Booking) → item_at bs (suc n) ≡ Some b → b.standing ≡ Booked
+    → use_by (stands_in gateway band) (place_changed (ended sent) bs n) t ≤ use_by (stands_in gateway band) bs t
+place_hours gateway band sent t [] n b there booked = omega arith
+place_hours gateway band sent t (x ∷ bs) zero b there booked =
+    let p : Booking → Bool = stands_in gateway band in
+    omega (
+      arith,
+      ended_weight gateway band x sent t (ap (λ (y : Booking). y.standing) (some_is x b there) ∙ booked),
+      use_by-cons p (ended sent x) bs t (p (ended sent x)) refl,
+      use_by-cons p x bs t (p x) refl,
+    )
+place_hours gateway band sent t (x ∷ bs) (suc n) b there booked =
+    let p : Booking → Bool = stands_in gateway band in
+    omega (
+      arith,
+      place_hours gateway band sent t bs n b there booked,
+      use_by-cons p x (place_changed (ended sent) bs n) t (p x) refl,
+      use_by-cons p x bs t (p x) refl,
+    )
+
+ended_hours : (gateway : List ℕ) (band : Band) (sent : Bool) (t : ℤ) (bs : List Booking) (number : ℕ) (b : Booking) → item_at bs number ≡ Some b → b.standing ≡ Booked
+    → use_by (stands_in gateway band) (item_changed (ended sent) bs number) t ≤ use_by (stands_in gateway band) bs t
+ended_hours gateway band sent t bs zero b there booked = omega arith
+ended_hours gateway band sent t bs (suc n) b there booked = place_hours gateway band sent t bs n b there booked
+
+place_short : (sent : Bool) (bs : List Booking) (n : ℕ) → AreShort bs → AreShort (place_changed (ended sent) bs n)
+place_short sent [] n h = tt
+place_short sent (x ∷ bs) zero h = h
+place_short sent (x ∷ bs) (suc n) h = (h.0, place_short sent bs n h.1)
+
+ended_short : (sent : Bool) (bs : List Booking) (number : ℕ) → AreShort bs → AreShort (item_changed (ended sent) bs number)
+ended_short sent bs zero h = h
+ended_short sent bs (suc n) h = place_short sent bs n h
+
+-- ---- each change
+
+change_kept : (bounded : AirtimeIsBounded) (tells : HoursWithinTells) (c : Settings) (s : State) (effect : Effect) → IsAllowed c s effect → IsKept s.bookings → IsKept (state_with s effect).bookings
+change_kept bounded tells c s Nothing k h = h
+change_kept bounded tells c s (AddsSender name role) k h = h
+change_kept bounded tells c s (AddsOwner name) k h = h
+change_kept bounded tells c s (AddsGateway name) k h = h
+change_kept bounded tells c s (AddsDevice dev_eui device) k h = h
+change_kept bounded tells c s (MovesDevice dev_eui owner) k h = h
+change_kept bounded tells c s (AddsSession session uplink gateway reception) k h = h
+change_kept bounded tells c s (AddsUplink uplink gateway reception) k h = h
+change_kept bounded tells c s (AddsCopy number gateway reception) k h = h
+change_kept bounded tells c s (AddsBooking b) k h = record {
+  short = short_last s.bookings b h.short (omega (arith, bounded k.1.0 k.1.1 false k.1.2, k.1.3));
+  hours = λ gateway band t. added_hours s b gateway band t (stands_in gateway band b) refl (h.hours gateway band t) ((tells (downlinks_in s b.gateway b.band ++ b.span ∷ []) (limit_of b.band)).0 k.2);
+}
+change_kept bounded tells c s (EndsBooking number sent) k h = record {
+  short = ended_short sent s.bookings number h.short;
+  hours = λ gateway band t. omega (arith, ended_hours gateway band sent t s.bookings number k.booking k.there k.standing, h.hours gateway band t);
+}
+
+kept_after : (bounded : AirtimeIsBounded) (tells : HoursWithinTells) (c : Settings) (s : State) (es : List Envelope) → IsSound c s → IsKept s.bookings → IsKept (state_after c s es).bookings
+kept_after bounded tells c s [] sound h = h
+kept_after bounded tells c s (e ∷ es) sound h =
+    let allowed = (is_decision c s e sound).allowed in
+    kept_after bounded tells c (step c s e).0 es (change_sound c s (decision_of c s e).0 sound allowed) (change_kept bounded tells c s (decision_of c s e).0 allowed h)
+
+pub kept_of : (bounded : AirtimeIsBounded) (tells : HoursWithinTells) (c : Settings) (heard : List Envelope) → IsKept (state_of c heard).bookings
+kept_of bounded tells c heard = kept_after bounded tells c (opening c) heard (opening_sound c) (record { short = tt; hours = λ gateway band t. omega arith })

@@ -1,0 +1,5 @@
+use Rattle.registry_core.proofs.DownlinkLaws.{booked_exactly}
+use Rattle.registry_core.proofs.laws.booked_exactly.Goals as goal
+
+pub returns : goal.returns
+returns c = booked_exactly c.computed_forms_tell.ensures.clear c.computed_forms_tell.ensures.within

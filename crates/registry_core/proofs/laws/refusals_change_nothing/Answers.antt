@@ -1,0 +1,5 @@
+use Rattle.registry_core.proofs.EveryMessage.{refusals_change_nothing}
+use Rattle.registry_core.proofs.laws.refusals_change_nothing.Goals as goal
+
+pub returns : goal.returns
+returns c = refusals_change_nothing

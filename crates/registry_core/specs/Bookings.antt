@@ -1,0 +1,63 @@
+-- What follows from the bookings: which of them stand, and when a gateway is on the air.
+use Rattle.std.specs.Prelude.{ℕ, ◌==◌, Bool, true, false, not, ◌&&◌, List, map, filter, count_by, bytes_eq}
+use Rattle.std.specs.List.{list_any}
+use Rattle.std.specs.Option.{option_map_or}
+use Rattle.radio_core.specs.declared.bands.Band.{Band}
+use Rattle.radio_core.specs.Bands.{band_number, limit_of}
+use Rattle.duty_core.specs.Use.{Interval, EveryHourWithin}
+use Rattle.registry_core.specs.declared.facts.Booking.{Booking}
+use Rattle.registry_core.specs.declared.facts.Standing.{Standing}
+use Rattle.registry_core.specs.declared.facts.Standing.TheVariants.{Booked, Sent, Dropped}
+use Rattle.registry_core.specs.Derived.{is_data_of}
+use Rattle.registry_core.specs.Numbered.{item_at}
+use Rattle.registry_core.specs.State.{State}
+
+-- neither sent nor dropped
+abbrev pub is_booked : Standing → Bool
+is_booked Booked = true
+is_booked Sent = false
+is_booked Dropped = false
+
+abbrev pub is_dropped : Standing → Bool
+is_dropped Booked = false
+is_dropped Sent = false
+is_dropped Dropped = true
+
+-- ---- the uplink that a booking answers
+
+-- the booking answers a data uplink of session n
+abbrev pub is_down_of : State → ℕ → Booking → Bool
+is_down_of s n booking = option_map_or (is_data_of n) (item_at s.uplinks booking.uplink) false
+
+-- the next downlink counter of session n: how many bookings answer its data uplinks, dropped ones too
+unfoldable pub next_down : State → ℕ → ℕ
+next_down s n = count_by (is_down_of s n) s.bookings
+
+-- a booking that isn't dropped answers the uplink with this number
+abbrev pub is_answer_to : ℕ → Booking → Bool
+is_answer_to number booking = booking.uplink == number && not (is_dropped booking.standing)
+
+unfoldable pub is_answered : State → ℕ → Bool
+is_answered s number = list_any (is_answer_to number) s.bookings
+
+-- ---- when a gateway is on the air
+
+-- the booking stands at the gateway: it isn't dropped
+abbrev pub stands_at : List ℕ → Booking → Bool
+stands_at gateway booking = bytes_eq booking.gateway gateway && not (is_dropped booking.standing)
+
+-- and it is in the band
+abbrev pub stands_in : List ℕ → Band → Booking → Bool
+stands_in gateway band booking = stands_at gateway booking && band_number booking.band == band_number band
+
+-- the downlinks of a gateway that aren't dropped, in all bands
+unfoldable pub downlinks : State → List ℕ → List Interval
+downlinks s gateway = map (λ booking. booking.span) (filter (stands_at gateway) s.bookings)
+
+-- and in one band
+unfoldable pub downlinks_in : State → List ℕ → Band → List Interval
+downlinks_in s gateway band = map (λ booking. booking.span) (filter (stands_in gateway band) s.bookings)
+
+-- No hour of any gateway's band holds more than the limit: the use of every sliding hour, by downlinks that aren't dropped.
+abbrev pub EveryHourKept : State → Type 0
+EveryHourKept s = (gateway : List ℕ) (band : Band) → EveryHourWithin (downlinks_in s gateway band) (limit_of band)

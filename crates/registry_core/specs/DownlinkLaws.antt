@@ -1,0 +1,71 @@
+-- What holds of downlinks.
+use Rattle.std.specs.Prelude.{◌≡◌, ◌≢◌, ◌↔◌, ℕ, ◌+◌, ◌≤◌, Bool, true, false, List, [], ◌∷◌, ◌++◌, Some, IsTrue, All}
+use Rattle.radio_core.specs.declared.bands.Band.{Band}
+use Rattle.radio_core.specs.Bands.{band_at, limit_of}
+use Rattle.duty_core.specs.Near.{greatest_length}
+use Rattle.duty_core.specs.Use.{EveryHourWithin, IsClear}
+use Rattle.registry_core.specs.declared.answers.Answer.{Answer}
+use Rattle.registry_core.specs.declared.answers.Answer.TheVariants.{DownSuccess, Refused}
+use Rattle.registry_core.specs.declared.answers.Refusal.TheVariants.{OutOfBand}
+use Rattle.registry_core.specs.declared.facts.Reception.{Reception}
+use Rattle.registry_core.specs.declared.facts.Uplink.{Uplink}
+use Rattle.registry_core.specs.declared.frames.Downlink.{Downlink}
+use Rattle.registry_core.specs.declared.messages.Envelope.{Envelope}
+use Rattle.registry_core.specs.declared.messages.Message.TheVariants.{DownBook}
+use Rattle.registry_core.specs.declared.windows.Window.{Window}
+use Rattle.registry_core.specs.Bookings.{EveryHourKept, downlinks, downlinks_in, is_answered, next_down}
+use Rattle.registry_core.specs.Derived.{address_of}
+use Rattle.registry_core.specs.Downlinks.{on_air}
+use Rattle.registry_core.specs.Frames.{counts_as, downlink_to, frame_at, goes_to}
+use Rattle.registry_core.specs.Heard.{state_of}
+use Rattle.registry_core.specs.Numbered.{item_at}
+use Rattle.registry_core.specs.Settings.{Settings}
+use Rattle.registry_core.specs.State.{State}
+use Rattle.registry_core.specs.Step.{step}
+use Rattle.registry_core.specs.Windows.{delay, rate_in}
+
+-- no hour of any gateway's band holds more than the limit, whatever was heard
+abbrev pub HoursAreKept : Type 0
+HoursAreKept = (c : Settings) (heard : List Envelope) → EveryHourKept (state_of c heard)
+
+-- no downlink is longer than what makes another one near, 3,000,000 microseconds
+abbrev pub DownlinksAreShort : Type 0
+DownlinksAreShort = (c : Settings) (heard : List Envelope) → All (λ booking. booking.span.len ≤ greatest_length) (state_of c heard).bookings
+
+-- ---- which downlinks are booked
+
+-- The gateway is known and has a copy of the uplink. The octets are the frame that the uplink's kind asks for and that the
+-- window's data rate carries, to the session's address. The uplink has no booking but dropped ones, and FCnt is that of the
+-- next downlink counter. On the air it shares no microsecond with a downlink of the gateway that isn't dropped; and with it
+-- every sliding hour of the gateway's band is within the limit.
+pub record IsAccepted (c : Settings) (s : State) (number : ℕ) (gateway : List ℕ) (window : Window) (octets : List ℕ) : Type 0 where
+  pub known : IsTrue (s.gateways gateway)
+  pub uplink : Uplink
+  pub there : item_at s.uplinks number ≡ Some uplink
+  pub copy : Reception
+  pub heard : s.copies number gateway ≡ Some copy
+  pub down : Downlink
+  pub frame : downlink_to uplink.kind (frame_at (rate_in window copy.rate).dr octets) ≡ Some down
+  pub address : IsTrue (goes_to (address_of c uplink.session) down)
+  pub unanswered : is_answered s number ≡ false
+  pub counter : IsTrue (counts_as (next_down s uplink.session) down)
+  pub band : Band
+  pub lies_in_it : band_at (rate_in window copy.rate).freq (rate_in window copy.rate).dr ≡ Some band
+  pub clear : IsClear (downlinks s gateway) (on_air (copy.end + delay uplink.kind window) (rate_in window copy.rate) octets)
+  pub hours : EveryHourWithin (downlinks_in s gateway band ++ on_air (copy.end + delay uplink.kind window) (rate_in window copy.rate) octets ∷ []) (limit_of band)
+
+abbrev pub tells_booking : Answer → Bool
+tells_booking (DownSuccess airtime band booking start) = true
+tells_booking _ = false
+
+-- a downlink is booked exactly where it is accepted
+abbrev pub BookedExactly : Type 0
+BookedExactly = (c : Settings) (s : State) (e : Envelope) (number : ℕ) (gateway : List ℕ) (window : Window) (octets : List ℕ) → e.message ≡ DownBook number gateway window octets
+    → IsTrue (tells_booking (step c s e).1) ↔ IsAccepted c s number gateway window octets
+
+-- ---- their bands
+
+-- each copy lies in a band, and so does the second window: no downlink is refused for its band
+abbrev pub DownlinksHaveBands : Type 0
+DownlinksHaveBands = (c : Settings) (heard : List Envelope) (e : Envelope) (number : ℕ) (gateway : List ℕ) (window : Window) (octets : List ℕ)
+    → e.message ≡ DownBook number gateway window octets → (step c (state_of c heard) e).1 ≢ Refused OutOfBand

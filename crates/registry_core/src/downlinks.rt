@@ -1,0 +1,122 @@
+//! What a downlink changes and how it is answered, and what became of it (LoRaWAN L2 1.0.4, Class A).
+ghost use Rattle.std.specs.Prelude.{◌≡◌, ◌^◌, ◌<◌, ◌≤◌, length};
+ghost use Rattle.radio_core.specs.DataRates.{max_length};
+ghost use Rattle.registry_core.specs.ByView.{HasRoom};
+ghost use Rattle.registry_core.specs.Downlinks.{on_air};
+ghost use Rattle.registry_core.specs.DownlinksByView.{down_added_by, down_book_by, down_done_by};
+ghost use Rattle.registry_core.specs.Bookings.{is_booked};
+ghost use Rattle.registry_core.specs.Viewed.{IsChecked};
+ghost use Rattle.registry_core.specs.declared.messages.Message.TheVariants.{DownBook, DownDone};
+
+use crate::addresses::address_of;
+use crate::answers::{Answer, Refusal};
+use crate::checks::wants;
+use crate::effects::Effect;
+use crate::facts::{Booking, Standing};
+use crate::frames::downlink_at;
+use crate::views::View;
+use crate::wholes::Whole;
+use crate::windows::{Window, receive};
+use duty_core::laws::{computed_forms_tell, near_ones_test};
+use duty_core::{Span, clear, fits};
+use radio_core::laws::airtime_is_bounded;
+use radio_core::{Band, Name, Octets, Rate, airtime, band_of, limit};
+
+/// A gateway is to answer an uplink of which it has a copy, in a receive window.
+pub(crate) fn down_book(
+    uplink: Whole,
+    gateway: &Name,
+    window: Window,
+    octets: &Octets,
+    view: &View,
+) -> Result<(Effect, Answer), Refusal>
+    ensures { IsChecked (DownBook uplink gateway.now window octets.now) view.now result }
+{
+    // no downlink is longer than what makes one near, and every hour is kept: so the near ones stand for all
+    airtime_is_bounded();
+    computed_forms_tell();
+    near_ones_test();
+    down_booked(gateway, window, octets, view)
+}
+
+/// The checks of a downlink, on the downlinks near it.
+#[tactic(auto, unfolding(crate::specs::DownlinksByView::down_book_by))]
+fn down_booked(
+    gateway: &Name,
+    window: Window,
+    octets: &Octets,
+    view: &View,
+) -> Result<(Effect, Answer), Refusal>
+    ensures { HasRoom view.now → result ≡ down_book_by view.now gateway.now window octets.now }
+{
+    wants(view.gateway_known, Refusal::UnknownGateway)?;
+    let seen = view.uplink.ok_or(Refusal::NoUplink)?;
+    let copy = seen.at_gateway.ok_or(Refusal::NoUplink)?;
+    let kind = seen.uplink.kind;
+    let (start, rate) = receive(kind, copy.end, copy.rate, window);
+    let down = downlink_at(kind, rate.dr, octets).ok_or(Refusal::BadFrame)?;
+    let addr = address_of(view.base, seen.uplink.session);
+    wants(down.goes_to(addr), Refusal::UnknownDevAddr)?;
+    wants(!view.answered, Refusal::Answered)?;
+    wants(down.counts_as(view.next_down), Refusal::DownCounter)?;
+    let band = band_of(rate.freq, rate.dr).ok_or(Refusal::OutOfBand)?;
+    let span = on_air(start, rate, octets);
+    down_added(seen.number, gateway, band, start, span, view)
+}
+
+/// The downlink is clear of the gateway's others, and every hour of its band keeps the limit with it.
+#[tactic(auto, unfolding(crate::specs::DownlinksByView::down_added_by))]
+fn down_added(
+    uplink: u64,
+    gateway: &Name,
+    band: Band,
+    start: u64,
+    span: Span,
+    view: &View,
+) -> Result<(Effect, Answer), Refusal>
+    ensures { HasRoom view.now → result ≡ down_added_by view.now uplink gateway.now band start span }
+{
+    wants(clear(&view.near, span), Refusal::Collision)?;
+    wants(fits(&view.near_in_band, span, limit(band)), Refusal::Duty)?;
+    let booking = Booking {
+        uplink,
+        gateway: *gateway,
+        band,
+        span,
+        standing: Standing::Booked,
+    };
+    let answer = Answer::DownSuccess {
+        airtime: span.len(),
+        band,
+        booking: view.bookings.wrapping_add(1),
+        start,
+    };
+    Ok((Effect::AddsBooking { booking }, answer))
+}
+
+/// When a downlink is on the air, where the data rate carries so many octets. It has no payload CRC.
+fn on_air(start: u64, rate: Rate, octets: &Octets) -> Span
+    requires { start < 2 ^ 62 }
+    ensures { length octets.now ≤ max_length rate.dr → result ≡ on_air start rate octets.now }
+{
+    let time = airtime(rate.dr, octets.get().len(), false);
+    Span::new(start as i64, u32::try_from(time).unwrap_or(u32::MAX)).unwrap()
+}
+
+/// The downlink of a booking was sent, or else the booking is dropped.
+#[tactic(auto, unfolding(crate::specs::DownlinksByView::down_done_by))]
+pub(crate) fn down_done(
+    booking: Whole,
+    sent: bool,
+    view: &View,
+) -> Result<(Effect, Answer), Refusal>
+    ensures { result ≡ down_done_by view.now booking sent }
+{
+    let standing = view.booking.ok_or(Refusal::NoBooking)?;
+    wants(standing == Standing::Booked, Refusal::Done)?;
+    let effect = Effect::EndsBooking {
+        booking: booking.get(),
+        sent,
+    };
+    Ok((effect, Answer::Success))
+}
