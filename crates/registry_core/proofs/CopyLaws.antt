@@ -78,7 +78,7 @@ session_once sessions m n a b rise em en device nonce (inl same) = same
 session_once sessions m n a b rise em en device nonce (inr (inl below)) = let lt : a.nonce < b.nonce = rise m n a b em en device below in absurd (omega (arith, lt, nonce))
 session_once sessions m n a b rise em en device nonce (inr (inr above)) = let lt : b.nonce < a.nonce = rise n m b a en em (sym device) above in absurd (omega (arith, lt, nonce))
 
-join_once : (c : Settings) (s : State) (device nonce m n : ℕ) (u v : Uplink) → IsSound c s → item_at s.uplinks m ≡ Some u → item_at s.uplinks n ≡ Some v
+pub join_once : (c : Settings) (s : State) (device nonce m n : ℕ) (u v : Uplink) → IsSound c s → item_at s.uplinks m ≡ Some u → item_at s.uplinks n ≡ Some v
     → is_join_with s device nonce u ≡ true → is_join_with s device nonce v ≡ true → m ≡ n
 join_once c s device nonce m n u v h em en ju jv =
     let x = join_parts s device nonce u ju in

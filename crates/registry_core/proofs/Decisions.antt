@@ -70,7 +70,7 @@ pub record IsDecision (c : Settings) (s : State) (d : Decision) : Type 0 where
   pub copy : IsTrue (tells_copy d.1) → BooksNothing d.0
   pub refusal : (r : Refusal) → d.1 ≡ Refused r → d.0 ≡ Nothing
 
-Decides : Settings → State → Checked Decision → Type 0
+unfoldable pub Decides : Settings → State → Checked Decision → Type 0
 Decides c s checked = IsDecision c s (decision_or_refusal checked)
 
 -- ---- checks in a row
@@ -145,7 +145,7 @@ is_there (Some x) y e = refl
 is_there None y e = cc
 
 -- the next uplink has no copy
-no_copy : (c : Settings) (s : State) (gateway : List ℕ) (found : Option Reception) → IsSound c s → s.copies (next_uplink s) gateway ≡ found → found ≡ None
+pub no_copy : (c : Settings) (s : State) (gateway : List ℕ) (found : Option Reception) → IsSound c s → s.copies (next_uplink s) gateway ≡ found → found ≡ None
 no_copy c s gateway None h e = refl
 no_copy c s gateway (Some r) h e = absurd (omega (arith, h.of_uplinks (next_uplink s) gateway r e))
 
@@ -203,7 +203,7 @@ ended_decides c s report join device band (Some found) h gateway there lies is =
       refusal = λ x h. cc;
     }
 
-join_decides : (c : Settings) (s : State) (report : Report) (verdict : JoinVerdict) → IsSound c s → Decides c s (join_heard c s report verdict)
+pub join_decides : (c : Settings) (s : State) (report : Report) (verdict : JoinVerdict) → IsSound c s → Decides c s (join_heard c s report verdict)
 unfolding join_heard
 join_decides c s report verdict h =
     after_wants c s (is_time report.time) Time _ (λ _.
@@ -284,7 +284,7 @@ frame_ended c s report frame session counter band (Some found) h gateway told at
 }
 
 -- a frame that its data rate carries is what its octets are
-carried : (dr : DataRate) (octets : List ℕ) (frame : DataFrame) (b : Bool) → nat_le (length octets) (max_length dr) ≡ b → data_up (if b then frame_of octets else None) ≡ Some frame
+pub carried : (dr : DataRate) (octets : List ℕ) (frame : DataFrame) (b : Bool) → nat_le (length octets) (max_length dr) ≡ b → data_up (if b then frame_of octets else None) ≡ Some frame
     → data_up (frame_of octets) ≡ Some frame
 carried dr octets frame true is e = e
 carried dr octets frame false is e = cc

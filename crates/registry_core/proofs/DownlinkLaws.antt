@@ -1,6 +1,6 @@
 -- Which downlinks are booked, and that each has a band.
 use Rattle.std.proofs.Common.{◌≡◌, ℕ, ◌+◌, ◌≤◌, List, [], ◌∷◌, ◌++◌, Bool, true, false, not, Option, Some, None, refl, sym, ◌∙◌, ap, subst}
-use Rattle.std.specs.Prelude.{IsTrue, is_some}
+use Rattle.std.specs.Prelude.{is_some}
 use Rattle.radio_core.specs.declared.bands.Band.{Band}
 use Rattle.radio_core.specs.declared.data_rates.Rate.{Rate}
 use Rattle.radio_core.specs.Bands.{band_at, limit_of}
@@ -24,7 +24,7 @@ use Rattle.registry_core.specs.Bookings.{downlinks, downlinks_in, is_answered, n
 use Rattle.registry_core.specs.Checks.{Checked, ◌>>=◌, ◌>>◌, wants, needs}
 use Rattle.registry_core.specs.Decision.{Decision, decision_or_refusal}
 use Rattle.registry_core.specs.Derived.{address_of}
-use Rattle.registry_core.specs.DownlinkLaws.{BookedExactly, DownlinksAreShort, DownlinksHaveBands, HoursAreKept, IsAccepted, tells_booking}
+use Rattle.registry_core.specs.DownlinkLaws.{BookedExactly, CopiesLieInBands, DownlinksAreShort, DownlinksHaveBands, HoursAreKept, IsAccepted, tells_booking}
 use Rattle.registry_core.specs.Downlinks.{down_added, down_book, on_air}
 use Rattle.registry_core.specs.Frames.{counts_as, downlink_to, frame_at, goes_to}
 use Rattle.registry_core.specs.Heard.{state_of}
@@ -35,6 +35,7 @@ use Rattle.registry_core.specs.Step.{checked_decision}
 use Rattle.registry_core.specs.Windows.{delay, rate_in}
 use Rattle.registry_core.proofs.BookedHours.{kept_of}
 use Rattle.registry_core.proofs.Decisions.{sound_of}
+use Rattle.registry_core.proofs.Telling.{NoRefusal, Tells, from_needs, from_wants, to_needs, to_wants}
 
 pub hours_are_kept : AirtimeIsBounded → HoursWithinTells → HoursAreKept
 unfolding downlinks_in
@@ -45,25 +46,11 @@ downlinks_are_short bounded tells c heard = All-from_recursion (λ (b : Booking)
 
 -- ---- what is booked
 
-Books : Checked Decision → Type 0
-Books checked = IsTrue (tells_booking (decision_or_refusal checked).1)
+abbrev Books : Checked Decision → Type 0
+Books checked = Tells tells_booking checked
 
-from_wants : (b : Bool) (r : Refusal) (rest : Checked Decision) → Books (wants b r >> rest) → (b ≡ true) × Books rest
-unfolding Books
-from_wants true r rest h = (refl, h)
-from_wants false r rest h = cc
-
-from_needs : {X : Type 0} (x : Option X) (r : Refusal) (rest : X → Checked Decision) → Books (needs x r >>= rest) → (y : X) × (x ≡ Some y) × Books (rest y)
-unfolding Books
-from_needs (Some x) r rest h = (x, refl, h)
-from_needs None r rest h = cc
-
-to_wants : (b : Bool) (r : Refusal) (rest : Checked Decision) → b ≡ true → Books rest → Books (wants b r >> rest)
-to_wants true r rest is h = h
-to_wants false r rest is h = cc
-
-to_needs : {X : Type 0} (x : Option X) (r : Refusal) (rest : X → Checked Decision) (y : X) → x ≡ Some y → Books (rest y) → Books (needs x r >>= rest)
-to_needs x r rest y is h = subst (λ found. Books (needs found r >>= rest)) (sym is) h
+no_refusal : NoRefusal tells_booking
+no_refusal r = refl
 
 is_false : (b : Bool) → not b ≡ true → b ≡ false
 is_false false h = refl
@@ -74,29 +61,29 @@ added_told : IsClearTells → HoursWithinTells → (s : State) (number : ℕ) (g
     → (is_clear (downlinks s gateway) span ≡ true) × (hours_within (downlinks_in s gateway band ++ span ∷ []) (limit_of band) ≡ true)
 unfolding down_added
 added_told clear hours s number gateway band start span h =
-    let first = from_wants (is_clear (downlinks s gateway) span) Collision _ h in
-    (first.0, (from_wants (hours_within (downlinks_in s gateway band ++ span ∷ []) (limit_of band)) Duty _ first.1).0)
+    let first = from_wants tells_booking no_refusal (is_clear (downlinks s gateway) span) Collision _ h in
+    (first.0, (from_wants tells_booking no_refusal (hours_within (downlinks_in s gateway band ++ span ∷ []) (limit_of band)) Duty _ first.1).0)
 
 added_books : (s : State) (number : ℕ) (gateway : List ℕ) (band : Band) (start : ℕ) (span : Interval) → is_clear (downlinks s gateway) span ≡ true
     → hours_within (downlinks_in s gateway band ++ span ∷ []) (limit_of band) ≡ true → Books (down_added s number gateway band start span)
-unfolding down_added Books
+unfolding down_added
 added_books s number gateway band start span clear within = rw (clear, within) refl
 
 accepted_of : IsClearTells → HoursWithinTells → (c : Settings) (s : State) (number : ℕ) (gateway : List ℕ) (window : Window) (octets : List ℕ) → Books (down_book c s number gateway window octets)
     → IsAccepted c s number gateway window octets
 unfolding down_book
 accepted_of clear hours c s number gateway window octets h =
-    let known = from_wants (s.gateways gateway) UnknownGateway _ h in
-    let there = from_needs (item_at s.uplinks number) NoUplink _ known.1 in
+    let known = from_wants tells_booking no_refusal (s.gateways gateway) UnknownGateway _ h in
+    let there = from_needs tells_booking no_refusal (item_at s.uplinks number) NoUplink _ known.1 in
     let uplink : Uplink = there.0 in
-    let heard = from_needs (s.copies number gateway) NoUplink _ there.2 in
+    let heard = from_needs tells_booking no_refusal (s.copies number gateway) NoUplink _ there.2 in
     let rate : Rate = rate_in window heard.0.rate in
     let span : Interval = on_air (heard.0.end + delay uplink.kind window) rate octets in
-    let frame = from_needs (downlink_to uplink.kind (frame_at rate.dr octets)) BadFrame _ heard.2 in
-    let address = from_wants (goes_to (address_of c uplink.session) frame.0) UnknownDevAddr _ frame.2 in
-    let unanswered = from_wants (not (is_answered s number)) Answered _ address.1 in
-    let counter = from_wants (counts_as (next_down s uplink.session) frame.0) DownCounter _ unanswered.1 in
-    let lies = from_needs (band_at rate.freq rate.dr) OutOfBand _ counter.1 in
+    let frame = from_needs tells_booking no_refusal (downlink_to uplink.kind (frame_at rate.dr octets)) BadFrame _ heard.2 in
+    let address = from_wants tells_booking no_refusal (goes_to (address_of c uplink.session) frame.0) UnknownDevAddr _ frame.2 in
+    let unanswered = from_wants tells_booking no_refusal (not (is_answered s number)) Answered _ address.1 in
+    let counter = from_wants tells_booking no_refusal (counts_as (next_down s uplink.session) frame.0) DownCounter _ unanswered.1 in
+    let lies = from_needs tells_booking no_refusal (band_at rate.freq rate.dr) OutOfBand _ counter.1 in
     let added = added_told clear hours s number gateway lies.0 (heard.0.end + delay uplink.kind window) span lies.2 in
     record {
       known = known.0;
@@ -122,18 +109,17 @@ booked_of clear hours c s number gateway window octets a =
     let rate : Rate = rate_in window a.copy.rate in
     let start : ℕ = a.copy.end + delay a.uplink.kind window in
     let span : Interval = on_air start rate octets in
-    to_wants (s.gateways gateway) UnknownGateway _ a.known
-    (to_needs (item_at s.uplinks number) NoUplink _ a.uplink a.there
-    (to_needs (s.copies number gateway) NoUplink _ a.copy a.heard
-    (to_needs (downlink_to a.uplink.kind (frame_at rate.dr octets)) BadFrame _ a.down a.frame
-    (to_wants (goes_to (address_of c a.uplink.session) a.down) UnknownDevAddr _ a.address
-    (to_wants (not (is_answered s number)) Answered _ (ap not a.unanswered)
-    (to_wants (counts_as (next_down s a.uplink.session) a.down) DownCounter _ a.counter
-    (to_needs (band_at rate.freq rate.dr) OutOfBand _ a.band a.lies_in_it
+    to_wants tells_booking (s.gateways gateway) UnknownGateway _ a.known
+    (to_needs tells_booking (item_at s.uplinks number) NoUplink _ a.uplink a.there
+    (to_needs tells_booking (s.copies number gateway) NoUplink _ a.copy a.heard
+    (to_needs tells_booking (downlink_to a.uplink.kind (frame_at rate.dr octets)) BadFrame _ a.down a.frame
+    (to_wants tells_booking (goes_to (address_of c a.uplink.session) a.down) UnknownDevAddr _ a.address
+    (to_wants tells_booking (not (is_answered s number)) Answered _ (ap not a.unanswered)
+    (to_wants tells_booking (counts_as (next_down s a.uplink.session) a.down) DownCounter _ a.counter
+    (to_needs tells_booking (band_at rate.freq rate.dr) OutOfBand _ a.band a.lies_in_it
     (added_books s number gateway a.band start span ((clear (downlinks s gateway) span).1 a.clear) ((hours (downlinks_in s gateway a.band ++ span ∷ []) (limit_of a.band)).1 a.hours)))))))))
 
 pub booked_exactly : IsClearTells → HoursWithinTells → BookedExactly
-unfolding Books
 booked_exactly clear hours c s e number gateway window octets same = (
   λ h. accepted_of clear hours c s number gateway window octets (subst Books (ap (checked_decision c s e) same) h),
   λ a. subst Books (sym (ap (checked_decision c s e) same)) (booked_of clear hours c s number gateway window octets a),
@@ -186,6 +172,9 @@ book_band c heard number gateway window octets =
     (wants_band (counts_as (next_down s uplink.session) down) DownCounter _ refl
     (there_band (band_at (rate_in window copy.rate).freq (rate_in window copy.rate).dr) _ (window_has_band window copy ((sound_of c heard).in_bands number gateway copy at)) (λ band.
     added_band s number gateway band (copy.end + delay uplink.kind window) (on_air (copy.end + delay uplink.kind window) (rate_in window copy.rate) octets)))))))))
+
+pub copies_lie_in_bands : CopiesLieInBands
+copies_lie_in_bands c heard = (sound_of c heard).in_bands
 
 pub downlinks_have_bands : DownlinksHaveBands
 unfolding HasBand tells_no_band

@@ -130,10 +130,15 @@ none_passes : {X : Type 0} (first : ℕ) (test : X → Bool) (xs : List X) (i : 
 none_passes first test [] i y e there passes = cc
 none_passes first test (x ∷ xs) i y e there passes = none_by first test x xs i y (test x) refl e there passes (λ k none at. none_passes (first + 1) test xs k y none at passes)
 
+-- and so no item does
+pub none_there : {X : Type 0} (test : X → Bool) (xs : List X) (n : ℕ) (y : X) → first_that test xs ≡ None → item_at xs n ≡ Some y → test y ≡ true → ⊥
+none_there test xs zero y e there passes = cc
+none_there test xs (suc i) y e there passes = none_passes 1 test xs i y e there passes
+
 only_by : {X : Type 0} (test : X → Bool) (xs : List X) (n : ℕ) (y : X) (found : Option (ℕ × X)) → first_that test xs ≡ found → item_at xs n ≡ Some y → test y ≡ true
     → ((m : ℕ) (z : X) → item_at xs m ≡ Some z → test z ≡ true → m ≡ n) → found ≡ Some (n, y)
 only_by test xs zero y found is there passes only = cc
-only_by test xs (suc i) y None is there passes only = absurd (none_passes 1 test xs i y is there passes)
+only_by test xs (suc i) y None is there passes only = absurd (none_there test xs (suc i) y is there passes)
 only_by test xs (suc i) y (Some p) is there passes only =
     let at = first_is test xs p is in
     let number : p.0 ≡ suc i = only p.0 p.1 at.0 at.1 in

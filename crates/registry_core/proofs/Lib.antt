@@ -10,6 +10,10 @@ pub mod HeardLists
 pub mod HeardStates
 pub mod Items
 pub mod JoinLaws
+pub mod JoinOrder
 pub mod JoinsByView
+pub mod ReportOrder
 pub mod Rooms
 pub mod Sameness
+pub mod Telling
+pub mod WorkedRows

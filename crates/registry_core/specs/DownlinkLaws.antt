@@ -1,5 +1,5 @@
 -- What holds of downlinks.
-use Rattle.std.specs.Prelude.{◌≡◌, ◌≢◌, ◌↔◌, ℕ, ◌+◌, ◌≤◌, Bool, true, false, List, [], ◌∷◌, ◌++◌, Some, IsTrue, All}
+use Rattle.std.specs.Prelude.{◌≡◌, ◌≢◌, ◌↔◌, ℕ, ◌+◌, ◌≤◌, Bool, true, false, List, [], ◌∷◌, ◌++◌, Some, is_some, IsTrue, All}
 use Rattle.radio_core.specs.declared.bands.Band.{Band}
 use Rattle.radio_core.specs.Bands.{band_at, limit_of}
 use Rattle.duty_core.specs.Near.{greatest_length}
@@ -65,7 +65,12 @@ BookedExactly = (c : Settings) (s : State) (e : Envelope) (number : ℕ) (gatewa
 
 -- ---- their bands
 
--- each copy lies in a band, and so does the second window: no downlink is refused for its band
+-- what a gateway received of an uplink lies in a band
+abbrev pub CopiesLieInBands : Type 0
+CopiesLieInBands = (c : Settings) (heard : List Envelope) (number : ℕ) (gateway : List ℕ) (copy : Reception) → (state_of c heard).copies number gateway ≡ Some copy
+    → IsTrue (is_some (band_at copy.rate.freq copy.rate.dr))
+
+-- and so does the second window: no downlink is refused for its band
 abbrev pub DownlinksHaveBands : Type 0
 DownlinksHaveBands = (c : Settings) (heard : List Envelope) (e : Envelope) (number : ℕ) (gateway : List ℕ) (window : Window) (octets : List ℕ)
     → e.message ≡ DownBook number gateway window octets → (step c (state_of c heard) e).1 ≢ Refused OutOfBand

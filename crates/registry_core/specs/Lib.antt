@@ -16,6 +16,7 @@ pub mod Laws
 pub mod Numbered
 pub mod Ranges
 pub mod Refusals
+pub mod ReportOrder
 pub mod Same
 pub mod Settings
 pub mod State

@@ -1,11 +1,12 @@
 //! Laws of the definitions: each is the contract of a function that does nothing, or only reads what its
 //! arguments keep.
 ghost use Rattle.std.specs.Prelude.{ℕ, ◌<◌, ◌^◌, IfSome, get_or};
-ghost use Rattle.registry_core.specs.DownlinkLaws.{BookedExactly, DownlinksAreShort, DownlinksHaveBands, HoursAreKept};
+ghost use Rattle.registry_core.specs.DownlinkLaws.{BookedExactly, CopiesLieInBands, DownlinksAreShort, DownlinksHaveBands, HoursAreKept};
 ghost use Rattle.registry_core.specs.Fits.{DecisionsFit};
 ghost use Rattle.registry_core.specs.Heard.{HeardListsStay, NothingIsHeard};
 ghost use Rattle.registry_core.specs.Laws.{AddressesAreApart, AddressesLieInBlock, CopiesBookNothing, CountersAgreeWithFrames, CountersRise, DataCopiesAreFound, FramesAreBookedOnce, JoinCopiesAreFound, NoncesRise, RefusalsChangeNothing, SendersStay, SessionsAreFound, UplinksHaveCopies, UplinksStay};
 ghost use Rattle.registry_core.specs.Ranges.{IsEnvelope, IsOctets, IsReport, IsSettings};
+ghost use Rattle.registry_core.specs.ReportOrder.{DataInAnyOrder, JoinsInAnyOrder};
 ghost use Rattle.registry_core.specs.Same.{SameMessageTells};
 
 use crate::configuration::Config;
@@ -96,6 +97,13 @@ pub fn copies_book_nothing()
     ensures { CopiesBookNothing }
 {}
 
+/// Whatever was heard, two gateways may report a frame in either order: what is left differs in nothing but which copy came
+/// first.
+pub fn reports_in_any_order()
+    ensures joins { JoinsInAnyOrder }
+    ensures data { DataInAnyOrder }
+{}
+
 /// Whatever was heard, no hour of any gateway's band holds more downlinks than the limit.
 pub fn hours_are_kept()
     ensures { HoursAreKept }
@@ -119,6 +127,11 @@ pub fn booked_exactly()
 {
     computed_forms_tell();
 }
+
+/// Whatever was heard, what a gateway received of an uplink lies in a band.
+pub fn copies_lie_in_bands()
+    ensures { CopiesLieInBands }
+{}
 
 /// Whatever was heard, no downlink is refused for its band.
 pub fn downlinks_have_bands()

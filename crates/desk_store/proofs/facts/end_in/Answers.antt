@@ -1,4 +1,4 @@
-use Rattle.std.proofs.Common.{◌≡◌, rules, sym, if◌then◌else◌}
+use Rattle.std.proofs.Common.{◌≡◌, sym, if◌then◌else◌}
 use Rattle.registry_core.specs.declared.facts.Standing.TheVariants.{Sent, Dropped}
 use Rattle.registry_core.specs.State.{ended}
 use Rattle.desk_store.proofs.ItemChanged.{item_changed_by, item_changed_none, item_changed_past}

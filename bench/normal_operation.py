@@ -1,0 +1,189 @@
+#!/usr/bin/env python3
+"""Measures `desk lines` on streams of normal operation.
+
+    bench/normal_operation.py [--sizes 2000,10000,50000] [--seed 1] [--write FILE]
+
+A stream is one owner, 8 gateways and 200 devices, which join, and then send data frames that 1 to 3 gateways hear. Every tenth
+data frame is answered in its first window, and each downlink is told as sent. For each size it prints the lines a second, how
+the time grows from size to size, and the peak memory. Every answer has to be a success. With --write the largest stream goes
+into a file, and nothing is measured.
+"""
+
+import argparse
+import json
+import random
+import subprocess
+import sys
+import tempfile
+import time
+from pathlib import Path
+
+ROOT = Path(__file__).resolve().parent.parent
+
+GATEWAYS = 8
+DEVICES = 200
+
+# 2024-02-01 00:00 UTC, in microseconds
+BEGINNING = 1_706_745_600_000_000
+
+# between two uplinks: no downlink then collides with another, and no hour comes near its limit
+SECOND = 1_000_000
+
+FREQUENCIES = [868_100_000, 868_300_000, 868_500_000]
+BASE = 0x01A0_0000
+JOIN_EUI = 0x70B3_D57E_D000_0001
+FIRST_DEV_EUI = 0x0004_A30B_001A_0000
+
+
+class Stream:
+    """Messages in order, each with the next number of its sender."""
+
+    def __init__(self, seed):
+        self.random = random.Random(seed)
+        self.lines = []
+        self.transactions = {}
+        self.now = BEGINNING
+        self.uplinks = 0
+        self.bookings = 0
+
+    def say(self, sender, message_type, **members):
+        number = self.transactions.get(sender, 0)
+        self.transactions[sender] = number + 1
+        head = {
+            "ProtocolVersion": "1.0",
+            "SenderID": sender,
+            "ReceiverID": "desk",
+            "TransactionID": number,
+            "MessageType": message_type,
+        }
+        self.lines.append(json.dumps({**head, **members}, separators=(",", ":")))
+
+    def register(self):
+        self.say("office", "SenderAdd", Sender="bridge", Role="radio")
+        self.say("office", "OwnerAdd", Owner="town")
+        for n in range(GATEWAYS):
+            self.say("office", "GatewayAdd", Gateway=f"gw-{n}")
+        for n in range(DEVICES):
+            self.say("office", "DeviceAdd", DevEUI=f"{FIRST_DEV_EUI + n:016x}", JoinEUI=f"{JOIN_EUI:016x}", Owner="town")
+
+    def report(self, message_type, gateways, octets, frequency, verdict):
+        for late, gateway in enumerate(gateways):
+            self.say(
+                "bridge",
+                message_type,
+                Gateway=f"gw-{gateway}",
+                Time=self.now + late,
+                Freq=frequency,
+                DataRate=5,
+                PHYPayload=octets.hex(),
+                Verdict=verdict,
+            )
+
+    def hearing(self):
+        return self.random.sample(range(GATEWAYS), self.random.randint(1, 3))
+
+    def mic(self):
+        return self.random.randbytes(4)
+
+    def join(self, device):
+        self.now += SECOND
+        self.uplinks += 1
+        eui = (FIRST_DEV_EUI + device).to_bytes(8, "little")
+        octets = b"\x00" + JOIN_EUI.to_bytes(8, "little") + eui + b"\x00\x00" + self.mic()
+        self.report("JoinHeard", self.hearing(), octets, self.random.choice(FREQUENCIES), "Good")
+
+    def data(self, device, counter):
+        self.now += SECOND
+        self.uplinks += 1
+        gateways = self.hearing()
+        address = (BASE + device).to_bytes(4, "little")
+        payload = self.random.randbytes(self.random.randint(0, 20))
+        body = b"\x01" + payload if payload else b""
+        octets = b"\x40" + address + b"\x00" + (counter % 65_536).to_bytes(2, "little") + body + self.mic()
+        self.report("FrameHeard", gateways, octets, self.random.choice(FREQUENCIES), counter)
+        return gateways[0]
+
+    def answer(self, device, counter, gateway):
+        self.bookings += 1
+        address = (BASE + device).to_bytes(4, "little")
+        octets = b"\x60" + address + b"\x00" + (counter % 65_536).to_bytes(2, "little") + self.mic()
+        self.say("bridge", "DownBook", Uplink=self.uplinks, Gateway=f"gw-{gateway}", Window=1, PHYPayload=octets.hex())
+        self.say("bridge", "DownDone", Booking=self.bookings, Sent=True)
+
+
+def normal_operation(size, seed):
+    """So many lines, from the opening state on."""
+    stream = Stream(seed)
+    stream.register()
+    for device in range(DEVICES):
+        stream.join(device)
+    up = [0] * DEVICES
+    down = [0] * DEVICES
+    frames = 0
+    while len(stream.lines) < size:
+        device = stream.random.randrange(DEVICES)
+        gateway = stream.data(device, up[device])
+        up[device] += 1
+        frames += 1
+        if frames % 10 == 0:
+            stream.answer(device, down[device], gateway)
+            down[device] += 1
+    return stream.lines[:size]
+
+
+def peak_of(process):
+    """Kilobytes at the peak so far, as the kernel counts them for the program that runs now."""
+    try:
+        status = Path(f"/proc/{process.pid}/status").read_text()
+    except (FileNotFoundError, ProcessLookupError):
+        return 0
+    return next((int(line.split()[1]) for line in status.splitlines() if line.startswith("VmHWM")), 0)
+
+
+def measure(lines):
+    """Seconds, and kilobytes at the peak."""
+    with tempfile.TemporaryFile() as given, tempfile.TemporaryFile() as told:
+        given.write("".join(line + "\n" for line in lines).encode())
+        given.seek(0)
+        peak = 0
+        begun = time.monotonic()
+        desk = subprocess.Popen([ROOT / "desk", "lines"], stdin=given, stdout=told)
+        while desk.poll() is None:
+            peak = max(peak, peak_of(desk))
+            time.sleep(0.002)
+        seconds = time.monotonic() - begun
+        if desk.returncode != 0:
+            sys.exit(f"desk ended with {desk.returncode}")
+        told.seek(0)
+        answers = told.read().splitlines()
+    if len(answers) != len(lines):
+        sys.exit(f"{len(answers)} answers to {len(lines)} lines")
+    for line, answer in zip(lines, answers):
+        if b'"ResultCode":"Success"' not in answer:
+            sys.exit(f"{line}\n{answer.decode()}")
+    return seconds, peak
+
+
+def main():
+    words = argparse.ArgumentParser(description=__doc__, formatter_class=argparse.RawDescriptionHelpFormatter)
+    words.add_argument("--sizes", default="2000,10000,50000")
+    words.add_argument("--seed", type=int, default=1)
+    words.add_argument("--write", metavar="FILE")
+    given = words.parse_args()
+    sizes = [int(size) for size in given.sizes.split(",")]
+    if given.write:
+        Path(given.write).write_text("".join(line + "\n" for line in normal_operation(max(sizes), given.seed)))
+        return
+    # the first call may prove and build the program
+    subprocess.run([ROOT / "desk", "lines"], stdin=subprocess.DEVNULL, check=True)
+    print(f"{'lines':>8} {'seconds':>9} {'lines/s':>9} {'growth':>8} {'peak MiB':>9}")
+    before = None
+    for size in sizes:
+        seconds, peak = measure(normal_operation(size, given.seed))
+        growth = "" if before is None else f"{(seconds / before[1]) / (size / before[0]):.2f}"
+        print(f"{size:>8} {seconds:>9.2f} {size / seconds:>9.0f} {growth:>8} {peak / 1024:>9.1f}")
+        before = (size, seconds)
+
+
+if __name__ == "__main__":
+    main()

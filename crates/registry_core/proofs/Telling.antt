@@ -1,0 +1,32 @@
+-- Checks in a row, where the answer passes a test that no refusal passes: then every check holds.
+use Rattle.std.proofs.Common.{◌≡◌, Bool, true, false, Option, Some, None, refl, sym, subst}
+use Rattle.std.specs.Prelude.{IsTrue}
+use Rattle.registry_core.specs.declared.answers.Answer.{Answer}
+use Rattle.registry_core.specs.declared.answers.Answer.TheVariants.{Refused}
+use Rattle.registry_core.specs.declared.answers.Refusal.{Refusal}
+use Rattle.registry_core.specs.Checks.{Checked, ◌>>=◌, ◌>>◌, wants, needs}
+use Rattle.registry_core.specs.Decision.{Decision, decision_or_refusal}
+use Rattle.registry_core.proofs.Items.{never_both}
+
+-- the answer passes the test
+abbrev pub Tells : (Answer → Bool) → Checked Decision → Type 0
+Tells test checked = IsTrue (test (decision_or_refusal checked).1)
+
+abbrev pub NoRefusal : (Answer → Bool) → Type 0
+NoRefusal test = (r : Refusal) → test (Refused r) ≡ false
+
+pub from_wants : (test : Answer → Bool) → NoRefusal test → (b : Bool) (r : Refusal) (rest : Checked Decision) → Tells test (wants b r >> rest) → (b ≡ true) × Tells test rest
+from_wants test none true r rest h = (refl, h)
+from_wants test none false r rest h = never_both (test (Refused r)) h (none r)
+
+pub from_needs : {X : Type 0} (test : Answer → Bool) → NoRefusal test → (x : Option X) (r : Refusal) (rest : X → Checked Decision) → Tells test (needs x r >>= rest)
+    → (y : X) × (x ≡ Some y) × Tells test (rest y)
+from_needs test none (Some x) r rest h = (x, refl, h)
+from_needs test none None r rest h = never_both (test (Refused r)) h (none r)
+
+pub to_wants : (test : Answer → Bool) (b : Bool) (r : Refusal) (rest : Checked Decision) → b ≡ true → Tells test rest → Tells test (wants b r >> rest)
+to_wants test true r rest is h = h
+to_wants test false r rest is h = cc
+
+pub to_needs : {X : Type 0} (test : Answer → Bool) (x : Option X) (r : Refusal) (rest : X → Checked Decision) (y : X) → x ≡ Some y → Tells test (rest y) → Tells test (needs x r >>= rest)
+to_needs test x r rest y is h = subst (λ found. Tells test (needs found r >>= rest)) (sym is) h

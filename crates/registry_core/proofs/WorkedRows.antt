@@ -1,0 +1,280 @@
+-- Worked rows, computed from the definitions alone: lists of messages, the answers that they get, and what they leave.
+use Rattle.std.proofs.Common.{◌≡◌, ℕ, ◌+◌, ◌-◌, List, [], ◌∷◌, ◌++◌, map, length, replicate, Some, true, false, refl}
+use Rattle.std.specs.Prelude.{codes}
+use Rattle.radio_core.specs.declared.bands.Band.TheVariants.{B3, B4, B5}
+use Rattle.radio_core.specs.declared.data_rates.DataRate.{DataRate}
+use Rattle.radio_core.specs.declared.data_rates.DataRate.TheVariants.{Dr0, Dr5, Dr6}
+use Rattle.radio_core.specs.Bands.{band_at}
+use Rattle.radio_core.specs.Frames.{frame_of}
+use Rattle.radio_core.specs.TimeOnAir.{airtime_of}
+use Rattle.duty_core.specs.Computed.{peak_of, hours_within, is_clear}
+use Rattle.registry_core.specs.declared.answers.Answer.{Answer}
+use Rattle.registry_core.specs.declared.answers.Answer.TheVariants.{Success, JoinSuccess, FrameSuccess, DownSuccess, Refused}
+use Rattle.registry_core.specs.declared.answers.Refusal.TheVariants as refusals
+use Rattle.registry_core.specs.declared.facts.Standing.TheVariants.{Booked, Dropped}
+use Rattle.registry_core.specs.declared.messages.Envelope.{Envelope}
+use Rattle.registry_core.specs.declared.messages.JoinVerdict.TheVariants.{Good, Bad}
+use Rattle.registry_core.specs.declared.messages.Message.{Message}
+use Rattle.registry_core.specs.declared.messages.Message.TheVariants.{SenderAdd, OwnerAdd, GatewayAdd, DeviceAdd, JoinHeard, FrameHeard, DownBook, DownDone}
+use Rattle.registry_core.specs.declared.messages.Report.{Report}
+use Rattle.registry_core.specs.declared.messages.Role.TheVariants.{Operator, Radio}
+use Rattle.registry_core.specs.declared.windows.Window.{Window}
+use Rattle.registry_core.specs.declared.windows.Window.TheVariants.{First, Second}
+use Rattle.registry_core.specs.Administration.{sender_add, owner_add, gateway_add, device_add}
+use Rattle.registry_core.specs.Bookings.{downlinks, downlinks_in, is_answered, next_down}
+use Rattle.registry_core.specs.DataFrames.{data_added, frame_heard, original_data}
+use Rattle.registry_core.specs.Derived.{data_with, is_below_floor, join_with, last_counter, last_nonce, session_with}
+use Rattle.registry_core.specs.Downlinks.{down_added, down_book, down_done}
+use Rattle.registry_core.specs.Heard.{Reply, Answers, Reused, Stranger, answers_of, heard_with, reply_to, state_of}
+use Rattle.registry_core.specs.Joins.{join_added, join_heard, original_join}
+use Rattle.registry_core.specs.Same.{same_message}
+use Rattle.registry_core.specs.Settings.{Settings}
+
+abbrev desk_of : ℕ → Settings
+desk_of addresses = record { receiver = codes "desk"; operator = codes "office"; base = 0x01a00000; addresses = addresses }
+
+abbrev desk : Settings
+desk = desk_of 65536
+
+abbrev by_office : ℕ → Message → Envelope
+by_office transaction message = record { sender = codes "office"; transaction = transaction; message = message }
+
+abbrev by_bridge : ℕ → Message → Envelope
+by_bridge transaction message = record { sender = codes "bridge"; transaction = transaction; message = message }
+
+-- the answers, in order
+abbrev answers : List Envelope → List Answer
+answers es = map (λ x. x.1) (answers_of desk es)
+
+-- 2024-02-01 00:00 UTC
+abbrev start : ℕ
+start = 1706745600000000
+
+abbrev device : ℕ
+device = 0x0004a30b001a2b3c
+
+abbrev device_of_town : ℕ → Message
+device_of_town dev_eui = DeviceAdd dev_eui 0x70b3d57ed0000001 (codes "town")
+
+abbrev gw_a : List ℕ
+gw_a = codes "gw-a"
+
+abbrev gw_b : List ℕ
+gw_b = codes "gw-b"
+
+-- a radio sender, an owner, two gateways and a device
+abbrev names : List Envelope
+names =
+    by_office 900000 (SenderAdd (codes "bridge") Radio) ∷ by_office 900001 (OwnerAdd (codes "town"))
+    ∷ by_office 900002 (GatewayAdd gw_a) ∷ by_office 900003 (GatewayAdd gw_b) ∷ by_office 900004 (device_of_town device) ∷ []
+
+abbrev named : List Answer
+named = Success ∷ Success ∷ Success ∷ Success ∷ Success ∷ []
+
+-- ---- the register
+
+-- a device added twice, under two numbers
+device_added_twice : answers (by_office 1 (OwnerAdd (codes "town")) ∷ by_office 2 (device_of_town device) ∷ by_office 3 (device_of_town device) ∷ [])
+    ≡ Success ∷ Success ∷ Refused refusals.Exists ∷ []
+unfolding owner_add device_add
+device_added_twice = refl
+
+-- a radio sender adds nobody
+radio_adds_nobody : answers (names ++ by_bridge 1 (SenderAdd (codes "third") Radio) ∷ by_bridge 2 (OwnerAdd (codes "town")) ∷ [])
+    ≡ named ++ Refused refusals.WrongRole ∷ Refused refusals.WrongRole ∷ []
+unfolding sender_add owner_add gateway_add device_add
+radio_adds_nobody = refl
+
+-- ---- joins
+
+abbrev join_octets : ℕ → ℕ → List ℕ
+join_octets nonce mic = 0 ∷ 1 ∷ 0 ∷ 0 ∷ 0xd0 ∷ 0x7e ∷ 0xd5 ∷ 0xb3 ∷ 0x70 ∷ 0x3c ∷ 0x2b ∷ 0x1a ∷ 0 ∷ 0x0b ∷ 0xa3 ∷ 4 ∷ 0 ∷ nonce ∷ 0 ∷ mic ∷ 0xb2 ∷ 0xc3 ∷ 0xd4 ∷ []
+
+abbrev report_at : List ℕ → ℕ → ℕ → DataRate → List ℕ → Report
+report_at gateway time freq dr octets = record { gateway = gateway; time = time; rate = record { freq = freq; dr = dr }; octets = octets }
+
+abbrev join_at : List ℕ → ℕ → ℕ → Message
+join_at gateway nonce mic = JoinHeard (report_at gateway (start + 61696) 868100000 Dr5 (join_octets nonce mic)) Good
+
+abbrev three_joins : List Envelope
+three_joins = names ++ by_bridge 1 (join_at gw_a 0 0xa1) ∷ by_bridge 2 (join_at gw_b 0 0xa1) ∷ by_bridge 3 (join_at gw_a 0 0xa2) ∷ []
+
+-- a join, its copy at another gateway, and its nonce again with another MIC
+join_and_copy : answers three_joins ≡ named ++ JoinSuccess 61696 B3 false 0x01a00000 1 ∷ JoinSuccess 61696 B3 true 0x01a00000 1 ∷ Refused refusals.Nonce ∷ []
+unfolding sender_add owner_add gateway_add device_add join_heard join_added original_join join_with last_nonce frame_of band_at airtime_of
+join_and_copy = refl
+
+-- one session, one uplink, and a copy at each gateway are left
+join_leaves : (length (state_of desk three_joins).sessions ≡ 1) × (length (state_of desk three_joins).uplinks ≡ 1)
+    × ((state_of desk three_joins).copies 1 gw_b ≡ Some (record { end = start + 61696; rate = record { freq = 868100000; dr = Dr5 } }))
+unfolding sender_add owner_add gateway_add device_add join_heard join_added original_join join_with last_nonce frame_of band_at airtime_of
+join_leaves = (refl, refl, refl)
+
+-- a block of one address
+abbrev joins_of_one : List Envelope
+joins_of_one =
+    names ++ by_bridge 1 (JoinHeard (report_at gw_a (start + 61696) 868100000 Dr5 (join_octets 0 0xa1)) Bad) ∷ by_bridge 2 (join_at gw_a 0 0xa1)
+    ∷ by_bridge 3 (join_at gw_a 1 0xa1) ∷ by_bridge 4 (join_at gw_a 0 0xa2) ∷ by_bridge 5 (join_at gw_a 0 0xa1) ∷ []
+
+one_address : map (λ x. x.1) (answers_of (desk_of 1) joins_of_one)
+    ≡ named ++ Refused refusals.MicFailed ∷ JoinSuccess 61696 B3 false 0x01a00000 1 ∷ Refused refusals.Addresses ∷ Refused refusals.Nonce ∷ JoinSuccess 61696 B3 true 0x01a00000 1 ∷ []
+unfolding sender_add owner_add gateway_add device_add join_heard join_added original_join join_with last_nonce frame_of band_at airtime_of
+one_address = refl
+
+-- ---- data frames
+
+-- the names, and session 1 of the device
+abbrev joined : List Envelope
+joined = names ++ by_bridge 900005 (join_at gw_a 0 0xa1) ∷ []
+
+abbrev joined_answers : List Answer
+joined_answers = named ++ JoinSuccess 61696 B3 false 0x01a00000 1 ∷ []
+
+abbrev up_octets : ℕ → ℕ → ℕ → List ℕ
+up_octets low high mic = 0x40 ∷ 0 ∷ 0 ∷ 0xa0 ∷ 1 ∷ 0 ∷ low ∷ high ∷ mic ∷ 0x22 ∷ 0x33 ∷ 0x44 ∷ []
+
+abbrev data_at : List ℕ → ℕ → ℕ → ℕ → ℕ → Message
+data_at gateway low high mic verdict = FrameHeard (report_at gateway start 868100000 Dr5 (up_octets low high mic)) (Some verdict)
+
+-- counters that go round
+counters_go_round : answers (joined ++ by_bridge 1 (data_at gw_a 255 255 0x11 65535) ∷ by_bridge 2 (data_at gw_a 0 0 0x11 65536) ∷ [])
+    ≡ joined_answers ++ FrameSuccess 41216 B3 false 65535 device 2 ∷ FrameSuccess 41216 B3 false 65536 device 3 ∷ []
+unfolding sender_add owner_add gateway_add device_add join_heard join_added original_join join_with last_nonce frame_of band_at airtime_of frame_heard data_added original_data data_with session_with is_below_floor last_counter
+counters_go_round = refl
+
+-- a copy is booked once; an older counter is late; a used one with other octets is replayed; one too far ahead is a gap
+copy_late_replayed_gap : answers (joined ++ by_bridge 1 (data_at gw_a 5 0 0x11 5) ∷ by_bridge 2 (data_at gw_a 6 0 0x11 6) ∷ by_bridge 3 (data_at gw_b 5 0 0x11 5)
+    ∷ by_bridge 4 (data_at gw_a 4 0 0x11 4) ∷ by_bridge 5 (data_at gw_a 5 0 0x12 5) ∷ by_bridge 6 (data_at gw_a 7 0 0x11 65543) ∷ [])
+    ≡ joined_answers ++ FrameSuccess 41216 B3 false 5 device 2 ∷ FrameSuccess 41216 B3 false 6 device 3 ∷ FrameSuccess 41216 B3 true 5 device 2
+    ∷ Refused refusals.Late ∷ Refused refusals.Replayed ∷ Refused refusals.Gap ∷ []
+unfolding sender_add owner_add gateway_add device_add join_heard join_added original_join join_with last_nonce frame_of band_at airtime_of frame_heard data_added original_data data_with session_with is_below_floor last_counter
+copy_late_replayed_gap = refl
+
+abbrev in_session_2 : ℕ → Message
+in_session_2 counter = FrameHeard (report_at gw_a start 868100000 Dr5 (0x40 ∷ 1 ∷ 0 ∷ 0xa0 ∷ 1 ∷ 0 ∷ counter ∷ 0 ∷ 1 ∷ 2 ∷ 3 ∷ 4 ∷ [])) (Some counter)
+
+-- a session ends as the next one's data comes; its copies are still copies
+floor_kept : answers (joined ++ by_bridge 1 (data_at gw_a 3 0 0x11 3) ∷ by_bridge 2 (join_at gw_a 1 0xa1) ∷ by_bridge 3 (data_at gw_a 4 0 0x11 4)
+    ∷ by_bridge 4 (in_session_2 0) ∷ by_bridge 5 (data_at gw_a 5 0 0x11 5) ∷ by_bridge 6 (data_at gw_b 3 0 0x11 3) ∷ [])
+    ≡ joined_answers ++ FrameSuccess 41216 B3 false 3 device 2 ∷ JoinSuccess 61696 B3 false 0x01a00001 3 ∷ FrameSuccess 41216 B3 false 4 device 4
+    ∷ FrameSuccess 41216 B3 false 0 device 5 ∷ Refused refusals.SessionEnded ∷ FrameSuccess 41216 B3 true 3 device 2 ∷ []
+unfolding sender_add owner_add gateway_add device_add join_heard join_added original_join join_with last_nonce frame_of band_at airtime_of frame_heard data_added original_data data_with session_with is_below_floor last_counter
+floor_kept = refl
+
+-- the longest frame at the slowest data rate, and one longer; bands with their edges
+abbrev up_at : ℕ → DataRate → ℕ → ℕ → Message
+up_at freq dr end counter = FrameHeard (report_at gw_a end freq dr (up_octets counter 0 0x11)) (Some counter)
+
+lengths_and_bands : answers (joined ++ by_bridge 1 (FrameHeard (report_at gw_a start 868100000 Dr0 (up_octets 0 0 0x11 ++ replicate 52 7)) (Some 0))
+    ∷ by_bridge 2 (FrameHeard (report_at gw_a start 868100000 Dr0 (up_octets 1 0 0x11 ++ replicate 53 7)) (Some 1))
+    ∷ by_bridge 3 (up_at 868562500 Dr0 start 1) ∷ by_bridge 4 (up_at 868000000 Dr5 start 1) ∷ by_bridge 5 (up_at 868500000 Dr6 start 1)
+    ∷ by_bridge 6 (up_at 868537500 Dr0 start 1) ∷ by_bridge 7 (up_at 868475000 Dr6 start 2) ∷ [])
+    ≡ joined_answers ++ FrameSuccess 2793472 B3 false 0 device 2 ∷ Refused refusals.BadFrame ∷ Refused refusals.OutOfBand ∷ Refused refusals.OutOfBand ∷ Refused refusals.OutOfBand
+    ∷ FrameSuccess 1155072 B3 false 1 device 3 ∷ FrameSuccess 20608 B3 false 2 device 4 ∷ []
+unfolding sender_add owner_add gateway_add device_add join_heard join_added original_join join_with last_nonce frame_of band_at airtime_of frame_heard data_added original_data data_with session_with is_below_floor last_counter
+lengths_and_bands = refl
+
+-- ---- downlinks
+
+abbrev down_octets : ℕ → List ℕ
+down_octets low = 0x60 ∷ 0 ∷ 0 ∷ 0xa0 ∷ 1 ∷ 0 ∷ low ∷ 0 ∷ 0x55 ∷ 0x66 ∷ 0x77 ∷ 0x88 ∷ []
+
+abbrev down_in : Window → ℕ → ℕ → Message
+down_in window uplink counter = DownBook uplink gw_a window (down_octets counter)
+
+abbrev four_uplinks : ℕ → List Envelope
+four_uplinks last_end = joined ++ by_bridge 1 (up_at 868800000 Dr0 (start - 1000000) 0) ∷ by_bridge 2 (up_at 868800000 Dr0 (start + 9000000) 1)
+    ∷ by_bridge 3 (up_at 868800000 Dr0 (start + 19000000) 2) ∷ by_bridge 4 (up_at 868800000 Dr0 last_end 3) ∷ []
+
+abbrev four_answers : List Answer
+four_answers = joined_answers ++ FrameSuccess 1155072 B4 false 0 device 2 ∷ FrameSuccess 1155072 B4 false 1 device 3 ∷ FrameSuccess 1155072 B4 false 2 device 4
+    ∷ FrameSuccess 1155072 B4 false 3 device 5 ∷ []
+
+abbrev four_downlinks : List Envelope
+four_downlinks = by_bridge 5 (down_in First 2 0) ∷ by_bridge 6 (down_in First 3 1) ∷ by_bridge 7 (down_in First 4 2) ∷ by_bridge 8 (down_in First 5 3) ∷ []
+
+abbrev three_booked : List Answer
+three_booked = DownSuccess 991232 B4 1 start ∷ DownSuccess 991232 B4 2 (start + 10000000) ∷ DownSuccess 991232 B4 3 (start + 20000000) ∷ []
+
+-- an hour that holds its limit exactly
+hour_full : answers (four_uplinks (start + 3598373696) ++ four_downlinks) ≡ four_answers ++ three_booked ++ DownSuccess 991232 B4 4 (start + 3599373696) ∷ []
+unfolding sender_add owner_add gateway_add device_add join_heard join_added original_join join_with last_nonce frame_of band_at airtime_of frame_heard data_added original_data data_with session_with is_below_floor last_counter down_book down_added next_down is_answered downlinks downlinks_in is_clear hours_within peak_of
+hour_full = refl
+
+-- and one that would hold a microsecond more
+hour_above : answers (four_uplinks (start + 3598373695) ++ four_downlinks) ≡ four_answers ++ three_booked ++ Refused refusals.Duty ∷ []
+unfolding sender_add owner_add gateway_add device_add join_heard join_added original_join join_with last_nonce frame_of band_at airtime_of frame_heard data_added original_data data_with session_with is_below_floor last_counter down_book down_added next_down is_answered downlinks downlinks_in is_clear hours_within peak_of
+hour_above = refl
+
+-- 33 octets down, then 12 that begin at `second`, and then 12 before both
+abbrev between : ℕ → List Envelope
+between second = joined ++ by_bridge 1 (up_at 868800000 Dr0 (start - 1000000) 0) ∷ by_bridge 2 (up_at 868800000 Dr0 (start + 1799000000) 1)
+    ∷ by_bridge 3 (up_at 868800000 Dr0 (second - 1000000) 2) ∷ by_bridge 4 (DownBook 3 gw_a First (down_octets 0 ++ replicate 21 7)) ∷ by_bridge 5 (down_in First 4 1)
+    ∷ by_bridge 6 (down_in First 2 2) ∷ []
+
+abbrev between_answers : ℕ → Answer → List Answer
+between_answers second last = joined_answers ++ FrameSuccess 1155072 B4 false 0 device 2 ∷ FrameSuccess 1155072 B4 false 1 device 3 ∷ FrameSuccess 1155072 B4 false 2 device 4
+    ∷ DownSuccess 1810432 B4 1 (start + 1800000000) ∷ DownSuccess 991232 B4 2 second ∷ last ∷ []
+
+between_two : answers (between (start + 3599201664)) ≡ between_answers (start + 3599201664) (DownSuccess 991232 B4 3 start)
+unfolding sender_add owner_add gateway_add device_add join_heard join_added original_join join_with last_nonce frame_of band_at airtime_of frame_heard data_added original_data data_with session_with is_below_floor last_counter down_book down_added next_down is_answered downlinks downlinks_in is_clear hours_within peak_of
+between_two = refl
+
+between_two_above : answers (between (start + 3599201663)) ≡ between_answers (start + 3599201663) (Refused refusals.Duty)
+unfolding sender_add owner_add gateway_add device_add join_heard join_added original_join join_with last_nonce frame_of band_at airtime_of frame_heard data_added original_data data_with session_with is_below_floor last_counter down_book down_added next_down is_answered downlinks downlinks_in is_clear hours_within peak_of
+between_two_above = refl
+
+-- a second window, and a downlink in another band that begins as it ends
+abbrev beside : ℕ → List Envelope
+beside end = joined ++ by_bridge 1 (up_at 868100000 Dr5 start 0) ∷ by_bridge 2 (up_at 868100000 Dr5 end 1) ∷ by_bridge 3 (down_in Second 2 0) ∷ by_bridge 4 (down_in First 3 1) ∷ []
+
+abbrev beside_answers : Answer → List Answer
+beside_answers last = joined_answers ++ FrameSuccess 41216 B3 false 0 device 2 ∷ FrameSuccess 41216 B3 false 1 device 3 ∷ DownSuccess 991232 B5 1 (start + 2000000) ∷ last ∷ []
+
+side_by_side : answers (beside (start + 1991232)) ≡ beside_answers (DownSuccess 41216 B3 2 (start + 2991232))
+unfolding sender_add owner_add gateway_add device_add join_heard join_added original_join join_with last_nonce frame_of band_at airtime_of frame_heard data_added original_data data_with session_with is_below_floor last_counter down_book down_added next_down is_answered downlinks downlinks_in is_clear hours_within peak_of
+side_by_side = refl
+
+collides : answers (beside (start + 1991231)) ≡ beside_answers (Refused refusals.Collision)
+unfolding sender_add owner_add gateway_add device_add join_heard join_added original_join join_with last_nonce frame_of band_at airtime_of frame_heard data_added original_data data_with session_with is_below_floor last_counter down_book down_added next_down is_answered downlinks downlinks_in is_clear hours_within peak_of
+collides = refl
+
+-- a dropped booking frees its uplink, and not its counter
+abbrev dropped : List Envelope
+dropped = joined ++ by_bridge 1 (up_at 868100000 Dr5 start 0) ∷ by_bridge 2 (down_in First 2 0) ∷ by_bridge 3 (down_in First 2 1) ∷ by_bridge 4 (DownDone 1 false)
+    ∷ by_bridge 5 (DownDone 1 false) ∷ by_bridge 6 (down_in First 2 0) ∷ by_bridge 7 (down_in First 2 1) ∷ by_bridge 8 (down_in First 99 2) ∷ by_bridge 9 (DownDone 99 true) ∷ []
+
+dropped_answers : answers dropped
+    ≡ joined_answers ++ FrameSuccess 41216 B3 false 0 device 2 ∷ DownSuccess 41216 B3 1 (start + 1000000) ∷ Refused refusals.Answered ∷ Success
+    ∷ Refused refusals.Done ∷ Refused refusals.DownCounter ∷ DownSuccess 41216 B3 2 (start + 1000000) ∷ Refused refusals.NoUplink ∷ Refused refusals.NoBooking ∷ []
+unfolding sender_add owner_add gateway_add device_add join_heard join_added original_join join_with last_nonce frame_of band_at airtime_of frame_heard data_added original_data data_with session_with is_below_floor last_counter down_book down_added down_done next_down is_answered downlinks downlinks_in is_clear hours_within peak_of
+dropped_answers = refl
+
+-- both bookings stand in the state, the first dropped
+dropped_leaves : map (λ b. b.standing) (state_of desk dropped).bookings ≡ Dropped ∷ Booked ∷ []
+unfolding sender_add owner_add gateway_add device_add join_heard join_added original_join join_with last_nonce frame_of band_at airtime_of frame_heard data_added original_data data_with session_with is_below_floor last_counter down_book down_added down_done next_down is_answered downlinks downlinks_in is_clear hours_within peak_of
+dropped_leaves = refl
+
+-- the join accept answers the join in its own window
+accept_booked : answers (joined ++ by_bridge 13 (DownBook 1 gw_a First (0x20 ∷ 0 ∷ 1 ∷ 2 ∷ 3 ∷ 4 ∷ 5 ∷ 6 ∷ 7 ∷ 8 ∷ 9 ∷ 10 ∷ 11 ∷ 12 ∷ 13 ∷ 14 ∷ 15 ∷ [])) ∷ by_bridge 14 (DownDone 1 true) ∷ [])
+    ≡ joined_answers ++ DownSuccess 46336 B3 1 (start + 5061696) ∷ Success ∷ []
+unfolding sender_add owner_add gateway_add device_add join_heard join_added original_join join_with last_nonce frame_of band_at airtime_of down_book down_added down_done next_down is_answered downlinks downlinks_in is_clear hours_within peak_of
+accept_booked = refl
+
+-- ---- hearing once
+
+-- what each is replied, after those before it
+abbrev replies : List Envelope → List Envelope → List Reply
+replies heard [] = []
+replies heard (e ∷ es) = reply_to desk heard e ∷ replies (heard_with desk heard e) es
+
+abbrev owner_of_stranger : Envelope
+owner_of_stranger = record { sender = codes "stranger"; transaction = 1; message = OwnerAdd (codes "city") }
+
+-- a message again, its number for another message, and a stranger before and after being added
+each_replied : replies [] (by_office 1 (OwnerAdd (codes "town")) ∷ by_office 1 (OwnerAdd (codes "town")) ∷ by_office 2 (OwnerAdd (codes "town")) ∷ by_office 2 (OwnerAdd (codes "town"))
+    ∷ by_office 1 (OwnerAdd (codes "city")) ∷ owner_of_stranger ∷ by_office 3 (SenderAdd (codes "stranger") Operator) ∷ owner_of_stranger ∷ [])
+    ≡ Answers Success ∷ Answers Success ∷ Answers (Refused refusals.Exists) ∷ Answers (Refused refusals.Exists)
+    ∷ Reused ∷ Stranger ∷ Answers Success ∷ Answers Success ∷ []
+unfolding sender_add owner_add same_message reply_to heard_with
+each_replied = refl
