@@ -1,5 +1,5 @@
 -- What one more envelope makes of what is kept.
-use Rattle.std.proofs.Common.{◌≡◌, ℕ, suc, List, [], ◌∷◌, ◌++◌, length, map, refl, ap, sym, subst, ◌∙◌}
+use Rattle.std.proofs.Common.{◌≡◌, ℕ, Bool, false, suc, List, [], ◌∷◌, ◌++◌, length, map, refl, ap, sym, subst, ◌∙◌}
 use Rattle.std.proofs.lemmas.List.{map-append}
 use Rattle.registry_core.specs.declared.answers.Answer.{Answer}
 use Rattle.registry_core.specs.declared.messages.Envelope.{Envelope}
@@ -13,7 +13,7 @@ use Rattle.registry_core.specs.Step.{decision_of, step}
 use Rattle.desk_store.specs.Kept.{Entry, Kept, with_entry}
 use Rattle.desk_wire.specs.Answers.{answer_text, head_of_envelope}
 use Rattle.desk_wire.specs.Writing.{message_text}
-use Rattle.desk_engine.specs.InOrder.{entry_at, kept_after}
+use Rattle.desk_engine.specs.InOrder.{HoldsHours, IsInOrder, entry_at, kept_after}
 
 pub state_after-push : (c : Settings) (s : State) (heard : List Envelope) (e : Envelope) → state_after c s (heard ++ e ∷ []) ≡ (step c (state_after c s heard) e).0
 state_after-push c s [] e = refl
@@ -60,3 +60,10 @@ with_entry-kept_after c heard e message d text decided messaged answered =
 pub hours_of : HoursAreKept → (c : Settings) (heard : List Envelope) (kept : Kept) → kept_after c heard ≡ kept → EveryHourKept kept.facts
 unfolding kept_after
 hours_of law c heard kept same = subst (λ (k : Kept). EveryHourKept k.facts) same (law c heard)
+
+-- nor in what a store holds that is in order, since it holds one thing
+pub holds_hours : {K : Type 0} (sound : K → Type 0) (down : K → Bool) (holds : K → Kept → Type 0)
+    → ((keeper : K) (a b : Kept) → sound keeper → down keeper ≡ false → holds keeper a → holds keeper b → a ≡ b)
+    → HoursAreKept → (c : Settings) (heard : List Envelope) (keeper : K) → sound keeper → IsInOrder holds c keeper heard → HoldsHours holds down keeper
+holds_hours sound down holds one law c heard keeper is_sound order = λ kept up held.
+    hours_of law c heard kept (one keeper (kept_after c heard) kept is_sound up order.kept held)

@@ -1,7 +1,8 @@
 -- When a store is in order for a heard list, and what a crash may leave of it.
-use Rattle.std.specs.Prelude.{◌≡◌, ◌⊎◌, Bool, true, List, [], ◌∷◌, ◌++◌, map, Option, Some, if◌then◌else◌}
+use Rattle.std.specs.Prelude.{◌≡◌, ◌⊎◌, Bool, true, false, List, [], ◌∷◌, ◌++◌, map, Option, Some, if◌then◌else◌}
 use Rattle.registry_core.specs.declared.answers.Answer.{Answer}
 use Rattle.registry_core.specs.declared.messages.Envelope.{Envelope}
+use Rattle.registry_core.specs.Bookings.{EveryHourKept}
 use Rattle.registry_core.specs.Heard.{IsHeard, answers_of, state_of}
 use Rattle.registry_core.specs.Settings.{Settings}
 use Rattle.desk_store.specs.Kept.{Entry, Kept, entry_with}
@@ -24,6 +25,10 @@ kept_after c heard = record { facts = state_of c heard; entries = entries_of c h
 pub record IsInOrder {K : Type 0} (holds : K → Kept → Type 0) (c : Settings) (keeper : K) (heard : List Envelope) : Type 0 where
   pub list : IsHeard c heard
   pub kept : holds keeper (kept_after c heard)
+
+-- in whatever a store that is up holds, no hour of any gateway's band has more downlinks than the limit
+abbrev pub HoldsHours : {K : Type 0} → (K → Kept → Type 0) → (K → Bool) → K → Type 0
+HoldsHours holds down keeper = (kept : Kept) → down keeper ≡ false → holds keeper kept → EveryHourKept kept.facts
 
 -- the doubtful message could be heard, and a crash leaves these, or these with it
 pub record IsInDoubt {K : Type 0} (leaves : K → List Kept → Type 0) (down : K → Bool) (c : Settings) (keeper : K) (heard : List Envelope) (e : Envelope) : Type 0 where

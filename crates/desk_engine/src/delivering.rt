@@ -6,7 +6,7 @@ ghost use Rattle.registry_core.specs.Heard.{state_of};
 ghost use Rattle.registry_core.specs.Settings.{Settings};
 ghost use Rattle.desk_wire.specs.Reading.{Gives};
 ghost use Rattle.desk_engine.specs.Deliveries.{heard_after, heard_all};
-ghost use Rattle.desk_engine.specs.InOrder.{IsInOrder, Survives, doubt_after};
+ghost use Rattle.desk_engine.specs.InOrder.{HoldsHours, IsInOrder, Survives, doubt_after};
 ghost use Rattle.desk_engine.specs.Outcomes.{IsOutcome, AreOutcomes, RefusesText, is_disk_outcome, has_disk_outcome, delivery_of, deliveries_of, doubt_of_text, first_doubt};
 ghost use Rattle.desk_engine.specs.Told.{envelope_of_text, text_told};
 
@@ -56,10 +56,9 @@ pub fn deliver<K: Keeper>(alloc: Global, keeper: &mut K, text: &[u8]) -> Outcome
         → Survives K.leaves K.down c keeper.new (heard_after c heard (delivery_of text.now result))
         (doubt_after (K.down keeper.old) doubt (doubt_of_text c text.now result)) }
 
-    // No hour of any gateway's band holds more downlinks than the limit.
+    // In what the store then holds no hour of any gateway's band has more downlinks than the limit.
     ensures hours { (c : Settings) (heard : List Envelope) → c ≡ K.configuration keeper.old → K.sound keeper.new
-        → IsInOrder K.holds c keeper.old heard
-        → EveryHourKept (state_of c (heard_after c heard (delivery_of text.now result))) }
+        → IsInOrder K.holds c keeper.old heard → HoldsHours K.holds K.down keeper.new }
 {
     hours_are_kept();
     match read_delivery(alloc, keeper.config(), text) {
@@ -91,8 +90,12 @@ pub fn run<K: Keeper>(
         (doubt_after (K.down keeper.old) doubt (first_doubt c (map (λ t. t.now) texts.now) outcomes.items))) }
     ensures err { OnErr result (keeper.new ≡ keeper.old) }
 
-    // After each beginning of the list, no hour of any gateway's band holds more downlinks than the limit.
+    // In what the store then holds no hour of any gateway's band has more downlinks than the limit,
     ensures hours { (c : Settings) (heard : List Envelope) → c ≡ K.configuration keeper.old → K.sound keeper.new
+        → IsInOrder K.holds c keeper.old heard → HoldsHours K.holds K.down keeper.new }
+
+    // and none had by what was heard after any beginning of the list.
+    ensures hours_before { (c : Settings) (heard : List Envelope) → c ≡ K.configuration keeper.old → K.sound keeper.new
         → IsInOrder K.holds c keeper.old heard
         → IfOk result (λ outcomes. (n : ℕ) → EveryHourKept (state_of c
         (heard_all c heard (take n (deliveries_of (map (λ t. t.now) texts.now) outcomes.items))))) }

@@ -1,14 +1,13 @@
 //! Hears a message once: the first time it is decided and kept, and each later time its first answer is given.
 ghost use Rattle.std.specs.Prelude.{◌≡◌, ◌||◌, ℕ, true, false, List, Option, Some, None, option_map};
 ghost use Rattle.registry_core.specs.declared.messages.Envelope.{Envelope};
-ghost use Rattle.registry_core.specs.Bookings.{EveryHourKept};
 ghost use Rattle.registry_core.specs.Heard.{state_of};
 ghost use Rattle.registry_core.specs.Settings.{Settings};
 ghost use Rattle.registry_core.specs.Viewed.{IsView};
 ghost use Rattle.desk_store.specs.Kept.{Kept, entry_of};
 ghost use Rattle.desk_wire.specs.Answers.{head_of_envelope};
 ghost use Rattle.desk_engine.specs.Deliveries.{heard_unless};
-ghost use Rattle.desk_engine.specs.InOrder.{IsInOrder, Survives, doubt_after, entries_of};
+ghost use Rattle.desk_engine.specs.InOrder.{HoldsHours, IsInOrder, Survives, doubt_after, entries_of};
 ghost use Rattle.desk_engine.specs.Outcomes.{IsOutcome, Says, Repeats, HearsNew, is_unavailable, is_disk_outcome, doubt_of};
 ghost use Rattle.desk_engine.specs.Told.{envelope_told, refusal_told};
 
@@ -118,10 +117,9 @@ pub fn hear<K: Keeper>(alloc: Global, keeper: &mut K, envelope: &Envelope) -> Ou
         → Survives K.leaves K.down c keeper.new (heard_unless (is_unavailable result) c heard envelope.now)
         (doubt_after (K.down keeper.old) doubt (doubt_of envelope.now result)) }
 
-    // No hour of any gateway's band holds more downlinks than the limit.
+    // In what the store then holds no hour of any gateway's band has more downlinks than the limit.
     ensures hours { (c : Settings) (heard : List Envelope) → c ≡ K.configuration keeper.old → K.sound keeper.new
-        → IsInOrder K.holds c keeper.old heard
-        → EveryHourKept (state_of c (heard_unless (is_unavailable result) c heard envelope.now)) }
+        → IsInOrder K.holds c keeper.old heard → HoldsHours K.holds K.down keeper.new }
 {
     hours_are_kept();
     same_message_tells();

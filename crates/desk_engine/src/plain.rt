@@ -28,9 +28,9 @@ pub fn run_from_nothing(
 
     // No hour of any gateway's band holds more downlinks than the limit: after each beginning of the list, and in what the
     // lists keep.
-    ensures hours { IfOk result (λ ran. (n : ℕ) → EveryHourKept (state_of config
+    ensures hours_before { IfOk result (λ ran. (n : ℕ) → EveryHourKept (state_of config
         (heard_all config [] (take n (deliveries_of (map (λ t. t.now) texts.now) ran.1.items))))) }
-    ensures hours_kept { IfOk result (λ ran. EveryHourKept (kept_of ran.0).facts) }
+    ensures hours { IfOk result (λ ran. EveryHourKept (kept_of ran.0).facts) }
 {
     hours_are_kept();
     nothing_is_heard();

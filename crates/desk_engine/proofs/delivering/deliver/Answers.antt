@@ -2,6 +2,7 @@ use Rattle.std.proofs.Common.{◌≡◌, ◌∙◌, sym, subst, Ok, Err}
 use Rattle.desk_wire.specs.Reading.{Gives}
 use Rattle.desk_engine.specs.Outcomes.{RefusesText}
 use Rattle.desk_engine.specs.Told.{envelope_of_text}
+use Rattle.desk_engine.proofs.Keeping.{holds_hours}
 use Rattle.desk_engine.proofs.Unread.{survives_untouched, unread}
 use Rattle.desk_engine.proofs.delivering.deliver.Goals as goal
 
@@ -30,3 +31,7 @@ returns-in-Err-clause-crash g c = λ config heard doubt its sound held was.
     (subst (λ s. Gives (Err c.in-Err.fault) (envelope_of_text s c.args.text.now)) (c.config.ensures ∙ sym its) c.in-Err.ensures)
     (subst (λ s. RefusesText s c.in-Err.fault c.refuse_text.result) (c.config-in-Err.ensures ∙ sym its) c.refuse_text.ensures) in
     rw u.stays (survives_untouched g.K.Keeper.leaves g.K.Keeper.down config c.args.keeper.now heard doubt _ was)
+
+pub returns-in-Err-clause-hours : goal.returns-in-Err-clause-hours
+returns-in-Err-clause-hours g c = λ config heard its sound held.
+    holds_hours g.K.Keeper.sound g.K.Keeper.down g.K.Keeper.holds g.met.K.Keeper.one c.hours_are_kept.ensures config heard c.args.keeper.now sound held

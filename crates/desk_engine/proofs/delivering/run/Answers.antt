@@ -1,5 +1,6 @@
 use Rattle.std.proofs.Common.{◌∙◌, ◌∷◌, [], ◌++◌, rules, ap, sym, is_ok}
 use Rattle.std.specs.Prelude.{if◌then◌else◌}
+use Rattle.desk_engine.proofs.Keeping.{holds_hours}
 use Rattle.desk_engine.proofs.Runs.{more_shut, run_more, seen_all, seen_more}
 use Rattle.desk_engine.proofs.delivering.run.Goals as goal
 
@@ -26,3 +27,11 @@ loop-text-preserved g c =
 pub returns-clause-crash : goal.returns-clause-crash
 returns-clause-crash g c = λ config heard doubt its sound held was.
     rw (seen_all c.args.texts.now c.loop-text.text-index c.loop-text-test.false) at ((c.loop-text.invariant.ran config heard its sound held).crash doubt was)
+
+pub returns-in_err-outcomes-clause-hours : goal.returns-in_err-outcomes-clause-hours
+returns-in_err-outcomes-clause-hours g c = λ config heard its sound held.
+    holds_hours g.K.Keeper.sound g.K.Keeper.down g.K.Keeper.holds g.met.K.Keeper.one c.hours_are_kept.ensures config heard c.args.keeper.now sound held
+
+pub returns-clause-hours : goal.returns-clause-hours
+returns-clause-hours g c = λ config heard its sound held.
+    holds_hours g.K.Keeper.sound g.K.Keeper.down g.K.Keeper.holds g.met.K.Keeper.one c.hours_are_kept.ensures config _ c.loop-text.keeper sound (c.loop-text.invariant.ran config heard its sound held).order

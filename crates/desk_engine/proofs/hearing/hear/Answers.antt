@@ -9,6 +9,7 @@ use Rattle.desk_engine.specs.InOrder.{kept_after}
 use Rattle.desk_engine.specs.Outcomes.{Repeats}
 use Rattle.desk_engine.specs.Told.{refusal_told}
 use Rattle.desk_engine.proofs.Arms.{heard_pair, new_crash, new_order, new_outcome, new_pair, repeat_outcome, says_at, stranger_outcome, survives_reads, was_up}
+use Rattle.desk_engine.proofs.Keeping.{holds_hours}
 use Rattle.desk_engine.proofs.Replies.{unless-again, unless-stranger}
 use Rattle.desk_engine.proofs.hearing.hear.Goals as goal
 
@@ -95,3 +96,22 @@ returns-in-Ok-Fresh-clause-crash g c = λ config heard doubt its sound held was.
     let hears = c.hear_new.ensures.hears config heard (its ∙ sym c.load.ensures.call.same) sound (record { list = held.list; kept = c.load.ensures.reads.held _ then held.kept }) up loaded.0 view in
     let was_it_up = was_up g.K.Keeper.configuration g.K.Keeper.sound g.K.Keeper.down g.K.Keeper.full c.args.keeper.now c.load.new.self c.load.result c.load.ensures.call (ap is_ok c.in-Ok-Fresh.is) in
     rw was_it_up (new_crash g.K.Keeper.holds g.K.Keeper.leaves g.K.Keeper.down config heard e c.hear_new.new.keeper c.hear_new.result known (new_pair config heard e loaded.0) hears)
+
+pub returns-in-Err-clause-hours : goal.returns-in-Err-clause-hours
+unfolding kept_after
+returns-in-Err-clause-hours g c = λ config heard its sound held.
+    holds_hours g.K.Keeper.sound g.K.Keeper.down g.K.Keeper.holds g.met.K.Keeper.one c.hours_are_kept.ensures config heard c.load.new.self sound (record { list = held.list; kept = c.load.ensures.reads.held _ sound held.kept })
+
+pub returns-in-Ok-Stranger-clause-hours : goal.returns-in-Ok-Stranger-clause-hours
+unfolding kept_after
+returns-in-Ok-Stranger-clause-hours g c = λ config heard its sound held.
+    holds_hours g.K.Keeper.sound g.K.Keeper.down g.K.Keeper.holds g.met.K.Keeper.one c.hours_are_kept.ensures config heard c.load.new.self sound (record { list = held.list; kept = c.load.ensures.reads.held _ sound held.kept })
+
+pub returns-in-Ok-Heard-clause-hours : goal.returns-in-Ok-Heard-clause-hours
+unfolding kept_after
+returns-in-Ok-Heard-clause-hours g c = λ config heard its sound held.
+    holds_hours g.K.Keeper.sound g.K.Keeper.down g.K.Keeper.holds g.met.K.Keeper.one c.hours_are_kept.ensures config heard c.load.new.self sound (record { list = held.list; kept = c.load.ensures.reads.held _ sound held.kept })
+
+pub returns-in-Ok-Fresh-clause-hours : goal.returns-in-Ok-Fresh-clause-hours
+returns-in-Ok-Fresh-clause-hours g c = λ config heard its sound held.
+    holds_hours g.K.Keeper.sound g.K.Keeper.down g.K.Keeper.holds g.met.K.Keeper.one c.hours_are_kept.ensures config _ c.hear_new.new.keeper sound (returns-in-Ok-Fresh-clause-order g c config heard its sound held)

@@ -13,8 +13,8 @@ unfolding kept_after
 returns-clause-kept c =
     sym (c.in_ok-outcomes.ensures.order c.args.config [] (sym c.in_ok-lists.ensures.config) tt (record { list = c.nothing_is_heard.ensures c.args.config; kept = sym c.in_ok-lists.ensures.opens })).kept
 
-pub returns-clause-hours_kept : goal.returns-clause-hours_kept
+pub returns-clause-hours : goal.returns-clause-hours
 unfolding kept_after
-returns-clause-hours_kept c =
+returns-clause-hours c =
     let order = c.in_ok-outcomes.ensures.order c.args.config [] (sym c.in_ok-lists.ensures.config) tt (record { list = c.nothing_is_heard.ensures c.args.config; kept = sym c.in_ok-lists.ensures.opens }) in
     hours_of c.hours_are_kept.ensures c.args.config _ _ order.kept
