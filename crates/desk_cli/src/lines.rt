@@ -1,8 +1,7 @@
 //! `desk lines`: messages from a reader, answers to a writer, over lists in memory.
-ghost use Rattle.std.specs.Prelude.{◌≡◌, ℕ, List, []};
-ghost use Rattle.std.specs.Io.KnownBytes.{Appends, Consumes, IsAtEnd};
-ghost use Rattle.desk_engine.specs.Lines.{all_lines, answer_lines};
+ghost use Rattle.std.specs.Prelude.{◌≡◌};
 ghost use Rattle.desk_cli.specs.Endings.{IsDoneOrFailed};
+ghost use Rattle.desk_cli.specs.Runs.{AnswersLines};
 
 use crate::endings::Ending;
 use desk_engine::{LinesEnd, run_lines};
@@ -24,9 +23,9 @@ pub fn lines_command<R: Read, W: Write, F: Write>(
     faults: &mut F,
 ) -> Ending
     // With status 0 exactly the answers of the lines were written, from the opening state on.
-    ensures answered { result ≡ Ending.Done → (input : List ℕ)
-        × Consumes (R.remaining reader.old) (R.remaining reader.new) input × IsAtEnd (R.remaining reader.new)
-        × Appends (W.contents answers.old) (W.contents answers.new) (answer_lines config.now [] (all_lines input)) }
+    ensures answered { result ≡ Ending.Done → AnswersLines (R.remaining reader.old)
+        (R.remaining reader.new) (W.contents answers.old) (W.contents answers.new) config.now }
+    ensures quiet { result ≡ Ending.Done → faults.new ≡ faults.old }
     ensures ends { IsDoneOrFailed result }
 {
     nothing_is_heard();

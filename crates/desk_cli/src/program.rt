@@ -1,7 +1,9 @@
 //! The program's arguments, and what it does with them.
-ghost use Rattle.std.specs.Prelude.{◌≡◌, map, string_bytes, IfOk};
+ghost use Rattle.std.specs.Prelude.{◌≡◌, ◌≢◌, map, string_bytes, IfOk, IfErr};
 ghost use Rattle.clap.specs.Walk.{texts};
-ghost use Rattle.desk_cli.specs.Endings.{ending_of};
+ghost use Rattle.desk_cli.specs.Endings.{ending_of, IsDoneOrFailed};
+ghost use Rattle.desk_cli.specs.Runs.{Asks, IsDone, IsNamed, IsUnread};
+ghost use Rattle.desk_cli.specs.declared.commands.Command.{Command};
 
 use crate::commands::Command;
 use crate::endings::{Ending, ending_of};
@@ -19,7 +21,17 @@ pub fn run<E: Env + AllocGlobal, R: Read, W: Write, F: Write>(
     reader: &mut R,
     answers: &mut W,
     faults: &mut F,
-) -> Ending {
+) -> Ending
+    // With status 0 what a command that words name asks was done.
+    ensures done { result ≡ Ending.Done → (command : Command) × IsNamed command
+        × IsDone (R.remaining reader.old) (R.remaining reader.new)
+        (W.contents answers.old) (W.contents answers.new) command }
+    ensures quiet { result ≡ Ending.Done → faults.new ≡ faults.old }
+    // Where the words name no command nothing was read, and nothing was answered.
+    ensures misused { result ≡ Ending.Misused
+        → (reader.new ≡ reader.old) × (answers.new ≡ answers.old) }
+    ensures ends { result ≢ Ending.Refused }
+{
     match asked(rt) {
         Ok(command) => perform(rt.alloc(), &command, reader, answers, faults),
         Err(usage) => tell(&usage, faults),
@@ -33,7 +45,12 @@ fn perform<R: Read, W: Write, F: Write>(
     reader: &mut R,
     answers: &mut W,
     faults: &mut F,
-) -> Ending {
+) -> Ending
+    ensures done { result ≡ Ending.Done → IsDone (R.remaining reader.old) (R.remaining reader.new)
+        (W.contents answers.old) (W.contents answers.new) command.now }
+    ensures quiet { result ≡ Ending.Done → faults.new ≡ faults.old }
+    ensures ends { IsDoneOrFailed result }
+{
     match command {
         Command::Lines { config } => lines_command(alloc, config, reader, answers, faults),
     }
@@ -48,14 +65,18 @@ fn tell<F: Write>(usage: &Usage, faults: &mut F) -> Ending
 }
 
 /// The command that the program's arguments name.
-fn asked<R: Env + AllocGlobal>(rt: &R) -> Result<Command, Usage> {
+fn asked<R: Env + AllocGlobal>(rt: &R) -> Result<Command, Usage>
+    ensures { Asks result }
+{
     let arguments = arguments(rt)?;
     let words = words_of(rt.alloc(), &arguments)?;
     read_words(rt.alloc(), &words)
 }
 
 /// The program's arguments, its own name first.
-fn arguments<R: Env + AllocGlobal>(rt: &R) -> Result<Vec<String>, Usage> {
+fn arguments<R: Env + AllocGlobal>(rt: &R) -> Result<Vec<String>, Usage>
+    ensures { IfErr result IsUnread }
+{
     match env::args(rt) {
         Ok(arguments) => arguments.collect(rt.alloc()).map_err(|_| Usage::Memory),
         Err(error) if error.kind() == ErrorKind::OutOfMemory => Err(Usage::Memory),
@@ -64,7 +85,9 @@ fn arguments<R: Env + AllocGlobal>(rt: &R) -> Result<Vec<String>, Usage> {
 }
 
 fn words_of<'a>(alloc: Global, arguments: &'a [String]) -> Result<Vec<&'a str>, Usage>
-    ensures { IfOk result (λ words. texts words.items ≡ map string_bytes arguments.entry.now) }
+    ensures words { IfOk result (λ words. texts words.items
+        ≡ map string_bytes arguments.entry.now) }
+    ensures memory { IfErr result (λ usage. usage ≡ Usage.Memory) }
 {
     let words = arguments.iter().map(|argument| argument.as_str());
     match words.collect(alloc) {

@@ -1,11 +1,10 @@
 -- What was told stays, and the same texts again are told the same.
-use Rattle.std.proofs.Common.{◌≡◌, ℕ, Bool, true, false, List, [], ◌∷◌, ◌++◌, map, Option, Some, None, Result, Ok, Err, refl, ap, sym, ◌∙◌, arith}
-use Rattle.std.specs.Prelude.{◌==◌, IfOk, is_some, find, bytes_eq, if◌then◌else◌}
+use Rattle.std.proofs.Common.{◌≡◌, ℕ, Bool, true, false, List, [], ◌∷◌, ◌++◌, map, Option, Some, None, Result, Ok, Err, refl, ap, sym, ◌∙◌}
+use Rattle.std.specs.Prelude.{IfOk, is_some, find, if◌then◌else◌}
 use Rattle.std.specs.List.{AllByRecursion}
 use Rattle.std.specs.Option.{option_or}
 use Rattle.std.proofs.Common.{inl, inr}
-use Rattle.std.proofs.lemmas.Bool.{cases_Bool}
-use Rattle.std.proofs.lemmas.Bool.Decides.{nat_tests}
+use Rattle.std.proofs.lemmas.Bool.{cases_Bool, eq-eqb}
 use Rattle.std.proofs.lemmas.List.Elements.{recursion_from_All}
 use Rattle.std.proofs.lemmas.List.Folds.{find-append}
 use Rattle.std.proofs.lemmas.Slice.Eq.{bytes_eq-Decides}
@@ -77,14 +76,8 @@ with_one stay c heard new none = record { senders = λ name. senders_by stay c h
 
 -- ---- one envelope again
 
-bytes_self : (a : List ℕ) → bytes_eq a a ≡ true
-bytes_self a = (bytes_eq-Decides a a).1 refl
-
-number_self : (n : ℕ) → (n == n) ≡ true
-number_self n = grind (arith, nat_tests)
-
 pair_self : (e : Envelope) → same_pair e e ≡ true
-pair_self e = rw (number_self e.transaction, bytes_self e.sender) refl
+pair_self e = rw (eq-eqb e.transaction e.transaction refl, (bytes_eq-Decides e.sender e.sender).1 refl) refl
 
 record Again (c : Settings) (before after : List Envelope) (e : Envelope) : Type 0 where
   reply : reply_to c after e ≡ reply_to c before e

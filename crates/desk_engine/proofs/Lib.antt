@@ -1,6 +1,8 @@
 pub mod Arms
-pub mod HearingAgain
 pub mod HeardTexts
+pub mod HearingAgain
+pub mod Imports
+pub mod InputCuts
 pub mod Keeping
 pub mod LineCuts
 pub mod LineParts

@@ -22,7 +22,6 @@ use Rattle.desk_engine.specs.Taking.{kept, part, end_of, TakesLine, StandsAt}
 use Rattle.desk_engine.specs.Told.{text_of, text_told, envelope_of_text}
 use Rattle.desk_engine.proofs.LineCuts as cuts
 use Rattle.desk_engine.proofs.LineParts as parts
-use Rattle.desk_engine.proofs.Unread.{survives_untouched}
 
 -- ---- lines after lines
 
@@ -69,16 +68,6 @@ heard_read-unavailable c heard (Ok e) = refl
 heard_read-unavailable c heard (Err fault) = refl
 
 module _ {K : Type 0} (holds : K → Kept → Type 0) (leaves : K → List Kept → Type 0) (down : K → Bool) (c : Settings) where
-  pub hears-nothing : (heard : List Envelope) (keeper : K) → IsInOrder holds c keeper heard → HasHeard holds leaves down c heard keeper keeper [] None
-  hears-nothing heard keeper order = record {
-    order = order;
-    crash = λ doubt s. survives_untouched leaves down c keeper heard doubt None s;
-  }
-
-  pub answers-nothing : (heard : List Envelope) (keeper : K) (w : Option (List ℕ)) → IsInOrder holds c keeper heard
-      → HasAnswered holds leaves down c heard keeper keeper w w [] None
-  answers-nothing heard keeper w order = record { hears = hears-nothing heard keeper order; answers = Appends-nil w }
-
   -- these lines were heard, and then more
   pub hears-then : (heard : List Envelope) (old mid new : K) (lines more : List (List ℕ)) (now : Option Envelope) → down mid ≡ down old
       → HasHeard holds leaves down c heard old mid lines None → HasHeard holds leaves down c (heard_lines c heard lines) mid new more now
@@ -170,10 +159,6 @@ module _ {K : Type 0} (holds : K → Kept → Type 0) (leaves : K → List Kept 
       )
 
   -- ---- where a run stands
-
-  pub stands-first : (heard : List Envelope) (keeper : K) (w : Option (List ℕ)) (line : List ℕ) → line ≡ [] → IsInOrder holds c keeper heard
-      → StandsAt holds leaves down c heard keeper keeper w w [] line
-  stands-first heard keeper w line none order = record { up = refl; begun = none; answered = answers-nothing heard keeper w order }
 
   -- the last line was answered
   pub ends-done : (heard : List Envelope) (start mid new : K) (w u v : Option (List ℕ)) (input line slice : List ℕ)

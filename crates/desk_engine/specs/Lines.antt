@@ -1,5 +1,6 @@
 -- An input of lines: how it is cut, what is heard of it, and what is written for it.
-use Rattle.std.specs.Prelude.{◌≡◌, ◌≢◌, ◌==◌, ℕ, Bool, true, false, List, [], ◌∷◌, ◌++◌, Option, None, if◌then◌else◌}
+use Rattle.std.specs.Prelude.{◌≡◌, ◌≢◌, ◌==◌, ◌↔◌, ℕ, Bool, true, false, List, [], ◌∷◌, ◌++◌, Option, None, if◌then◌else◌}
+use Rattle.std.specs.List.{list_any}
 use Rattle.std.specs.Io.KnownBytes.{Appends}
 use Rattle.registry_core.specs.declared.messages.Envelope.{Envelope}
 use Rattle.registry_core.specs.Settings.{Settings}
@@ -42,6 +43,20 @@ last_line input = (cut input).1
 -- the lines that an LF ends, and what stands after the last
 abbrev pub all_lines : List ℕ → List (List ℕ)
 all_lines input = whole_lines input ++ last_line input ∷ []
+
+abbrev pub has_line_feed : List ℕ → Bool
+has_line_feed octets = list_any (λ x. x == line_feed) octets
+
+-- the lines, each with an LF, and what stands after them
+abbrev pub input_of : List (List ℕ) → List ℕ → List ℕ
+input_of [] rest = rest
+input_of (line ∷ lines) rest = line ++ line_feed ∷ input_of lines rest
+
+-- An input is cut into these lines and this rest exactly where it is the lines, each with an LF, and then the rest, and no
+-- LF stands in any of them.
+abbrev pub InputsAreCut : Type 0
+InputsAreCut = (input : List ℕ) (lines : List (List ℕ)) (rest : List ℕ)
+    → (cut input ≡ (lines, rest)) ↔ ((input ≡ input_of lines rest) × (list_any has_line_feed lines ≡ false) × (has_line_feed rest ≡ false))
 
 -- ---- what is heard of lines, and what is written for them
 

@@ -18,6 +18,7 @@ use registry_core::laws::hours_are_kept;
 use registry_core::{Config, Envelope};
 use std::alloc::{AllocError, Global};
 
+/// The envelope that a text is for this desk, or its first fault.
 #[tactic(auto, unfolding(crate::specs::Told::envelope_of_text))]
 fn read_delivery(alloc: Global, config: &Config, text: &[u8]) -> Result<Envelope, WireFault>
     ensures { Gives result (envelope_of_text config.now text.now) }
@@ -38,7 +39,12 @@ fn refuse_text(alloc: Global, config: &Config, fault: &WireFault) -> Outcome
     }
 }
 
-/// Answers one text. More than 65,536 octets are refusal 1.
+/// Answers one text: a message in JSON, of at most 65,536 octets (this project's limit). A text that is no message for this
+/// desk is `Refused` by its first fault (1, 2, 3, 8 or 7; more octets are 1), one of an unknown sender by 4, and another
+/// message under a used number by 5. Any other is heard and `Answered`, and where it was heard before, with its first answer.
+///
+/// Where the store was in order for a heard list, it ends in order for what is heard with this text. A text that is answered
+/// `Unavailable` isn't heard: memory ran out, the disk failed, or there was no room.
 pub fn deliver<K: Keeper>(alloc: Global, keeper: &mut K, text: &[u8]) -> Outcome
     ensures same { K.configuration keeper.new ≡ K.configuration keeper.old }
     ensures was_sound { K.sound keeper.new → K.sound keeper.old }
@@ -67,7 +73,8 @@ pub fn deliver<K: Keeper>(alloc: Global, keeper: &mut K, text: &[u8]) -> Outcome
     }
 }
 
-/// Answers texts in order. There is room for all outcomes first, so that an error has heard nothing.
+/// Answers texts in order, each as `deliver` does, after the ones before it: an outcome for each text. There is room for all
+/// outcomes first, so that an error, which is want of memory alone, has heard nothing.
 pub fn run<K: Keeper>(
     alloc: Global,
     keeper: &mut K,

@@ -1,11 +1,10 @@
 //! Hears a message once: the first time it is decided and kept, and each later time its first answer is given.
-ghost use Rattle.std.specs.Prelude.{◌≡◌, ◌||◌, ℕ, true, false, List, Option, Some, None, option_map};
+ghost use Rattle.std.specs.Prelude.{◌≡◌, ◌||◌, ℕ, false, List, Option, Some, None, option_map};
 ghost use Rattle.registry_core.specs.declared.messages.Envelope.{Envelope};
 ghost use Rattle.registry_core.specs.Heard.{state_of};
 ghost use Rattle.registry_core.specs.Settings.{Settings};
 ghost use Rattle.registry_core.specs.Viewed.{IsView};
-ghost use Rattle.desk_store.specs.Kept.{Kept, entry_of};
-ghost use Rattle.desk_wire.specs.Answers.{head_of_envelope};
+ghost use Rattle.desk_store.specs.Kept.{entry_of};
 ghost use Rattle.desk_engine.specs.Deliveries.{heard_unless};
 ghost use Rattle.desk_engine.specs.InOrder.{HoldsHours, IsInOrder, Survives, doubt_after, entries_of};
 ghost use Rattle.desk_engine.specs.Outcomes.{IsOutcome, Says, Repeats, HearsNew, is_unavailable, is_disk_outcome, doubt_of};

@@ -1,10 +1,12 @@
 //! Laws of the definitions: each is the contract of a function that does nothing.
 ghost use Rattle.desk_engine.specs.Laws.{DeliveriesLeaveHeardLists, HeardAgain, KeptAnswersStay};
+ghost use Rattle.desk_engine.specs.Lines.{InputsAreCut};
 
 use desk_wire::laws::reads_in_range;
 use registry_core::laws::{heard_lists_stay, same_message_tells, senders_stay};
 
 /// One more delivery leaves a heard list, while there is room.
+#[tactic(auto, using(crate::proofs::HeardTexts::deliveries_leave_heard_lists))]
 pub fn deliveries_leave_heard_lists()
     ensures { DeliveriesLeaveHeardLists }
 {
@@ -13,6 +15,7 @@ pub fn deliveries_leave_heard_lists()
 }
 
 /// Whatever is delivered, the answer that was given to an envelope stays at its place.
+#[tactic(auto, using(crate::proofs::HearingAgain::kept_answers_stay))]
 pub fn kept_answers_stay()
     ensures { KeptAnswersStay }
 {}
@@ -25,3 +28,9 @@ pub fn heard_again()
     same_message_tells();
     senders_stay();
 }
+
+/// An input of lines is cut in the one way that there is: the lines, each with an LF, and what stands after the last LF, make
+/// the input, and no LF stands in any of them.
+pub fn inputs_are_cut()
+    ensures { InputsAreCut }
+{}

@@ -3,6 +3,7 @@
 
 mod delivering;
 mod hearing;
+mod importing;
 pub mod laws;
 mod lines;
 mod outcomes;
@@ -12,6 +13,7 @@ mod tests;
 
 pub use delivering::{deliver, run};
 pub use hearing::hear;
+pub use importing::{Imported, import};
 pub use lines::{LinesEnd, run_lines};
 pub use outcomes::Outcome;
 pub use plain::run_from_nothing;

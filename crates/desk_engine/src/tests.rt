@@ -1,7 +1,9 @@
 //! The messages of runs from the opening state, through `deliver` one by one and through `run` at once.
 mod data_frames;
 mod downlinks;
+mod importing;
 mod joins;
+mod refused_memory;
 mod rows;
 
 use crate::{Outcome, deliver, run};

@@ -2,7 +2,7 @@
 use Rattle.std.proofs.Common.{◌≡◌, ℕ, Bool, true, false, List, [], ◌∷◌, ◌++◌, Option, Some, None, map, option_map, cond, refl, ◌∙◌, ap, arith, inl, inr}
 use Rattle.std.specs.Prelude.{◌==◌, ◌&&◌, find, bytes_eq}
 use Rattle.std.specs.Option.{option_or}
-use Rattle.std.proofs.lemmas.Bool.{cases_Bool, and_parts}
+use Rattle.std.proofs.lemmas.Bool.{cases_Bool, and_parts, eqb-true, eq-eqb}
 use Rattle.std.proofs.lemmas.Bool.Decides.{nat_tests}
 use Rattle.std.proofs.lemmas.List.Folds.{find-append}
 use Rattle.std.proofs.lemmas.Slice.Eq.{bytes_eq-Decides}
@@ -33,29 +33,23 @@ role_in-more rows row new = at_each (λ name.
     ∙ found_more (λ (r : SenderRow). r.role) (find (λ (r : SenderRow). bytes_eq name r.name) rows) row (bytes_eq name row.name)
     (λ same. rw ((bytes_eq-Decides name row.name).0 same) new))
 
-number_told : (n m : ℕ) → (n == m) ≡ true → n ≡ m
-number_told n m h = grind (arith, nat_tests)
-
 pub device_in-more : (rows : List DeviceRow) (row : DeviceRow) → device_in rows row.dev_eui ≡ None
     → device_in (rows ++ row ∷ []) ≡ at_number (device_in rows) row.dev_eui (Some row.device)
 device_in-more rows row new = at_each (λ dev_eui.
     ap (option_map (λ (r : DeviceRow). r.device)) (find-append (λ (r : DeviceRow). dev_eui == r.dev_eui) rows (row ∷ []))
     ∙ found_more (λ (r : DeviceRow). r.device) (find (λ (r : DeviceRow). dev_eui == r.dev_eui) rows) row (dev_eui == row.dev_eui)
-    (λ same. rw (number_told dev_eui row.dev_eui same) new))
-
-number_self : (n : ℕ) → (n == n) ≡ true
-number_self n = grind (arith, nat_tests)
+    (λ same. rw (eqb-true dev_eui row.dev_eui same) new))
 
 copy_found : (rows : List CopyRow) (row : CopyRow) (number : ℕ) (gateway : List ℕ) → (number == row.uplink && bytes_eq gateway row.gateway) ≡ true → copy_in rows row.uplink row.gateway ≡ None
     → copy_in rows number gateway ≡ None
 copy_found rows row number gateway same new =
     let both : ((number == row.uplink) ≡ true) × (bytes_eq gateway row.gateway ≡ true) = and_parts _ _ same in
-    rw (number_told number row.uplink both.0, (bytes_eq-Decides gateway row.gateway).0 both.1) new
+    rw (eqb-true number row.uplink both.0, (bytes_eq-Decides gateway row.gateway).0 both.1) new
 
 copy_key : (rows : List CopyRow) (row : CopyRow) (number : ℕ) (gateway : List ℕ) (b : Bool) → (number == row.uplink) ≡ b
     → cond (number == row.uplink && bytes_eq gateway row.gateway) (Some row.reception) (copy_in rows number gateway)
     ≡ at_number (copy_in rows) row.uplink (at_name (copy_in rows row.uplink) row.gateway (Some row.reception)) number gateway
-copy_key rows row number gateway true is = rw (number_told number row.uplink is, number_self row.uplink) refl
+copy_key rows row number gateway true is = rw (eqb-true number row.uplink is, eq-eqb row.uplink row.uplink refl) refl
 copy_key rows row number gateway false is = rw is refl
 
 pub copy_in-more : (rows : List CopyRow) (row : CopyRow) → copy_in rows row.uplink row.gateway ≡ None
@@ -102,6 +96,6 @@ stays (row ∷ rows) q d owner apart = stays_by row rows q d owner (row.dev_eui 
 pub device_in-moved : (rows : List DeviceRow) (dev_eui : ℕ) (owner : List ℕ)
     → device_in (map (row_moved dev_eui owner) rows) ≡ at_number (device_in rows) dev_eui (option_map (owned_by owner) (device_in rows dev_eui))
 device_in-moved rows dev_eui owner = at_each (λ other. elim (cases_Bool (other == dev_eui)) [
-  | inl same ↦ rw (number_told other dev_eui same, number_self dev_eui) (moved rows dev_eui owner)
+  | inl same ↦ rw (eqb-true other dev_eui same, eq-eqb dev_eui dev_eui refl) (moved rows dev_eui owner)
   | inr apart ↦ rw apart (stays rows other dev_eui owner apart)
 ])

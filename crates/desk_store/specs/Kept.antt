@@ -1,5 +1,5 @@
 -- What a store keeps: facts, and an entry for each message that was heard.
-use Rattle.std.specs.Prelude.{◌≡◌, ℕ, Bool, ◌&&◌, ◌==◌, List, [], ◌∷◌, ◌++◌, Option, None, IsTrue, find, bytes_eq}
+use Rattle.std.specs.Prelude.{◌≡◌, ◌⊎◌, ℕ, Bool, ◌&&◌, ◌==◌, List, [], ◌∷◌, ◌++◌, Option, None, IsTrue, find, bytes_eq}
 use Rattle.registry_core.specs.declared.effects.Effect.{Effect}
 use Rattle.registry_core.specs.declared.messages.Envelope.{Envelope}
 use Rattle.registry_core.specs.Fits.{Fits}
@@ -38,6 +38,19 @@ with_entry kept e message effect answer = record {
   facts = state_with kept.facts effect;
   entries = kept.entries ++ entry_with e message answer ∷ [];
 }
+
+-- ---- what a crash may leave
+
+-- one of these
+abbrev pub IsOneOf : List Kept → Kept → Type 0
+IsOneOf [] kept = ⊥
+IsOneOf (k ∷ ks) kept = (kept ≡ k) ⊎ IsOneOf ks kept
+
+-- one of the one list is one of the other
+abbrev pub HaveCommon : List Kept → List Kept → Type 0
+HaveCommon a b = (kept : Kept) × IsOneOf a kept × IsOneOf b kept
+
+-- ---- when a change can be added
 
 -- the sender is known, the pair isn't heard, and the effect adds only what isn't there
 pub record CanAdd (kept : Kept) (e : Envelope) (effect : Effect) : Type 0 where

@@ -1,6 +1,5 @@
 -- What plain lists hold.
-use Rattle.std.specs.Prelude.{◌≡◌, List, [], ◌∷◌, map, ◌⊎◌}
-use Rattle.std.proofs.Common.{inl, inr}
+use Rattle.std.specs.Prelude.{map}
 use Rattle.registry_core.specs.Settings.{Settings}
 use Rattle.desk_store.specs.declared.lists.EntryRow.{EntryRow}
 use Rattle.desk_store.specs.declared.lists.Lists.{Lists}
@@ -17,13 +16,3 @@ kept_of l = record { facts = facts_of l.facts; entries = map entry_shown l.entri
 -- what the lists were made with
 abbrev pub settings_of : Lists → Settings
 settings_of l = l.config
-
--- one of these
-abbrev pub IsOneOf : List Kept → Kept → Type 0
-IsOneOf [] kept = ⊥
-IsOneOf (k ∷ ks) kept = (kept ≡ k) ⊎ IsOneOf ks kept
-
--- one of a list of one
-abbrev pub one_of_one : (a kept : Kept) → IsOneOf (a ∷ []) kept → kept ≡ a
-one_of_one a kept (inl same) = same
-one_of_one a kept (inr none) = absurd none

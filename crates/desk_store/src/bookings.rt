@@ -1,9 +1,8 @@
 //! Look-ups in bookings: each looks once through them, from the front.
 ghost use Rattle.std.specs.Prelude.{◌≡◌, pos, IfOk};
-ghost use Rattle.std.specs.List.{list_any};
 ghost use Rattle.duty_core.specs.Near.{is_near};
-ghost use Rattle.registry_core.specs.Bookings.{is_answer_to};
-ghost use Rattle.desk_store.specs.Lookups.{is_down_in, next_down_in, stands_within, downlinks_near};
+ghost use Rattle.registry_core.specs.Bookings.{is_answered, is_down_of, next_down};
+ghost use Rattle.desk_store.specs.Lookups.{stands_within, downlinks_near};
 
 use crate::lookups::item_at;
 use duty_core::Span;
@@ -11,12 +10,12 @@ use radio_core::{Band, Name};
 use registry_core::{Booking, Kind, Standing, Uplink};
 use std::alloc::{AllocError, Global};
 
-/// What begins less than this apart is near: an hour and the greatest time on air, in microseconds.
+/// An hour and 3,000,000 microseconds: what begins less than this apart is near.
 const NEAR: i128 = 3_603_000_000;
 
 /// The booking answers a data uplink of the session.
 fn is_down_of(booking: &Booking, uplinks: &[Uplink], session: u64) -> bool
-    ensures { result ≡ is_down_in uplinks.now session booking.now }
+    ensures { result ≡ is_down_of uplinks.now session booking.now }
 {
     match item_at(uplinks, booking.uplink) {
         Some(uplink) => uplink.kind == Kind::Data && uplink.session == session,
@@ -26,7 +25,7 @@ fn is_down_of(booking: &Booking, uplinks: &[Uplink], session: u64) -> bool
 
 /// How many bookings answer data uplinks of the session, dropped ones too.
 pub(crate) fn next_down(bookings: &[Booking], uplinks: &[Uplink], session: u64) -> u64
-    ensures { result ≡ next_down_in bookings.now uplinks.now session }
+    ensures { result ≡ next_down bookings.now uplinks.now session }
 {
     bookings
         .iter()
@@ -36,7 +35,7 @@ pub(crate) fn next_down(bookings: &[Booking], uplinks: &[Uplink], session: u64) 
 
 /// A booking that isn't dropped answers the uplink with this number.
 pub(crate) fn is_answered(bookings: &[Booking], uplink: u64) -> bool
-    ensures { result ≡ list_any (is_answer_to uplink) bookings.now }
+    ensures { result ≡ is_answered bookings.now uplink }
 {
     bookings.iter().any(|booking| booking.uplink == uplink && booking.standing != Standing::Dropped)
 }

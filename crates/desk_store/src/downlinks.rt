@@ -29,7 +29,6 @@ pub(crate) struct DownlinkView {
 
 impl Facts {
     /// `uplink` is the view of the uplink that the message names.
-    #[tactic(auto, unfolding(registry_core::specs::Bookings::is_answered))]
     pub(crate) fn downlink_told(
         &self,
         alloc: Global,
@@ -63,9 +62,9 @@ impl Facts {
     }
 
     /// The next downlink counter of the uplink's session.
-    #[tactic(auto, unfolding(registry_core::specs::Bookings::next_down))]
     fn next_down(&self, uplink: &Option<UplinkView>) -> u64
-        ensures { result ≡ option_map_or (λ (view : UplinkView). next_down (facts_of self.now) view.uplink.session) uplink.now 0 }
+        ensures { result ≡ option_map_or
+            (λ (view : UplinkView). next_down (facts_of self.now).bookings (facts_of self.now).uplinks view.uplink.session) uplink.now 0 }
     {
         match uplink {
             Some(view) => next_down(&self.bookings, &self.uplinks, view.uplink.session),
@@ -74,7 +73,6 @@ impl Facts {
     }
 
     /// When the gateway is on the air near where the window opens, in microseconds, in all bands.
-    #[tactic(auto, unfolding(registry_core::specs::Bookings::downlinks))]
     fn near(
         &self,
         alloc: Global,
@@ -82,7 +80,7 @@ impl Facts {
         opens: Option<(u64, Rate)>,
     ) -> Result<Vec<Span>, AllocError>
         ensures { IfOk result (λ spans. spans.items ≡ option_map_or
-            (λ (found : ℕ × Rate). near_ones (pos found.0) (downlinks (facts_of self.now) gateway.now)) opens []) }
+            (λ (found : ℕ × Rate). near_ones (pos found.0) (downlinks (facts_of self.now).bookings gateway.now)) opens []) }
     {
         match opens {
             Some((start, _)) => downlinks_near(alloc, &self.bookings, gateway, None, start),
@@ -91,7 +89,6 @@ impl Facts {
     }
 
     /// And in the band that the window lies in.
-    #[tactic(auto, unfolding(registry_core::specs::Bookings::downlinks_in))]
     fn near_in_band(
         &self,
         alloc: Global,

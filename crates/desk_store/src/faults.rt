@@ -4,15 +4,21 @@ ghost use Rattle.desk_store.specs.declared.faults.StoreFault.TheVariants.{Memory
 
 use std::alloc::{AllocError, AllocFailed};
 
-/// Why a store doesn't answer: `Memory`, `Disk` and `Size` are refusal 32, `NotADesk` is 33, `SchemaVersion` is 34
-/// and `Exists` is 9.
+/// Why a store doesn't answer. A store that holds something and is sound tells the first three alone; the others are for
+/// stores that are made or opened on a disk, and `Lists` tells none of them.
 #[derive(Clone, Copy, Debug, PartialEq, Eq)]
 pub enum StoreFault {
+    /// A request for memory was refused: refusal 32.
     Memory,
+    /// The disk failed, and the store is down from then on: refusal 32.
     Disk,
+    /// There is no room for one entry more: refusal 32.
     Size,
+    /// What is there is no desk's: refusal 33.
     NotADesk,
+    /// It is a desk's in a schema of another version: refusal 34.
     SchemaVersion,
+    /// There is something already where a desk is to be made: refusal 9.
     Exists,
 }
 

@@ -3,7 +3,7 @@ ghost use Rattle.std.specs.Prelude.{◌≡◌, ◌≤◌, List, [], ◌∷◌, B
 ghost use Rattle.registry_core.specs.Heard.{most_heard};
 ghost use Rattle.registry_core.specs.Settings.{Settings};
 ghost use Rattle.desk_store.specs.Calls.{IsCall, Reads, Loads, IsUnavailability};
-ghost use Rattle.desk_store.specs.Kept.{Kept, with_entry, CanAdd};
+ghost use Rattle.desk_store.specs.Kept.{Kept, with_entry, CanAdd, HaveCommon};
 
 use crate::faults::StoreFault;
 use registry_core::{Config, Effect, Envelope, View};
@@ -88,9 +88,6 @@ pub trait Keeper {
     /// While it isn't down, it holds one thing at most.
     ghost one: { (keeper : Self) (a b : Kept) → sound keeper → down keeper ≡ false → holds keeper a → holds keeper b → a ≡ b };
 
-    /// A crash leaves something.
-    ghost some: { (keeper : Self) → sound keeper → leaves keeper [] → ⊥ };
-
-    /// What a crash leaves alone is one thing.
-    ghost sole: { (keeper : Self) (a b : Kept) → sound keeper → leaves keeper (a ∷ []) → leaves keeper (b ∷ []) → a ≡ b };
+    /// Lists that `leaves` tells have one in common: a crash leaves something, and what it leaves alone is one thing.
+    ghost common: { (keeper : Self) (a b : List Kept) → sound keeper → leaves keeper a → leaves keeper b → HaveCommon a b };
 }

@@ -3,8 +3,8 @@ ghost use Rattle.std.specs.Prelude.{◌≡◌, false, [], ◌≤◌, map, length
 ghost use Rattle.std.proofs.Common.{sym, ◌∙◌, inl};
 ghost use Rattle.registry_core.specs.Heard.{most_heard};
 ghost use Rattle.registry_core.specs.State.{opening};
-ghost use Rattle.desk_store.specs.Kept.{entry_of};
-ghost use Rattle.desk_store.specs.Lists.{entry_shown, kept_of, settings_of, IsOneOf, one_of_one};
+ghost use Rattle.desk_store.specs.Kept.{entry_of, IsOneOf};
+ghost use Rattle.desk_store.specs.Lists.{entry_shown, kept_of, settings_of};
 
 use crate::facts::Facts;
 use crate::faults::StoreFault;
@@ -75,9 +75,7 @@ impl Keeper for Lists {
 
     ghost one = { λ l a b sound up held here. held ∙ sym here };
 
-    ghost some = { λ l sound none. none };
-
-    ghost sole = { λ l a b sound one other. sym (one_of_one a (kept_of l) one) ∙ one_of_one b (kept_of l) other };
+    ghost common = { λ l a b sound one other. (kept_of l, one, other) };
 
     fn config(&self) -> &Config {
         &self.config

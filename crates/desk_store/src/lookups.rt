@@ -1,8 +1,9 @@
 //! Look-ups in rows: each looks once through its list, from the front.
 ghost use Rattle.std.specs.Prelude.{◌≡◌, max};
 ghost use Rattle.std.specs.Option.{option_map_or};
+ghost use Rattle.registry_core.specs.Derived.{last_nonce, is_of_device, join_with, session_with, data_with, last_counter, is_below_floor};
 ghost use Rattle.registry_core.specs.Numbered.{item_at};
-ghost use Rattle.desk_store.specs.Lookups.{role_in, name_in, device_in, copy_in, last_nonce_in, is_of_device_in, join_in, session_in, data_in, last_counter_in, is_below_floor_in};
+ghost use Rattle.desk_store.specs.Lookups.{role_in, name_in, device_in, copy_in};
 
 use crate::rows::{CopyRow, DeviceRow, SenderRow};
 use radio_core::{DevAddr, Eui, Name};
@@ -51,7 +52,7 @@ pub(crate) fn copy_in(copies: &[CopyRow], uplink: u64, gateway: &Name) -> Option
 /// The greatest nonce among the device's sessions.
 #[tactic(auto, using(crate::proofs::Greatest::greater_of_none, crate::proofs::Greatest::greater_of_between))]
 pub(crate) fn last_nonce_in(sessions: &[Session], device: Eui) -> Option<u16>
-    ensures { result ≡ last_nonce_in sessions.now device }
+    ensures { result ≡ last_nonce sessions.now device }
 {
     let mut last = None;
     for session in sessions {
@@ -72,7 +73,7 @@ pub(crate) fn item_at<T: Copy>(items: &[T], number: u64) -> Option<T>
 
 /// The session with this number is one of the device.
 fn is_of_device(sessions: &[Session], device: Eui, number: u64) -> bool
-    ensures { result ≡ is_of_device_in sessions.now device number }
+    ensures { result ≡ is_of_device sessions.now device number }
 {
     match item_at(sessions, number) {
         Some(session) => session.device == device,
@@ -87,7 +88,7 @@ pub(crate) fn join_in(
     device: Eui,
     nonce: u16,
 ) -> Option<(u64, Uplink)>
-    ensures { result ≡ join_in uplinks.now sessions.now device nonce }
+    ensures { result ≡ join_with uplinks.now sessions.now device nonce }
 {
     for (place, uplink) in uplinks.iter().enumerate() {
         if uplink.kind == Kind::Join
@@ -102,7 +103,7 @@ pub(crate) fn join_in(
 
 /// The session that has the address, with its number from 1.
 pub(crate) fn session_in(sessions: &[Session], base: u32, addr: DevAddr) -> Option<(u64, Session)>
-    ensures { result ≡ session_in sessions.now base addr }
+    ensures { result ≡ session_with sessions.now base addr }
 {
     let number = (u64::from(addr.get()) + 1).checked_sub(u64::from(base))?;
     let session = item_at(sessions, number)?;
@@ -111,7 +112,7 @@ pub(crate) fn session_in(sessions: &[Session], base: u32, addr: DevAddr) -> Opti
 
 /// The session's data uplink with this counter, with its number from 1.
 pub(crate) fn data_in(uplinks: &[Uplink], session: u64, counter: u32) -> Option<(u64, Uplink)>
-    ensures { result ≡ data_in uplinks.now session counter }
+    ensures { result ≡ data_with uplinks.now session counter }
 {
     for (place, uplink) in uplinks.iter().enumerate() {
         if uplink.kind == Kind::Data && uplink.session == session && uplink.counter == counter {
@@ -124,7 +125,7 @@ pub(crate) fn data_in(uplinks: &[Uplink], session: u64, counter: u32) -> Option<
 /// The greatest counter among the session's data uplinks.
 #[tactic(auto, using(crate::proofs::Greatest::greater_of_none, crate::proofs::Greatest::greater_of_between))]
 pub(crate) fn last_counter_in(uplinks: &[Uplink], session: u64) -> Option<u32>
-    ensures { result ≡ last_counter_in uplinks.now session }
+    ensures { result ≡ last_counter uplinks.now session }
 {
     let mut last = None;
     for uplink in uplinks {
@@ -142,7 +143,7 @@ pub(crate) fn is_below_floor(
     device: Eui,
     session: u64,
 ) -> bool
-    ensures { result ≡ is_below_floor_in uplinks.now sessions.now device session }
+    ensures { result ≡ is_below_floor uplinks.now sessions.now device session }
 {
     for uplink in uplinks {
         if uplink.kind == Kind::Data

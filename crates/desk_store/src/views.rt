@@ -119,9 +119,9 @@ impl Facts {
         }
     }
 
-    #[tactic(auto, unfolding(registry_core::specs::Derived::last_nonce))]
     fn last_nonce_told(&self, join: &Option<JoinRequest>) -> Option<u16>
-        ensures { result ≡ option_and_then (λ (told : JoinRequest). last_nonce (facts_of self.now) told.dev_eui) join.now }
+        ensures { result ≡ option_and_then
+            (λ (told : JoinRequest). last_nonce (facts_of self.now).sessions told.dev_eui) join.now }
     {
         match join {
             Some(join) => last_nonce_in(&self.sessions, join.dev_eui),
@@ -130,7 +130,6 @@ impl Facts {
     }
 
     /// The session whose data frame the message tells of, with its number.
-    #[tactic(auto, unfolding(registry_core::specs::Derived::session_with))]
     fn session_told(&self, config: &Config, message: &Message) -> Option<(u64, Session)>
         ensures { result ≡ session_told config.now (facts_of self.now) message.now }
     {
@@ -141,7 +140,6 @@ impl Facts {
         session_in(&self.sessions, config.base(), frame.addr)
     }
 
-    #[tactic(auto, unfolding(registry_core::specs::Derived::last_counter, registry_core::specs::Derived::is_below_floor))]
     fn view_of(&self, session: &Option<(u64, Session)>) -> Option<SessionView>
         ensures { result ≡ option_map (view_of_session (facts_of self.now)) session.now }
     {
@@ -199,9 +197,9 @@ impl Facts {
         Some((number, item_at(&self.uplinks, number)?))
     }
 
-    #[tactic(auto, unfolding(registry_core::specs::Derived::join_with))]
     fn join_found(&self, join: &Option<JoinRequest>) -> Option<(u64, Uplink)>
-        ensures { result ≡ option_and_then (join_with (facts_of self.now)) join.now }
+        ensures { result ≡ option_and_then
+            (λ (told : JoinRequest). join_with (facts_of self.now).uplinks (facts_of self.now).sessions told.dev_eui told.nonce) join.now }
     {
         match join {
             Some(join) => join_in(&self.uplinks, &self.sessions, join.dev_eui, join.nonce),
@@ -209,7 +207,6 @@ impl Facts {
         }
     }
 
-    #[tactic(auto, unfolding(registry_core::specs::Derived::data_with))]
     fn data_found(
         &self,
         session: &Option<(u64, Session)>,

@@ -1,3 +1,5 @@
+pub mod CsvDecimals
+pub mod CsvRows
 pub mod DataRateNumbers
 pub mod HexTexts
 pub mod InRange
@@ -6,3 +8,4 @@ pub mod NameTexts
 pub mod PlainValues
 pub mod PutMembers
 pub mod ReadBack
+pub mod WorkedRows

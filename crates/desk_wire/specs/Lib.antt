@@ -1,6 +1,7 @@
 pub mod Answers
 pub mod Bands
 pub mod Bodies
+pub mod CsvReports
 pub mod DataRates
 pub mod Faults
 pub mod Hexadecimal

@@ -1,5 +1,5 @@
 //! Answers and refusals written as texts: compact JSON, their members in byte order of their names.
-ghost use Rattle.std.specs.Prelude.{◌≡◌, ◌++◌, IfOk, codes, option_map};
+ghost use Rattle.std.specs.Prelude.{◌≡◌, IfOk, option_map};
 ghost use Rattle.serde_json.specs.View.{view};
 ghost use Rattle.registry_core.specs.declared.answers.Answer.TheVariants.{Refused};
 ghost use Rattle.desk_wire.specs.Answers.{head_of_envelope, result_value, answer_value, headless_value, refusal_value, answer_text, refusal_text};

@@ -4,7 +4,7 @@ ghost use Rattle.serde_json.specs.View.{view, members_view};
 ghost use Rattle.desk_wire.specs.Bodies.{sender_add_of, owner_add_of, gateway_add_of, device_add_of, device_move_of, join_heard_of, frame_heard_of, down_book_of, down_done_of, with_sender_add, with_owner_add, with_gateway_add, with_device_add, with_device_move, with_join_heard, with_frame_heard, with_down_book, with_down_done};
 
 use crate::members::{
-    bool_at, eui_at, join_verdict_at, name_at, octets_at, put_eui, put_octets, put_text,
+    boolean_at, eui_at, join_verdict_at, name_at, octets_at, put_eui, put_octets, put_text,
     put_u32_or_null, role_at, u32_or_null_at, whole_at, window_at,
 };
 use crate::reports::{put_report, report_of};
@@ -103,7 +103,7 @@ pub(crate) fn down_done_of(value: &Value) -> Option<Message>
     ensures { result ≡ down_done_of (view value.now) }
 {
     let booking = whole_at(value, "Booking")?;
-    let sent = bool_at(value, "Sent")?;
+    let sent = boolean_at(value, "Sent")?;
     Some(Message::DownDone { booking, sent })
 }
 

@@ -26,10 +26,10 @@ fn decoded(digits: &[u8], room: &mut [u8]) -> Option<Octets>
 /// The octets that a text is: two digits for each, in either case, with or without `0x` before them. `None` exactly
 /// where it isn't digits, their number is odd, or there are more than 255 octets. It takes no memory.
 #[tactic(auto, using(crate::proofs::HexTexts::too_long))]
-pub(crate) fn octets_of(text: &str) -> Option<Octets>
+pub(crate) fn octets_of(text: &[u8]) -> Option<Octets>
     ensures { result ≡ octets_in text.now }
 {
-    let digits = unprefixed(text.as_bytes());
+    let digits = unprefixed(text);
     let size = digits.len() / 2;
     if size > 255 {
         return None;
@@ -43,7 +43,7 @@ pub(crate) fn octets_of(text: &str) -> Option<Octets>
 pub(crate) fn eui_of(text: &str) -> Option<Eui>
     ensures { result ≡ eui_in text.now }
 {
-    let octets = octets_of(text)?;
+    let octets = octets_of(text.as_bytes())?;
     let number = <[u8; 8]>::try_from(octets.get()).ok()?;
     Some(Eui::new(u64::from_be_bytes(number)))
 }

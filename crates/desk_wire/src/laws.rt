@@ -2,6 +2,7 @@
 ghost use Rattle.desk_wire.specs.Laws.{MessageReadsBack, ReadsInRange};
 
 /// What is written is read as the same envelope.
+#[tactic(auto, using(crate::proofs::ReadBack::message_reads_back))]
 pub fn message_reads_back()
     ensures { MessageReadsBack }
 {}

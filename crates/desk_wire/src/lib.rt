@@ -4,6 +4,8 @@
 mod answers;
 mod bands;
 mod bodies;
+mod csv_faults;
+mod csv_reports;
 mod faults;
 mod heads;
 mod hexadecimal;
@@ -22,6 +24,8 @@ mod windows;
 mod writing;
 
 pub use answers::{write_answer, write_refusal};
+pub use csv_faults::CsvFault;
+pub use csv_reports::read_report;
 pub use faults::WireFault;
 pub use heads::{Head, head_of};
 pub use reading::read_message;

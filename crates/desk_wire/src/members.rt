@@ -72,7 +72,7 @@ pub(crate) fn data_rate_at(value: &Value, member: &str) -> Option<DataRate>
 pub(crate) fn octets_at(value: &Value, member: &str) -> Option<Octets>
     ensures { result ≡ octets_at member.now (view value.now) }
 {
-    octets_of(text_at(value, member)?)
+    octets_of(text_at(value, member)?.as_bytes())
 }
 
 pub(crate) fn eui_at(value: &Value, member: &str) -> Option<Eui>
@@ -90,7 +90,7 @@ pub(crate) fn role_at(value: &Value, member: &str) -> Option<Role>
 pub(crate) fn join_verdict_at(value: &Value, member: &str) -> Option<JoinVerdict>
     ensures { result ≡ join_verdict_at member.now (view value.now) }
 {
-    join_verdict_named(text_at(value, member)?)
+    join_verdict_named(text_at(value, member)?.as_bytes())
 }
 
 pub(crate) fn window_at(value: &Value, member: &str) -> Option<Window>
@@ -99,7 +99,7 @@ pub(crate) fn window_at(value: &Value, member: &str) -> Option<Window>
     window_numbered(value.get(member)?.as_u64()?)
 }
 
-pub(crate) fn bool_at(value: &Value, member: &str) -> Option<bool>
+pub(crate) fn boolean_at(value: &Value, member: &str) -> Option<bool>
     ensures { result ≡ boolean_at member.now (view value.now) }
 {
     value.get(member)?.as_bool()

@@ -5,12 +5,12 @@ ghost use Rattle.desk_wire.specs.Verdicts.{join_verdict_name, join_verdict_named
 use registry_core::JoinVerdict;
 
 /// The verdict of this name, exactly.
-pub(crate) fn join_verdict_named(text: &str) -> Option<JoinVerdict>
+pub(crate) fn join_verdict_named(text: &[u8]) -> Option<JoinVerdict>
     ensures { result ≡ join_verdict_named text.now }
 {
     match text {
-        "Good" => Some(JoinVerdict::Good),
-        "Bad" => Some(JoinVerdict::Bad),
+        b"Good" => Some(JoinVerdict::Good),
+        b"Bad" => Some(JoinVerdict::Bad),
         _ => None,
     }
 }

@@ -1,4 +1,5 @@
-//! The use of sliding hours, the greatest of them, and whether one more span fits and is clear.
+//! The use of sliding hours, the greatest of them, and whether one more span fits and is clear. The duty cycle of a band
+//! is time on air within an hour (ETSI EN 300 220-2); that the hour may begin anywhere is this project's.
 //!
 //! As an hour slides, its use turns down only where the hour begins at a start or ends at an end.
 //! So these hours alone are looked at: two for each span, each with a sum over all spans.

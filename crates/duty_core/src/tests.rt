@@ -2,9 +2,10 @@ use crate::hours::{clear, fits, peak, use_at};
 use crate::interval::Span;
 use std::process::Abort;
 
-/// An hour, and the first microsecond of February 2024.
+/// An hour, in microseconds.
 const HOUR: i64 = 3_600_000_000;
 
+/// The first microsecond of February 2024.
 const MONTH: i64 = 1_706_745_600_000_000;
 
 fn span(rt: &impl Abort, start: i64, len: u32) -> Span {

@@ -26,7 +26,7 @@ impl DataRate {
     ghost use Rattle.radio_core.specs.declared.data_rates.DataRate.{DataRate};
     ghost use Rattle.radio_core.specs.DataRates.{dr_number};
 
-    /// The data rate of a number. `None` exactly where the number is above 6.
+    /// The data rate of a number, 0 to 6. `None` exactly where the number is above 6.
     pub fn new(number: u8) -> Option<Self>
         ensures some { IfSome result (λ dr. dr_number dr ≡ number) }
         ensures none { IfNone result (6 < number) }

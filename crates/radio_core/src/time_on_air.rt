@@ -60,6 +60,8 @@ fn block_count(dr: DataRate, octets: u64, crc: bool) -> u64
 /// The time on air of a PHYPayload of so many octets, in microseconds (Semtech AN1200.13): 8 preamble symbols, an
 /// explicit header, coding rate 4/5, low data rate optimization at DR0 and DR1. Uplinks have the payload's CRC,
 /// downlinks don't.
+///
+/// The caller's condition: at most 255 octets.
 #[tactic(auto, unfolding(crate::specs::TimeOnAir::airtime_of))]
 pub fn airtime(dr: DataRate, octets: usize, crc: bool) -> u64
     requires { octets ≤ 255 }

@@ -2,9 +2,9 @@
 use Rattle.std.proofs.Common.{◌≡◌, ℕ, zero, suc, ◌+◌, ◌≤◌, List, [], ◌∷◌, ◌++◌, map, filter, Bool, true, false, cond, Some, refl, sym, ◌∙◌, ap, subst, arith}
 use Rattle.std.specs.Prelude.{ℤ, ◌==◌, ◌&&◌, not, bytes_eq}
 use Rattle.std.specs.List.{AllByRecursion}
-use Rattle.std.proofs.lemmas.Bool.{and_parts}
-use Rattle.std.proofs.lemmas.Bool.Decides.{nat_tests}
+use Rattle.std.proofs.lemmas.Bool.{and_parts, eqb-true}
 use Rattle.std.proofs.lemmas.List.Sums.{sum_by-cons, sum_by_push}
+use Rattle.std.proofs.lemmas.Option.{same_Some}
 use Rattle.std.proofs.lemmas.Slice.Eq.{bytes_eq-Decides}
 use Rattle.radio_core.specs.declared.bands.Band.{Band}
 use Rattle.radio_core.specs.declared.bands.Band.TheVariants.{B1, B2, B3, B4, B5, B6}
@@ -27,7 +27,6 @@ use Rattle.registry_core.specs.State.{State, ended, opening, state_with}
 use Rattle.registry_core.specs.Step.{decision_of, step}
 use Rattle.registry_core.proofs.Decisions.{is_decision}
 use Rattle.registry_core.proofs.HeardStates.{IsAllowed, IsSound, change_sound, opening_sound}
-use Rattle.registry_core.proofs.Items.{some_is}
 
 -- the use of an hour by the bookings that pass a test
 abbrev pub use_by : (Booking → Bool) → List Booking → ℤ → ℕ
@@ -67,23 +66,19 @@ band_back B6 = refl
 same_band : (a b : Band) → band_number a ≡ band_number b → a ≡ b
 same_band a b e = sym (band_back a) ∙ ap band_with e ∙ band_back b
 
-number_told : (n m : ℕ) → (n == m) ≡ true → n ≡ m
-number_told n m h = grind (arith, nat_tests)
-
 short_last : (bs : List Booking) (b : Booking) → AreShort bs → b.span.len ≤ greatest_length → AreShort (bs ++ b ∷ [])
 short_last [] b h k = (k, tt)
 short_last (x ∷ bs) b h k = (h.0, short_last bs b h.1 k)
 
 added_hours : (s : State) (b : Booking) (gateway : List ℕ) (band : Band) (t : ℤ) (v : Bool) → stands_in gateway band b ≡ v → use_by (stands_in gateway band) s.bookings t ≤ limit_of band
-    → EveryHourWithin (downlinks_in s b.gateway b.band ++ b.span ∷ []) (limit_of b.band) → use_by (stands_in gateway band) (s.bookings ++ b ∷ []) t ≤ limit_of band
-unfolding downlinks_in
+    → EveryHourWithin (downlinks_in s.bookings b.gateway b.band ++ b.span ∷ []) (limit_of b.band) → use_by (stands_in gateway band) (s.bookings ++ b ∷ []) t ≤ limit_of band
 added_hours s b gateway band t true e old new =
     let told : (stands_at gateway b ≡ true) × ((band_number b.band == band_number band) ≡ true) = and_parts _ _ e in
     let at_gateway : (bytes_eq b.gateway gateway ≡ true) × (not (is_dropped b.standing) ≡ true) = and_parts _ _ told.0 in
-    let in_both : EveryHourWithin (downlinks_in s gateway band ++ b.span ∷ []) (limit_of band) =
-    subst (λ x. EveryHourWithin (downlinks_in s gateway x ++ b.span ∷ []) (limit_of x)) (same_band b.band band (number_told _ _ told.1))
-    (subst (λ x. EveryHourWithin (downlinks_in s x b.band ++ b.span ∷ []) (limit_of b.band)) ((bytes_eq-Decides b.gateway gateway).0 at_gateway.0) new) in
-    omega (arith, use_by-last (stands_in gateway band) s.bookings b t true e, in_both t, sum_by_push (λ a. shared_count a (hour_from t)) (downlinks_in s gateway band) b.span)
+    let in_both : EveryHourWithin (downlinks_in s.bookings gateway band ++ b.span ∷ []) (limit_of band) =
+    subst (λ x. EveryHourWithin (downlinks_in s.bookings gateway x ++ b.span ∷ []) (limit_of x)) (same_band b.band band (eqb-true _ _ told.1))
+    (subst (λ x. EveryHourWithin (downlinks_in s.bookings x b.band ++ b.span ∷ []) (limit_of b.band)) ((bytes_eq-Decides b.gateway gateway).0 at_gateway.0) new) in
+    omega (arith, use_by-last (stands_in gateway band) s.bookings b t true e, in_both t, sum_by_push (λ a. shared_count a (hour_from t)) (downlinks_in s.bookings gateway band) b.span)
 added_hours s b gateway band t false e old new = omega (arith, use_by-last (stands_in gateway band) s.bookings b t false e, old)
 
 -- ---- one booking ended
@@ -113,7 +108,7 @@ place_hours gateway band sent t (x ∷ bs) zero b there booked =
     let p : Booking → Bool = stands_in gateway band in
     omega (
       arith,
-      ended_weight gateway band x sent t (ap (λ (y : Booking). y.standing) (some_is x b there) ∙ booked),
+      ended_weight gateway band x sent t (ap (λ (y : Booking). y.standing) (same_Some x b there) ∙ booked),
       use_by-cons p (ended sent x) bs t (p (ended sent x)) refl,
       use_by-cons p x bs t (p x) refl,
     )
@@ -154,7 +149,7 @@ change_kept bounded tells c s (AddsUplink uplink gateway reception) k h = h
 change_kept bounded tells c s (AddsCopy number gateway reception) k h = h
 change_kept bounded tells c s (AddsBooking b) k h = record {
   short = short_last s.bookings b h.short (omega (arith, bounded k.1.0 k.1.1 false k.1.2, k.1.3));
-  hours = λ gateway band t. added_hours s b gateway band t (stands_in gateway band b) refl (h.hours gateway band t) ((tells (downlinks_in s b.gateway b.band ++ b.span ∷ []) (limit_of b.band)).0 k.2);
+  hours = λ gateway band t. added_hours s b gateway band t (stands_in gateway band b) refl (h.hours gateway band t) ((tells (downlinks_in s.bookings b.gateway b.band ++ b.span ∷ []) (limit_of b.band)).0 k.2);
 }
 change_kept bounded tells c s (EndsBooking number sent) k h = record {
   short = ended_short sent s.bookings number h.short;

@@ -34,24 +34,24 @@ absent_too f None = refl
 absent_too f (Some x) = refl
 
 added_same : (s : State) (v : View) (report : Report) (frame : DataFrame) (found : ℕ × Session) (counter : ℕ) (band : Band) → v.uplinks ≡ length s.uplinks
-    → v.uplink ≡ option_map (view_of_uplink s report.gateway) (data_with s found.0 counter)
+    → v.uplink ≡ option_map (view_of_uplink s report.gateway) (data_with s.uplinks found.0 counter)
     → data_added_by v report frame (view_of_session s found) counter band ≡ data_added s report frame found.0 found.1.device counter band
 unfolding data_added_by data_added
 added_same s v report frame found counter band n up =
     ap (λ (absent : Bool). do
-      wants (not (is_below_floor s found.1.device found.0)) SessionEnded
+      wants (not (is_below_floor s.uplinks s.sessions found.1.device found.0)) SessionEnded
       wants absent Replayed
-      wants (not (is_below counter (last_counter s found.0))) Late
-      wants (is_candidate (last_counter s found.0) frame.fcnt counter) Gap
+      wants (not (is_below counter (last_counter s.uplinks found.0))) Late
+      wants (is_candidate (last_counter s.uplinks found.0) frame.fcnt counter) Gap
       Ok (
         AddsUplink (uplink_of report found.0 Data counter band) report.gateway (reception_of report),
         FrameSuccess (time_up report) band false counter found.1.device (v.uplinks + 1),
-      )) (ap is_none up ∙ absent_too (view_of_uplink s report.gateway) (data_with s found.0 counter))
+      )) (ap is_none up ∙ absent_too (view_of_uplink s report.gateway) (data_with s.uplinks found.0 counter))
     ∙ ap (λ (uplinks : ℕ). do
-      wants (not (is_below_floor s found.1.device found.0)) SessionEnded
-      wants (is_none (data_with s found.0 counter)) Replayed
-      wants (not (is_below counter (last_counter s found.0))) Late
-      wants (is_candidate (last_counter s found.0) frame.fcnt counter) Gap
+      wants (not (is_below_floor s.uplinks s.sessions found.1.device found.0)) SessionEnded
+      wants (is_none (data_with s.uplinks found.0 counter)) Replayed
+      wants (not (is_below counter (last_counter s.uplinks found.0))) Late
+      wants (is_candidate (last_counter s.uplinks found.0) frame.fcnt counter) Gap
       Ok (
         AddsUplink (uplink_of report found.0 Data counter band) report.gateway (reception_of report),
         FrameSuccess (time_up report) band false counter found.1.device (uplinks + 1),
@@ -72,13 +72,13 @@ found_same s report session counter (Some found) rest = copies_same s report ses
 
 -- what follows where all checks before the copy hold
 ended_same : (s : State) (v : View) (report : Report) (frame : DataFrame) (session : ℕ × Session) (counter : ℕ) (band : Band) → v.uplinks ≡ length s.uplinks
-    → v.uplink ≡ option_map (view_of_uplink s report.gateway) (data_with s session.0 counter)
+    → v.uplink ≡ option_map (view_of_uplink s report.gateway) (data_with s.uplinks session.0 counter)
     → unless (original_by v.uplink report.octets) (data_copied_by report (view_of_session s session) counter) (data_added_by v report frame (view_of_session s session) counter band)
     ≡ unless (original_data s session.0 counter report.octets) (data_copied s report session.1.device counter) (data_added s report frame session.0 session.1.device counter band)
 unfolding original_data
 ended_same s v report frame session counter band n up =
     ap (λ seen. unless (original_by seen report.octets) (data_copied_by report (view_of_session s session) counter) (data_added_by v report frame (view_of_session s session) counter band)) up
-    ∙ found_same s report session counter (data_with s session.0 counter) (data_added_by v report frame (view_of_session s session) counter band)
+    ∙ found_same s report session counter (data_with s.uplinks session.0 counter) (data_added_by v report frame (view_of_session s session) counter band)
     ∙ ap (λ rest. unless (original_data s session.0 counter report.octets) (data_copied s report session.1.device counter) rest) (added_same s v report frame session counter band n up)
 
 -- the checks from the session on
@@ -98,7 +98,7 @@ last_same s v report frame (Some session) (Some counter) band n up = ended_same 
 
 -- the session of what a frame says
 session_of : Settings → State → Option DataFrame → Option (ℕ × Session)
-session_of c s told = option_and_then (λ (frame : DataFrame). session_with c s frame.addr) told
+session_of c s told = option_and_then (λ (frame : DataFrame). session_with s.sessions c.base frame.addr) told
 
 -- the checks from the frame on
 tail : (c : Settings) (s : State) (v : View) (report : Report) (verdict : Option ℕ) (told : Option DataFrame) → v.uplinks ≡ length s.uplinks
@@ -112,7 +112,7 @@ tail : (c : Settings) (s : State) (v : View) (report : Report) (verdict : Option
     ≡ (do
       frame ← needs told BadFrame
       band ← needs (band_at report.rate.freq report.rate.dr) OutOfBand
-      session ← needs (session_with c s frame.addr) UnknownDevAddr
+      session ← needs (session_with s.sessions c.base frame.addr) UnknownDevAddr
       counter ← needs verdict MicFailed
       unless (original_data s session.0 counter report.octets) (data_copied s report session.1.device counter) (data_added s report frame session.0 session.1.device counter band))
 unfolding session_of
@@ -125,7 +125,7 @@ tail c s v report verdict (Some frame) n at up =
       unless (original_by v.uplink report.octets) (data_copied_by report found counter) (data_added_by v report frame found counter band)) at
     ∙ ap (λ (last : Band → Checked Decision). do
       band ← needs (band_at report.rate.freq report.rate.dr) OutOfBand
-      last band) (λ i band. last_same s v report frame (session_with c s frame.addr) verdict band n up i)
+      last band) (λ i band. last_same s v report frame (session_with s.sessions c.base frame.addr) verdict band n up i)
 
 -- where the data rate carries so many octets, the frame is the one that they are
 heard_same : (c : Settings) (s : State) (v : View) (report : Report) (verdict : Option ℕ) (carried : Bool) → nat_le (length report.octets) (max_length report.rate.dr) ≡ carried

@@ -1,10 +1,12 @@
 -- What a step decides: it adds only what isn't there and names only what is, and a copy books nothing.
 use Rattle.std.proofs.Common.{◌≡◌, Bool, true, false, List, [], ◌∷◌, ◌++◌, length, ℕ, ◌+◌, ◌≤◌, ◌-◌, ◌%◌, Option, Some, None, refl, ap, sym, ◌∙◌, arith, if◌then◌else◌}
-use Rattle.std.specs.Prelude.{not, ◌==◌, ◌&&◌, IsTrue, Ok, Err, is_some, is_none, nat_le, nat_lt, bytes_eq, option_and_then, option_map}
-use Rattle.std.proofs.lemmas.Bool.{leb-true, ltb-true, and_parts}
+use Rattle.std.specs.Prelude.{not, ◌==◌, ◌&&◌, IsTrue, Ok, Err, is_some, is_none, nat_le, nat_lt, option_map}
+use Rattle.std.proofs.lemmas.Bool.{and_parts, eqb-true, leb-true, ltb-true, not-true}
 use Rattle.std.proofs.lemmas.Bool.Decides.{nat_tests}
+use Rattle.std.proofs.lemmas.Option.{same_Some}
 use Rattle.radio_core.specs.declared.bands.Band.{Band}
 use Rattle.radio_core.specs.declared.data_rates.DataRate.{DataRate}
+use Rattle.radio_core.specs.declared.frames.Phy.{Phy}
 use Rattle.radio_core.specs.Bands.{band_at, limit_of}
 use Rattle.radio_core.specs.Counters.{is_candidate}
 use Rattle.radio_core.specs.DataRates.{max_length}
@@ -38,7 +40,7 @@ use Rattle.registry_core.specs.Bookings.{downlinks, downlinks_in, is_answered, i
 use Rattle.registry_core.specs.Checks.{Checked, ◌>>=◌, ◌>>◌, wants, needs, unless}
 use Rattle.registry_core.specs.Administration.{is_operator, sender_add, owner_add, gateway_add, device_add, device_move}
 use Rattle.registry_core.specs.Decision.{Decision, decision_or_refusal}
-use Rattle.registry_core.specs.Derived.{address_of, data_with, is_above, is_below, is_below_floor, is_data_with, is_join_with, join_with, last_counter, last_nonce, session_with}
+use Rattle.registry_core.specs.Derived.{address_of, data_with, is_above, is_below, is_below_floor, is_data_with, is_join_with, last_counter, last_nonce, session_with}
 use Rattle.registry_core.specs.DataFrames.{original_data, data_copied, data_added, frame_heard}
 use Rattle.registry_core.specs.Frames.{counts_as, data_up, downlink_to, frame_at, goes_to, join_request}
 use Rattle.registry_core.specs.Fits.{Fits, BookingFits, SessionFits, UplinkFits, DecisionsFit}
@@ -50,10 +52,10 @@ use Rattle.registry_core.specs.Numbered.{item_at}
 use Rattle.registry_core.specs.Settings.{Settings}
 use Rattle.registry_core.specs.State.{State, next_uplink, opening}
 use Rattle.registry_core.specs.Step.{checked_decision, decision_of, step}
-use Rattle.registry_core.specs.Uplinks.{is_time, copy_added, reception_of, same_octets, uplink_of}
+use Rattle.registry_core.specs.Uplinks.{is_time, copy_added, reception_of, uplink_of}
 use Rattle.registry_core.specs.Windows.{delay, rate_in}
 use Rattle.registry_core.proofs.HeardStates.{IsSound, IsAllowed, IsInBand, IsTimeDown, opening_sound, change_sound}
-use Rattle.registry_core.proofs.Items.{first_is, item_within, some_is}
+use Rattle.registry_core.proofs.Items.{first_is, item_within, with_octets}
 
 -- ---- what every decision is
 
@@ -93,13 +95,9 @@ succeeds : (c : Settings) (s : State) (effect : Effect) → IsAllowed c s effect
 unfolding Decides
 succeeds c s effect k = record { allowed = k; copy = λ h. cc; refusal = λ x h. cc }
 
-is_absent : {X : Type 0} (x : Option X) → is_none x ≡ true → x ≡ None
+pub is_absent : {X : Type 0} (x : Option X) → is_none x ≡ true → x ≡ None
 is_absent None h = refl
 is_absent (Some x) h = cc
-
-is_false : (b : Bool) → not b ≡ true → b ≡ false
-is_false false h = refl
-is_false true h = cc
 
 sender_decides : (c : Settings) (s : State) (e : Envelope) (sender : List ℕ) (role : Role) → Decides c s (sender_add s e sender role)
 unfolding sender_add
@@ -113,14 +111,14 @@ unfolding owner_add
 owner_decides c s e owner =
     after_wants c s (is_operator (s.senders e.sender)) WrongRole _ (λ _.
     after_wants c s (not (s.owners owner)) Exists _ (λ new.
-    succeeds c s (AddsOwner owner) (is_false (s.owners owner) new)))
+    succeeds c s (AddsOwner owner) (not-true (s.owners owner) new)))
 
 gateway_decides : (c : Settings) (s : State) (e : Envelope) (gateway : List ℕ) → Decides c s (gateway_add s e gateway)
 unfolding gateway_add
 gateway_decides c s e gateway =
     after_wants c s (is_operator (s.senders e.sender)) WrongRole _ (λ _.
     after_wants c s (not (s.gateways gateway)) Exists _ (λ new.
-    succeeds c s (AddsGateway gateway) (is_false (s.gateways gateway) new)))
+    succeeds c s (AddsGateway gateway) (not-true (s.gateways gateway) new)))
 
 device_decides : (c : Settings) (s : State) (e : Envelope) (dev_eui join_eui : ℕ) (owner : List ℕ) → Decides c s (device_add s e dev_eui join_eui owner)
 unfolding device_add
@@ -140,10 +138,6 @@ move_decides c s e dev_eui owner =
 
 -- ---- a join
 
-is_there : {X : Type 0} (x : Option X) (y : X) → x ≡ Some y → is_some x ≡ true
-is_there (Some x) y e = refl
-is_there None y e = cc
-
 -- the next uplink has no copy
 pub no_copy : (c : Settings) (s : State) (gateway : List ℕ) (found : Option Reception) → IsSound c s → s.copies (next_uplink s) gateway ≡ found → found ≡ None
 no_copy c s gateway None h e = refl
@@ -153,13 +147,13 @@ added_decides : (c : Settings) (s : State) (report : Report) (join : JoinRequest
     → IsInBand (reception_of report) → Decides c s (join_added c s report join band)
 unfolding join_added Decides
 added_decides c s report join device band h gateway there lies =
-    after_wants c s (is_above join.nonce (last_nonce s join.dev_eui)) Nonce _ (λ above.
+    after_wants c s (is_above join.nonce (last_nonce s.sessions join.dev_eui)) Nonce _ (λ above.
     after_wants c s (nat_lt (length s.sessions) c.addresses) Addresses _ (λ room. record { allowed = (fits above, ltb-true (length s.sessions) c.addresses room, lies); copy = λ k. cc; refusal = λ x h. cc }))
   where
-    fits : is_above join.nonce (last_nonce s join.dev_eui) ≡ true
+    fits : is_above join.nonce (last_nonce s.sessions join.dev_eui) ≡ true
         → SessionFits (record { device = join.dev_eui; nonce = join.nonce }) (uplink_of report (length s.sessions + 1) Join join.nonce band) report.gateway s
     fits above = record {
-      device = is_there (s.devices join.dev_eui) device there;
+      device = ap is_some there;
       nonce = above;
       number = refl;
       kind = refl;
@@ -171,21 +165,12 @@ added_decides c s report join device band h gateway there lies =
 copied_fits : (c : Settings) (s : State) (report : Report) (found : ℕ × Uplink) (at : Option Reception) → s.gateways report.gateway ≡ true → item_at s.uplinks found.0 ≡ Some found.1
     → IsInBand (reception_of report) → s.copies found.0 report.gateway ≡ at → IsAllowed c s (copy_added found.0 at report)
 copied_fits c s report found (Some r) gateway there lies is = tt
-copied_fits c s report found None gateway there lies is = (record { uplink = is_there (item_at s.uplinks found.0) found.1 there; gateway = gateway; no_copy = is }, lies)
+copied_fits c s report found None gateway there lies is = (record { uplink = ap is_some there; gateway = gateway; no_copy = is }, lies)
 
 -- a copy is one of an uplink that is there
-copied_is : (join : Option (ℕ × Uplink)) (octets : List ℕ) (found : ℕ × Uplink)
-    → option_and_then (same_octets octets) join ≡ Some found → join ≡ Some found
-copied_is None octets found e = cc
-copied_is (Some u) octets found e = by_octets u found (bytes_eq u.1.octets octets) e
-  where
-    by_octets : (u found : ℕ × Uplink) (b : Bool) → (if b then Some u else None) ≡ Some found → Some u ≡ Some found
-    by_octets u found true e = e
-    by_octets u found false e = cc
-
 uplink_there : (s : State) (join : JoinRequest) (octets : List ℕ) (found : ℕ × Uplink) → original_join s join octets ≡ Some found → item_at s.uplinks found.0 ≡ Some found.1
-unfolding original_join join_with
-uplink_there s join octets found e = (first_is (is_join_with s join.dev_eui join.nonce) s.uplinks found (copied_is _ octets found e)).0
+unfolding original_join
+uplink_there s join octets found e = (first_is (is_join_with s.sessions join.dev_eui join.nonce) s.uplinks found (with_octets octets _ found e).0).0
 
 copy_books : (number : ℕ) (at : Option Reception) (report : Report) → BooksNothing (copy_added number at report)
 copy_books number (Some r) report = tt
@@ -214,66 +199,62 @@ join_decides c s report verdict h =
     after_wants c s (device.join_eui == join.join_eui) JoinEui _ (λ _.
     after_wants c s (is_good verdict) MicFailed _ (λ _.
     ended_decides c s report join device band (original_join s join report.octets) h gateway there
-    (is_there (band_at report.rate.freq report.rate.dr) band lies) refl)))))))
+    (ap is_some lies) refl)))))))
 
 -- ---- a data frame
 
-pub session_there : (c : Settings) (s : State) (addr : ℕ) (found : ℕ × Session) → session_with c s addr ≡ Some found → (item_at s.sessions found.0 ≡ Some found.1) × (addr ≡ address_of c found.0)
-unfolding session_with
+pub session_there : (c : Settings) (s : State) (addr : ℕ) (found : ℕ × Session) → session_with s.sessions c.base addr ≡ Some found → (item_at s.sessions found.0 ≡ Some found.1) × (addr ≡ address_of c found.0)
 session_there c s addr found e = by_session (item_at s.sessions (addr + 1 - c.base)) refl e
   where
     by_session : (session : Option Session) → item_at s.sessions (addr + 1 - c.base) ≡ session → option_map (λ (x : Session). (addr + 1 - c.base, x)) session ≡ Some found
         → (item_at s.sessions found.0 ≡ Some found.1) × (addr ≡ address_of c found.0)
     by_session None is e = cc
     by_session (Some x) is e =
-        let same : (addr + 1 - c.base, x) ≡ found = some_is (addr + 1 - c.base, x) found e in
+        let same : (addr + 1 - c.base, x) ≡ found = same_Some (addr + 1 - c.base, x) found e in
         let number : addr + 1 - c.base ≡ found.0 = ap (λ q. q.0) same in
         let there = is ∙ ap (λ q. Some q.1) same in
         (ap (item_at s.sessions) (sym number) ∙ there, omega (arith, number, (item_within s.sessions (addr + 1 - c.base) x is).0))
-
-number_told : (n m : ℕ) → (n == m) ≡ true → n ≡ m
-number_told n m h = grind (arith, nat_tests)
 
 low_bits : (counter low : ℕ) → counter % 65536 ≡ low → low % 65536 ≡ counter % 65536
 low_bits counter low same = omega (arith, same)
 
 -- the candidate counter is above the last, and has the frame's low bits
-candidate_is : (last : Option ℕ) (low counter : ℕ) → is_candidate last low counter ≡ true → (is_above counter last ≡ true) × (low % 65536 ≡ counter % 65536)
+pub candidate_is : (last : Option ℕ) (low counter : ℕ) → is_candidate last low counter ≡ true → (is_above counter last ≡ true) × (low % 65536 ≡ counter % 65536)
 candidate_is None low counter h = (refl, let same : counter ≡ low = grind (arith, nat_tests) in ap (λ n. n % 65536) (sym same))
 candidate_is (Some n) low counter h =
     let front : (nat_lt n counter && nat_le counter (n + 65536) && counter % 65536 == low) ≡ true = (and_parts _ _ h).0 in
     let edges : (nat_lt n counter && nat_le counter (n + 65536)) ≡ true = (and_parts _ _ front).0 in
-    ((and_parts _ _ edges).0, low_bits counter low (number_told (counter % 65536) low (and_parts _ _ front).1))
+    ((and_parts _ _ edges).0, low_bits counter low (eqb-true (counter % 65536) low (and_parts _ _ front).1))
 
 data_added_decides : (c : Settings) (s : State) (report : Report) (frame : DataFrame) (session : ℕ × Session) (counter : ℕ) (band : Band) → IsSound c s → s.gateways report.gateway ≡ true
-    → data_up (frame_of report.octets) ≡ Some frame → session_with c s frame.addr ≡ Some session → IsInBand (reception_of report)
+    → data_up (frame_of report.octets) ≡ Some frame → session_with s.sessions c.base frame.addr ≡ Some session → IsInBand (reception_of report)
     → Decides c s (data_added s report frame session.0 session.1.device counter band)
 unfolding data_added Decides
 data_added_decides c s report frame session counter band h gateway is at lies =
-    after_wants c s (not (is_below_floor s session.1.device session.0)) SessionEnded _ (λ _.
-    after_wants c s (is_none (data_with s session.0 counter)) Replayed _ (λ _.
-    after_wants c s (not (is_below counter (last_counter s session.0))) Late _ (λ _.
-    after_wants c s (is_candidate (last_counter s session.0) frame.fcnt counter) Gap _ (λ follows.
-    record { allowed = (fits_new follows, (frame, is, there.1, (candidate_is (last_counter s session.0) frame.fcnt counter follows).1), lies); copy = λ k. cc; refusal = λ x h. cc }))))
+    after_wants c s (not (is_below_floor s.uplinks s.sessions session.1.device session.0)) SessionEnded _ (λ _.
+    after_wants c s (is_none (data_with s.uplinks session.0 counter)) Replayed _ (λ _.
+    after_wants c s (not (is_below counter (last_counter s.uplinks session.0))) Late _ (λ _.
+    after_wants c s (is_candidate (last_counter s.uplinks session.0) frame.fcnt counter) Gap _ (λ follows.
+    record { allowed = (fits_new follows, (frame, is, there.1, (candidate_is (last_counter s.uplinks session.0) frame.fcnt counter follows).1), lies); copy = λ k. cc; refusal = λ x h. cc }))))
   where
     there : (item_at s.sessions session.0 ≡ Some session.1) × (frame.addr ≡ address_of c session.0)
     there = session_there c s frame.addr session at
 
-    fits_new : is_candidate (last_counter s session.0) frame.fcnt counter ≡ true → UplinkFits (uplink_of report session.0 Data counter band) report.gateway s
+    fits_new : is_candidate (last_counter s.uplinks session.0) frame.fcnt counter ≡ true → UplinkFits (uplink_of report session.0 Data counter band) report.gateway s
     fits_new follows = record {
-      session = is_there (item_at s.sessions session.0) session.1 there.0;
+      session = ap is_some there.0;
       kind = refl;
-      counter = (candidate_is (last_counter s session.0) frame.fcnt counter follows).0;
+      counter = (candidate_is (last_counter s.uplinks session.0) frame.fcnt counter follows).0;
       gateway = gateway;
       no_copy = no_copy c s report.gateway (s.copies (next_uplink s) report.gateway) h refl;
     }
 
 data_there : (s : State) (session counter : ℕ) (octets : List ℕ) (found : ℕ × Uplink) → original_data s session counter octets ≡ Some found → item_at s.uplinks found.0 ≡ Some found.1
-unfolding original_data data_with
-data_there s session counter octets found e = (first_is (is_data_with session counter) s.uplinks found (copied_is _ octets found e)).0
+unfolding original_data
+data_there s session counter octets found e = (first_is (is_data_with session counter) s.uplinks found (with_octets octets _ found e).0).0
 
 frame_ended : (c : Settings) (s : State) (report : Report) (frame : DataFrame) (session : ℕ × Session) (counter : ℕ) (band : Band) (found : Option (ℕ × Uplink)) → IsSound c s → s.gateways report.gateway ≡ true
-    → data_up (frame_of report.octets) ≡ Some frame → session_with c s frame.addr ≡ Some session → IsInBand (reception_of report) → original_data s session.0 counter report.octets ≡ found
+    → data_up (frame_of report.octets) ≡ Some frame → session_with s.sessions c.base frame.addr ≡ Some session → IsInBand (reception_of report) → original_data s session.0 counter report.octets ≡ found
     → Decides c s (unless found (data_copied s report session.1.device counter) (data_added s report frame session.0 session.1.device counter band))
 unfolding Decides
 frame_ended c s report frame session counter band None h gateway told at lies is = data_added_decides c s report frame session counter band h gateway told at lies
@@ -283,11 +264,13 @@ frame_ended c s report frame session counter band (Some found) h gateway told at
   refusal = λ x h. cc;
 }
 
--- a frame that its data rate carries is what its octets are
-pub carried : (dr : DataRate) (octets : List ℕ) (frame : DataFrame) (b : Bool) → nat_le (length octets) (max_length dr) ≡ b → data_up (if b then frame_of octets else None) ≡ Some frame
-    → data_up (frame_of octets) ≡ Some frame
-carried dr octets frame true is e = e
-carried dr octets frame false is e = cc
+-- what is said of a frame that its data rate carries is said of its octets
+pub carried : {X : Type 0} (says : Option Phy → Option X) (dr : DataRate) (octets : List ℕ) (x : X) → says None ≡ None → says (frame_at dr octets) ≡ Some x → says (frame_of octets) ≡ Some x
+carried says dr octets x none e = by_length (nat_le (length octets) (max_length dr)) e
+  where
+    by_length : (b : Bool) → says (if b then frame_of octets else None) ≡ Some x → says (frame_of octets) ≡ Some x
+    by_length true told = told
+    by_length false told = cc
 
 frame_decides : (c : Settings) (s : State) (report : Report) (verdict : Option ℕ) → IsSound c s → Decides c s (frame_heard c s report verdict)
 unfolding frame_heard
@@ -296,11 +279,11 @@ frame_decides c s report verdict h =
     after_wants c s (s.gateways report.gateway) UnknownGateway _ (λ gateway.
     after_needs c s (data_up (frame_at report.rate.dr report.octets)) BadFrame _ (λ frame told.
     after_needs c s (band_at report.rate.freq report.rate.dr) OutOfBand _ (λ band lies.
-    after_needs c s (session_with c s frame.addr) UnknownDevAddr _ (λ session at.
+    after_needs c s (session_with s.sessions c.base frame.addr) UnknownDevAddr _ (λ session at.
     after_needs c s verdict MicFailed _ (λ counter _.
     frame_ended c s report frame session counter band (original_data s session.0 counter report.octets) h gateway
-    (carried report.rate.dr report.octets frame _ refl told) at
-    (is_there (band_at report.rate.freq report.rate.dr) band lies) refl))))))
+    (carried data_up report.rate.dr report.octets frame refl told) at
+    (ap is_some lies) refl))))))
 
 -- ---- a downlink
 
@@ -315,14 +298,14 @@ down_added_decides : (c : Settings) (s : State) (number : ℕ) (gateway : List �
     → item_at s.uplinks number ≡ Some uplink → s.copies number gateway ≡ Some copy → IsTimeDown span.len → Decides c s (down_added s number gateway band start span)
 unfolding down_added Decides
 down_added_decides c s number gateway band start span uplink copy known there heard time =
-    after_wants c s (is_clear (downlinks s gateway) span) Collision _ (λ _.
-    after_wants c s (hours_within (downlinks_in s gateway band ++ span ∷ []) (limit_of band)) Duty _ (λ within. record { allowed = (fits_new, time, within); copy = λ k. cc; refusal = λ x h. cc }))
+    after_wants c s (is_clear (downlinks s.bookings gateway) span) Collision _ (λ _.
+    after_wants c s (hours_within (downlinks_in s.bookings gateway band ++ span ∷ []) (limit_of band)) Duty _ (λ within. record { allowed = (fits_new, time, within); copy = λ k. cc; refusal = λ x h. cc }))
   where
     fits_new : BookingFits (record { uplink = number; gateway = gateway; band = band; span = span; standing = Booked }) s
     fits_new = record {
-      uplink = is_there (item_at s.uplinks number) uplink there;
+      uplink = ap is_some there;
       gateway = known;
-      copy = is_there (s.copies number gateway) copy heard;
+      copy = ap is_some heard;
       standing = refl;
     }
 
@@ -334,8 +317,8 @@ book_decides c s number gateway window octets =
     after_needs c s (s.copies number gateway) NoUplink _ (λ copy heard.
     after_needs c s (downlink_to uplink.kind (frame_at (rate_in window copy.rate).dr octets)) BadFrame _ (λ down told.
     after_wants c s (goes_to (address_of c uplink.session) down) UnknownDevAddr _ (λ _.
-    after_wants c s (not (is_answered s number)) Answered _ (λ _.
-    after_wants c s (counts_as (next_down s uplink.session) down) DownCounter _ (λ _.
+    after_wants c s (not (is_answered s.bookings number)) Answered _ (λ _.
+    after_wants c s (counts_as (next_down s.bookings s.uplinks uplink.session) down) DownCounter _ (λ _.
     after_needs c s (band_at (rate_in window copy.rate).freq (rate_in window copy.rate).dr) OutOfBand _ (λ band _.
     down_added_decides c s number gateway band (copy.end + delay uplink.kind window) (on_air (copy.end + delay uplink.kind window) (rate_in window copy.rate) octets) uplink copy known there heard
     ((rate_in window copy.rate).dr, length octets, carried_down uplink.kind (rate_in window copy.rate).dr octets down _ refl told, refl)))))))))

@@ -5,6 +5,7 @@ use Rattle.radio_core.specs.declared.bands.Band.{Band}
 use Rattle.radio_core.specs.declared.data_rates.Rate.{Rate}
 use Rattle.radio_core.specs.Bands.{band_at, limit_of}
 use Rattle.radio_core.specs.TimeOnAir.{AirtimeIsBounded}
+use Rattle.std.proofs.lemmas.Bool.{not-true}
 use Rattle.std.proofs.lemmas.List.Elements.{All-from_recursion}
 use Rattle.duty_core.specs.Computed.{is_clear, hours_within}
 use Rattle.duty_core.specs.Laws.{HoursWithinTells, IsClearTells}
@@ -38,7 +39,6 @@ use Rattle.registry_core.proofs.Decisions.{sound_of}
 use Rattle.registry_core.proofs.Telling.{NoRefusal, Tells, from_needs, from_wants, to_needs, to_wants}
 
 pub hours_are_kept : AirtimeIsBounded → HoursWithinTells → HoursAreKept
-unfolding downlinks_in
 hours_are_kept bounded tells c heard = (kept_of bounded tells c heard).hours
 
 pub downlinks_are_short : AirtimeIsBounded → HoursWithinTells → DownlinksAreShort
@@ -52,20 +52,16 @@ Books checked = Tells tells_booking checked
 no_refusal : NoRefusal tells_booking
 no_refusal r = refl
 
-is_false : (b : Bool) → not b ≡ true → b ≡ false
-is_false false h = refl
-is_false true h = cc
-
 -- on the air it is clear, and every hour is within the limit
-added_told : IsClearTells → HoursWithinTells → (s : State) (number : ℕ) (gateway : List ℕ) (band : Band) (start : ℕ) (span : Interval) → Books (down_added s number gateway band start span)
-    → (is_clear (downlinks s gateway) span ≡ true) × (hours_within (downlinks_in s gateway band ++ span ∷ []) (limit_of band) ≡ true)
+added_told : (s : State) (number : ℕ) (gateway : List ℕ) (band : Band) (start : ℕ) (span : Interval) → Books (down_added s number gateway band start span)
+    → (is_clear (downlinks s.bookings gateway) span ≡ true) × (hours_within (downlinks_in s.bookings gateway band ++ span ∷ []) (limit_of band) ≡ true)
 unfolding down_added
-added_told clear hours s number gateway band start span h =
-    let first = from_wants tells_booking no_refusal (is_clear (downlinks s gateway) span) Collision _ h in
-    (first.0, (from_wants tells_booking no_refusal (hours_within (downlinks_in s gateway band ++ span ∷ []) (limit_of band)) Duty _ first.1).0)
+added_told s number gateway band start span h =
+    let first = from_wants tells_booking no_refusal (is_clear (downlinks s.bookings gateway) span) Collision _ h in
+    (first.0, (from_wants tells_booking no_refusal (hours_within (downlinks_in s.bookings gateway band ++ span ∷ []) (limit_of band)) Duty _ first.1).0)
 
-added_books : (s : State) (number : ℕ) (gateway : List ℕ) (band : Band) (start : ℕ) (span : Interval) → is_clear (downlinks s gateway) span ≡ true
-    → hours_within (downlinks_in s gateway band ++ span ∷ []) (limit_of band) ≡ true → Books (down_added s number gateway band start span)
+added_books : (s : State) (number : ℕ) (gateway : List ℕ) (band : Band) (start : ℕ) (span : Interval) → is_clear (downlinks s.bookings gateway) span ≡ true
+    → hours_within (downlinks_in s.bookings gateway band ++ span ∷ []) (limit_of band) ≡ true → Books (down_added s number gateway band start span)
 unfolding down_added
 added_books s number gateway band start span clear within = rw (clear, within) refl
 
@@ -81,10 +77,10 @@ accepted_of clear hours c s number gateway window octets h =
     let span : Interval = on_air (heard.0.end + delay uplink.kind window) rate octets in
     let frame = from_needs tells_booking no_refusal (downlink_to uplink.kind (frame_at rate.dr octets)) BadFrame _ heard.2 in
     let address = from_wants tells_booking no_refusal (goes_to (address_of c uplink.session) frame.0) UnknownDevAddr _ frame.2 in
-    let unanswered = from_wants tells_booking no_refusal (not (is_answered s number)) Answered _ address.1 in
-    let counter = from_wants tells_booking no_refusal (counts_as (next_down s uplink.session) frame.0) DownCounter _ unanswered.1 in
+    let unanswered = from_wants tells_booking no_refusal (not (is_answered s.bookings number)) Answered _ address.1 in
+    let counter = from_wants tells_booking no_refusal (counts_as (next_down s.bookings s.uplinks uplink.session) frame.0) DownCounter _ unanswered.1 in
     let lies = from_needs tells_booking no_refusal (band_at rate.freq rate.dr) OutOfBand _ counter.1 in
-    let added = added_told clear hours s number gateway lies.0 (heard.0.end + delay uplink.kind window) span lies.2 in
+    let added = added_told s number gateway lies.0 (heard.0.end + delay uplink.kind window) span lies.2 in
     record {
       known = known.0;
       uplink = uplink;
@@ -94,12 +90,12 @@ accepted_of clear hours c s number gateway window octets h =
       down = frame.0;
       frame = frame.1;
       address = address.0;
-      unanswered = is_false (is_answered s number) unanswered.0;
+      unanswered = not-true (is_answered s.bookings number) unanswered.0;
       counter = counter.0;
       band = lies.0;
       lies_in_it = lies.1;
-      clear = (clear (downlinks s gateway) span).0 added.0;
-      hours = (hours (downlinks_in s gateway lies.0 ++ span ∷ []) (limit_of lies.0)).0 added.1;
+      clear = (clear (downlinks s.bookings gateway) span).0 added.0;
+      hours = (hours (downlinks_in s.bookings gateway lies.0 ++ span ∷ []) (limit_of lies.0)).0 added.1;
     }
 
 booked_of : IsClearTells → HoursWithinTells → (c : Settings) (s : State) (number : ℕ) (gateway : List ℕ) (window : Window) (octets : List ℕ) → IsAccepted c s number gateway window octets
@@ -114,10 +110,10 @@ booked_of clear hours c s number gateway window octets a =
     (to_needs tells_booking (s.copies number gateway) NoUplink _ a.copy a.heard
     (to_needs tells_booking (downlink_to a.uplink.kind (frame_at rate.dr octets)) BadFrame _ a.down a.frame
     (to_wants tells_booking (goes_to (address_of c a.uplink.session) a.down) UnknownDevAddr _ a.address
-    (to_wants tells_booking (not (is_answered s number)) Answered _ (ap not a.unanswered)
-    (to_wants tells_booking (counts_as (next_down s a.uplink.session) a.down) DownCounter _ a.counter
+    (to_wants tells_booking (not (is_answered s.bookings number)) Answered _ (ap not a.unanswered)
+    (to_wants tells_booking (counts_as (next_down s.bookings s.uplinks a.uplink.session) a.down) DownCounter _ a.counter
     (to_needs tells_booking (band_at rate.freq rate.dr) OutOfBand _ a.band a.lies_in_it
-    (added_books s number gateway a.band start span ((clear (downlinks s gateway) span).1 a.clear) ((hours (downlinks_in s gateway a.band ++ span ∷ []) (limit_of a.band)).1 a.hours)))))))))
+    (added_books s number gateway a.band start span ((clear (downlinks s.bookings gateway) span).1 a.clear) ((hours (downlinks_in s.bookings gateway a.band ++ span ∷ []) (limit_of a.band)).1 a.hours)))))))))
 
 pub booked_exactly : IsClearTells → HoursWithinTells → BookedExactly
 booked_exactly clear hours c s e number gateway window octets same = (
@@ -157,7 +153,7 @@ there_band None rest is h = cc
 added_band : (s : State) (number : ℕ) (gateway : List ℕ) (band : Band) (start : ℕ) (span : Interval) → HasBand (down_added s number gateway band start span)
 unfolding down_added tells_no_band HasBand
 added_band s number gateway band start span =
-    wants_band (is_clear (downlinks s gateway) span) Collision _ refl (wants_band (hours_within (downlinks_in s gateway band ++ span ∷ []) (limit_of band)) Duty _ refl refl)
+    wants_band (is_clear (downlinks s.bookings gateway) span) Collision _ refl (wants_band (hours_within (downlinks_in s.bookings gateway band ++ span ∷ []) (limit_of band)) Duty _ refl refl)
 
 book_band : (c : Settings) (heard : List Envelope) (number : ℕ) (gateway : List ℕ) (window : Window) (octets : List ℕ) → HasBand (down_book c (state_of c heard) number gateway window octets)
 unfolding down_book tells_no_band
@@ -168,8 +164,8 @@ book_band c heard number gateway window octets =
     needs_band (s.copies number gateway) NoUplink _ refl (λ copy at.
     needs_band (downlink_to uplink.kind (frame_at (rate_in window copy.rate).dr octets)) BadFrame _ refl (λ down _.
     wants_band (goes_to (address_of c uplink.session) down) UnknownDevAddr _ refl
-    (wants_band (not (is_answered s number)) Answered _ refl
-    (wants_band (counts_as (next_down s uplink.session) down) DownCounter _ refl
+    (wants_band (not (is_answered s.bookings number)) Answered _ refl
+    (wants_band (counts_as (next_down s.bookings s.uplinks uplink.session) down) DownCounter _ refl
     (there_band (band_at (rate_in window copy.rate).freq (rate_in window copy.rate).dr) _ (window_has_band window copy ((sound_of c heard).in_bands number gateway copy at)) (λ band.
     added_band s number gateway band (copy.end + delay uplink.kind window) (on_air (copy.end + delay uplink.kind window) (rate_in window copy.rate) octets)))))))))
 

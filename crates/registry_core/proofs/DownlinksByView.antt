@@ -47,34 +47,32 @@ short_spans p bookings short = All-map (λ (a : Interval). a.len ≤ greatest_le
     (All-filter p (λ (b : Booking). b.span.len ≤ greatest_length) bookings (All-from_recursion (λ (b : Booking). b.span.len ≤ greatest_length) bookings short))
 
 clear_same : IsClearByNearOnes → (s : State) (gateway : List ℕ) (near : List Interval) (span : Interval) → AreShort s.bookings → span.len ≤ greatest_length
-    → IsPermutation (near_ones span.start (downlinks s gateway)) near → is_clear near span ≡ is_clear (downlinks s gateway) span
-unfolding downlinks
-clear_same by_near s gateway near span short new_short moved = by_near (downlinks s gateway) near span moved (short_spans (stands_at gateway) s.bookings short) new_short
+    → IsPermutation (near_ones span.start (downlinks s.bookings gateway)) near → is_clear near span ≡ is_clear (downlinks s.bookings gateway) span
+clear_same by_near s gateway near span short new_short moved = by_near (downlinks s.bookings gateway) near span moved (short_spans (stands_at gateway) s.bookings short) new_short
 
 hours_same : HoursWithinByNearOnes → (s : State) (gateway : List ℕ) (band : Band) (near : List Interval) (span : Interval) → IsKept s.bookings → span.len ≤ greatest_length
-    → IsPermutation (near_ones span.start (downlinks_in s gateway band)) near
-    → hours_within (near ++ span ∷ []) (limit_of band) ≡ hours_within (downlinks_in s gateway band ++ span ∷ []) (limit_of band)
-unfolding downlinks_in
+    → IsPermutation (near_ones span.start (downlinks_in s.bookings gateway band)) near
+    → hours_within (near ++ span ∷ []) (limit_of band) ≡ hours_within (downlinks_in s.bookings gateway band ++ span ∷ []) (limit_of band)
 hours_same by_near s gateway band near span kept new_short moved =
-    by_near (downlinks_in s gateway band) near span (limit_of band) moved (short_spans (stands_in gateway band) s.bookings kept.short) new_short (λ t. kept.hours gateway band t)
+    by_near (downlinks_in s.bookings gateway band) near span (limit_of band) moved (short_spans (stands_in gateway band) s.bookings kept.short) new_short (λ t. kept.hours gateway band t)
 
-added_same : (c : IsClearByNearOnes) (h : HoursWithinByNearOnes) (s : State) (v : View) (number : ℕ) (gateway : List ℕ) (band : Band) (start : ℕ) (span : Interval) → IsKept s.bookings → span.len ≤ greatest_length
-    → v.bookings ≡ length s.bookings → IsPermutation (near_ones span.start (downlinks s gateway)) v.near.items → IsPermutation (near_ones span.start (downlinks_in s gateway band)) v.near_in_band.items
+added_same : (clear : IsClearByNearOnes) (hours : HoursWithinByNearOnes) (s : State) (v : View) (number : ℕ) (gateway : List ℕ) (band : Band) (start : ℕ) (span : Interval) → IsKept s.bookings → span.len ≤ greatest_length
+    → v.bookings ≡ length s.bookings → IsPermutation (near_ones span.start (downlinks s.bookings gateway)) v.near.items → IsPermutation (near_ones span.start (downlinks_in s.bookings gateway band)) v.near_in_band.items
     → down_added_by v number gateway band start span ≡ down_added s number gateway band start span
 unfolding down_added_by down_added
-added_same c h s v number gateway band start span kept short count near near_in_band =
-    rw (clear_same c s gateway v.near.items span kept.short short near, hours_same h s gateway band v.near_in_band.items span kept short near_in_band, count) refl
+added_same clear hours s v number gateway band start span kept short count near near_in_band =
+    rw (clear_same clear s gateway v.near.items span kept.short short near, hours_same hours s gateway band v.near_in_band.items span kept short near_in_band, count) refl
 
 -- ---- the other checks
 
 -- what its band's near ones are, where it has a band
 in_band : (s : State) (gateway : List ℕ) (start : ℕ) (rate : Rate) (band : Band) (near : List Interval) → band_at rate.freq rate.dr ≡ Some band
-    → IsPermutation (near_in s gateway (start, rate)) near → IsPermutation (near_ones (pos start) (downlinks_in s gateway band)) near
-in_band s gateway start rate band near is moved = subst (λ found. IsPermutation (option_map_or (λ b. near_ones (pos start) (downlinks_in s gateway b)) found []) near) is moved
+    → IsPermutation (near_in s gateway (start, rate)) near → IsPermutation (near_ones (pos start) (downlinks_in s.bookings gateway band)) near
+in_band s gateway start rate band near is moved = subst (λ found. IsPermutation (option_map_or (λ b. near_ones (pos start) (downlinks_in s.bookings gateway b)) found []) near) is moved
 
 -- from the band on
-banded_same : (c : IsClearByNearOnes) (h : HoursWithinByNearOnes) (s : State) (v : View) (number : ℕ) (gateway : List ℕ) (start : ℕ) (rate : Rate) (octets : List ℕ) (found : Option Band) → IsKept s.bookings
-    → (on_air start rate octets).len ≤ greatest_length → v.bookings ≡ length s.bookings → IsPermutation (near_ones (pos start) (downlinks s gateway)) v.near.items
+banded_same : (clear : IsClearByNearOnes) (hours : HoursWithinByNearOnes) (s : State) (v : View) (number : ℕ) (gateway : List ℕ) (start : ℕ) (rate : Rate) (octets : List ℕ) (found : Option Band) → IsKept s.bookings
+    → (on_air start rate octets).len ≤ greatest_length → v.bookings ≡ length s.bookings → IsPermutation (near_ones (pos start) (downlinks s.bookings gateway)) v.near.items
     → band_at rate.freq rate.dr ≡ found → IsPermutation (near_in s gateway (start, rate)) v.near_in_band.items
     → (do
       band ← needs found OutOfBand
@@ -82,14 +80,14 @@ banded_same : (c : IsClearByNearOnes) (h : HoursWithinByNearOnes) (s : State) (v
     ≡ (do
       band ← needs found OutOfBand
       down_added s number gateway band start (on_air start rate octets))
-banded_same c h s v number gateway start rate octets None kept short count near is near_in_band = refl
-banded_same c h s v number gateway start rate octets (Some band) kept short count near is near_in_band =
-    added_same c h s v number gateway band start (on_air start rate octets) kept short count near (in_band s gateway start rate band v.near_in_band.items is near_in_band)
+banded_same clear hours s v number gateway start rate octets None kept short count near is near_in_band = refl
+banded_same clear hours s v number gateway start rate octets (Some band) kept short count near is near_in_band =
+    added_same clear hours s v number gateway band start (on_air start rate octets) kept short count near (in_band s gateway start rate band v.near_in_band.items is near_in_band)
 
 -- from the frame on
-framed_same : (bounded : AirtimeIsBounded) (c : IsClearByNearOnes) (h : HoursWithinByNearOnes) (config : Settings) (s : State) (v : View) (number : ℕ) (gateway : List ℕ) (uplink : Uplink) (start : ℕ) (rate : Rate) (octets : List ℕ) (told : Option Downlink)
-    → IsKept s.bookings → downlink_to uplink.kind (frame_at rate.dr octets) ≡ told → v.base ≡ config.base → v.answered ≡ is_answered s number → v.next_down ≡ next_down s uplink.session → v.bookings ≡ length s.bookings
-    → IsPermutation (near_ones (pos start) (downlinks s gateway)) v.near.items → IsPermutation (near_in s gateway (start, rate)) v.near_in_band.items
+framed_same : (bounded : AirtimeIsBounded) (clear : IsClearByNearOnes) (hours : HoursWithinByNearOnes) (c : Settings) (s : State) (v : View) (number : ℕ) (gateway : List ℕ) (uplink : Uplink) (start : ℕ) (rate : Rate) (octets : List ℕ) (told : Option Downlink)
+    → IsKept s.bookings → downlink_to uplink.kind (frame_at rate.dr octets) ≡ told → v.base ≡ c.base → v.answered ≡ is_answered s.bookings number → v.next_down ≡ next_down s.bookings s.uplinks uplink.session → v.bookings ≡ length s.bookings
+    → IsPermutation (near_ones (pos start) (downlinks s.bookings gateway)) v.near.items → IsPermutation (near_in s gateway (start, rate)) v.near_in_band.items
     → (do
       down ← needs told BadFrame
       wants (goes_to (address_by v uplink.session) down) UnknownDevAddr
@@ -99,21 +97,21 @@ framed_same : (bounded : AirtimeIsBounded) (c : IsClearByNearOnes) (h : HoursWit
       down_added_by v number gateway band start (on_air start rate octets))
     ≡ (do
       down ← needs told BadFrame
-      wants (goes_to (address_of config uplink.session) down) UnknownDevAddr
-      wants (not (is_answered s number)) Answered
-      wants (counts_as (next_down s uplink.session) down) DownCounter
+      wants (goes_to (address_of c uplink.session) down) UnknownDevAddr
+      wants (not (is_answered s.bookings number)) Answered
+      wants (counts_as (next_down s.bookings s.uplinks uplink.session) down) DownCounter
       band ← needs (band_at rate.freq rate.dr) OutOfBand
       down_added s number gateway band start (on_air start rate octets))
 unfolding down_added_by
-framed_same bounded c h config s v number gateway uplink start rate octets None kept is base answered next count near near_in_band = refl
-framed_same bounded c h config s v number gateway uplink start rate octets (Some down) kept is base answered next count near near_in_band =
+framed_same bounded clear hours c s v number gateway uplink start rate octets None kept is base answered next count near near_in_band = refl
+framed_same bounded clear hours c s v number gateway uplink start rate octets (Some down) kept is base answered next count near near_in_band =
     rw (base, answered, next)
     (ap (λ (rest : Checked Decision). do
-      wants (goes_to (address_of config uplink.session) down) UnknownDevAddr
-      wants (not (is_answered s number)) Answered
-      wants (counts_as (next_down s uplink.session) down) DownCounter
+      wants (goes_to (address_of c uplink.session) down) UnknownDevAddr
+      wants (not (is_answered s.bookings number)) Answered
+      wants (counts_as (next_down s.bookings s.uplinks uplink.session) down) DownCounter
       rest)
-    (banded_same c h s v number gateway start rate octets (band_at rate.freq rate.dr) kept short count near refl near_in_band))
+    (banded_same clear hours s v number gateway start rate octets (band_at rate.freq rate.dr) kept short count near refl near_in_band))
   where
     short : (on_air start rate octets).len ≤ greatest_length
     short = omega (arith, bounded rate.dr (length octets) false (carried_down uplink.kind rate.dr octets down _ refl is))
@@ -124,13 +122,13 @@ seen_with number copy uplink = record { number = number; uplink = uplink; at_gat
 -- what a view shows of the uplink, and what it shows near the window, with the uplink and the copy that are there
 record Shows (s : State) (v : View) (number : ℕ) (gateway : List ℕ) (window : Window) (uplink : Option Uplink) (copy : Option Reception) : Type 0 where
   seen : v.uplink ≡ option_map (seen_with number copy) uplink
-  next_down : v.next_down ≡ option_map_or (λ (u : Uplink). next_down s u.session) uplink 0
-  near : IsPermutation (option_map_or (λ (opens : ℕ × Rate). near_ones (pos opens.0) (downlinks s gateway)) (option_and_then (λ (u : Uplink). option_map (λ (r : Reception). window_of u.kind r.end r.rate window) copy) uplink) []) v.near.items
+  next_down : v.next_down ≡ option_map_or (λ (u : Uplink). next_down s.bookings s.uplinks u.session) uplink 0
+  near : IsPermutation (option_map_or (λ (opens : ℕ × Rate). near_ones (pos opens.0) (downlinks s.bookings gateway)) (option_and_then (λ (u : Uplink). option_map (λ (r : Reception). window_of u.kind r.end r.rate window) copy) uplink) []) v.near.items
   near_in_band : IsPermutation (option_map_or (near_in s gateway) (option_and_then (λ (u : Uplink). option_map (λ (r : Reception). window_of u.kind r.end r.rate window) copy) uplink) []) v.near_in_band.items
 
 -- from the uplink on
-uplinked_same : (bounded : AirtimeIsBounded) (c : IsClearByNearOnes) (h : HoursWithinByNearOnes) (config : Settings) (s : State) (v : View) (number : ℕ) (gateway : List ℕ) (window : Window) (octets : List ℕ) (uplink : Option Uplink) (copy : Option Reception)
-    → IsKept s.bookings → Shows s v number gateway window uplink copy → v.base ≡ config.base → v.answered ≡ is_answered s number → v.bookings ≡ length s.bookings
+uplinked_same : (bounded : AirtimeIsBounded) (clear : IsClearByNearOnes) (hours : HoursWithinByNearOnes) (c : Settings) (s : State) (v : View) (number : ℕ) (gateway : List ℕ) (window : Window) (octets : List ℕ) (uplink : Option Uplink) (copy : Option Reception)
+    → IsKept s.bookings → Shows s v number gateway window uplink copy → v.base ≡ c.base → v.answered ≡ is_answered s.bookings number → v.bookings ≡ length s.bookings
     → (do
       seen ← needs (option_map (seen_with number copy) uplink) NoUplink
       heard ← needs seen.at_gateway NoUplink
@@ -146,24 +144,24 @@ uplinked_same : (bounded : AirtimeIsBounded) (c : IsClearByNearOnes) (h : HoursW
       heard ← needs copy NoUplink
       let opens : ℕ × Rate = window_of found.kind heard.end heard.rate window
       down ← needs (downlink_to found.kind (frame_at opens.1.dr octets)) BadFrame
-      wants (goes_to (address_of config found.session) down) UnknownDevAddr
-      wants (not (is_answered s number)) Answered
-      wants (counts_as (next_down s found.session) down) DownCounter
+      wants (goes_to (address_of c found.session) down) UnknownDevAddr
+      wants (not (is_answered s.bookings number)) Answered
+      wants (counts_as (next_down s.bookings s.uplinks found.session) down) DownCounter
       band ← needs (band_at opens.1.freq opens.1.dr) OutOfBand
       down_added s number gateway band opens.0 (on_air opens.0 opens.1 octets))
-uplinked_same bounded c h config s v number gateway window octets None copy kept shows base answered count = refl
-uplinked_same bounded c h config s v number gateway window octets (Some uplink) None kept shows base answered count = refl
-uplinked_same bounded c h config s v number gateway window octets (Some uplink) (Some copy) kept shows base answered count =
-    framed_same bounded c h config s v number gateway uplink (copy.end + delay uplink.kind window) (rate_in window copy.rate) octets _ kept refl base answered shows.next_down count shows.near shows.near_in_band
+uplinked_same bounded clear hours c s v number gateway window octets None copy kept shows base answered count = refl
+uplinked_same bounded clear hours c s v number gateway window octets (Some uplink) None kept shows base answered count = refl
+uplinked_same bounded clear hours c s v number gateway window octets (Some uplink) (Some copy) kept shows base answered count =
+    framed_same bounded clear hours c s v number gateway uplink (copy.end + delay uplink.kind window) (rate_in window copy.rate) octets _ kept refl base answered shows.next_down count shows.near shows.near_in_band
 
-book_same : (bounded : AirtimeIsBounded) (c : IsClearByNearOnes) (h : HoursWithinByNearOnes) (config : Settings) (s : State) (v : View) (number : ℕ) (gateway : List ℕ) (window : Window) (octets : List ℕ) (uplink : Option Uplink)
+book_same : (bounded : AirtimeIsBounded) (clear : IsClearByNearOnes) (hours : HoursWithinByNearOnes) (c : Settings) (s : State) (v : View) (number : ℕ) (gateway : List ℕ) (window : Window) (octets : List ℕ) (uplink : Option Uplink)
     → item_at s.uplinks number ≡ uplink → IsKept s.bookings → Shows s v number gateway window uplink (s.copies number gateway) → v.gateway_known ≡ s.gateways gateway
-    → v.base ≡ config.base → v.answered ≡ is_answered s number → v.bookings ≡ length s.bookings
-    → down_book_by v gateway window octets ≡ down_book config s number gateway window octets
+    → v.base ≡ c.base → v.answered ≡ is_answered s.bookings number → v.bookings ≡ length s.bookings
+    → down_book_by v gateway window octets ≡ down_book c s number gateway window octets
 unfolding down_book_by down_book down_added_by
-book_same bounded c h config s v number gateway window octets uplink there kept shows known base answered count =
+book_same bounded clear hours c s v number gateway window octets uplink there kept shows known base answered count =
     rw (known, shows.seen, there) (ap (λ (rest : Checked Decision). wants (s.gateways gateway) UnknownGateway >> rest)
-    (uplinked_same bounded c h config s v number gateway window octets uplink (s.copies number gateway) kept shows base answered count))
+    (uplinked_same bounded clear hours c s v number gateway window octets uplink (s.copies number gateway) kept shows base answered count))
 
 -- what a view shows of an uplink that is looked up by its number
 named_same : (s : State) (number : ℕ) (gateway : List ℕ) (uplink : Option Uplink)
@@ -171,13 +169,13 @@ named_same : (s : State) (number : ℕ) (gateway : List ℕ) (uplink : Option Up
 named_same s number gateway None = refl
 named_same s number gateway (Some uplink) = refl
 
-pub down_book_same : (bounded : AirtimeIsBounded) (c : IsClearByNearOnes) (h : HoursWithinByNearOnes) (config : Settings) (s : State) (e : Envelope) (v : View) (number : ℕ) (gateway : List ℕ) (window : Window) (octets : List ℕ)
-    → IsKept s.bookings → e.message ≡ DownBook number gateway window octets → IsView config s e v
-    → down_book_by v gateway window octets ≡ down_book config s number gateway window octets
-down_book_same bounded c h config s e v number gateway window octets kept same sees =
-    book_same bounded c h config s v number gateway window octets (item_at s.uplinks number) refl kept
+pub down_book_same : (bounded : AirtimeIsBounded) (clear : IsClearByNearOnes) (hours : HoursWithinByNearOnes) (c : Settings) (s : State) (e : Envelope) (v : View) (number : ℕ) (gateway : List ℕ) (window : Window) (octets : List ℕ)
+    → IsKept s.bookings → e.message ≡ DownBook number gateway window octets → IsView c s e v
+    → down_book_by v gateway window octets ≡ down_book c s number gateway window octets
+down_book_same bounded clear hours c s e v number gateway window octets kept same sees =
+    book_same bounded clear hours c s v number gateway window octets (item_at s.uplinks number) refl kept
     (record {
-      seen = sees.uplink ∙ ap (uplink_told config s) same ∙ named_same s number gateway (item_at s.uplinks number);
+      seen = sees.uplink ∙ ap (uplink_told c s) same ∙ named_same s number gateway (item_at s.uplinks number);
       next_down = sees.next_down ∙ ap (next_down_told s) same;
       near = subst (λ m. IsPermutation (near_told s m) v.near.items) same sees.near;
       near_in_band = subst (λ m. IsPermutation (near_in_band_told s m) v.near_in_band.items) same sees.near_in_band;
@@ -198,7 +196,7 @@ ended_same : (last : Checked Decision) (booking : Option Booking)
 ended_same last None = refl
 ended_same last (Some booking) = refl
 
-pub down_done_same : (config : Settings) (s : State) (e : Envelope) (v : View) (number : ℕ) (sent : Bool) → e.message ≡ DownDone number sent → IsView config s e v
+pub down_done_same : (c : Settings) (s : State) (e : Envelope) (v : View) (number : ℕ) (sent : Bool) → e.message ≡ DownDone number sent → IsView c s e v
     → down_done_by v number sent ≡ down_done s number sent
 unfolding down_done_by down_done
-down_done_same config s e v number sent same sees = rw (sees.booking ∙ ap (booking_told s) same) (ended_same (Ok (EndsBooking number sent, Success)) (item_at s.bookings number))
+down_done_same c s e v number sent same sees = rw (sees.booking ∙ ap (booking_told s) same) (ended_same (Ok (EndsBooking number sent, Success)) (item_at s.bookings number))

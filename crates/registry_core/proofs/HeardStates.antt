@@ -1,8 +1,8 @@
 -- What holds of the registry after every list of messages.
-use Rattle.std.proofs.Common.{◌≡◌, ℕ, ◌+◌, ◌%◌, ◌<◌, ◌≤◌, List, [], ◌∷◌, ◌++◌, length, map, filter, Bool, true, false, Option, Some, None, refl, sym, ◌∙◌, ap, subst, arith, inl, inr}
-use Rattle.std.specs.Prelude.{◌⊎◌, ◌==◌, bytes_eq, is_some, IsTrue}
-use Rattle.std.proofs.lemmas.Bool.Decides.{nat_tests}
-use Rattle.std.proofs.lemmas.Slice.Eq.{bytes_eq-Decides}
+use Rattle.std.proofs.Common.{◌≡◌, ℕ, ◌+◌, ◌%◌, ◌<◌, ◌≤◌, List, [], ◌∷◌, ◌++◌, length, true, false, Option, Some, None, refl, sym, ◌∙◌, ap, subst, arith, inl, inr}
+use Rattle.std.specs.Prelude.{◌⊎◌, ◌==◌, is_some, IsTrue}
+use Rattle.std.proofs.lemmas.Bool.{eq-eqb}
+use Rattle.std.proofs.lemmas.List.{length_push}
 use Rattle.radio_core.specs.declared.data_rates.DataRate.{DataRate}
 use Rattle.radio_core.specs.Bands.{band_at, limit_of}
 use Rattle.radio_core.specs.DataRates.{max_length}
@@ -18,43 +18,34 @@ use Rattle.registry_core.specs.declared.facts.Session.{Session}
 use Rattle.registry_core.specs.declared.facts.Uplink.{Uplink}
 use Rattle.registry_core.specs.declared.frames.DataFrame.{DataFrame}
 use Rattle.registry_core.specs.Bookings.{downlinks_in}
-use Rattle.registry_core.specs.Derived.{address_of, is_above, is_data_of, is_session_of, last_counter, last_nonce}
+use Rattle.registry_core.specs.Derived.{address_of, is_above, is_data_of, is_session_of, last_nonce}
 use Rattle.registry_core.specs.Frames.{data_up}
 use Rattle.registry_core.specs.Fits.{Fits}
-use Rattle.registry_core.specs.Numbered.{item_at, greatest}
+use Rattle.registry_core.specs.Numbered.{item_at}
 use Rattle.registry_core.specs.Settings.{Settings}
-use Rattle.registry_core.specs.State.{State, at_name, at_number, next_uplink, opening, state_with}
-use Rattle.registry_core.proofs.Items.{above_each, never_both, item_last, item_new, item_stays, item_within, longer, some_is}
+use Rattle.registry_core.specs.State.{State, next_uplink, opening, state_with}
+use Rattle.registry_core.proofs.Copies.{HasCopy, copies_with, copy_stays, copy_was, each_copy}
+use Rattle.registry_core.proofs.Items.{above_each, item_last, item_new, item_stays, item_within, rise_with}
 
 -- ---- nonces rise
 
-abbrev pub NoncesRise : List Session → Type 0
-NoncesRise sessions = (m n : ℕ) (a b : Session) → item_at sessions m ≡ Some a → item_at sessions n ≡ Some b → a.device ≡ b.device → m < n → a.nonce < b.nonce
+abbrev pub NoncesRiseIn : List Session → Type 0
+NoncesRiseIn sessions = (m n : ℕ) (a b : Session) → item_at sessions m ≡ Some a → item_at sessions n ≡ Some b → a.device ≡ b.device → m < n → a.nonce < b.nonce
 
-number_tells : (n m : ℕ) → n ≡ m → (n == m) ≡ true
-number_tells n m h = grind (arith, nat_tests)
-
-nonces_rise_with : (sessions : List Session) (new : Session) → NoncesRise sessions
-    → is_above new.nonce (greatest (map (λ (x : Session). x.nonce) (filter (is_session_of new.device) sessions))) ≡ true → NoncesRise (sessions ++ new ∷ [])
-nonces_rise_with sessions new rise above m n a b em en same lt = both (item_last sessions new m a em) (item_last sessions new n b en)
-  where
-    both : (item_at sessions m ≡ Some a) ⊎ ((m ≡ length sessions + 1) × (new ≡ a)) → (item_at sessions n ≡ Some b) ⊎ ((n ≡ length sessions + 1) × (new ≡ b)) → a.nonce < b.nonce
-    both (inl x) (inl y) = rise m n a b x y same lt
-    both (inl x) (inr y) = subst (λ (z : Session). a.nonce < z.nonce) y.1
-        (above_each (λ (z : Session). z.nonce) (is_session_of new.device) sessions new.nonce m a x (number_tells a.device new.device (same ∙ sym (ap (λ (z : Session). z.device) y.1))) above)
-    both (inr x) (inl y) = absurd (omega (arith, x.0, lt, (item_within sessions n b y).1))
-    both (inr x) (inr y) = absurd (omega (arith, x.0, y.0, lt))
+nonces_rise_with : (sessions : List Session) (new : Session) → NoncesRiseIn sessions → is_above new.nonce (last_nonce sessions new.device) ≡ true → NoncesRiseIn (sessions ++ new ∷ [])
+nonces_rise_with sessions new rise above = rise_with (λ (a : Session). a.nonce) (λ (a b : Session). a.device ≡ b.device) sessions new rise
+    (λ m a there same. above_each (λ (z : Session). z.nonce) (is_session_of new.device) sessions new.nonce m a there (eq-eqb a.device new.device same) above)
 
 -- ---- a session has one join, and its counters rise
 
-abbrev pub JoinsAreApart : List Uplink → Type 0
-JoinsAreApart uplinks = (m n : ℕ) (u v : Uplink) → item_at uplinks m ≡ Some u → item_at uplinks n ≡ Some v → u.kind ≡ Join → v.kind ≡ Join → u.session ≡ v.session → m ≡ n
+abbrev pub JoinsAreApartIn : List Uplink → Type 0
+JoinsAreApartIn uplinks = (m n : ℕ) (u v : Uplink) → item_at uplinks m ≡ Some u → item_at uplinks n ≡ Some v → u.kind ≡ Join → v.kind ≡ Join → u.session ≡ v.session → m ≡ n
 
-abbrev pub CountersRise : List Uplink → Type 0
-CountersRise uplinks = (m n : ℕ) (u v : Uplink) → item_at uplinks m ≡ Some u → item_at uplinks n ≡ Some v → u.kind ≡ Data → v.kind ≡ Data → u.session ≡ v.session → m < n → u.counter < v.counter
+abbrev pub CountersRiseIn : List Uplink → Type 0
+CountersRiseIn uplinks = (m n : ℕ) (u v : Uplink) → item_at uplinks m ≡ Some u → item_at uplinks n ≡ Some v → u.kind ≡ Data → v.kind ≡ Data → u.session ≡ v.session → m < n → u.counter < v.counter
 
-joins_apart_with : (uplinks : List Uplink) (new : Uplink) → JoinsAreApart uplinks
-    → ((n : ℕ) (u : Uplink) → item_at uplinks n ≡ Some u → new.kind ≡ Join → u.session ≡ new.session → ⊥) → JoinsAreApart (uplinks ++ new ∷ [])
+joins_apart_with : (uplinks : List Uplink) (new : Uplink) → JoinsAreApartIn uplinks
+    → ((n : ℕ) (u : Uplink) → item_at uplinks n ≡ Some u → new.kind ≡ Join → u.session ≡ new.session → ⊥) → JoinsAreApartIn (uplinks ++ new ∷ [])
 joins_apart_with uplinks new apart fresh m n u v em en ju jv same = both (item_last uplinks new m u em) (item_last uplinks new n v en)
   where
     both : (item_at uplinks m ≡ Some u) ⊎ ((m ≡ length uplinks + 1) × (new ≡ u)) → (item_at uplinks n ≡ Some v) ⊎ ((n ≡ length uplinks + 1) × (new ≡ v)) → m ≡ n
@@ -63,16 +54,11 @@ joins_apart_with uplinks new apart fresh m n u v em en ju jv same = both (item_l
     both (inr x) (inl y) = absurd (fresh n v y (ap (λ (z : Uplink). z.kind) x.1 ∙ ju) (sym same ∙ sym (ap (λ (z : Uplink). z.session) x.1)))
     both (inr x) (inr y) = x.0 ∙ sym y.0
 
-counters_rise_with : (uplinks : List Uplink) (new : Uplink) → CountersRise uplinks
-    → ((n : ℕ) (u : Uplink) → item_at uplinks n ≡ Some u → new.kind ≡ Data → u.kind ≡ Data → u.session ≡ new.session → u.counter < new.counter) → CountersRise (uplinks ++ new ∷ [])
-counters_rise_with uplinks new rise above m n u v em en du dv same lt = both (item_last uplinks new m u em) (item_last uplinks new n v en)
-  where
-    both : (item_at uplinks m ≡ Some u) ⊎ ((m ≡ length uplinks + 1) × (new ≡ u)) → (item_at uplinks n ≡ Some v) ⊎ ((n ≡ length uplinks + 1) × (new ≡ v)) → u.counter < v.counter
-    both (inl x) (inl y) = rise m n u v x y du dv same lt
-    both (inl x) (inr y) = subst (λ (z : Uplink). u.counter < z.counter) y.1
-        (above m u x (ap (λ (z : Uplink). z.kind) y.1 ∙ dv) du (same ∙ sym (ap (λ (z : Uplink). z.session) y.1)))
-    both (inr x) (inl y) = absurd (omega (arith, x.0, lt, (item_within uplinks n v y).1))
-    both (inr x) (inr y) = absurd (omega (arith, x.0, y.0, lt))
+counters_rise_with : (uplinks : List Uplink) (new : Uplink) → CountersRiseIn uplinks
+    → ((n : ℕ) (u : Uplink) → item_at uplinks n ≡ Some u → new.kind ≡ Data → u.kind ≡ Data → u.session ≡ new.session → u.counter < new.counter) → CountersRiseIn (uplinks ++ new ∷ [])
+counters_rise_with uplinks new rise above m n u v em en du dv same lt =
+    rise_with (λ (z : Uplink). z.counter) (λ (x y : Uplink). (x.kind ≡ Data) × (y.kind ≡ Data) × (x.session ≡ y.session)) uplinks new
+    (λ i j x y ex ey alike. rise i j x y ex ey alike.0 alike.1 alike.2) (λ i x ex alike. above i x ex alike.1 alike.0 alike.2) m n u v em en (du, dv, same) lt
 
 never_kinds : {X : Type 0} (k : Kind) → k ≡ Join → k ≡ Data → X
 never_kinds k j d = let e : Join ≡ Data = sym j ∙ d in cc
@@ -87,9 +73,6 @@ IsFrameOf c u = (frame : DataFrame) × (data_up (frame_of u.octets) ≡ Some fra
 
 -- ---- what every state keeps
 
-abbrev HasCopy : (ℕ → List ℕ → Option Reception) → ℕ → Type 0
-HasCopy copies n = (gateway : List ℕ) × (reception : Reception) × (copies n gateway ≡ Some reception)
-
 -- what the gateway received lies in a band
 abbrev pub IsInBand : Reception → Type 0
 IsInBand reception = IsTrue (is_some (band_at reception.rate.freq reception.rate.dr))
@@ -98,15 +81,19 @@ IsInBand reception = IsTrue (is_some (band_at reception.rate.freq reception.rate
 abbrev pub IsTimeDown : ℕ → Type 0
 IsTimeDown time = (dr : DataRate) × (n : ℕ) × (n ≤ max_length dr) × (time ≡ airtime_of dr n false)
 
+-- over the parts of a state
 pub record IsSoundOf (c : Settings) (all_sessions : List Session) (uplinks : List Uplink) (copies : ℕ → List ℕ → Option Reception) : Type 0 where
+  -- each session has an address
   pub block : length all_sessions ≤ c.addresses
-  pub nonces : NoncesRise all_sessions
+  pub nonces : NoncesRiseIn all_sessions
+  -- each uplink has a session, and a copy
   pub sessions : (n : ℕ) (u : Uplink) → item_at uplinks n ≡ Some u → (1 ≤ u.session) × (u.session ≤ length all_sessions)
   pub copied : (n : ℕ) (u : Uplink) → item_at uplinks n ≡ Some u → HasCopy copies n
-  pub joins : JoinsAreApart uplinks
+  pub joins : JoinsAreApartIn uplinks
   pub join_nonces : (n : ℕ) (u : Uplink) → item_at uplinks n ≡ Some u → u.kind ≡ Join → HasNonce all_sessions u
-  pub counters : CountersRise uplinks
+  pub counters : CountersRiseIn uplinks
   pub frames : (n : ℕ) (u : Uplink) → item_at uplinks n ≡ Some u → u.kind ≡ Data → IsFrameOf c u
+  -- copies are of uplinks that are there, and lie in bands
   pub of_uplinks : (n : ℕ) (gateway : List ℕ) (reception : Reception) → copies n gateway ≡ Some reception → n ≤ length uplinks
   pub in_bands : (n : ℕ) (gateway : List ℕ) (reception : Reception) → copies n gateway ≡ Some reception → IsInBand reception
 
@@ -135,67 +122,43 @@ IsAllowed c s (AddsSession session uplink gateway reception) = Fits (AddsSession
 IsAllowed c s (AddsUplink uplink gateway reception) = Fits (AddsUplink uplink gateway reception) s × IsFrameOf c uplink × IsInBand reception
 IsAllowed c s (AddsCopy number gateway reception) = Fits (AddsCopy number gateway reception) s × IsInBand reception
 IsAllowed c s (AddsBooking booking) = Fits (AddsBooking booking) s × IsTimeDown booking.span.len
-    × IsTrue (hours_within (downlinks_in s booking.gateway booking.band ++ booking.span ∷ []) (limit_of booking.band))
+    × IsTrue (hours_within (downlinks_in s.bookings booking.gateway booking.band ++ booking.span ∷ []) (limit_of booking.band))
 IsAllowed c s effect = Fits effect s
 
--- ---- one more copy
+-- ---- one more uplink, with its first copy
 
-number_told : (n m : ℕ) → (n == m) ≡ true → n ≡ m
-number_told n m h = grind (arith, nat_tests)
-
-bytes_self : (a : List ℕ) → bytes_eq a a ≡ true
-bytes_self a = (bytes_eq-Decides a a).1 refl
-
-copies_with : (ℕ → List ℕ → Option Reception) → ℕ → List ℕ → Reception → ℕ → List ℕ → Option Reception
-copies_with copies number gateway reception = at_number copies number (at_name (copies number) gateway (Some reception))
-
--- what had a copy has one, and so does the number
-copy_stays : (copies : ℕ → List ℕ → Option Reception) (number : ℕ) (gateway : List ℕ) (reception : Reception) (n : ℕ) (b : Bool) → (n == number) ≡ b
-    → HasCopy copies n ⊎ (n ≡ number) → HasCopy (copies_with copies number gateway reception) n
-unfolding copies_with
-copy_stays copies number gateway reception n true is either = (gateway, reception, rw (is, bytes_self gateway) refl)
-copy_stays copies number gateway reception n false is (inl old) = (old.0, old.1, rw is old.2)
-copy_stays copies number gateway reception n false is (inr same) = never_both (n == number) (number_tells n number same) is
-
--- a copy was there before, or is one of the number
-copy_was : (copies : ℕ → List ℕ → Option Reception) (number : ℕ) (gateway : List ℕ) (reception : Reception) (n : ℕ) (at : List ℕ) (r : Reception) (b : Bool) → (n == number) ≡ b
-    → copies_with copies number gateway reception n at ≡ Some r → (copies n at ≡ Some r) ⊎ (n ≡ number)
-unfolding copies_with
-copy_was copies number gateway reception n at r true is e = inr (number_told n number is)
-copy_was copies number gateway reception n at r false is e = inl (rw is at e)
-
--- where what is put at a name is met, it is that or what was there
-put_was : (f : List ℕ → Option Reception) (gateway : List ℕ) (reception : Reception) (at : List ℕ) (r : Reception) (b : Bool) → bytes_eq at gateway ≡ b
-    → at_name f gateway (Some reception) at ≡ Some r → (f at ≡ Some r) ⊎ (reception ≡ r)
-put_was f gateway reception at r true is e = inr (some_is reception r (rw is at e))
-put_was f gateway reception at r false is e = inl (rw is at e)
-
--- what holds of the new copy, and held of all, holds of all
-each_copy : (P : Reception → Type 0) (copies : ℕ → List ℕ → Option Reception) (number : ℕ) (gateway : List ℕ) (reception : Reception) (n : ℕ) (at : List ℕ) (r : Reception) (b : Bool)
-    → ((n : ℕ) (at : List ℕ) (r : Reception) → copies n at ≡ Some r → P r) → P reception → (n == number) ≡ b → copies_with copies number gateway reception n at ≡ Some r → P r
-unfolding copies_with
-each_copy P copies number gateway reception n at r true all new is e = by_name (put_was (copies number) gateway reception at r (bytes_eq at gateway) refl (rw is at e))
+-- each uplink has a copy, the new one too
+new_copied : (uplinks : List Uplink) (copies : ℕ → List ℕ → Option Reception) (u : Uplink) (gateway : List ℕ) (reception : Reception) → ((n : ℕ) (v : Uplink) → item_at uplinks n ≡ Some v → HasCopy copies n)
+    → (n : ℕ) (v : Uplink) → item_at (uplinks ++ u ∷ []) n ≡ Some v → HasCopy (copies_with copies (length uplinks + 1) gateway reception) n
+new_copied uplinks copies u gateway reception all n v e = copy_stays copies (length uplinks + 1) gateway reception n (n == length uplinks + 1) refl (has (item_last uplinks u n v e))
   where
-    by_name : (copies number at ≡ Some r) ⊎ (reception ≡ r) → P r
-    by_name (inl old) = all number at r old
-    by_name (inr same) = subst P same new
-each_copy P copies number gateway reception n at r false all new is e = all n at r (rw is at e)
+    has : (item_at uplinks n ≡ Some v) ⊎ ((n ≡ length uplinks + 1) × (u ≡ v)) → HasCopy copies n ⊎ (n ≡ length uplinks + 1)
+    has (inl old) = inl (all n v old)
+    has (inr new) = inr new.0
+
+-- and copies are of uplinks that are there
+new_of_uplinks : (uplinks : List Uplink) (copies : ℕ → List ℕ → Option Reception) (u : Uplink) (gateway : List ℕ) (reception : Reception) → ((n : ℕ) (at : List ℕ) (r : Reception) → copies n at ≡ Some r → n ≤ length uplinks)
+    → (n : ℕ) (at : List ℕ) (r : Reception) → copies_with copies (length uplinks + 1) gateway reception n at ≡ Some r → n ≤ length (uplinks ++ u ∷ [])
+new_of_uplinks uplinks copies u gateway reception all n at r e = within (copy_was copies (length uplinks + 1) gateway reception n at r (n == length uplinks + 1) refl e)
+  where
+    within : (copies n at ≡ Some r) ⊎ (n ≡ length uplinks + 1) → n ≤ length (uplinks ++ u ∷ [])
+    within (inl old) = omega (arith, length_push uplinks u, all n at r old)
+    within (inr new) = omega (arith, length_push uplinks u, new)
 
 -- ---- each change keeps it
 
 session_sound : (c : Settings) (s : State) (session : Session) (u : Uplink) (gateway : List ℕ) (reception : Reception) → IsSound c s → IsAllowed c s (AddsSession session u gateway reception)
     → IsSound c (state_with s (AddsSession session u gateway reception))
-unfolding last_nonce copies_with
 session_sound c s session u gateway reception h k = record {
-  block = omega (arith, longer s.sessions session, k.1);
+  block = omega (arith, length_push s.sessions session, k.1);
   nonces = nonces_rise_with s.sessions session h.nonces k.0.nonce;
   sessions = λ n v e. numbers n v (item_last s.uplinks u n v e);
-  copied = λ n v e. copy_stays s.copies (next_uplink s) gateway reception n (n == next_uplink s) refl (has n v (item_last s.uplinks u n v e));
+  copied = new_copied s.uplinks s.copies u gateway reception h.copied;
   joins = joins_apart_with s.uplinks u h.joins (λ n v there join same. omega (arith, same, k.0.number, (h.sessions n v there).1));
   join_nonces = λ n v e j. nonce n v j (item_last s.uplinks u n v e);
   counters = counters_rise_with s.uplinks u h.counters (λ n v there d _ _. never_kinds u.kind k.0.kind d);
   frames = λ n v e d. frame n v d (item_last s.uplinks u n v e);
-  of_uplinks = λ n at r e. within n at r (copy_was s.copies (next_uplink s) gateway reception n at r (n == next_uplink s) refl e);
+  of_uplinks = new_of_uplinks s.uplinks s.copies u gateway reception h.of_uplinks;
   in_bands = λ n at r e. each_copy IsInBand s.copies (next_uplink s) gateway reception n at r (n == next_uplink s) h.in_bands k.2 refl e;
 }
   where
@@ -208,32 +171,23 @@ session_sound c s session u gateway reception h k = record {
     frame n v d (inr new) = never_kinds v.kind (ap (λ (z : Uplink). z.kind) (sym new.1) ∙ k.0.kind) d
 
     numbers : (n : ℕ) (v : Uplink) → (item_at s.uplinks n ≡ Some v) ⊎ ((n ≡ length s.uplinks + 1) × (u ≡ v)) → (1 ≤ v.session) × (v.session ≤ length (s.sessions ++ session ∷ []))
-    numbers n v (inl old) = let was = h.sessions n v old in (was.0, omega (arith, longer s.sessions session, was.1))
+    numbers n v (inl old) = let was = h.sessions n v old in (was.0, omega (arith, length_push s.sessions session, was.1))
     numbers n v (inr new) = subst (λ (w : Uplink). (1 ≤ w.session) × (w.session ≤ length (s.sessions ++ session ∷ []))) new.1
-        (omega (arith, k.0.number), omega (arith, longer s.sessions session, k.0.number))
-
-    has : (n : ℕ) (v : Uplink) → (item_at s.uplinks n ≡ Some v) ⊎ ((n ≡ length s.uplinks + 1) × (u ≡ v)) → HasCopy s.copies n ⊎ (n ≡ next_uplink s)
-    has n v (inl old) = inl (h.copied n v old)
-    has n v (inr new) = inr new.0
-
-    within : (n : ℕ) (at : List ℕ) (r : Reception) → (s.copies n at ≡ Some r) ⊎ (n ≡ next_uplink s) → n ≤ length (s.uplinks ++ u ∷ [])
-    within n at r (inl old) = omega (arith, longer s.uplinks u, h.of_uplinks n at r old)
-    within n at r (inr new) = omega (arith, longer s.uplinks u, new)
+        (omega (arith, k.0.number), omega (arith, length_push s.sessions session, k.0.number))
 
 uplink_sound : (c : Settings) (s : State) (u : Uplink) (gateway : List ℕ) (reception : Reception) → IsSound c s → IsAllowed c s (AddsUplink u gateway reception)
     → IsSound c (state_with s (AddsUplink u gateway reception))
-unfolding last_counter copies_with
 uplink_sound c s u gateway reception h k = record {
   block = h.block;
   nonces = h.nonces;
   sessions = λ n v e. numbers n v (item_last s.uplinks u n v e);
-  copied = λ n v e. copy_stays s.copies (next_uplink s) gateway reception n (n == next_uplink s) refl (has n v (item_last s.uplinks u n v e));
+  copied = new_copied s.uplinks s.copies u gateway reception h.copied;
   joins = joins_apart_with s.uplinks u h.joins (λ n v there join same. never_kinds u.kind join k.0.kind);
   join_nonces = λ n v e j. nonce n v j (item_last s.uplinks u n v e);
   counters = counters_rise_with s.uplinks u h.counters (λ n v there _ d same.
       above_each (λ (z : Uplink). z.counter) (is_data_of u.session) s.uplinks u.counter n v there (data_of v d same) k.0.counter);
   frames = λ n v e d. frame n v d (item_last s.uplinks u n v e);
-  of_uplinks = λ n at r e. within n at r (copy_was s.copies (next_uplink s) gateway reception n at r (n == next_uplink s) refl e);
+  of_uplinks = new_of_uplinks s.uplinks s.copies u gateway reception h.of_uplinks;
   in_bands = λ n at r e. each_copy IsInBand s.copies (next_uplink s) gateway reception n at r (n == next_uplink s) h.in_bands k.2 refl e;
 }
   where
@@ -242,7 +196,7 @@ uplink_sound c s u gateway reception h k = record {
     nonce n v j (inr new) = never_kinds v.kind j (ap (λ (z : Uplink). z.kind) (sym new.1) ∙ k.0.kind)
 
     data_of : (v : Uplink) → v.kind ≡ Data → v.session ≡ u.session → is_data_of u.session v ≡ true
-    data_of v d same = rw (d, number_tells v.session u.session same) refl
+    data_of v d same = rw (d, eq-eqb v.session u.session same) refl
 
     frame : (n : ℕ) (v : Uplink) → v.kind ≡ Data → (item_at s.uplinks n ≡ Some v) ⊎ ((n ≡ length s.uplinks + 1) × (u ≡ v)) → IsFrameOf c v
     frame n v d (inl old) = h.frames n v old d
@@ -256,17 +210,8 @@ uplink_sound c s u gateway reception h k = record {
     numbers n v (inl old) = h.sessions n v old
     numbers n v (inr new) = subst (λ (w : Uplink). (1 ≤ w.session) × (w.session ≤ length s.sessions)) new.1 (at_session (item_at s.sessions u.session) refl k.0.session)
 
-    has : (n : ℕ) (v : Uplink) → (item_at s.uplinks n ≡ Some v) ⊎ ((n ≡ length s.uplinks + 1) × (u ≡ v)) → HasCopy s.copies n ⊎ (n ≡ next_uplink s)
-    has n v (inl old) = inl (h.copied n v old)
-    has n v (inr new) = inr new.0
-
-    within : (n : ℕ) (at : List ℕ) (r : Reception) → (s.copies n at ≡ Some r) ⊎ (n ≡ next_uplink s) → n ≤ length (s.uplinks ++ u ∷ [])
-    within n at r (inl old) = omega (arith, longer s.uplinks u, h.of_uplinks n at r old)
-    within n at r (inr new) = omega (arith, longer s.uplinks u, new)
-
 copy_sound : (c : Settings) (s : State) (number : ℕ) (gateway : List ℕ) (reception : Reception) → IsSound c s → IsAllowed c s (AddsCopy number gateway reception)
     → IsSound c (state_with s (AddsCopy number gateway reception))
-unfolding copies_with
 copy_sound c s number gateway reception h k = record {
   block = h.block;
   nonces = h.nonces;

@@ -1,11 +1,10 @@
 -- In which order two gateways report one join request.
-use Rattle.std.proofs.Common.{◌≡◌, ◌≢◌, ℕ, ◌+◌, List, [], ◌∷◌, ◌++◌, length, Bool, true, false, Option, Some, None, refl, sym, ap, subst, ◌∙◌}
-use Rattle.std.specs.Prelude.{◌==◌, IsTrue, bytes_eq, nat_le, nat_lt, option_and_then, if◌then◌else◌}
-use Rattle.std.proofs.lemmas.Slice.Eq.{bytes_eq-Decides}
+use Rattle.std.proofs.Common.{◌≡◌, ◌≢◌, ℕ, ◌+◌, List, [], ◌∷◌, ◌++◌, length, Bool, true, Option, Some, None, refl, sym, ap, subst, ◌∙◌}
+use Rattle.std.specs.Prelude.{◌==◌, bytes_eq, nat_lt}
+use Rattle.std.proofs.lemmas.Bool.{eq-eqb}
+use Rattle.std.proofs.lemmas.Option.{same_Some}
 use Rattle.radio_core.specs.declared.bands.Band.{Band}
-use Rattle.radio_core.specs.declared.data_rates.DataRate.{DataRate}
 use Rattle.radio_core.specs.Bands.{band_at}
-use Rattle.radio_core.specs.DataRates.{max_length}
 use Rattle.radio_core.specs.Frames.{frame_of}
 use Rattle.registry_core.specs.declared.answers.Refusal.TheVariants.{UnknownGateway, UnknownDevEui, BadFrame, OutOfBand, MicFailed, JoinEui, Nonce, Addresses, Time}
 use Rattle.registry_core.specs.declared.effects.Effect.TheVariants.{AddsSession}
@@ -15,27 +14,27 @@ use Rattle.registry_core.specs.declared.facts.Reception.{Reception}
 use Rattle.registry_core.specs.declared.facts.Session.{Session}
 use Rattle.registry_core.specs.declared.facts.Uplink.{Uplink}
 use Rattle.registry_core.specs.declared.frames.JoinRequest.{JoinRequest}
-use Rattle.registry_core.specs.declared.messages.Envelope.{Envelope}
 use Rattle.registry_core.specs.declared.messages.JoinVerdict.{JoinVerdict}
 use Rattle.registry_core.specs.declared.messages.Message.TheVariants.{JoinHeard}
 use Rattle.registry_core.specs.declared.messages.Report.{Report}
 use Rattle.registry_core.specs.Checks.{Checked, unless}
 use Rattle.registry_core.specs.Decision.{Decision}
-use Rattle.registry_core.specs.Derived.{is_above, is_join_with, join_with, last_nonce}
+use Rattle.registry_core.specs.Derived.{is_above, is_join_with, last_nonce}
 use Rattle.registry_core.specs.Frames.{frame_at, join_request}
 use Rattle.registry_core.specs.Heard.{state_of}
 use Rattle.registry_core.specs.Joins.{is_good, join_added, join_copied, join_heard, original_join}
-use Rattle.registry_core.specs.Numbered.{item_at}
+use Rattle.registry_core.specs.Numbered.{first_that, item_at}
 use Rattle.registry_core.specs.ReportOrder.{JoinsInAnyOrder, SameButFirst, is_success}
 use Rattle.registry_core.specs.Settings.{Settings}
 use Rattle.registry_core.specs.State.{State, next_uplink, state_with, with_copy, with_session, with_uplink}
-use Rattle.registry_core.specs.Step.{checked_decision, step}
-use Rattle.registry_core.specs.Uplinks.{is_time, reception_of, same_octets, uplink_of}
+use Rattle.registry_core.specs.Step.{step}
+use Rattle.registry_core.specs.Uplinks.{is_time, reception_of, uplink_of}
 use Rattle.registry_core.proofs.CopyLaws.{join_once}
-use Rattle.registry_core.proofs.Decisions.{Decides, join_decides, no_copy, sound_of}
+use Rattle.registry_core.proofs.Copies.{either_order, other_gateway}
+use Rattle.registry_core.proofs.Decisions.{Decides, carried, join_decides, no_copy, sound_of}
 use Rattle.registry_core.proofs.HeardStates.{IsAllowed, IsSound, change_sound}
-use Rattle.registry_core.proofs.Items.{first_only, item_new, some_is}
-use Rattle.registry_core.proofs.ReportOrder.{Succeeds, both_copies, effect_of, either, either_order, frames_push, no_refusal, number_self, other_gateway, put, put_copies, put_rest}
+use Rattle.registry_core.proofs.Items.{first_only, item_new, kept_with}
+use Rattle.registry_core.proofs.ReportOrder.{Succeeds, answer_is, both_copies, effect_of, either, frames_push, no_refusal, put, put_copies, put_rest, step_is}
 use Rattle.registry_core.proofs.Telling.{from_needs, from_wants}
 
 -- ---- the checks before the copy
@@ -103,7 +102,7 @@ put_devices s n a None = refl
 
 -- what is found depends on the sessions and the uplinks alone, which a copy leaves
 put_original : (s : State) (n : ℕ) (a : Report) (at_a : Option Reception) (join : JoinRequest) (octets : List ℕ) → original_join (put s n at_a a) join octets ≡ original_join s join octets
-unfolding original_join join_with
+unfolding original_join
 put_original s n a (Some x) join octets = refl
 put_original s n a None join octets = refl
 
@@ -140,7 +139,7 @@ added_effect c s report verdict join p h is =
     let copied : ℕ × Uplink → Checked Decision = join_copied c s report in
     let added : Checked Decision = join_added c s report join p.band in
     let new : Succeeds added = subst (λ original. Succeeds (unless original copied added)) is h in
-    let above = from_wants is_success no_refusal (is_above join.nonce (last_nonce s join.dev_eui)) Nonce _ new in
+    let above = from_wants is_success no_refusal (is_above join.nonce (last_nonce s.sessions join.dev_eui)) Nonce _ new in
     let room = from_wants is_success no_refusal (nat_lt (length s.sessions) c.addresses) Addresses _ above.1 in
     ap effect_of (heard_is c s report verdict join p ∙ ap (λ original. unless original copied added) is) ∙ rw (above.0, room.0) refl
 
@@ -154,11 +153,11 @@ new_sound c s report verdict join band sound is =
 -- the new uplink is the one that the second report is a copy of
 found_new : (c : Settings) (s : State) (a b : Report) (join : JoinRequest) (band : Band) → IsSound c (with_new s a join band) → a.octets ≡ b.octets
     → original_join (with_new s a join band) join b.octets ≡ Some (next_uplink s, new_uplink s a join band)
-unfolding original_join join_with with_new new_uplink new_session
+unfolding original_join with_new new_uplink new_session
 found_new c s a b join band sound same =
-    ap (option_and_then (same_octets b.octets)) (first_only test (s.uplinks ++ new ∷ []) (next_uplink s) new there passes
-    (λ m z at h. join_once c once join.dev_eui join.nonce m (next_uplink s) z new sound at there h passes))
-    ∙ rw ((bytes_eq-Decides a.octets b.octets).1 same) refl
+    kept_with b.octets (first_that test (s.uplinks ++ new ∷ [])) (next_uplink s) new
+    (first_only test (s.uplinks ++ new ∷ []) (next_uplink s) new there passes
+    (λ m z at h. join_once c once join.dev_eui join.nonce m (next_uplink s) z new sound at there h passes)) same
   where
     once : State
     once = with_new s a join band
@@ -167,7 +166,7 @@ found_new c s a b join band sound same =
     new = uplink_of a (length s.sessions + 1) Join join.nonce band
 
     test : Uplink → Bool
-    test = is_join_with once join.dev_eui join.nonce
+    test = is_join_with once.sessions join.dev_eui join.nonce
 
     there : item_at (s.uplinks ++ new ∷ []) (next_uplink s) ≡ Some new
     there = item_new s.uplinks new (next_uplink s) refl
@@ -175,7 +174,7 @@ found_new c s a b join band sound same =
     passes : test new ≡ true
     passes =
         let session : Session = record { device = join.dev_eui; nonce = join.nonce } in
-        rw (item_new s.sessions session (length s.sessions + 1) refl, number_self join.dev_eui, number_self join.nonce) refl
+        rw (item_new s.sessions session (length s.sessions + 1) refl, eq-eqb join.dev_eui join.dev_eui refl, eq-eqb join.nonce join.nonce refl) refl
 
 second_new : (c : Settings) (s : State) (a b : Report) (verdict : JoinVerdict) (join : JoinRequest) (band : Band) → IsSound c s → IsSound c (with_new s a join band) → Passes c s b verdict join
     → a.octets ≡ b.octets → b.gateway ≢ a.gateway
@@ -227,33 +226,23 @@ by_found c s a b verdict join None sound pa ha pb hb same apart is =
     (ap (λ effect. after_report c (state_with s effect) a verdict) new_b ∙ second_new c s b a verdict join pb.band sound sound_b pa (sym same) apart)
     (both_new s a b join pa.band pb.band same apart)
 
--- a join request that its data rate carries is what its octets are
-carried : (dr : DataRate) (octets : List ℕ) (join : JoinRequest) (b : Bool) → nat_le (length octets) (max_length dr) ≡ b → join_request (if b then frame_of octets else None) ≡ Some join
-    → join_request (frame_of octets) ≡ Some join
-carried dr octets join true is e = e
-carried dr octets join false is e = cc
-
 -- octets are one join request
 both_reports : (c : Settings) (s : State) (a b : Report) (verdict : JoinVerdict) → IsSound c s → a.octets ≡ b.octets → a.gateway ≢ b.gateway → Succeeds (join_heard c s a verdict) → Succeeds (join_heard c s b verdict)
     → SameButFirst (after_report c (after_report c s a verdict) b verdict) (after_report c (after_report c s b verdict) a verdict)
 both_reports c s a b verdict sound same apart first second =
     let x = passed c s a verdict first in
     let y = passed c s b verdict second in
-    let told_a : join_request (frame_of a.octets) ≡ Some x.0 = carried a.rate.dr a.octets x.0 _ refl x.1.told in
-    let told_b : join_request (frame_of b.octets) ≡ Some y.0 = carried b.rate.dr b.octets y.0 _ refl y.1.told in
-    let join : y.0 ≡ x.0 = some_is y.0 x.0 (sym told_b ∙ ap (λ octets. join_request (frame_of octets)) (sym same) ∙ told_a) in
+    let told_a : join_request (frame_of a.octets) ≡ Some x.0 = carried join_request a.rate.dr a.octets x.0 refl x.1.told in
+    let told_b : join_request (frame_of b.octets) ≡ Some y.0 = carried join_request b.rate.dr b.octets y.0 refl y.1.told in
+    let join : y.0 ≡ x.0 = same_Some y.0 x.0 (sym told_b ∙ ap (λ octets. join_request (frame_of octets)) (sym same) ∙ told_a) in
     let moved_b : (p : Passes c s b verdict x.0) × Succeeds (rest_of c s b verdict x.0 p) = subst (λ j. (p : Passes c s b verdict j) × Succeeds (rest_of c s b verdict j p)) join (y.1, y.2) in
     by_found c s a b verdict x.0 (original_join s x.0 a.octets) sound x.1 x.2 moved_b.0 moved_b.1 same apart refl
 
-step_is : (c : Settings) (s : State) (e : Envelope) (report : Report) (verdict : JoinVerdict) → e.message ≡ JoinHeard report verdict → (step c s e).0 ≡ after_report c s report verdict
-step_is c s e report verdict same = ap (λ m. state_with s (effect_of (checked_decision c s e m))) same
-
-answer_is : (c : Settings) (s : State) (e : Envelope) (report : Report) (verdict : JoinVerdict) → e.message ≡ JoinHeard report verdict → IsTrue (is_success (step c s e).1) → Succeeds (join_heard c s report verdict)
-answer_is c s e report verdict same h = subst (λ m. Succeeds (checked_decision c s e m)) same h
+-- ---- the law
 
 pub joins_in_any_order : JoinsInAnyOrder
 joins_in_any_order c heard x y a b verdict is_x is_y same apart first second =
     let s : State = state_of c heard in
-    either _ _ _ _ (ap (λ once. (step c once y).0) (step_is c s x a verdict is_x) ∙ step_is c (after_report c s a verdict) y b verdict is_y)
-    (ap (λ once. (step c once x).0) (step_is c s y b verdict is_y) ∙ step_is c (after_report c s b verdict) x a verdict is_x)
-    (both_reports c s a b verdict (sound_of c heard) same apart (answer_is c s x a verdict is_x first) (answer_is c s y b verdict is_y second))
+    either _ _ _ _ (ap (λ once. (step c once y).0) (step_is c s x (JoinHeard a verdict) is_x) ∙ step_is c (after_report c s a verdict) y (JoinHeard b verdict) is_y)
+    (ap (λ once. (step c once x).0) (step_is c s y (JoinHeard b verdict) is_y) ∙ step_is c (after_report c s b verdict) x (JoinHeard a verdict) is_x)
+    (both_reports c s a b verdict (sound_of c heard) same apart (answer_is c s x (JoinHeard a verdict) is_x first) (answer_is c s y (JoinHeard b verdict) is_y second))

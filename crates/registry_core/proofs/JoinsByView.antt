@@ -32,7 +32,7 @@ pub record Counts (c : Settings) (s : State) (v : View) : Type 0 where
   pub sessions : v.sessions ≡ length s.sessions
   pub uplinks : v.uplinks ≡ length s.uplinks
 
-added_same : (c : Settings) (s : State) (v : View) (report : Report) (join : JoinRequest) (band : Band) → Counts c s v → v.last_nonce ≡ last_nonce s join.dev_eui
+added_same : (c : Settings) (s : State) (v : View) (report : Report) (join : JoinRequest) (band : Band) → Counts c s v → v.last_nonce ≡ last_nonce s.sessions join.dev_eui
     → join_added_by v report join band ≡ join_added c s report join band
 unfolding join_added_by join_added
 added_same c s v report join band n last = rw (last, n.base, n.addresses, n.sessions, n.uplinks) refl
@@ -51,21 +51,21 @@ found_same c s v report None rest n = refl
 found_same c s v report (Some found) rest n = copies_same c s v report found (bytes_eq found.1.octets report.octets) rest n
 
 -- what follows where all checks before the copy hold
-ended_same : (c : Settings) (s : State) (v : View) (report : Report) (join : JoinRequest) (band : Band) → Counts c s v → v.last_nonce ≡ last_nonce s join.dev_eui
-    → v.uplink ≡ option_map (view_of_uplink s report.gateway) (join_with s join)
+ended_same : (c : Settings) (s : State) (v : View) (report : Report) (join : JoinRequest) (band : Band) → Counts c s v → v.last_nonce ≡ last_nonce s.sessions join.dev_eui
+    → v.uplink ≡ option_map (view_of_uplink s report.gateway) (join_with s.uplinks s.sessions join.dev_eui join.nonce)
     → unless (original_by v.uplink report.octets) (join_copied_by v report) (join_added_by v report join band)
     ≡ unless (original_join s join report.octets) (join_copied c s report) (join_added c s report join band)
 unfolding original_join
 ended_same c s v report join band n last up =
     ap (λ seen. unless (original_by seen report.octets) (join_copied_by v report) (join_added_by v report join band)) up
-    ∙ found_same c s v report (join_with s join) (join_added_by v report join band) n
+    ∙ found_same c s v report (join_with s.uplinks s.sessions join.dev_eui join.nonce) (join_added_by v report join band) n
     ∙ ap (λ rest. unless (original_join s join report.octets) (join_copied c s report) rest) (added_same c s v report join band n last)
 
 -- what the view has of the join request that the octets are
 pub record Sees (s : State) (v : View) (gateway : List ℕ) (told : Option JoinRequest) : Type 0 where
   pub device : v.device ≡ option_and_then (λ (join : JoinRequest). s.devices join.dev_eui) told
-  pub last_nonce : v.last_nonce ≡ option_and_then (λ (join : JoinRequest). last_nonce s join.dev_eui) told
-  pub uplink : v.uplink ≡ option_map (view_of_uplink s gateway) (option_and_then (join_with s) told)
+  pub last_nonce : v.last_nonce ≡ option_and_then (λ (join : JoinRequest). last_nonce s.sessions join.dev_eui) told
+  pub uplink : v.uplink ≡ option_map (view_of_uplink s gateway) (option_and_then (λ (join : JoinRequest). join_with s.uplinks s.sessions join.dev_eui join.nonce) told)
 
 -- the checks from the frame on
 tail : (c : Settings) (s : State) (v : View) (report : Report) (verdict : JoinVerdict) (told : Option JoinRequest) → Counts c s v → Sees s v report.gateway told

@@ -1,6 +1,8 @@
 -- The numbers of a view have room: those of a heard list are few.
 use Rattle.std.proofs.Common.{◌≡◌, ℕ, ◌+◌, ◌≤◌, List, [], ◌∷◌, length, Option, Some, None, refl, sym, ◌∙◌, ap, subst, arith}
 use Rattle.std.specs.Prelude.{IfSome, option_map, option_and_then}
+use Rattle.std.proofs.lemmas.List.{length_push}
+use Rattle.std.proofs.lemmas.Option.{same_Some}
 use Rattle.radio_core.specs.Frames.{frame_of}
 use Rattle.radio_core.specs.TimeOnAir.{AirtimeIsBounded}
 use Rattle.duty_core.specs.Laws.{HoursWithinByNearOnes, HoursWithinTells, IsClearByNearOnes}
@@ -18,7 +20,7 @@ use Rattle.registry_core.specs.declared.windows.Window.{Window}
 use Rattle.registry_core.specs.ByView.{HasRoom, frame_heard_by, join_heard_by}
 use Rattle.registry_core.specs.Checks.{Checked}
 use Rattle.registry_core.specs.Decision.{Decision}
-use Rattle.registry_core.specs.Derived.{data_with, is_data_with, is_join_with, join_with}
+use Rattle.registry_core.specs.Derived.{is_data_with, is_join_with, join_with}
 use Rattle.registry_core.specs.DataFrames.{frame_heard}
 use Rattle.registry_core.specs.Downlinks.{down_book}
 use Rattle.registry_core.specs.DownlinksByView.{down_book_by}
@@ -35,7 +37,7 @@ use Rattle.registry_core.proofs.DataByView.{frame_heard_same}
 use Rattle.registry_core.proofs.Decisions.{sound_of}
 use Rattle.registry_core.proofs.DownlinksByView.{down_book_same}
 use Rattle.registry_core.proofs.HeardStates.{IsSound}
-use Rattle.registry_core.proofs.Items.{first_is, item_changed_length, longer, some_is}
+use Rattle.registry_core.proofs.Items.{first_is, item_changed_length}
 use Rattle.registry_core.proofs.JoinsByView.{join_heard_same}
 
 record IsFew (s : State) (n : ℕ) : Type 0 where
@@ -50,10 +52,10 @@ one_more s (AddsOwner name) n h = record { uplinks = omega (arith, h.uplinks); b
 one_more s (AddsGateway name) n h = record { uplinks = omega (arith, h.uplinks); bookings = omega (arith, h.bookings) }
 one_more s (AddsDevice dev_eui device) n h = record { uplinks = omega (arith, h.uplinks); bookings = omega (arith, h.bookings) }
 one_more s (MovesDevice dev_eui owner) n h = record { uplinks = omega (arith, h.uplinks); bookings = omega (arith, h.bookings) }
-one_more s (AddsSession session u gateway reception) n h = record { uplinks = omega (arith, longer s.uplinks u, h.uplinks); bookings = omega (arith, h.bookings) }
-one_more s (AddsUplink u gateway reception) n h = record { uplinks = omega (arith, longer s.uplinks u, h.uplinks); bookings = omega (arith, h.bookings) }
+one_more s (AddsSession session u gateway reception) n h = record { uplinks = omega (arith, length_push s.uplinks u, h.uplinks); bookings = omega (arith, h.bookings) }
+one_more s (AddsUplink u gateway reception) n h = record { uplinks = omega (arith, length_push s.uplinks u, h.uplinks); bookings = omega (arith, h.bookings) }
 one_more s (AddsCopy number gateway reception) n h = record { uplinks = omega (arith, h.uplinks); bookings = omega (arith, h.bookings) }
-one_more s (AddsBooking booking) n h = record { uplinks = omega (arith, h.uplinks); bookings = omega (arith, longer s.bookings booking, h.bookings) }
+one_more s (AddsBooking booking) n h = record { uplinks = omega (arith, h.uplinks); bookings = omega (arith, length_push s.bookings booking, h.bookings) }
 one_more s (EndsBooking number sent) n h = record { uplinks = omega (arith, h.uplinks); bookings = omega (arith, item_changed_length (ended sent) s.bookings number, h.bookings) }
 
 few_after : (c : Settings) (s : State) (es : List Envelope) (n : ℕ) → IsFew s n → IsFew (state_after c s es) (n + length es)
@@ -67,35 +69,34 @@ few c heard =
     let all = few_after c (opening c) heard 0 (record { uplinks = omega arith; bookings = omega arith }) in
     record { uplinks = omega (arith, all.uplinks); bookings = omega (arith, all.bookings) }
 
--- the uplink that a view shows has a session
-session_within : (c : Settings) (s : State) (gateway : List ℕ) (found : Option (ℕ × Uplink)) → IsSound c s
+-- an uplink's session has an address of the block
+in_block : (c : Settings) (s : State) (n : ℕ) (u : Uplink) → IsSound c s → item_at s.uplinks n ≡ Some u → (1 ≤ u.session) × (u.session ≤ c.addresses)
+in_block c s n u h there = let within = h.sessions n u there in (within.0, omega (arith, within.1, h.block))
+
+-- and so has the uplink that a view shows: that of a join, of a data frame, or one named by its number
+session_within : (c : Settings) (s : State) (gateway : List ℕ) (found : Option (ℕ × Uplink))
     → ((p : ℕ × Uplink) → found ≡ Some p → (1 ≤ p.1.session) × (p.1.session ≤ c.addresses))
     → IfSome (option_map (view_of_uplink s gateway) found) (λ seen. (1 ≤ seen.uplink.session) × (seen.uplink.session ≤ c.addresses))
-session_within c s gateway None h k = tt
-session_within c s gateway (Some p) h k = k p refl
+session_within c s gateway None k = tt
+session_within c s gateway (Some p) k = k p refl
 
-join_within : (c : Settings) (s : State) (told : Option JoinRequest) → IsSound c s → (p : ℕ × Uplink) → option_and_then (join_with s) told ≡ Some p → (1 ≤ p.1.session) × (p.1.session ≤ c.addresses)
-unfolding join_with
+join_within : (c : Settings) (s : State) (told : Option JoinRequest) → IsSound c s → (p : ℕ × Uplink) → option_and_then (λ (join : JoinRequest). join_with s.uplinks s.sessions join.dev_eui join.nonce) told ≡ Some p → (1 ≤ p.1.session) × (p.1.session ≤ c.addresses)
 join_within c s None h p e = cc
 join_within c s (Some join) h p e =
-    let within = h.sessions p.0 p.1 (first_is (is_join_with s join.dev_eui join.nonce) s.uplinks p e).0 in
-    (within.0, omega (arith, within.1, h.block))
+    in_block c s p.0 p.1 h (first_is (is_join_with s.sessions join.dev_eui join.nonce) s.uplinks p e).0
 
 data_within : (c : Settings) (s : State) (session : Option (ℕ × Session)) (verdict : Option ℕ) → IsSound c s → (p : ℕ × Uplink) → data_told s session verdict ≡ Some p
     → (1 ≤ p.1.session) × (p.1.session ≤ c.addresses)
-unfolding data_with
 data_within c s None verdict h p e = cc
 data_within c s (Some found) None h p e = cc
 data_within c s (Some found) (Some counter) h p e =
-    let within = h.sessions p.0 p.1 (first_is (is_data_with found.0 counter) s.uplinks p e).0 in
-    (within.0, omega (arith, within.1, h.block))
+    in_block c s p.0 p.1 h (first_is (is_data_with found.0 counter) s.uplinks p e).0
 
 named_within : (c : Settings) (s : State) (number : ℕ) (uplink : Option Uplink) → IsSound c s → item_at s.uplinks number ≡ uplink → (p : ℕ × Uplink) → option_map (λ (u : Uplink). (number, u)) uplink ≡ Some p
     → (1 ≤ p.1.session) × (p.1.session ≤ c.addresses)
 named_within c s number None h is p e = cc
 named_within c s number (Some uplink) h is p e =
-    let within = h.sessions number uplink is in
-    subst (λ (q : ℕ × Uplink). (1 ≤ q.1.session) × (q.1.session ≤ c.addresses)) (some_is (number, uplink) p e) (within.0, omega (arith, within.1, h.block))
+    subst (λ (q : ℕ × Uplink). (1 ≤ q.1.session) × (q.1.session ≤ c.addresses)) (same_Some (number, uplink) p e) (in_block c s number uplink h is)
 
 has_room : (c : Settings) (heard : List Envelope) (e : Envelope) (v : View) (gateway : List ℕ) (found : Option (ℕ × Uplink)) → IsBlock c.base c.addresses → IsHeard c heard → IsView c (state_of c heard) e v
     → v.uplink ≡ option_map (view_of_uplink (state_of c heard) gateway) found → ((p : ℕ × Uplink) → found ≡ Some p → (1 ≤ p.1.session) × (p.1.session ≤ c.addresses)) → HasRoom v
@@ -106,7 +107,7 @@ has_room c heard e v gateway found block list sees shown within = record {
   session =
       subst (λ limit. IfSome v.uplink (λ seen. (1 ≤ seen.uplink.session) × (seen.uplink.session ≤ limit))) (sym sees.addresses)
       (subst (λ seen_one. IfSome seen_one (λ seen. (1 ≤ seen.uplink.session) × (seen.uplink.session ≤ c.addresses))) (sym shown)
-      (session_within c (state_of c heard) gateway found (sound_of c heard) within));
+      (session_within c (state_of c heard) gateway found within));
 }
 
 pub join_checked : (c : Settings) (heard : List Envelope) (e : Envelope) (v : View) (report : Report) (verdict : JoinVerdict) (checked : Checked Decision) → IsBlock c.base c.addresses → IsHeard c heard

@@ -1,8 +1,7 @@
 -- Equal messages are those that the test finds the same.
-use Rattle.std.proofs.Common.{◌≡◌, ℕ, List, Option, Some, None, Bool, true, false, refl, sym, ◌∙◌, ap, subst, arith}
+use Rattle.std.proofs.Common.{◌≡◌, ℕ, List, Option, Some, None, Bool, true, false, refl, sym, ◌∙◌, ap, subst}
 use Rattle.std.specs.Prelude.{◌&&◌, ◌==◌, bytes_eq, if◌then◌else◌}
-use Rattle.std.proofs.lemmas.Bool.{and_parts}
-use Rattle.std.proofs.lemmas.Bool.Decides.{nat_tests}
+use Rattle.std.proofs.lemmas.Bool.{and_parts, eq-eqb, eqb-true}
 use Rattle.std.proofs.lemmas.Slice.Eq.{bytes_eq-Decides}
 use Rattle.radio_core.specs.declared.data_rates.DataRate.{DataRate}
 use Rattle.radio_core.specs.declared.data_rates.DataRate.TheVariants.{Dr0, Dr1, Dr2, Dr3, Dr4, Dr5, Dr6}
@@ -24,11 +23,8 @@ bytes_told a b h = (bytes_eq-Decides a b).0 h
 bytes_self : (a : List ℕ) → bytes_eq a a ≡ true
 bytes_self a = (bytes_eq-Decides a a).1 refl
 
-number_told : (n m : ℕ) → (n == m) ≡ true → n ≡ m
-number_told n m h = grind (arith, nat_tests)
-
 number_self : (n : ℕ) → (n == n) ≡ true
-number_self n = grind (arith, nat_tests)
+number_self n = eq-eqb n n refl
 
 role_told : (a b : Role) → same_role a b ≡ true → a ≡ b
 role_told Operator Operator h = refl
@@ -52,7 +48,7 @@ verdict_self Bad = refl
 
 counter_told : (a b : Option ℕ) → same_counter a b ≡ true → a ≡ b
 counter_told None None h = refl
-counter_told (Some n) (Some m) h = ap Some (number_told n m h)
+counter_told (Some n) (Some m) h = ap Some (eqb-true n m h)
 counter_told None (Some m) h = cc
 counter_told (Some n) None h = cc
 
@@ -103,7 +99,7 @@ report_told a b h =
     let rates : ((bytes_eq a.gateway b.gateway && a.time == b.time && a.rate.freq == b.rate.freq) ≡ true) × ((dr_number a.rate.dr == dr_number b.rate.dr) ≡ true) = and_parts _ _ all.0 in
     let freqs : ((bytes_eq a.gateway b.gateway && a.time == b.time) ≡ true) × ((a.rate.freq == b.rate.freq) ≡ true) = and_parts _ _ rates.0 in
     let times : (bytes_eq a.gateway b.gateway ≡ true) × ((a.time == b.time) ≡ true) = and_parts _ _ freqs.0 in
-    report_with a b (bytes_told _ _ times.0) (number_told _ _ times.1) (number_told _ _ freqs.1) (rate_told _ _ (number_told _ _ rates.1)) (bytes_told _ _ all.1)
+    report_with a b (bytes_told _ _ times.0) (eqb-true _ _ times.1) (eqb-true _ _ freqs.1) (rate_told _ _ (eqb-true _ _ rates.1)) (bytes_told _ _ all.1)
   where
     report_with : (a b : Report) → a.gateway ≡ b.gateway → a.time ≡ b.time → a.rate.freq ≡ b.rate.freq → a.rate.dr ≡ b.rate.dr → a.octets ≡ b.octets → a ≡ b
     report_with a b g t f d o = λ i. record { gateway = g i; time = t i; rate = record { freq = f i; dr = d i }; octets = o i }
@@ -121,10 +117,10 @@ same_told (GatewayAdd a) (GatewayAdd b) h = ap GatewayAdd (bytes_told a b h)
 same_told (DeviceAdd d j a) (DeviceAdd e k b) h =
     let both : ((d == e && j == k) ≡ true) × (bytes_eq a b ≡ true) = and_parts _ _ h in
     let euis : ((d == e) ≡ true) × ((j == k) ≡ true) = and_parts _ _ both.0 in
-    rw (number_told d e euis.0, number_told j k euis.1, bytes_told a b both.1) refl
+    rw (eqb-true d e euis.0, eqb-true j k euis.1, bytes_told a b both.1) refl
 same_told (DeviceMove d a) (DeviceMove e b) h =
     let both : ((d == e) ≡ true) × (bytes_eq a b ≡ true) = and_parts _ _ h in
-    rw (number_told d e both.0, bytes_told a b both.1) refl
+    rw (eqb-true d e both.0, bytes_told a b both.1) refl
 same_told (JoinHeard a v) (JoinHeard b w) h =
     let both : (same_report a b ≡ true) × (same_verdict v w ≡ true) = and_parts _ _ h in
     rw (report_told a b both.0, verdict_told v w both.1) refl
@@ -135,10 +131,10 @@ same_told (DownBook n a v o) (DownBook m b w p) h =
     let all : ((n == m && bytes_eq a b && same_window v w) ≡ true) × (bytes_eq o p ≡ true) = and_parts _ _ h in
     let windows : ((n == m && bytes_eq a b) ≡ true) × (same_window v w ≡ true) = and_parts _ _ all.0 in
     let names : ((n == m) ≡ true) × (bytes_eq a b ≡ true) = and_parts _ _ windows.0 in
-    rw (number_told n m names.0, bytes_told a b names.1, window_told v w windows.1, bytes_told o p all.1) refl
+    rw (eqb-true n m names.0, bytes_told a b names.1, window_told v w windows.1, bytes_told o p all.1) refl
 same_told (DownDone n a) (DownDone m b) h =
     let both : ((n == m) ≡ true) × (same_sent a b ≡ true) = and_parts _ _ h in
-    rw (number_told n m both.0, sent_told a b both.1) refl
+    rw (eqb-true n m both.0, sent_told a b both.1) refl
 same_told _ _ h = cc
 
 same_self : (a : Message) → same_message a a ≡ true

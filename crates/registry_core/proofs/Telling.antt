@@ -1,12 +1,12 @@
 -- Checks in a row, where the answer passes a test that no refusal passes: then every check holds.
 use Rattle.std.proofs.Common.{◌≡◌, Bool, true, false, Option, Some, None, refl, sym, subst}
 use Rattle.std.specs.Prelude.{IsTrue}
+use Rattle.std.proofs.lemmas.Bool.{both_ways}
 use Rattle.registry_core.specs.declared.answers.Answer.{Answer}
 use Rattle.registry_core.specs.declared.answers.Answer.TheVariants.{Refused}
 use Rattle.registry_core.specs.declared.answers.Refusal.{Refusal}
 use Rattle.registry_core.specs.Checks.{Checked, ◌>>=◌, ◌>>◌, wants, needs}
 use Rattle.registry_core.specs.Decision.{Decision, decision_or_refusal}
-use Rattle.registry_core.proofs.Items.{never_both}
 
 -- the answer passes the test
 abbrev pub Tells : (Answer → Bool) → Checked Decision → Type 0
@@ -17,12 +17,12 @@ NoRefusal test = (r : Refusal) → test (Refused r) ≡ false
 
 pub from_wants : (test : Answer → Bool) → NoRefusal test → (b : Bool) (r : Refusal) (rest : Checked Decision) → Tells test (wants b r >> rest) → (b ≡ true) × Tells test rest
 from_wants test none true r rest h = (refl, h)
-from_wants test none false r rest h = never_both (test (Refused r)) h (none r)
+from_wants test none false r rest h = absurd (both_ways (test (Refused r)) (none r) h)
 
 pub from_needs : {X : Type 0} (test : Answer → Bool) → NoRefusal test → (x : Option X) (r : Refusal) (rest : X → Checked Decision) → Tells test (needs x r >>= rest)
     → (y : X) × (x ≡ Some y) × Tells test (rest y)
 from_needs test none (Some x) r rest h = (x, refl, h)
-from_needs test none None r rest h = never_both (test (Refused r)) h (none r)
+from_needs test none None r rest h = absurd (both_ways (test (Refused r)) (none r) h)
 
 pub to_wants : (test : Answer → Bool) (b : Bool) (r : Refusal) (rest : Checked Decision) → b ≡ true → Tells test rest → Tells test (wants b r >> rest)
 to_wants test true r rest is h = h

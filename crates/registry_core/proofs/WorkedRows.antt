@@ -1,5 +1,5 @@
 -- Worked rows, computed from the definitions alone: lists of messages, the answers that they get, and what they leave.
-use Rattle.std.proofs.Common.{◌≡◌, ℕ, ◌+◌, ◌-◌, List, [], ◌∷◌, ◌++◌, map, length, replicate, Some, true, false, refl}
+use Rattle.std.proofs.Common.{◌≡◌, ℕ, ◌+◌, ◌-◌, List, [], ◌∷◌, ◌++◌, map, length, replicate, take, Some, None, true, false, refl}
 use Rattle.std.specs.Prelude.{codes}
 use Rattle.radio_core.specs.declared.bands.Band.TheVariants.{B3, B4, B5}
 use Rattle.radio_core.specs.declared.data_rates.DataRate.{DataRate}
@@ -11,19 +11,17 @@ use Rattle.duty_core.specs.Computed.{peak_of, hours_within, is_clear}
 use Rattle.registry_core.specs.declared.answers.Answer.{Answer}
 use Rattle.registry_core.specs.declared.answers.Answer.TheVariants.{Success, JoinSuccess, FrameSuccess, DownSuccess, Refused}
 use Rattle.registry_core.specs.declared.answers.Refusal.TheVariants as refusals
-use Rattle.registry_core.specs.declared.facts.Standing.TheVariants.{Booked, Dropped}
+use Rattle.registry_core.specs.declared.facts.Standing.TheVariants.{Booked, Sent, Dropped}
 use Rattle.registry_core.specs.declared.messages.Envelope.{Envelope}
 use Rattle.registry_core.specs.declared.messages.JoinVerdict.TheVariants.{Good, Bad}
 use Rattle.registry_core.specs.declared.messages.Message.{Message}
-use Rattle.registry_core.specs.declared.messages.Message.TheVariants.{SenderAdd, OwnerAdd, GatewayAdd, DeviceAdd, JoinHeard, FrameHeard, DownBook, DownDone}
+use Rattle.registry_core.specs.declared.messages.Message.TheVariants.{SenderAdd, OwnerAdd, GatewayAdd, DeviceAdd, DeviceMove, JoinHeard, FrameHeard, DownBook, DownDone}
 use Rattle.registry_core.specs.declared.messages.Report.{Report}
 use Rattle.registry_core.specs.declared.messages.Role.TheVariants.{Operator, Radio}
 use Rattle.registry_core.specs.declared.windows.Window.{Window}
 use Rattle.registry_core.specs.declared.windows.Window.TheVariants.{First, Second}
-use Rattle.registry_core.specs.Administration.{sender_add, owner_add, gateway_add, device_add}
-use Rattle.registry_core.specs.Bookings.{downlinks, downlinks_in, is_answered, next_down}
+use Rattle.registry_core.specs.Administration.{sender_add, owner_add, gateway_add, device_add, device_move}
 use Rattle.registry_core.specs.DataFrames.{data_added, frame_heard, original_data}
-use Rattle.registry_core.specs.Derived.{data_with, is_below_floor, join_with, last_counter, last_nonce, session_with}
 use Rattle.registry_core.specs.Downlinks.{down_added, down_book, down_done}
 use Rattle.registry_core.specs.Heard.{Reply, Answers, Reused, Stranger, answers_of, heard_with, reply_to, state_of}
 use Rattle.registry_core.specs.Joins.{join_added, join_heard, original_join}
@@ -101,13 +99,13 @@ three_joins = names ++ by_bridge 1 (join_at gw_a 0 0xa1) ∷ by_bridge 2 (join_a
 
 -- a join, its copy at another gateway, and its nonce again with another MIC
 join_and_copy : answers three_joins ≡ named ++ JoinSuccess 61696 B3 false 0x01a00000 1 ∷ JoinSuccess 61696 B3 true 0x01a00000 1 ∷ Refused refusals.Nonce ∷ []
-unfolding sender_add owner_add gateway_add device_add join_heard join_added original_join join_with last_nonce frame_of band_at airtime_of
+unfolding sender_add owner_add gateway_add device_add join_heard join_added original_join frame_of band_at airtime_of
 join_and_copy = refl
 
 -- one session, one uplink, and a copy at each gateway are left
 join_leaves : (length (state_of desk three_joins).sessions ≡ 1) × (length (state_of desk three_joins).uplinks ≡ 1)
     × ((state_of desk three_joins).copies 1 gw_b ≡ Some (record { end = start + 61696; rate = record { freq = 868100000; dr = Dr5 } }))
-unfolding sender_add owner_add gateway_add device_add join_heard join_added original_join join_with last_nonce frame_of band_at airtime_of
+unfolding sender_add owner_add gateway_add device_add join_heard join_added original_join frame_of band_at airtime_of
 join_leaves = (refl, refl, refl)
 
 -- a block of one address
@@ -118,7 +116,7 @@ joins_of_one =
 
 one_address : map (λ x. x.1) (answers_of (desk_of 1) joins_of_one)
     ≡ named ++ Refused refusals.MicFailed ∷ JoinSuccess 61696 B3 false 0x01a00000 1 ∷ Refused refusals.Addresses ∷ Refused refusals.Nonce ∷ JoinSuccess 61696 B3 true 0x01a00000 1 ∷ []
-unfolding sender_add owner_add gateway_add device_add join_heard join_added original_join join_with last_nonce frame_of band_at airtime_of
+unfolding sender_add owner_add gateway_add device_add join_heard join_added original_join frame_of band_at airtime_of
 one_address = refl
 
 -- ---- data frames
@@ -139,7 +137,7 @@ data_at gateway low high mic verdict = FrameHeard (report_at gateway start 86810
 -- counters that go round
 counters_go_round : answers (joined ++ by_bridge 1 (data_at gw_a 255 255 0x11 65535) ∷ by_bridge 2 (data_at gw_a 0 0 0x11 65536) ∷ [])
     ≡ joined_answers ++ FrameSuccess 41216 B3 false 65535 device 2 ∷ FrameSuccess 41216 B3 false 65536 device 3 ∷ []
-unfolding sender_add owner_add gateway_add device_add join_heard join_added original_join join_with last_nonce frame_of band_at airtime_of frame_heard data_added original_data data_with session_with is_below_floor last_counter
+unfolding sender_add owner_add gateway_add device_add join_heard join_added original_join frame_of band_at airtime_of frame_heard data_added original_data
 counters_go_round = refl
 
 -- a copy is booked once; an older counter is late; a used one with other octets is replayed; one too far ahead is a gap
@@ -147,7 +145,7 @@ copy_late_replayed_gap : answers (joined ++ by_bridge 1 (data_at gw_a 5 0 0x11 5
     ∷ by_bridge 4 (data_at gw_a 4 0 0x11 4) ∷ by_bridge 5 (data_at gw_a 5 0 0x12 5) ∷ by_bridge 6 (data_at gw_a 7 0 0x11 65543) ∷ [])
     ≡ joined_answers ++ FrameSuccess 41216 B3 false 5 device 2 ∷ FrameSuccess 41216 B3 false 6 device 3 ∷ FrameSuccess 41216 B3 true 5 device 2
     ∷ Refused refusals.Late ∷ Refused refusals.Replayed ∷ Refused refusals.Gap ∷ []
-unfolding sender_add owner_add gateway_add device_add join_heard join_added original_join join_with last_nonce frame_of band_at airtime_of frame_heard data_added original_data data_with session_with is_below_floor last_counter
+unfolding sender_add owner_add gateway_add device_add join_heard join_added original_join frame_of band_at airtime_of frame_heard data_added original_data
 copy_late_replayed_gap = refl
 
 abbrev in_session_2 : ℕ → Message
@@ -158,7 +156,7 @@ floor_kept : answers (joined ++ by_bridge 1 (data_at gw_a 3 0 0x11 3) ∷ by_bri
     ∷ by_bridge 4 (in_session_2 0) ∷ by_bridge 5 (data_at gw_a 5 0 0x11 5) ∷ by_bridge 6 (data_at gw_b 3 0 0x11 3) ∷ [])
     ≡ joined_answers ++ FrameSuccess 41216 B3 false 3 device 2 ∷ JoinSuccess 61696 B3 false 0x01a00001 3 ∷ FrameSuccess 41216 B3 false 4 device 4
     ∷ FrameSuccess 41216 B3 false 0 device 5 ∷ Refused refusals.SessionEnded ∷ FrameSuccess 41216 B3 true 3 device 2 ∷ []
-unfolding sender_add owner_add gateway_add device_add join_heard join_added original_join join_with last_nonce frame_of band_at airtime_of frame_heard data_added original_data data_with session_with is_below_floor last_counter
+unfolding sender_add owner_add gateway_add device_add join_heard join_added original_join frame_of band_at airtime_of frame_heard data_added original_data
 floor_kept = refl
 
 -- the longest frame at the slowest data rate, and one longer; bands with their edges
@@ -171,8 +169,31 @@ lengths_and_bands : answers (joined ++ by_bridge 1 (FrameHeard (report_at gw_a s
     ∷ by_bridge 6 (up_at 868537500 Dr0 start 1) ∷ by_bridge 7 (up_at 868475000 Dr6 start 2) ∷ [])
     ≡ joined_answers ++ FrameSuccess 2793472 B3 false 0 device 2 ∷ Refused refusals.BadFrame ∷ Refused refusals.OutOfBand ∷ Refused refusals.OutOfBand ∷ Refused refusals.OutOfBand
     ∷ FrameSuccess 1155072 B3 false 1 device 3 ∷ FrameSuccess 20608 B3 false 2 device 4 ∷ []
-unfolding sender_add owner_add gateway_add device_add join_heard join_added original_join join_with last_nonce frame_of band_at airtime_of frame_heard data_added original_data data_with session_with is_below_floor last_counter
+unfolding sender_add owner_add gateway_add device_add join_heard join_added original_join frame_of band_at airtime_of frame_heard data_added original_data
 lengths_and_bands = refl
+
+-- a report that names what isn't there, or doesn't do; the first and the last time; what an operator names that isn't there
+abbrev other_device : ℕ
+other_device = 0x0004a30b001a2b3d
+
+-- a join request with these lowest octets of JoinEUI and DevEUI
+abbrev join_by : ℕ → ℕ → List ℕ
+join_by join dev = 0 ∷ join ∷ 0 ∷ 0 ∷ 0xd0 ∷ 0x7e ∷ 0xd5 ∷ 0xb3 ∷ 0x70 ∷ dev ∷ 0x2b ∷ 0x1a ∷ 0 ∷ 0x0b ∷ 0xa3 ∷ 4 ∷ 0 ∷ 1 ∷ 0 ∷ 0xa1 ∷ 0xb2 ∷ 0xc3 ∷ 0xd4 ∷ []
+
+abbrev join_heard_at : ℕ → List ℕ → Message
+join_heard_at time octets = JoinHeard (report_at gw_a time 868100000 Dr5 octets) Good
+
+refused_reports : answers (joined ++ by_bridge 1 (JoinHeard (report_at (codes "gw-z") 946684799999999 868100000 Dr5 (join_by 1 0x3c)) Good)
+    ∷ by_bridge 2 (JoinHeard (report_at (codes "gw-z") start 868100000 Dr5 (join_by 1 0x3c)) Good) ∷ by_bridge 3 (join_heard_at start (take 22 (join_by 1 0x3c)))
+    ∷ by_bridge 4 (join_heard_at start (up_octets 0 0 0x11)) ∷ by_bridge 5 (join_heard_at start (join_by 1 0x3d)) ∷ by_bridge 6 (join_heard_at start (join_by 2 0x3c))
+    ∷ by_bridge 7 (in_session_2 0) ∷ by_bridge 8 (FrameHeard (report_at gw_a start 868100000 Dr5 (up_octets 0 0 0x11)) None)
+    ∷ by_bridge 9 (up_at 868100000 Dr5 4102444800000001 0) ∷ by_bridge 10 (up_at 868100000 Dr5 4102444800000000 0) ∷ by_bridge 11 (up_at 868100000 Dr5 946684800000000 1)
+    ∷ by_office 12 (DeviceMove device (codes "town")) ∷ by_office 13 (DeviceAdd other_device 0x70b3d57ed0000001 (codes "city")) ∷ by_office 14 (DeviceMove other_device (codes "town")) ∷ [])
+    ≡ joined_answers ++ Refused refusals.Time ∷ Refused refusals.UnknownGateway ∷ Refused refusals.BadFrame ∷ Refused refusals.BadFrame ∷ Refused refusals.UnknownDevEui
+    ∷ Refused refusals.JoinEui ∷ Refused refusals.UnknownDevAddr ∷ Refused refusals.MicFailed ∷ Refused refusals.Time ∷ FrameSuccess 41216 B3 false 0 device 2
+    ∷ FrameSuccess 41216 B3 false 1 device 3 ∷ Success ∷ Refused refusals.UnknownOwner ∷ Refused refusals.UnknownDevEui ∷ []
+unfolding sender_add owner_add gateway_add device_add device_move join_heard join_added original_join frame_of band_at airtime_of frame_heard data_added original_data
+refused_reports = refl
 
 -- ---- downlinks
 
@@ -198,12 +219,12 @@ three_booked = DownSuccess 991232 B4 1 start ∷ DownSuccess 991232 B4 2 (start 
 
 -- an hour that holds its limit exactly
 hour_full : answers (four_uplinks (start + 3598373696) ++ four_downlinks) ≡ four_answers ++ three_booked ++ DownSuccess 991232 B4 4 (start + 3599373696) ∷ []
-unfolding sender_add owner_add gateway_add device_add join_heard join_added original_join join_with last_nonce frame_of band_at airtime_of frame_heard data_added original_data data_with session_with is_below_floor last_counter down_book down_added next_down is_answered downlinks downlinks_in is_clear hours_within peak_of
+unfolding sender_add owner_add gateway_add device_add join_heard join_added original_join frame_of band_at airtime_of frame_heard data_added original_data down_book down_added is_clear hours_within peak_of
 hour_full = refl
 
 -- and one that would hold a microsecond more
 hour_above : answers (four_uplinks (start + 3598373695) ++ four_downlinks) ≡ four_answers ++ three_booked ++ Refused refusals.Duty ∷ []
-unfolding sender_add owner_add gateway_add device_add join_heard join_added original_join join_with last_nonce frame_of band_at airtime_of frame_heard data_added original_data data_with session_with is_below_floor last_counter down_book down_added next_down is_answered downlinks downlinks_in is_clear hours_within peak_of
+unfolding sender_add owner_add gateway_add device_add join_heard join_added original_join frame_of band_at airtime_of frame_heard data_added original_data down_book down_added is_clear hours_within peak_of
 hour_above = refl
 
 -- 33 octets down, then 12 that begin at `second`, and then 12 before both
@@ -217,11 +238,11 @@ between_answers second last = joined_answers ++ FrameSuccess 1155072 B4 false 0 
     ∷ DownSuccess 1810432 B4 1 (start + 1800000000) ∷ DownSuccess 991232 B4 2 second ∷ last ∷ []
 
 between_two : answers (between (start + 3599201664)) ≡ between_answers (start + 3599201664) (DownSuccess 991232 B4 3 start)
-unfolding sender_add owner_add gateway_add device_add join_heard join_added original_join join_with last_nonce frame_of band_at airtime_of frame_heard data_added original_data data_with session_with is_below_floor last_counter down_book down_added next_down is_answered downlinks downlinks_in is_clear hours_within peak_of
+unfolding sender_add owner_add gateway_add device_add join_heard join_added original_join frame_of band_at airtime_of frame_heard data_added original_data down_book down_added is_clear hours_within peak_of
 between_two = refl
 
 between_two_above : answers (between (start + 3599201663)) ≡ between_answers (start + 3599201663) (Refused refusals.Duty)
-unfolding sender_add owner_add gateway_add device_add join_heard join_added original_join join_with last_nonce frame_of band_at airtime_of frame_heard data_added original_data data_with session_with is_below_floor last_counter down_book down_added next_down is_answered downlinks downlinks_in is_clear hours_within peak_of
+unfolding sender_add owner_add gateway_add device_add join_heard join_added original_join frame_of band_at airtime_of frame_heard data_added original_data down_book down_added is_clear hours_within peak_of
 between_two_above = refl
 
 -- a second window, and a downlink in another band that begins as it ends
@@ -232,11 +253,11 @@ abbrev beside_answers : Answer → List Answer
 beside_answers last = joined_answers ++ FrameSuccess 41216 B3 false 0 device 2 ∷ FrameSuccess 41216 B3 false 1 device 3 ∷ DownSuccess 991232 B5 1 (start + 2000000) ∷ last ∷ []
 
 side_by_side : answers (beside (start + 1991232)) ≡ beside_answers (DownSuccess 41216 B3 2 (start + 2991232))
-unfolding sender_add owner_add gateway_add device_add join_heard join_added original_join join_with last_nonce frame_of band_at airtime_of frame_heard data_added original_data data_with session_with is_below_floor last_counter down_book down_added next_down is_answered downlinks downlinks_in is_clear hours_within peak_of
+unfolding sender_add owner_add gateway_add device_add join_heard join_added original_join frame_of band_at airtime_of frame_heard data_added original_data down_book down_added is_clear hours_within peak_of
 side_by_side = refl
 
 collides : answers (beside (start + 1991231)) ≡ beside_answers (Refused refusals.Collision)
-unfolding sender_add owner_add gateway_add device_add join_heard join_added original_join join_with last_nonce frame_of band_at airtime_of frame_heard data_added original_data data_with session_with is_below_floor last_counter down_book down_added next_down is_answered downlinks downlinks_in is_clear hours_within peak_of
+unfolding sender_add owner_add gateway_add device_add join_heard join_added original_join frame_of band_at airtime_of frame_heard data_added original_data down_book down_added is_clear hours_within peak_of
 collides = refl
 
 -- a dropped booking frees its uplink, and not its counter
@@ -247,18 +268,59 @@ dropped = joined ++ by_bridge 1 (up_at 868100000 Dr5 start 0) ∷ by_bridge 2 (d
 dropped_answers : answers dropped
     ≡ joined_answers ++ FrameSuccess 41216 B3 false 0 device 2 ∷ DownSuccess 41216 B3 1 (start + 1000000) ∷ Refused refusals.Answered ∷ Success
     ∷ Refused refusals.Done ∷ Refused refusals.DownCounter ∷ DownSuccess 41216 B3 2 (start + 1000000) ∷ Refused refusals.NoUplink ∷ Refused refusals.NoBooking ∷ []
-unfolding sender_add owner_add gateway_add device_add join_heard join_added original_join join_with last_nonce frame_of band_at airtime_of frame_heard data_added original_data data_with session_with is_below_floor last_counter down_book down_added down_done next_down is_answered downlinks downlinks_in is_clear hours_within peak_of
+unfolding sender_add owner_add gateway_add device_add join_heard join_added original_join frame_of band_at airtime_of frame_heard data_added original_data down_book down_added down_done is_clear hours_within peak_of
 dropped_answers = refl
 
 -- both bookings stand in the state, the first dropped
 dropped_leaves : map (λ b. b.standing) (state_of desk dropped).bookings ≡ Dropped ∷ Booked ∷ []
-unfolding sender_add owner_add gateway_add device_add join_heard join_added original_join join_with last_nonce frame_of band_at airtime_of frame_heard data_added original_data data_with session_with is_below_floor last_counter down_book down_added down_done next_down is_answered downlinks downlinks_in is_clear hours_within peak_of
+unfolding sender_add owner_add gateway_add device_add join_heard join_added original_join frame_of band_at airtime_of frame_heard data_added original_data down_book down_added down_done is_clear hours_within peak_of
 dropped_leaves = refl
 
+-- a copy with its own end and rate; what its gateway reports again changes nothing; and a downlink goes by the first of them
+abbrev heard_at_two : List Envelope
+heard_at_two = joined ++ by_bridge 1 (up_at 868100000 Dr5 start 0) ∷ by_bridge 2 (FrameHeard (report_at gw_b (start + 4) 868300000 Dr0 (up_octets 0 0 0x11)) (Some 0))
+    ∷ by_bridge 3 (FrameHeard (report_at gw_b (start + 9) 868100000 Dr5 (up_octets 0 0 0x11)) (Some 0)) ∷ by_bridge 4 (DownBook 2 gw_b First (down_octets 0)) ∷ []
+
+by_its_own_copy : answers heard_at_two ≡ joined_answers ++ FrameSuccess 41216 B3 false 0 device 2 ∷ FrameSuccess 41216 B3 true 0 device 2 ∷ FrameSuccess 41216 B3 true 0 device 2
+    ∷ DownSuccess 991232 B3 1 (start + 1000004) ∷ []
+unfolding sender_add owner_add gateway_add device_add join_heard join_added original_join frame_of band_at airtime_of frame_heard data_added original_data down_book down_added is_clear hours_within peak_of
+by_its_own_copy = refl
+
+-- an uplink that isn't there, or not at the gateway; the wrong kind of frame; 65 octets in the second window; a foreign address; 64 octets there; what became of it
+abbrev accept_octets : List ℕ
+accept_octets = 0x20 ∷ 0 ∷ 1 ∷ 2 ∷ 3 ∷ 4 ∷ 5 ∷ 6 ∷ 7 ∷ 8 ∷ 9 ∷ 10 ∷ 11 ∷ 12 ∷ 13 ∷ 14 ∷ 15 ∷ []
+
+abbrev asked : List Envelope
+asked = joined ++ by_bridge 1 (up_at 868100000 Dr5 start 0) ∷ by_bridge 2 (down_in First 0 0) ∷ by_bridge 3 (DownBook 2 gw_b First (down_octets 0))
+    ∷ by_bridge 4 (DownBook 2 (codes "gw-z") First (down_octets 0)) ∷ by_bridge 5 (DownBook 2 gw_a First accept_octets) ∷ by_bridge 6 (down_in First 1 0)
+    ∷ by_bridge 7 (DownBook 2 gw_a Second (down_octets 0 ++ replicate 53 7)) ∷ by_bridge 8 (DownBook 2 gw_a First (0x60 ∷ 1 ∷ 0 ∷ 0xa0 ∷ 1 ∷ 0 ∷ 0 ∷ 0 ∷ 1 ∷ 2 ∷ 3 ∷ 4 ∷ []))
+    ∷ by_bridge 9 (DownBook 2 gw_a Second (down_octets 0 ++ replicate 52 7)) ∷ by_bridge 10 (DownDone 0 true) ∷ by_bridge 11 (DownDone 1 true) ∷ by_bridge 12 (DownDone 1 false) ∷ []
+
+asked_answers : answers asked
+    ≡ joined_answers ++ FrameSuccess 41216 B3 false 0 device 2 ∷ Refused refusals.NoUplink ∷ Refused refusals.NoUplink ∷ Refused refusals.UnknownGateway ∷ Refused refusals.BadFrame
+    ∷ Refused refusals.BadFrame ∷ Refused refusals.BadFrame ∷ Refused refusals.UnknownDevAddr ∷ DownSuccess 2793472 B5 1 (start + 2000000) ∷ Refused refusals.NoBooking ∷ Success
+    ∷ Refused refusals.Done ∷ []
+unfolding sender_add owner_add gateway_add device_add join_heard join_added original_join frame_of band_at airtime_of frame_heard data_added original_data down_book down_added down_done is_clear hours_within peak_of
+asked_answers = refl
+
+-- the one booking was sent
+asked_leaves : map (λ b. b.standing) (state_of desk asked).bookings ≡ Sent ∷ []
+unfolding sender_add owner_add gateway_add device_add join_heard join_added original_join frame_of band_at airtime_of frame_heard data_added original_data down_book down_added down_done is_clear hours_within peak_of
+asked_leaves = refl
+
+-- a join request, a data frame and its copy, as two gateways report them, and answers to both uplinks
+reported_and_answered : answers (names ++ by_bridge 10 (join_at gw_a 0 0xa1) ∷ by_bridge 11 (up_at 868300000 Dr5 (start + 100041216) 0)
+    ∷ by_bridge 12 (FrameHeard (report_at gw_b (start + 100041220) 868300000 Dr5 (up_octets 0 0 0x11)) (Some 0)) ∷ by_bridge 13 (DownBook 1 gw_a First accept_octets)
+    ∷ by_bridge 14 (down_in First 2 0) ∷ [])
+    ≡ named ++ JoinSuccess 61696 B3 false 0x01a00000 1 ∷ FrameSuccess 41216 B3 false 0 device 2 ∷ FrameSuccess 41216 B3 true 0 device 2 ∷ DownSuccess 46336 B3 1 (start + 5061696)
+    ∷ DownSuccess 41216 B3 2 (start + 101041216) ∷ []
+unfolding sender_add owner_add gateway_add device_add join_heard join_added original_join frame_of band_at airtime_of frame_heard data_added original_data down_book down_added is_clear hours_within peak_of
+reported_and_answered = refl
+
 -- the join accept answers the join in its own window
-accept_booked : answers (joined ++ by_bridge 13 (DownBook 1 gw_a First (0x20 ∷ 0 ∷ 1 ∷ 2 ∷ 3 ∷ 4 ∷ 5 ∷ 6 ∷ 7 ∷ 8 ∷ 9 ∷ 10 ∷ 11 ∷ 12 ∷ 13 ∷ 14 ∷ 15 ∷ [])) ∷ by_bridge 14 (DownDone 1 true) ∷ [])
+accept_booked : answers (joined ++ by_bridge 13 (DownBook 1 gw_a First accept_octets) ∷ by_bridge 14 (DownDone 1 true) ∷ [])
     ≡ joined_answers ++ DownSuccess 46336 B3 1 (start + 5061696) ∷ Success ∷ []
-unfolding sender_add owner_add gateway_add device_add join_heard join_added original_join join_with last_nonce frame_of band_at airtime_of down_book down_added down_done next_down is_answered downlinks downlinks_in is_clear hours_within peak_of
+unfolding sender_add owner_add gateway_add device_add join_heard join_added original_join frame_of band_at airtime_of down_book down_added down_done is_clear hours_within peak_of
 accept_booked = refl
 
 -- ---- hearing once

@@ -8,6 +8,7 @@ use Rattle.duty_core.specs.Use.{Interval, EveryHourWithin}
 use Rattle.registry_core.specs.declared.facts.Booking.{Booking}
 use Rattle.registry_core.specs.declared.facts.Standing.{Standing}
 use Rattle.registry_core.specs.declared.facts.Standing.TheVariants.{Booked, Sent, Dropped}
+use Rattle.registry_core.specs.declared.facts.Uplink.{Uplink}
 use Rattle.registry_core.specs.Derived.{is_data_of}
 use Rattle.registry_core.specs.Numbered.{item_at}
 use Rattle.registry_core.specs.State.{State}
@@ -26,19 +27,20 @@ is_dropped Dropped = true
 -- ---- the uplink that a booking answers
 
 -- the booking answers a data uplink of session n
-abbrev pub is_down_of : State → ℕ → Booking → Bool
-is_down_of s n booking = option_map_or (is_data_of n) (item_at s.uplinks booking.uplink) false
+abbrev pub is_down_of : List Uplink → ℕ → Booking → Bool
+is_down_of uplinks n booking = option_map_or (is_data_of n) (item_at uplinks booking.uplink) false
 
 -- the next downlink counter of session n: how many bookings answer its data uplinks, dropped ones too
-unfoldable pub next_down : State → ℕ → ℕ
-next_down s n = count_by (is_down_of s n) s.bookings
+abbrev pub next_down : List Booking → List Uplink → ℕ → ℕ
+next_down bookings uplinks n = count_by (is_down_of uplinks n) bookings
 
 -- a booking that isn't dropped answers the uplink with this number
 abbrev pub is_answer_to : ℕ → Booking → Bool
 is_answer_to number booking = booking.uplink == number && not (is_dropped booking.standing)
 
-unfoldable pub is_answered : State → ℕ → Bool
-is_answered s number = list_any (is_answer_to number) s.bookings
+-- a booking that isn't dropped answers it
+abbrev pub is_answered : List Booking → ℕ → Bool
+is_answered bookings number = list_any (is_answer_to number) bookings
 
 -- ---- when a gateway is on the air
 
@@ -51,13 +53,13 @@ abbrev pub stands_in : List ℕ → Band → Booking → Bool
 stands_in gateway band booking = stands_at gateway booking && band_number booking.band == band_number band
 
 -- the downlinks of a gateway that aren't dropped, in all bands
-unfoldable pub downlinks : State → List ℕ → List Interval
-downlinks s gateway = map (λ booking. booking.span) (filter (stands_at gateway) s.bookings)
+abbrev pub downlinks : List Booking → List ℕ → List Interval
+downlinks bookings gateway = map (λ booking. booking.span) (filter (stands_at gateway) bookings)
 
 -- and in one band
-unfoldable pub downlinks_in : State → List ℕ → Band → List Interval
-downlinks_in s gateway band = map (λ booking. booking.span) (filter (stands_in gateway band) s.bookings)
+abbrev pub downlinks_in : List Booking → List ℕ → Band → List Interval
+downlinks_in bookings gateway band = map (λ booking. booking.span) (filter (stands_in gateway band) bookings)
 
 -- No hour of any gateway's band holds more than the limit: the use of every sliding hour, by downlinks that aren't dropped.
 abbrev pub EveryHourKept : State → Type 0
-EveryHourKept s = (gateway : List ℕ) (band : Band) → EveryHourWithin (downlinks_in s gateway band) (limit_of band)
+EveryHourKept s = (gateway : List ℕ) (band : Band) → EveryHourWithin (downlinks_in s.bookings gateway band) (limit_of band)

@@ -21,7 +21,7 @@ use Rattle.registry_core.specs.Uplinks.{is_time, reception_of, time_up, uplink_o
 
 -- the uplink that the frame is a copy of: the session's data uplink with the verdict's counter, where it has the same octets
 unfoldable pub original_data : State → ℕ → ℕ → List ℕ → Option (ℕ × Uplink)
-original_data s session counter octets = option_and_then (same_octets octets) (data_with s session counter)
+original_data s session counter octets = option_and_then (same_octets octets) (data_with s.uplinks session counter)
 
 -- a copy tells of the uplink that is booked, and books none
 abbrev pub data_copied : State → Report → ℕ → ℕ → ℕ × Uplink → Checked Decision
@@ -33,10 +33,10 @@ data_copied s report dev_eui counter found = Ok (
 -- A data frame that is no copy has the counter that follows (section 4.3.1.5).
 unfoldable pub data_added : State → Report → DataFrame → ℕ → ℕ → ℕ → Band → Checked Decision
 data_added s report frame session dev_eui counter band = do
-  wants (not (is_below_floor s dev_eui session)) SessionEnded
-  wants (is_none (data_with s session counter)) Replayed
-  wants (not (is_below counter (last_counter s session))) Late
-  wants (is_candidate (last_counter s session) frame.fcnt counter) Gap
+  wants (not (is_below_floor s.uplinks s.sessions dev_eui session)) SessionEnded
+  wants (is_none (data_with s.uplinks session counter)) Replayed
+  wants (not (is_below counter (last_counter s.uplinks session))) Late
+  wants (is_candidate (last_counter s.uplinks session) frame.fcnt counter) Gap
   Ok (
     AddsUplink (uplink_of report session Data counter band) report.gateway (reception_of report),
     FrameSuccess (time_up report) band false counter dev_eui (next_uplink s),
@@ -49,7 +49,7 @@ frame_heard c s report verdict = do
   wants (s.gateways report.gateway) UnknownGateway
   frame ← needs (data_up (frame_at report.rate.dr report.octets)) BadFrame
   band ← needs (band_at report.rate.freq report.rate.dr) OutOfBand
-  session ← needs (session_with c s frame.addr) UnknownDevAddr
+  session ← needs (session_with s.sessions c.base frame.addr) UnknownDevAddr
   counter ← needs verdict MicFailed
   unless (original_data s session.0 counter report.octets) (data_copied s report session.1.device counter)
       (data_added s report frame session.0 session.1.device counter band)

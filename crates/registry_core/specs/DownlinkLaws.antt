@@ -1,19 +1,20 @@
 -- What holds of downlinks.
-use Rattle.std.specs.Prelude.{◌≡◌, ◌≢◌, ◌↔◌, ℕ, ◌+◌, ◌≤◌, Bool, true, false, List, [], ◌∷◌, ◌++◌, Some, is_some, IsTrue, All}
+use Rattle.std.specs.Prelude.{◌≡◌, ◌≢◌, ◌↔◌, ℕ, ℤ, ◌+◌, ◌≤◌, Bool, true, false, List, [], ◌∷◌, ◌++◌, Some, is_some, IsTrue, All}
 use Rattle.radio_core.specs.declared.bands.Band.{Band}
 use Rattle.radio_core.specs.Bands.{band_at, limit_of}
 use Rattle.duty_core.specs.Near.{greatest_length}
-use Rattle.duty_core.specs.Use.{EveryHourWithin, IsClear}
+use Rattle.duty_core.specs.Use.{EveryHourWithin, IsClear, is_in}
 use Rattle.registry_core.specs.declared.answers.Answer.{Answer}
 use Rattle.registry_core.specs.declared.answers.Answer.TheVariants.{DownSuccess, Refused}
 use Rattle.registry_core.specs.declared.answers.Refusal.TheVariants.{OutOfBand}
+use Rattle.registry_core.specs.declared.facts.Booking.{Booking}
 use Rattle.registry_core.specs.declared.facts.Reception.{Reception}
 use Rattle.registry_core.specs.declared.facts.Uplink.{Uplink}
 use Rattle.registry_core.specs.declared.frames.Downlink.{Downlink}
 use Rattle.registry_core.specs.declared.messages.Envelope.{Envelope}
 use Rattle.registry_core.specs.declared.messages.Message.TheVariants.{DownBook}
 use Rattle.registry_core.specs.declared.windows.Window.{Window}
-use Rattle.registry_core.specs.Bookings.{EveryHourKept, downlinks, downlinks_in, is_answered, next_down}
+use Rattle.registry_core.specs.Bookings.{EveryHourKept, downlinks, downlinks_in, is_answered, is_dropped, next_down, stands_at}
 use Rattle.registry_core.specs.Derived.{address_of}
 use Rattle.registry_core.specs.Downlinks.{on_air}
 use Rattle.registry_core.specs.Frames.{counts_as, downlink_to, frame_at, goes_to}
@@ -32,6 +33,17 @@ HoursAreKept = (c : Settings) (heard : List Envelope) → EveryHourKept (state_o
 abbrev pub DownlinksAreShort : Type 0
 DownlinksAreShort = (c : Settings) (heard : List Envelope) → All (λ booking. booking.span.len ≤ greatest_length) (state_of c heard).bookings
 
+-- no two downlinks of a gateway that aren't dropped are on the air at once, in whatever bands
+abbrev pub GatewaysSendOneAtATime : Type 0
+GatewaysSendOneAtATime = (c : Settings) (heard : List Envelope) (gateway : List ℕ) (m n : ℕ) (a b : Booking) → item_at (state_of c heard).bookings m ≡ Some a
+    → item_at (state_of c heard).bookings n ≡ Some b → IsTrue (stands_at gateway a) → IsTrue (stands_at gateway b) → m ≢ n
+    → (x : ℤ) → IsTrue (is_in b.span x) → is_in a.span x ≡ false
+
+-- no two downlinks that aren't dropped answer one uplink
+abbrev pub UplinksAreAnsweredOnce : Type 0
+UplinksAreAnsweredOnce = (c : Settings) (heard : List Envelope) (m n : ℕ) (a b : Booking) → item_at (state_of c heard).bookings m ≡ Some a
+    → item_at (state_of c heard).bookings n ≡ Some b → a.uplink ≡ b.uplink → is_dropped a.standing ≡ false → is_dropped b.standing ≡ false → m ≡ n
+
 -- ---- which downlinks are booked
 
 -- The gateway is known and has a copy of the uplink. The octets are the frame that the uplink's kind asks for and that the
@@ -47,12 +59,12 @@ pub record IsAccepted (c : Settings) (s : State) (number : ℕ) (gateway : List 
   pub down : Downlink
   pub frame : downlink_to uplink.kind (frame_at (rate_in window copy.rate).dr octets) ≡ Some down
   pub address : IsTrue (goes_to (address_of c uplink.session) down)
-  pub unanswered : is_answered s number ≡ false
-  pub counter : IsTrue (counts_as (next_down s uplink.session) down)
+  pub unanswered : is_answered s.bookings number ≡ false
+  pub counter : IsTrue (counts_as (next_down s.bookings s.uplinks uplink.session) down)
   pub band : Band
   pub lies_in_it : band_at (rate_in window copy.rate).freq (rate_in window copy.rate).dr ≡ Some band
-  pub clear : IsClear (downlinks s gateway) (on_air (copy.end + delay uplink.kind window) (rate_in window copy.rate) octets)
-  pub hours : EveryHourWithin (downlinks_in s gateway band ++ on_air (copy.end + delay uplink.kind window) (rate_in window copy.rate) octets ∷ []) (limit_of band)
+  pub clear : IsClear (downlinks s.bookings gateway) (on_air (copy.end + delay uplink.kind window) (rate_in window copy.rate) octets)
+  pub hours : EveryHourWithin (downlinks_in s.bookings gateway band ++ on_air (copy.end + delay uplink.kind window) (rate_in window copy.rate) octets ∷ []) (limit_of band)
 
 abbrev pub tells_booking : Answer → Bool
 tells_booking (DownSuccess airtime band booking start) = true

@@ -30,8 +30,8 @@ on_air start rate octets = record { start = pos start; len = airtime_of rate.dr 
 -- gateway's band is within the limit (that duty cycle is time on air within an hour: ETSI EN 300 220-2).
 unfoldable pub down_added : State → ℕ → List ℕ → Band → ℕ → Interval → Checked Decision
 down_added s number gateway band start span = do
-  wants (is_clear (downlinks s gateway) span) Collision
-  wants (hours_within (downlinks_in s gateway band ++ span ∷ []) (limit_of band)) Duty
+  wants (is_clear (downlinks s.bookings gateway) span) Collision
+  wants (hours_within (downlinks_in s.bookings gateway band ++ span ∷ []) (limit_of band)) Duty
   Ok (
     AddsBooking (record { uplink = number; gateway = gateway; band = band; span = span; standing = Booked }),
     DownSuccess span.len band (length s.bookings + 1) start,
@@ -46,8 +46,8 @@ down_book c s number gateway window octets = do
   let opens : ℕ × Rate = window_of uplink.kind copy.end copy.rate window
   down ← needs (downlink_to uplink.kind (frame_at opens.1.dr octets)) BadFrame
   wants (goes_to (address_of c uplink.session) down) UnknownDevAddr
-  wants (not (is_answered s number)) Answered
-  wants (counts_as (next_down s uplink.session) down) DownCounter
+  wants (not (is_answered s.bookings number)) Answered
+  wants (counts_as (next_down s.bookings s.uplinks uplink.session) down) DownCounter
   band ← needs (band_at opens.1.freq opens.1.dr) OutOfBand
   down_added s number gateway band opens.0 (on_air opens.0 opens.1 octets)
 

@@ -18,7 +18,7 @@ use Rattle.registry_core.specs.Step.{decision_of}
 -- a new session of a device that is there, with a nonce above its last, and its join uplink
 pub record SessionFits (session : Session) (uplink : Uplink) (at : List ℕ) (s : State) : Type 0 where
   pub device : IsTrue (is_some (s.devices session.device))
-  pub nonce : IsTrue (is_above session.nonce (last_nonce s session.device))
+  pub nonce : IsTrue (is_above session.nonce (last_nonce s.sessions session.device))
   pub number : uplink.session ≡ length s.sessions + 1
   pub kind : uplink.kind ≡ Join
   pub counter : uplink.counter ≡ session.nonce
@@ -29,7 +29,7 @@ pub record SessionFits (session : Session) (uplink : Uplink) (at : List ℕ) (s 
 pub record UplinkFits (uplink : Uplink) (at : List ℕ) (s : State) : Type 0 where
   pub session : IsTrue (is_some (item_at s.sessions uplink.session))
   pub kind : uplink.kind ≡ Data
-  pub counter : IsTrue (is_above uplink.counter (last_counter s uplink.session))
+  pub counter : IsTrue (is_above uplink.counter (last_counter s.uplinks uplink.session))
   pub gateway : IsTrue (s.gateways at)
   pub no_copy : s.copies (next_uplink s) at ≡ None
 

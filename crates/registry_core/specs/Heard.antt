@@ -1,5 +1,5 @@
 -- Hearing once: a list of envelopes, what it leaves, and what each further envelope is replied and adds.
-use Rattle.std.specs.Prelude.{◌≡◌, ℕ, ◌==◌, ◌<◌, ◌≤◌, Bool, false, not, ◌&&◌, List, [], ◌∷◌, ◌++◌, length, Option, Some, None, is_some, find, if◌then◌else◌, bytes_eq, IsTrue}
+use Rattle.std.specs.Prelude.{◌≡◌, ◌≢◌, ℕ, ◌==◌, ◌<◌, ◌≤◌, Bool, false, not, ◌&&◌, List, [], ◌∷◌, ◌++◌, length, Option, Some, None, is_some, find, if◌then◌else◌, bytes_eq, IsTrue}
 use Rattle.std.specs.List.{list_any}
 use Rattle.registry_core.specs.declared.answers.Answer.{Answer}
 use Rattle.registry_core.specs.declared.messages.Envelope.{Envelope}
@@ -94,3 +94,20 @@ HeardListsStay = (c : Settings) (heard : List Envelope) (e : Envelope) → IsHea
 -- no envelopes are a heard list
 abbrev pub NothingIsHeard : Type 0
 NothingIsHeard = (c : Settings) → IsHeard c []
+
+-- ---- what is replied
+
+-- a message that stands in a heard list is replied what its step answered at its place, whatever was heard after it
+abbrev pub FirstAnswersStay : Type 0
+FirstAnswersStay = (c : Settings) (before after : List Envelope) (e : Envelope) → IsHeard c (before ++ e ∷ after)
+    → reply_to c (before ++ e ∷ after) e ≡ Answers (step c (state_of c before) e).1
+
+-- and another message of its sender with its number is refused
+abbrev pub UsedNumbersAreRefused : Type 0
+UsedNumbersAreRefused = (c : Settings) (before after : List Envelope) (e other : Envelope) → IsHeard c (before ++ e ∷ after)
+    → other.sender ≡ e.sender → other.transaction ≡ e.transaction → other.message ≢ e.message → reply_to c (before ++ e ∷ after) other ≡ Reused
+
+-- a message of a known sender with a number that it hasn't used is replied what its step answers now
+abbrev pub NewNumbersAreDecided : Type 0
+NewNumbersAreDecided = (c : Settings) (heard : List Envelope) (e : Envelope) → IsTrue (is_sender (state_of c heard) e.sender) → has_pair heard e ≡ false
+    → reply_to c heard e ≡ Answers (step c (state_of c heard) e).1

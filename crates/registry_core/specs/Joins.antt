@@ -26,7 +26,7 @@ is_good Bad = false
 
 -- the uplink that the frame is a copy of: the join uplink of the device with this nonce, where it has the same octets
 unfoldable pub original_join : State → JoinRequest → List ℕ → Option (ℕ × Uplink)
-original_join s join octets = option_and_then (same_octets octets) (join_with s join)
+original_join s join octets = option_and_then (same_octets octets) (join_with s.uplinks s.sessions join.dev_eui join.nonce)
 
 -- a copy tells of the uplink that is booked, and books none
 abbrev pub join_copied : Settings → State → Report → ℕ × Uplink → Checked Decision
@@ -38,7 +38,7 @@ join_copied c s report found = Ok (
 -- A join that is no copy makes a session with the next address. DevNonce rises with each (section 6.2).
 unfoldable pub join_added : Settings → State → Report → JoinRequest → Band → Checked Decision
 join_added c s report join band = do
-  wants (is_above join.nonce (last_nonce s join.dev_eui)) Nonce
+  wants (is_above join.nonce (last_nonce s.sessions join.dev_eui)) Nonce
   wants (nat_lt (length s.sessions) c.addresses) Addresses
   Ok (
     AddsSession (record { device = join.dev_eui; nonce = join.nonce })

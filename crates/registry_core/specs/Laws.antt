@@ -4,7 +4,7 @@ use Rattle.radio_core.specs.Frames.{frame_of}
 use Rattle.registry_core.specs.declared.answers.Answer.{Answer}
 use Rattle.registry_core.specs.declared.answers.Answer.TheVariants.{JoinSuccess, FrameSuccess, Refused}
 use Rattle.registry_core.specs.declared.answers.Refusal.{Refusal}
-use Rattle.registry_core.specs.declared.facts.Kind.TheVariants.{Data}
+use Rattle.registry_core.specs.declared.facts.Kind.TheVariants.{Join, Data}
 use Rattle.registry_core.specs.declared.facts.Reception.{Reception}
 use Rattle.registry_core.specs.declared.facts.Session.{Session}
 use Rattle.registry_core.specs.declared.facts.Uplink.{Uplink}
@@ -13,6 +13,7 @@ use Rattle.registry_core.specs.declared.frames.JoinRequest.{JoinRequest}
 use Rattle.registry_core.specs.declared.messages.Envelope.{Envelope}
 use Rattle.registry_core.specs.declared.messages.Message.{Message}
 use Rattle.registry_core.specs.declared.messages.Message.TheVariants.{SenderAdd}
+use Rattle.registry_core.specs.Administration.{is_operator}
 use Rattle.registry_core.specs.DataFrames.{original_data}
 use Rattle.registry_core.specs.Derived.{address_of, is_data_with, is_join_with, session_with}
 use Rattle.registry_core.specs.Frames.{data_up}
@@ -43,9 +44,19 @@ NoncesRise = (c : Settings) (heard : List Envelope) (m n : ℕ) (a b : Session) 
 -- the session that is looked up by an address is the one that has it
 abbrev pub SessionsAreFound : Type 0
 SessionsAreFound = (c : Settings) (s : State) (addr n : ℕ) (a : Session)
-    → (session_with c s addr ≡ Some (n, a)) ↔ ((item_at s.sessions n ≡ Some a) × (address_of c n ≡ addr))
+    → (session_with s.sessions c.base addr ≡ Some (n, a)) ↔ ((item_at s.sessions n ≡ Some a) × (address_of c n ≡ addr))
+
+-- each session has the join uplink that made it: with its nonce as counter
+abbrev pub SessionsHaveJoins : Type 0
+SessionsHaveJoins = (c : Settings) (heard : List Envelope) (n : ℕ) (a : Session) → item_at (state_of c heard).sessions n ≡ Some a
+    → (m : ℕ) × (u : Uplink) × (item_at (state_of c heard).uplinks m ≡ Some u) × (u.kind ≡ Join) × (u.session ≡ n) × (u.counter ≡ a.nonce)
 
 -- ---- uplinks
+
+-- each uplink is one of a session that is there, and a join has the session's nonce as counter
+abbrev pub UplinksHaveSessions : Type 0
+UplinksHaveSessions = (c : Settings) (heard : List Envelope) (n : ℕ) (u : Uplink) → item_at (state_of c heard).uplinks n ≡ Some u
+    → (a : Session) × (item_at (state_of c heard).sessions u.session ≡ Some a) × (u.kind ≡ Join → a.nonce ≡ u.counter)
 
 -- no two uplinks have one session, one kind and one counter
 abbrev pub FramesAreBookedOnce : Type 0
@@ -74,7 +85,7 @@ UplinksStay = (c : Settings) (s : State) (e : Envelope) (n : ℕ) (u : Uplink) �
 -- What is found as a copy of a join is the one join uplink of the device with the nonce and the octets.
 abbrev pub JoinCopiesAreFound : Type 0
 JoinCopiesAreFound = (c : Settings) (heard : List Envelope) (join : JoinRequest) (octets : List ℕ) (n : ℕ) (u : Uplink) → let s : State = state_of c heard in
-    (original_join s join octets ≡ Some (n, u)) ↔ ((item_at s.uplinks n ≡ Some u) × IsTrue (is_join_with s join.dev_eui join.nonce u) × (u.octets ≡ octets))
+    (original_join s join octets ≡ Some (n, u)) ↔ ((item_at s.uplinks n ≡ Some u) × IsTrue (is_join_with s.sessions join.dev_eui join.nonce u) × (u.octets ≡ octets))
 
 -- What is found as a copy of a data frame is the one data uplink of the session with the counter and the octets.
 abbrev pub DataCopiesAreFound : Type 0
@@ -105,3 +116,8 @@ adds_sender _ = false
 -- a message that adds no sender leaves the senders as they are
 abbrev pub SendersStay : Type 0
 SendersStay = (c : Settings) (s : State) (e : Envelope) → adds_sender e.message ≡ false → (step c s e).0.senders ≡ s.senders
+
+-- what is kept of senders, owners, gateways and devices is changed by messages of operators alone
+abbrev pub OperatorsKeepTheRegister : Type 0
+OperatorsKeepTheRegister = (c : Settings) (s : State) (e : Envelope) → is_operator (s.senders e.sender) ≡ false → let after : State = (step c s e).0 in
+    (after.senders ≡ s.senders) × (after.owners ≡ s.owners) × (after.gateways ≡ s.gateways) × (after.devices ≡ s.devices)

@@ -21,6 +21,7 @@ pub mod Same
 pub mod Settings
 pub mod State
 pub mod Step
+pub mod UplinkLaws
 pub mod Uplinks
 pub mod Viewed
 pub mod Wholes

@@ -65,20 +65,20 @@ device_named s m = option_and_then (λ join. s.devices join.dev_eui) (join_told 
 
 -- the last nonce of the join request's device
 abbrev pub last_nonce_told : State → Message → Option ℕ
-last_nonce_told s m = option_and_then (λ join. last_nonce s join.dev_eui) (join_told m)
+last_nonce_told s m = option_and_then (λ join. last_nonce s.sessions join.dev_eui) (join_told m)
 
 -- ---- the session whose data frame it tells of
 
 abbrev pub session_told : Settings → State → Message → Option (ℕ × Session)
-session_told c s (FrameHeard report verdict) = option_and_then (λ frame. session_with c s frame.addr) (data_up (frame_of report.octets))
+session_told c s (FrameHeard report verdict) = option_and_then (λ frame. session_with s.sessions c.base frame.addr) (data_up (frame_of report.octets))
 session_told c s _ = None
 
 abbrev pub view_of_session : State → ℕ × Session → SessionView
 view_of_session s found = record {
   number = found.0;
   device = found.1.device;
-  last_counter = last_counter s found.0;
-  below_floor = is_below_floor s found.1.device found.0;
+  last_counter = last_counter s.uplinks found.0;
+  below_floor = is_below_floor s.uplinks s.sessions found.1.device found.0;
 }
 
 -- ---- the uplink that it names, or that may be the same as what it tells of
@@ -89,13 +89,13 @@ uplink_numbered s number = option_map (λ uplink. (number, uplink)) (item_at s.u
 
 -- the session's data uplink with the verdict's counter
 abbrev pub data_told : State → Option (ℕ × Session) → Option ℕ → Option (ℕ × Uplink)
-data_told s session verdict = option_and_then (λ found. option_and_then (data_with s found.0) verdict) session
+data_told s session verdict = option_and_then (λ found. option_and_then (data_with s.uplinks found.0) verdict) session
 
 abbrev pub view_of_uplink : State → List ℕ → ℕ × Uplink → UplinkView
 view_of_uplink s gateway found = record { number = found.0; uplink = found.1; at_gateway = s.copies found.0 gateway }
 
 abbrev pub uplink_told : Settings → State → Message → Option UplinkView
-uplink_told c s (JoinHeard report verdict) = option_map (view_of_uplink s report.gateway) (option_and_then (join_with s) (join_request (frame_of report.octets)))
+uplink_told c s (JoinHeard report verdict) = option_map (view_of_uplink s report.gateway) (option_and_then (λ join. join_with s.uplinks s.sessions join.dev_eui join.nonce) (join_request (frame_of report.octets)))
 uplink_told c s (FrameHeard report verdict) = option_map (view_of_uplink s report.gateway) (data_told s (session_told c s (FrameHeard report verdict)) verdict)
 uplink_told c s (DownBook uplink gateway window octets) = option_map (view_of_uplink s gateway) (uplink_numbered s uplink)
 uplink_told c s _ = None
@@ -104,12 +104,12 @@ uplink_told c s _ = None
 
 -- a booking that isn't dropped answers the uplink
 abbrev pub answered_told : State → Message → Bool
-answered_told s (DownBook uplink gateway window octets) = is_answered s uplink
+answered_told s (DownBook uplink gateway window octets) = is_answered s.bookings uplink
 answered_told s _ = false
 
 -- the next downlink counter of the uplink's session
 abbrev pub next_down_told : State → Message → ℕ
-next_down_told s (DownBook uplink gateway window octets) = option_map_or (λ (found : Uplink). next_down s found.session) (item_at s.uplinks uplink) 0
+next_down_told s (DownBook uplink gateway window octets) = option_map_or (λ (found : Uplink). next_down s.bookings s.uplinks found.session) (item_at s.uplinks uplink) 0
 next_down_told s _ = 0
 
 -- how the booking that it names stands
@@ -130,11 +130,11 @@ gateway_told _ = []
 
 -- the downlinks of its gateway that aren't dropped and begin near it, in all bands
 abbrev pub near_told : State → Message → List Interval
-near_told s m = option_map_or (λ (opens : ℕ × Rate). near_ones (pos opens.0) (downlinks s (gateway_told m))) (window_told s m) []
+near_told s m = option_map_or (λ (opens : ℕ × Rate). near_ones (pos opens.0) (downlinks s.bookings (gateway_told m))) (window_told s m) []
 
 -- and in its band
 abbrev pub near_in : State → List ℕ → ℕ × Rate → List Interval
-near_in s gateway opens = option_map_or (λ band. near_ones (pos opens.0) (downlinks_in s gateway band)) (band_at opens.1.freq opens.1.dr) []
+near_in s gateway opens = option_map_or (λ band. near_ones (pos opens.0) (downlinks_in s.bookings gateway band)) (band_at opens.1.freq opens.1.dr) []
 
 abbrev pub near_in_band_told : State → Message → List Interval
 near_in_band_told s m = option_map_or (near_in s (gateway_told m)) (window_told s m) []

@@ -1,5 +1,4 @@
 //! What the messages of an operator change and how they are answered: one function for each, its checks in their order.
-ghost use Rattle.std.specs.Prelude.{◌≡◌};
 ghost use Rattle.registry_core.specs.declared.messages.Message.TheVariants.{SenderAdd, OwnerAdd, GatewayAdd, DeviceAdd, DeviceMove};
 ghost use Rattle.registry_core.specs.Viewed.{IsChecked};
 

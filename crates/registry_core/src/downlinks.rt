@@ -4,9 +4,8 @@ ghost use Rattle.radio_core.specs.DataRates.{max_length};
 ghost use Rattle.registry_core.specs.ByView.{HasRoom};
 ghost use Rattle.registry_core.specs.Downlinks.{on_air};
 ghost use Rattle.registry_core.specs.DownlinksByView.{down_added_by, down_book_by, down_done_by};
-ghost use Rattle.registry_core.specs.Bookings.{is_booked};
 ghost use Rattle.registry_core.specs.Viewed.{IsChecked};
-ghost use Rattle.registry_core.specs.declared.messages.Message.TheVariants.{DownBook, DownDone};
+ghost use Rattle.registry_core.specs.declared.messages.Message.TheVariants.{DownBook};
 
 use crate::addresses::address_of;
 use crate::answers::{Answer, Refusal};

@@ -24,7 +24,8 @@ pub enum Kind {
     Data,
 }
 
-/// A frame that a device sent, booked once. The counter of a join is its nonce. Times are microseconds.
+/// A frame that a device sent, booked once: the number of its session, from 1, and its counter, which of a join is its nonce.
+/// `start` is in microseconds since 1970 UTC, `airtime` in microseconds.
 #[derive(Clone, Copy, Debug, PartialEq, Eq)]
 pub struct Uplink {
     pub session: u64,

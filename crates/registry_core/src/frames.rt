@@ -55,7 +55,7 @@ impl Downlink {
     }
 }
 
-/// What the octets say, where they are a join request.
+/// What the octets say, where they are a join request: `None` exactly where they aren't.
 pub fn join_request(octets: &Octets) -> Option<JoinRequest>
     ensures { result ≡ join_request (frame_of octets.now) }
 {
@@ -63,7 +63,7 @@ pub fn join_request(octets: &Octets) -> Option<JoinRequest>
     join_of(&frame)
 }
 
-/// What the octets say, where they are a data frame of a device.
+/// What the octets say, where they are a data frame of a device, not one to it: `None` exactly where they aren't.
 pub fn data_up(octets: &Octets) -> Option<DataFrame>
     ensures { result ≡ data_up (frame_of octets.now) }
 {

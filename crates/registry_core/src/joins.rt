@@ -1,7 +1,7 @@
 //! What a join request changes and how it is answered (LoRaWAN L2 1.0.4, section 6.2).
 ghost use Rattle.std.specs.Prelude.{◌≡◌, ◌+◌, ◌-◌, ◌^◌, ◌<◌, ◌≤◌, length, Ok};
 ghost use Rattle.radio_core.specs.DataRates.{max_length};
-ghost use Rattle.registry_core.specs.ByView.{HasRoom, address_by, join_copied_by, join_added_by, join_heard_by};
+ghost use Rattle.registry_core.specs.ByView.{HasRoom, join_copied_by, join_added_by, join_heard_by};
 
 use crate::addresses::address_of;
 use crate::answers::{Answer, Refusal};

@@ -1,13 +1,14 @@
 //! Laws of the definitions: each is the contract of a function that does nothing, or only reads what its
 //! arguments keep.
 ghost use Rattle.std.specs.Prelude.{ℕ, ◌<◌, ◌^◌, IfSome, get_or};
-ghost use Rattle.registry_core.specs.DownlinkLaws.{BookedExactly, CopiesLieInBands, DownlinksAreShort, DownlinksHaveBands, HoursAreKept};
+ghost use Rattle.registry_core.specs.DownlinkLaws.{BookedExactly, CopiesLieInBands, DownlinksAreShort, DownlinksHaveBands, GatewaysSendOneAtATime, HoursAreKept, UplinksAreAnsweredOnce};
 ghost use Rattle.registry_core.specs.Fits.{DecisionsFit};
-ghost use Rattle.registry_core.specs.Heard.{HeardListsStay, NothingIsHeard};
-ghost use Rattle.registry_core.specs.Laws.{AddressesAreApart, AddressesLieInBlock, CopiesBookNothing, CountersAgreeWithFrames, CountersRise, DataCopiesAreFound, FramesAreBookedOnce, JoinCopiesAreFound, NoncesRise, RefusalsChangeNothing, SendersStay, SessionsAreFound, UplinksHaveCopies, UplinksStay};
+ghost use Rattle.registry_core.specs.Heard.{FirstAnswersStay, HeardListsStay, NewNumbersAreDecided, NothingIsHeard, UsedNumbersAreRefused};
+ghost use Rattle.registry_core.specs.Laws.{AddressesAreApart, AddressesLieInBlock, CopiesBookNothing, CountersAgreeWithFrames, CountersRise, DataCopiesAreFound, FramesAreBookedOnce, JoinCopiesAreFound, NoncesRise, OperatorsKeepTheRegister, RefusalsChangeNothing, SendersStay, SessionsAreFound, SessionsHaveJoins, UplinksHaveCopies, UplinksHaveSessions, UplinksStay};
 ghost use Rattle.registry_core.specs.Ranges.{IsEnvelope, IsOctets, IsReport, IsSettings};
 ghost use Rattle.registry_core.specs.ReportOrder.{DataInAnyOrder, JoinsInAnyOrder};
 ghost use Rattle.registry_core.specs.Same.{SameMessageTells};
+ghost use Rattle.registry_core.specs.UplinkLaws.{FramesBookedExactly, JoinedExactly};
 
 use crate::configuration::Config;
 use crate::messages::{Envelope, Message, Report};
@@ -16,11 +17,13 @@ use radio_core::Octets;
 use radio_core::laws::airtime_is_bounded;
 
 /// The test of two messages tells whether they are equal.
+#[tactic(auto, using(crate::proofs::Sameness::same_message_tells))]
 pub fn same_message_tells()
     ensures { SameMessageTells }
 {}
 
 /// Whatever was heard, the effect of a step adds only what isn't there, and names only what is.
+#[tactic(auto, using(crate::proofs::Decisions::decisions_fit))]
 pub fn decisions_fit()
     ensures { DecisionsFit }
 {}
@@ -35,33 +38,56 @@ pub fn heard_lists_stay()
     ensures { HeardListsStay }
 {}
 
+/// What is replied: a message that was heard gets what its step answered then, whatever was heard after it; another one of its
+/// sender with its number is refused; and one with a new number gets what its step answers now.
+pub fn first_answers_stay()
+    ensures first { FirstAnswersStay }
+    ensures used { UsedNumbersAreRefused }
+    ensures new { NewNumbersAreDecided }
+{}
+
 /// Whatever was heard, the address of each session lies in the block.
+#[tactic(auto, using(crate::proofs::SessionLaws::addresses_lie_in_block))]
 pub fn addresses_lie_in_block()
     ensures { AddressesLieInBlock }
 {}
 
 /// Whatever was heard, no two sessions have one address.
+#[tactic(auto, using(crate::proofs::SessionLaws::addresses_are_apart))]
 pub fn addresses_are_apart()
     ensures { AddressesAreApart }
 {}
 
 /// Whatever was heard, a device's nonces rise from session to session.
+#[tactic(auto, using(crate::proofs::SessionLaws::nonces_rise))]
 pub fn nonces_rise()
     ensures { NoncesRise }
 {}
 
 /// Whatever was heard, no two uplinks have one session, one kind and one counter: each frame is booked once.
+#[tactic(auto, using(crate::proofs::UplinkLaws::frames_are_booked_once))]
 pub fn frames_are_booked_once()
     ensures { FramesAreBookedOnce }
 {}
 
+/// Which frames are booked as new uplinks. Whatever was heard, a join request makes a session exactly where it comes of a known
+/// device with its JoinEUI, its integrity code is right, its DevNonce is above those of the device's sessions, and an address is
+/// left. A data frame is booked exactly where it has a session's address, no later session of the device has a data uplink, and
+/// the counter at which its integrity code is right is the one that FCnt gives after the session's last.
+pub fn frames_are_booked_exactly()
+    ensures joins { JoinedExactly }
+    ensures data { FramesBookedExactly }
+{}
+
 /// Whatever was heard, the counters of a session's data uplinks rise from uplink to uplink.
+#[tactic(auto, using(crate::proofs::UplinkLaws::counters_rise))]
 pub fn counters_rise()
     ensures { CountersRise }
 {}
 
 /// Whatever was heard, the octets of a data uplink are a data frame of its session's address, whose FCnt agrees with its
 /// counter modulo 65,536.
+#[tactic(auto, using(crate::proofs::UplinkLaws::counters_agree_with_frames))]
 pub fn counters_agree_with_frames()
     ensures { CountersAgreeWithFrames }
 {}
@@ -82,17 +108,27 @@ pub fn data_copies_are_found()
     ensures { DataCopiesAreFound }
 {}
 
+/// Whatever was heard, each session has the join uplink that made it, and each uplink is one of a session that is there. A
+/// session's nonce is the counter of its join.
+pub fn sessions_have_joins()
+    ensures sessions { SessionsHaveJoins }
+    ensures uplinks { UplinksHaveSessions }
+{}
+
 /// Whatever was heard, each uplink has a copy at some gateway.
+#[tactic(auto, using(crate::proofs::UplinkLaws::uplinks_have_copies))]
 pub fn uplinks_have_copies()
     ensures { UplinksHaveCopies }
 {}
 
 /// No message changes an uplink that is booked.
+#[tactic(auto, using(crate::proofs::UplinkLaws::uplinks_stay))]
 pub fn uplinks_stay()
     ensures { UplinksStay }
 {}
 
 /// Whatever was heard, what is answered as a copy adds no session and no uplink, and changes no booking.
+#[tactic(auto, using(crate::proofs::CopyLaws::copies_book_nothing))]
 pub fn copies_book_nothing()
     ensures { CopiesBookNothing }
 {}
@@ -112,6 +148,18 @@ pub fn hours_are_kept()
     computed_forms_tell();
 }
 
+/// Whatever was heard, no two downlinks of a gateway that aren't dropped are on the air at once, in whatever bands.
+pub fn gateways_send_one_at_a_time()
+    ensures { GatewaysSendOneAtATime }
+{
+    computed_forms_tell();
+}
+
+/// Whatever was heard, no two downlinks that aren't dropped answer one uplink.
+pub fn uplinks_are_answered_once()
+    ensures { UplinksAreAnsweredOnce }
+{}
+
 /// Whatever was heard, no downlink is longer than 3,000,000 microseconds.
 pub fn downlinks_are_short()
     ensures { DownlinksAreShort }
@@ -129,11 +177,13 @@ pub fn booked_exactly()
 }
 
 /// Whatever was heard, what a gateway received of an uplink lies in a band.
+#[tactic(auto, using(crate::proofs::DownlinkLaws::copies_lie_in_bands))]
 pub fn copies_lie_in_bands()
     ensures { CopiesLieInBands }
 {}
 
 /// Whatever was heard, no downlink is refused for its band.
+#[tactic(auto, using(crate::proofs::DownlinkLaws::downlinks_have_bands))]
 pub fn downlinks_have_bands()
     ensures { DownlinksHaveBands }
 {}
@@ -143,7 +193,13 @@ pub fn refusals_change_nothing()
     ensures { RefusalsChangeNothing }
 {}
 
+/// What is kept of senders, owners, gateways and devices is changed by messages of operators alone.
+pub fn operators_keep_the_register()
+    ensures { OperatorsKeepTheRegister }
+{}
+
 /// A message that adds no sender leaves the senders as they are.
+#[tactic(auto, using(crate::proofs::EveryMessage::senders_stay))]
 pub fn senders_stay()
     ensures { SendersStay }
 {}

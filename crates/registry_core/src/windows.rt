@@ -13,8 +13,9 @@ pub enum Window {
     Second,
 }
 
-/// Where a downlink in the window begins, in microseconds, and how it is sent. `end` is when the last symbol of the uplink
-/// ended at the gateway, `rate` how the gateway heard it.
+/// Where a downlink in the window begins, in microseconds since 1970 UTC, and how it is sent, its frequency in hertz: the
+/// receive windows of Class A (LoRaWAN L2 1.0.4, section 3.3; RP002-1.0.4, EU863-870). `end` is when the last symbol of the uplink ended
+/// at the gateway, `rate` how the gateway heard it.
 pub fn receive(kind: Kind, end: Whole, rate: Rate, window: Window) -> (u64, Rate)
     ensures window { result ≡ window_of kind end rate window }
     ensures range { result.0 < 2 ^ 62 }
@@ -22,6 +23,7 @@ pub fn receive(kind: Kind, end: Whole, rate: Rate, window: Window) -> (u64, Rate
     (end.get() + delay(kind, window), rate_in(window, rate))
 }
 
+/// How long after the uplink the window opens, in microseconds.
 fn delay(kind: Kind, window: Window) -> u64
     ensures { result ≡ delay kind window }
 {
@@ -33,6 +35,7 @@ fn delay(kind: Kind, window: Window) -> u64
     }
 }
 
+/// How a downlink in the window is sent.
 fn rate_in(window: Window, rate: Rate) -> Rate
     ensures { result ≡ rate_in window rate }
 {

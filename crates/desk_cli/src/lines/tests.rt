@@ -145,6 +145,20 @@ impl Write for FailingWriter {
     }
 }
 
+/// Takes all, and fails to hand it on.
+#[derive(Drop)]
+struct HoldingWriter;
+
+impl Write for HoldingWriter {
+    fn write(&mut self, buf: &[u8]) -> io::Result<usize> {
+        Ok(buf.len())
+    }
+
+    fn flush(&mut self) -> io::Result<()> {
+        Err(ErrorKind::BrokenPipe.into())
+    }
+}
+
 #[test]
 fn a_read_that_fails(rt: HostRuntime) -> Result<(), Fail> {
     let mut input = Vec::new(rt.alloc());
@@ -167,6 +181,18 @@ fn a_read_that_fails(rt: HostRuntime) -> Result<(), Fail> {
 fn a_write_that_fails(rt: HostRuntime) -> Result<(), Fail> {
     let mut reader = REQUEST.as_bytes();
     let mut answers = FailingWriter;
+    let mut faults = Vec::new(rt.alloc());
+    let config = config().ok_or("no configuration")?;
+    let ending = lines_command(rt.alloc(), &config, &mut reader, &mut answers, &mut faults);
+    assert!(rt; ending == Ending::Failed);
+    assert!(rt; faults.as_slice() == b"desk: file\n".as_slice());
+    Ok(())
+}
+
+#[test]
+fn a_flush_that_fails(rt: HostRuntime) -> Result<(), Fail> {
+    let mut reader = REQUEST.as_bytes();
+    let mut answers = HoldingWriter;
     let mut faults = Vec::new(rt.alloc());
     let config = config().ok_or("no configuration")?;
     let ending = lines_command(rt.alloc(), &config, &mut reader, &mut answers, &mut faults);

@@ -10,7 +10,7 @@ const UNKNOWN_ADDRESS: Told = Plain(0, "", "UnknownDevAddr");
 
 const ENDED: Told = Plain(0, "session", "Other");
 
-const REPLAYED: Told = Plain(0, "replayed", "Other");
+pub(super) const REPLAYED: Told = Plain(0, "replayed", "Other");
 
 const LATE: Told = Plain(0, "late", "Other");
 
@@ -42,7 +42,7 @@ const DEVICE_EUI: &str = "0004a30b001a2b3c";
 
 const FCNT_0: &str = "400000a00100000011223344";
 
-const FCNT_0_OTHER_MIC: &str = "400000a00100000011223345";
+pub(super) const FCNT_0_OTHER_MIC: &str = "400000a00100000011223345";
 
 const FCNT_1: &str = "400000a00100010011223344";
 
@@ -88,7 +88,7 @@ const THIRD_5: &str = "400200a00100050011223344";
 const THIRD_5_CONFIRMED: &str = "800200a00100050011223344";
 
 /// The report of the worked data frame.
-const HEARD: Heard = Heard {
+pub(super) const HEARD: Heard = Heard {
     gateway: "gw-a",
     time: 1_706_745_700_041_216,
     freq: 868_300_000,

@@ -8,7 +8,7 @@ const NO_UPLINK: Told = Plain(0, "uplink", "Other");
 
 const UNKNOWN_ADDRESS: Told = Plain(0, "", "UnknownDevAddr");
 
-const ANSWERED: Told = Plain(0, "answered", "XmitFailed");
+pub(super) const ANSWERED: Told = Plain(0, "answered", "XmitFailed");
 
 const COUNTER: Told = Plain(0, "fcntdown", "Other");
 
@@ -18,9 +18,9 @@ const DUTY: Told = Plain(0, "duty", "XmitFailed");
 
 const NO_BOOKING: Told = Plain(0, "booking", "Other");
 
-const DONE: Told = Plain(0, "done", "Other");
+pub(super) const DONE: Told = Plain(0, "done", "Other");
 
-const DEVICE_EUI: &str = "0004a30b001a2b3c";
+pub(super) const DEVICE_EUI: &str = "0004a30b001a2b3c";
 
 // Data frames of the device, by FCnt.
 
@@ -38,7 +38,7 @@ const UP_4: &str = "400000a00100040011223344";
 
 const DOWN_0: &str = "600000a00100000055667788";
 
-const DOWN_1: &str = "600000a00100010055667788";
+pub(super) const DOWN_1: &str = "600000a00100010055667788";
 
 const DOWN_2: &str = "600000a00100020055667788";
 
@@ -76,7 +76,7 @@ const HEARD: Heard = Heard {
     verdict: "0",
 };
 
-const DOWN: Down = Down {
+pub(super) const DOWN: Down = Down {
     uplink: 2,
     gateway: "gw-a",
     window: 1,
@@ -99,9 +99,9 @@ const WORKED_END: &str =
 const WORKED_END_ANSWER: &str =
     r#"{"MessageType":"DownDoneAns","ProtocolVersion":"1.0","ReceiverID":"bridge","Result":{"Description":"","ResultCode":"Success"},"SenderID":"desk","TransactionID":14}"#;
 
-const SENT_1: &str = r#""Booking":1,"Sent":true"#;
+pub(super) const SENT_1: &str = r#""Booking":1,"Sent":true"#;
 
-const DROPPED_1: &str = r#""Booking":1,"Sent":false"#;
+pub(super) const DROPPED_1: &str = r#""Booking":1,"Sent":false"#;
 
 const DROPPED_2: &str = r#""Booking":2,"Sent":false"#;
 
@@ -113,7 +113,7 @@ const DROPPED_99: &str = r#""Booking":99,"Sent":false"#;
 
 const SENT_AS_TEXT: &str = r#""Booking":1,"Sent":"true""#;
 
-const WITHOUT_SENT: &str = r#""Booking":1"#;
+pub(super) const WITHOUT_SENT: &str = r#""Booking":1"#;
 
 /// After the setup: the worked downlinks, and one of an uplink at its other gateway.
 #[rattlefmt::skip]

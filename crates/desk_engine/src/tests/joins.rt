@@ -15,7 +15,7 @@ const JOIN_EUI: Told = Plain(0, "joineui", "JoinReqFailed");
 
 pub(super) const MIC: Told = Plain(0, "", "MICFailed");
 
-const NONCE: Told = Plain(0, "nonce", "JoinReqFailed");
+pub(super) const NONCE: Told = Plain(0, "nonce", "JoinReqFailed");
 
 const ADDRESSES: Told = Plain(0, "addresses", "Other");
 
@@ -29,7 +29,7 @@ const WORKED_ANSWER: &str =
 
 pub(super) const FIRST_ADDED: Told = Joined(61_696, "B3", false, "01a00000", 1);
 
-const FIRST_COPIED: Told = Joined(61_696, "B3", true, "01a00000", 1);
+pub(super) const FIRST_COPIED: Told = Joined(61_696, "B3", true, "01a00000", 1);
 
 // Join requests of the device. The nonce is octets 17 and 18, the lowest first, and the MIC the last four.
 
@@ -37,7 +37,7 @@ pub(super) const NONCE_0: &str = "00010000d07ed5b3703c2b1a000ba304000000a1b2c3d4
 
 const NONCE_0_IN_CAPITALS: &str = "0x00010000D07ED5B3703C2B1A000BA304000000A1B2C3D4";
 
-const NONCE_0_OTHER_MIC: &str = "00010000d07ed5b3703c2b1a000ba304000000a1b2c3d5";
+pub(super) const NONCE_0_OTHER_MIC: &str = "00010000d07ed5b3703c2b1a000ba304000000a1b2c3d5";
 
 pub(super) const NONCE_1: &str = "00010000d07ed5b3703c2b1a000ba304000100a1b2c3d4";
 

@@ -21,13 +21,13 @@ pub(super) const SUCCESS: Told = Plain(0, "", "Success");
 
 const ROLE: Told = Plain(0, "role", "Other");
 
-const EXISTS: Told = Plain(0, "exists", "Other");
+pub(super) const EXISTS: Told = Plain(0, "exists", "Other");
 
 const UNKNOWN_OWNER: Told = Plain(0, "owner", "Other");
 
 pub(super) const UNKNOWN_DEVICE: Told = Plain(0, "", "UnknownDevEUI");
 
-const UNKNOWN_SENDER: Told = Plain(4, "", "UnknownSender");
+pub(super) const UNKNOWN_SENDER: Told = Plain(4, "", "UnknownSender");
 
 pub(super) const REUSED: Told = Plain(5, "transaction", "Other");
 
@@ -91,7 +91,7 @@ pub(super) fn deliveries_of(alloc: Global, rows: &[Row]) -> Result<Vec<Delivery>
     Ok(deliveries)
 }
 
-fn delivery_of(alloc: Global, row: &Row) -> Result<Delivery, AllocError> {
+pub(super) fn delivery_of(alloc: Global, row: &Row) -> Result<Delivery, AllocError> {
     match *row {
         Asks(sender, transaction, type_name, members, told) => {
             asked(alloc, sender, transaction, type_name, members, told)
@@ -232,11 +232,11 @@ pub(super) const ADDED: &str =
 pub(super) const MALFORMED: &str =
     r#"{"ProtocolVersion":"1.0","Result":{"Description":"malformed","ResultCode":"Other"},"SenderID":"desk"}"#;
 
-const TOWN: &str = r#""Owner":"town""#;
+pub(super) const TOWN: &str = r#""Owner":"town""#;
 
-const CITY: &str = r#""Owner":"city""#;
+pub(super) const CITY: &str = r#""Owner":"city""#;
 
-const LONG_OWNER: &str = r#""Owner":"abcdefghijklmnopqrstuvwxyzabcdefg""#;
+pub(super) const LONG_OWNER: &str = r#""Owner":"abcdefghijklmnopqrstuvwxyzabcdefg""#;
 
 // The tables are statics: a proof goes through all rows of a constant where it is used, which takes minutes.
 
@@ -269,15 +269,15 @@ pub(super) static OWNERS: [Row; 12] = [
     Asks("office", 3, "OwnerAdd", CITY, SUCCESS),
 ];
 
-const BRIDGE: &str = r#""Sender":"bridge","Role":"radio""#;
+pub(super) const BRIDGE: &str = r#""Sender":"bridge","Role":"radio""#;
 
-const OFFICE: &str = r#""Sender":"office","Role":"operator""#;
+pub(super) const OFFICE: &str = r#""Sender":"office","Role":"operator""#;
 
 const STRANGER: &str = r#""Sender":"stranger","Role":"operator""#;
 
-const GATEWAY_A: &str = r#""Gateway":"gw-a""#;
+pub(super) const GATEWAY_A: &str = r#""Gateway":"gw-a""#;
 
-const GATEWAY_B: &str = r#""Gateway":"gw-b""#;
+pub(super) const GATEWAY_B: &str = r#""Gateway":"gw-b""#;
 
 const GATEWAY_C: &str = r#""Gateway":"gw-c""#;
 
@@ -296,24 +296,24 @@ pub(super) const OTHER: &str =
 const OTHER_OF_CITY: &str =
     r#""DevEUI":"0004a30b001a2b3d","JoinEUI":"70b3d57ed0000001","Owner":"city""#;
 
-const DEVICE_TO_TOWN: &str = r#""DevEUI":"0004a30b001a2b3c","Owner":"town""#;
+pub(super) const DEVICE_TO_TOWN: &str = r#""DevEUI":"0004a30b001a2b3c","Owner":"town""#;
 
-const DEVICE_TO_CITY: &str = r#""DevEUI":"0004a30b001a2b3c","Owner":"city""#;
+pub(super) const DEVICE_TO_CITY: &str = r#""DevEUI":"0004a30b001a2b3c","Owner":"city""#;
 
 const OTHER_TO_TOWN: &str = r#""DevEUI":"0004a30b001a2b3d","Owner":"town""#;
 
-const OTHER_TO_CITY: &str = r#""DevEUI":"0004a30b001a2b3d","Owner":"city""#;
+pub(super) const OTHER_TO_CITY: &str = r#""DevEUI":"0004a30b001a2b3d","Owner":"city""#;
 
-const AS_ADMIN: &str = r#""Sender":"third","Role":"admin""#;
+pub(super) const AS_ADMIN: &str = r#""Sender":"third","Role":"admin""#;
 
 const WITHOUT_ROLE: &str = r#""Sender":"third""#;
 
 const AS_RADIO: &str = r#""Sender":"third","Role":"radio""#;
 
-const TWO_WORDS: &str = r#""Gateway":"gw d""#;
+pub(super) const TWO_WORDS: &str = r#""Gateway":"gw d""#;
 
 /// A DevEUI of 15 digits.
-const SHORT_DEVICE: &str =
+pub(super) const SHORT_DEVICE: &str =
     r#""DevEUI":"0004a30b001a2b3","JoinEUI":"70b3d57ed0000001","Owner":"town""#;
 
 /// A JoinEUI behind `0X`.
@@ -321,7 +321,7 @@ const PREFIX_IN_CAPITALS: &str =
     r#""DevEUI":"0004a30b001a2b3e","JoinEUI":"0X70b3d57ed0000001","Owner":"town""#;
 
 /// A DevEUI of 15 digits.
-const SHORT_TO_TOWN: &str = r#""DevEUI":"0004a30b001a2b3","Owner":"town""#;
+pub(super) const SHORT_TO_TOWN: &str = r#""DevEUI":"0004a30b001a2b3","Owner":"town""#;
 
 /// A DevEUI of 18 digits.
 const LONG_TO_TOWN: &str = r#""DevEUI":"0004a30b001a2b3c00","Owner":"town""#;
@@ -333,6 +333,9 @@ pub(super) static SETUP: [Row; 4] = [
     Asks("office", 900_002, "GatewayAdd", GATEWAY_A, SUCCESS),
     Asks("office", 900_003, "GatewayAdd", GATEWAY_B, SUCCESS),
 ];
+
+/// After the setup: the worked device.
+pub(super) static DEVICE_ADDED: [Row; 1] = [Asks("office", 900_004, "DeviceAdd", DEVICE, SUCCESS)];
 
 /// After the setup: senders, owners, gateways and devices, with each refusal that their messages may have.
 pub(super) static REGISTRY: [Row; 45] = [

@@ -1,5 +1,5 @@
 //! Downlinks: asked for, told done, and how they are answered.
-use super::{fault_number, name, request};
+use super::{name, refusal_of, request};
 use crate::{read_message, write_answer, write_message};
 use radio_core::{Band, Octets};
 use registry_core::{Answer, Envelope, Message, Refusal, Whole, Window};
@@ -149,10 +149,7 @@ fn downlinks_that_lack_a_member_in_its_form_are_bad(rt: HostRuntime) -> Result<(
         r#""DownDone","Booking":1,"Sent":null"#,
     ] {
         let text = request(rt.alloc(), message)?;
-        match read_message(rt.alloc(), text.as_bytes(), &desk) {
-            Ok(_) => assert!(rt; false, "{text}"),
-            Err(fault) => assert_eq!(rt; fault_number(&fault), 7, "{text}"),
-        }
+        assert_eq!(rt; refusal_of(rt.alloc(), text.as_bytes(), &desk), 7, "{text}");
     }
     Ok(())
 }

@@ -1,6 +1,6 @@
 //! Reports of data frames that were heard, and how they are answered.
 use super::heard::report;
-use super::{fault_number, name, request};
+use super::{name, refusal_of, request};
 use crate::{read_message, write_answer, write_message};
 use radio_core::{Band, Eui};
 use registry_core::{Answer, Envelope, Message};
@@ -118,10 +118,7 @@ fn frames_with_another_verdict_are_bad(rt: HostRuntime) -> Result<(), Fail> {
             r#""FrameHeard","Gateway":"gw-a","Time":0,"Freq":0,"DataRate":0,"PHYPayload":"","Verdict":{verdict}"#
         )?;
         let text = request(rt.alloc(), message.as_str())?;
-        match read_message(rt.alloc(), text.as_bytes(), &desk) {
-            Ok(_) => assert!(rt; false, "{text}"),
-            Err(fault) => assert_eq!(rt; fault_number(&fault), 7, "{text}"),
-        }
+        assert_eq!(rt; refusal_of(rt.alloc(), text.as_bytes(), &desk), 7, "{text}");
     }
     Ok(())
 }

@@ -1,5 +1,5 @@
 //! Reports of join requests that were heard, and how they are answered.
-use super::{envelope, fault_number, name, request};
+use super::{envelope, is_read_and_written, name, refusal_of, request};
 use crate::{read_message, write_answer, write_message};
 use radio_core::{Band, DataRate, DevAddr, Octets, Rate};
 use registry_core::{Answer, Envelope, JoinVerdict, Message, Refusal, Report, Whole};
@@ -123,23 +123,26 @@ fn payloads_are_even_digits_of_at_most_255_octets(rt: HostRuntime) -> Result<(),
         ("00a1b", None),
         ("00a1bg", None),
         ("0X00a1b2", None),
+        ("0x0", None),
+        ("0x0x00a1b2", None),
     ] {
         let message = format!(in rt.alloc();
             r#""JoinHeard","Verdict":"Good","Time":1767225600000000,"PHYPayload":"{payload}","Gateway":"gw-a","Freq":868100000,"DataRate":5"#
         )?;
         let text = request(rt.alloc(), message.as_str())?;
-        let read = read_message(rt.alloc(), text.as_bytes(), &desk);
-        match (read, wanted) {
-            (Ok(found), Some(octets)) => {
+        match wanted {
+            Some(octets) => {
                 let verdict = JoinVerdict::Good;
                 let report = report(octets.get())?;
-                let wanted = envelope(Message::JoinHeard { report, verdict })?;
-                assert!(rt; found == wanted, "{text}");
-                let written = write_message(rt.alloc(), &wanted, &desk)?;
-                assert!(rt; read_message(rt.alloc(), written.as_slice(), &desk) == Ok(wanted));
+                let heard = envelope(Message::JoinHeard { report, verdict })?;
+                assert!(rt;
+                    is_read_and_written(rt.alloc(), text.as_bytes(), &heard, &desk)?,
+                    "{text}"
+                );
             }
-            (Err(fault), None) => assert_eq!(rt; fault_number(&fault), 7, "{text}"),
-            _ => assert!(rt; false, "{text}"),
+            None => {
+                assert_eq!(rt; refusal_of(rt.alloc(), text.as_bytes(), &desk), 7, "{text}");
+            }
         }
     }
     Ok(())
@@ -189,21 +192,23 @@ fn numbers_and_verdicts_have_their_forms(rt: HostRuntime) -> Result<(), Fail> {
             r#""JoinHeard","Gateway":"gw-a","Time":{time},"Freq":{freq},"DataRate":{rate},"PHYPayload":"","Verdict":{verdict}"#
         )?;
         let text = request(rt.alloc(), message.as_str())?;
-        match (read_message(rt.alloc(), text.as_bytes(), &desk), wanted) {
-            (Ok(found), Some((time, freq, dr, verdict))) => {
+        match wanted {
+            Some((time, freq, dr, verdict)) => {
                 let report = Report {
                     gateway: name("gw-a")?,
                     time: Whole::new(time).ok_or("no whole number")?,
                     rate: Rate { freq, dr },
                     octets: Octets::new(b"").ok_or("no octets")?,
                 };
-                let wanted = envelope(Message::JoinHeard { report, verdict })?;
-                assert!(rt; found == wanted, "{text}");
-                let written = write_message(rt.alloc(), &wanted, &desk)?;
-                assert!(rt; read_message(rt.alloc(), written.as_slice(), &desk) == Ok(wanted));
+                let heard = envelope(Message::JoinHeard { report, verdict })?;
+                assert!(rt;
+                    is_read_and_written(rt.alloc(), text.as_bytes(), &heard, &desk)?,
+                    "{text}"
+                );
             }
-            (Err(fault), None) => assert_eq!(rt; fault_number(&fault), 7, "{text}"),
-            _ => assert!(rt; false, "{text}"),
+            None => {
+                assert_eq!(rt; refusal_of(rt.alloc(), text.as_bytes(), &desk), 7, "{text}");
+            }
         }
     }
     Ok(())
@@ -223,10 +228,7 @@ fn joins_that_lack_a_member_are_bad(rt: HostRuntime) -> Result<(), Fail> {
         r#""JoinHeard","Gateway":"gw-a","Time":0,"Freq":0,"DataRate":0,"PHYPayload":null,"Verdict":"Good""#,
     ] {
         let text = request(rt.alloc(), message)?;
-        match read_message(rt.alloc(), text.as_bytes(), &desk) {
-            Ok(_) => assert!(rt; false, "{text}"),
-            Err(fault) => assert_eq!(rt; fault_number(&fault), 7, "{text}"),
-        }
+        assert_eq!(rt; refusal_of(rt.alloc(), text.as_bytes(), &desk), 7, "{text}");
     }
     Ok(())
 }

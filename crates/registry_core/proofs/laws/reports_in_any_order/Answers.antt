@@ -1,5 +1,5 @@
+use Rattle.registry_core.proofs.DataOrder.{data_in_any_order}
 use Rattle.registry_core.proofs.JoinOrder.{joins_in_any_order}
-use Rattle.registry_core.proofs.ReportOrder.{data_in_any_order}
 use Rattle.registry_core.proofs.laws.reports_in_any_order.Goals as goal
 
 pub returns-clause-joins : goal.returns-clause-joins

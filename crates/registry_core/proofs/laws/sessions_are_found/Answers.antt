@@ -1,4 +1,4 @@
-use Rattle.registry_core.proofs.DataLaws.{sessions_are_found}
+use Rattle.registry_core.proofs.SessionLaws.{sessions_are_found}
 use Rattle.registry_core.proofs.laws.sessions_are_found.Goals as goal
 
 pub returns : goal.returns

@@ -1,0 +1,110 @@
+//! Gateway reports: the worked one twice, one that goes on after refusals, and one of a sender that nobody added.
+use super::rows::{DEVICE_ADDED, SETUP};
+use super::{deliver_each, expect, opening};
+use crate::{Imported, import};
+use desk_store::Lists;
+use desk_wire::read_report;
+use radio_core::Name;
+use std::alloc::Global;
+use std::process::Abort;
+use std::test::Fail;
+
+const WORKED: &[u8] =
+    b"transaction,type,gateway,time_us,freq_hz,dr,phy,verdict\n10,JoinHeard,gw-a,1706745600061696,868100000,5,00010000d07ed5b3703c2b1a000ba304000000a1b2c3d4,Good\n11,FrameHeard,gw-a,1706745700041216,868300000,5,400000a00100000011223344,0\n12,FrameHeard,gw-b,1706745700041220,868300000,5,400000a00100000011223344,0\n";
+
+/// A used number with another message, a frame of an unknown gateway, a repeat, and a new frame.
+const MIXED: &[u8] =
+    b"transaction,type,gateway,time_us,freq_hz,dr,phy,verdict\n11,FrameHeard,gw-b,1706745700041216,868300000,5,400000a00100000011223344,0\n13,FrameHeard,gw-c,1706745700041216,868300000,5,400000a00100000011223344,0\n12,FrameHeard,gw-b,1706745700041220,868300000,5,400000a00100000011223344,0\n14,FrameHeard,gw-a,1706745800041216,868300000,5,400000a00100010011223344,1\n";
+
+type Told = (u8, &'static str);
+
+static WORKED_ANSWERS: [Told; 3] = [
+    (
+        0,
+        r#"{"Airtime":61696,"Band":"B3","Copy":false,"DevAddr":"01a00000","MessageType":"JoinHeardAns","ProtocolVersion":"1.0","ReceiverID":"bridge","Result":{"Description":"","ResultCode":"Success"},"SenderID":"desk","TransactionID":10,"Uplink":1}"#,
+    ),
+    (
+        0,
+        r#"{"Airtime":41216,"Band":"B3","Copy":false,"Counter":0,"DevEUI":"0004a30b001a2b3c","MessageType":"FrameHeardAns","ProtocolVersion":"1.0","ReceiverID":"bridge","Result":{"Description":"","ResultCode":"Success"},"SenderID":"desk","TransactionID":11,"Uplink":2}"#,
+    ),
+    (
+        0,
+        r#"{"Airtime":41216,"Band":"B3","Copy":true,"Counter":0,"DevEUI":"0004a30b001a2b3c","MessageType":"FrameHeardAns","ProtocolVersion":"1.0","ReceiverID":"bridge","Result":{"Description":"","ResultCode":"Success"},"SenderID":"desk","TransactionID":12,"Uplink":2}"#,
+    ),
+];
+
+static MIXED_ANSWERS: [Told; 4] = [
+    (
+        5,
+        r#"{"MessageType":"FrameHeardAns","ProtocolVersion":"1.0","ReceiverID":"bridge","Result":{"Description":"transaction","ResultCode":"Other"},"SenderID":"desk","TransactionID":11}"#,
+    ),
+    (
+        0,
+        r#"{"MessageType":"FrameHeardAns","ProtocolVersion":"1.0","ReceiverID":"bridge","Result":{"Description":"gateway","ResultCode":"Other"},"SenderID":"desk","TransactionID":13}"#,
+    ),
+    (
+        0,
+        r#"{"Airtime":41216,"Band":"B3","Copy":true,"Counter":0,"DevEUI":"0004a30b001a2b3c","MessageType":"FrameHeardAns","ProtocolVersion":"1.0","ReceiverID":"bridge","Result":{"Description":"","ResultCode":"Success"},"SenderID":"desk","TransactionID":12,"Uplink":2}"#,
+    ),
+    (
+        0,
+        r#"{"Airtime":41216,"Band":"B3","Copy":false,"Counter":1,"DevEUI":"0004a30b001a2b3c","MessageType":"FrameHeardAns","ProtocolVersion":"1.0","ReceiverID":"bridge","Result":{"Description":"","ResultCode":"Success"},"SenderID":"desk","TransactionID":14,"Uplink":3}"#,
+    ),
+];
+
+static STRANGERS_ANSWERS: [Told; 3] = [
+    (
+        4,
+        r#"{"MessageType":"JoinHeardAns","ProtocolVersion":"1.0","ReceiverID":"stranger","Result":{"Description":"","ResultCode":"UnknownSender"},"SenderID":"desk","TransactionID":10}"#,
+    ),
+    (
+        4,
+        r#"{"MessageType":"FrameHeardAns","ProtocolVersion":"1.0","ReceiverID":"stranger","Result":{"Description":"","ResultCode":"UnknownSender"},"SenderID":"desk","TransactionID":11}"#,
+    ),
+    (
+        4,
+        r#"{"MessageType":"FrameHeardAns","ProtocolVersion":"1.0","ReceiverID":"stranger","Result":{"Description":"","ResultCode":"UnknownSender"},"SenderID":"desk","TransactionID":12}"#,
+    ),
+];
+
+fn imported(
+    alloc: Global,
+    lists: &mut Lists,
+    text: &[u8],
+    sender: &[u8],
+) -> Result<Imported, Fail> {
+    let sender = Name::new(sender).ok_or("no name")?;
+    match read_report(alloc, text, &sender) {
+        Ok(envelopes) => Ok(import(alloc, lists, &envelopes)),
+        Err(_) => Err("no report".into()),
+    }
+}
+
+/// The report is imported whole, and each answer is the one that is told.
+fn expect_imported<R: Abort + AllocGlobal>(
+    rt: &R,
+    lists: &mut Lists,
+    text: &[u8],
+    sender: &[u8],
+    wanted: &[Told],
+) -> Result<(), Fail> {
+    let imported = imported(rt.alloc(), lists, text, sender)?;
+    assert!(rt; imported.stopped.is_none());
+    assert_eq!(rt; imported.answers.len(), wanted.len());
+    for (outcome, (number, text)) in imported.answers.iter().zip(wanted) {
+        expect(rt, outcome, *number, text);
+    }
+    Ok(())
+}
+
+#[test]
+fn reports_are_heard_in_order(rt: HostRuntime) -> Result<(), Fail> {
+    let mut lists = opening(rt.alloc(), 65_536)?;
+    deliver_each(&rt, &mut lists, &SETUP)?;
+    deliver_each(&rt, &mut lists, &DEVICE_ADDED)?;
+    expect_imported(&rt, &mut lists, WORKED, b"bridge", &WORKED_ANSWERS)?;
+    expect_imported(&rt, &mut lists, WORKED, b"bridge", &WORKED_ANSWERS)?;
+    expect_imported(&rt, &mut lists, MIXED, b"bridge", &MIXED_ANSWERS)?;
+    expect_imported(&rt, &mut lists, MIXED, b"bridge", &MIXED_ANSWERS)?;
+    expect_imported(&rt, &mut lists, WORKED, b"stranger", &STRANGERS_ANSWERS)
+}

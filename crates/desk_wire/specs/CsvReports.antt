@@ -1,0 +1,161 @@
+-- Which envelopes a gateway's report in CSV (RFC 4180) is; its columns are this project's.
+use Rattle.std.specs.Prelude.{◌≡◌, ℕ, ◌+◌, ◌^◌, ◌-◌, ◌==◌, Bool, false, ◌&&◌, List, [], ◌∷◌, ◌++◌, length, Option, Some, None, Result, Ok, Err, codes, nat_le, nat_lt, option_map, slice_get, if◌then◌else◌, ⊤}
+use Rattle.std.proofs.Common.{Bor}
+use Rattle.std.specs.Char.{is_ascii_digit}
+use Rattle.std.specs.List.{list_all}
+use Rattle.std.specs.Option.{option_map_or}
+use Rattle.std.specs.Str.{bytes_eq}
+use Rattle.std.specs.Str.Parse.{digits_value}
+use Rattle.csv.specs.Reading.{Ready, default_config, reader_config, reader_state, reader_trim, records_from, source_of, strip_bom}
+use Rattle.csv.specs.Records.{field_at}
+use Rattle.csv.specs.declared.parser.State.{State}
+use Rattle.csv.specs.declared.parser.State.TheVariants.{StartRecord}
+use Rattle.csv.specs.declared.reader.Reader.{Reader}
+use Rattle.csv.specs.declared.reader.Trim.TheVariants as trim
+use Rattle.radio_core.specs.Names.{is_name}
+use Rattle.registry_core.specs.declared.messages.Envelope.{Envelope}
+use Rattle.registry_core.specs.declared.messages.Message.{Message}
+use Rattle.registry_core.specs.declared.messages.Message.TheVariants.{JoinHeard, FrameHeard}
+use Rattle.registry_core.specs.declared.messages.Report.{Report}
+use Rattle.desk_wire.specs.DataRates.{data_rate_numbered}
+use Rattle.desk_wire.specs.Hexadecimal.{octets_in}
+use Rattle.desk_wire.specs.Optional.{◌>>=◌, only_if}
+use Rattle.desk_wire.specs.Verdicts.{join_verdict_named}
+use Rattle.desk_wire.specs.declared.csv_faults.CsvFault.{CsvFault}
+use Rattle.desk_wire.specs.declared.csv_faults.CsvFault.TheVariants.{Size, Unended, Header, Record, Memory}
+
+-- ---- a field in its form
+
+-- one to sixteen decimal digits and nothing else
+abbrev pub is_decimal : List ℕ → Bool
+is_decimal text = nat_le 1 (length text) && nat_le (length text) 16 && list_all is_ascii_digit text
+
+-- the whole number that such digits write
+unfoldable pub decimal_in : List ℕ → Option ℕ
+decimal_in text = if is_decimal text then Some (digits_value 10 text) else None
+
+-- and it is below the limit
+abbrev pub decimal_below : ℕ → List ℕ → Option ℕ
+decimal_below limit text = decimal_in text >>= only_if (λ n. nat_lt n limit)
+
+-- a counter, or none in an empty field
+abbrev pub counter_or_none : List ℕ → Option (Option ℕ)
+counter_or_none [] = Some None
+counter_or_none text = option_map Some (decimal_below (2 ^ 32) text)
+
+-- ---- a record
+
+-- the third to the seventh field: gateway, time, frequency, data rate, octets
+unfoldable pub report_in : List (List ℕ) → Option Report
+report_in fields = do
+  gateway ← field_at fields 2 >>= only_if is_name
+  time ← field_at fields 3 >>= decimal_below (2 ^ 53)
+  freq ← field_at fields 4 >>= decimal_below (2 ^ 32)
+  dr ← field_at fields 5 >>= decimal_in >>= data_rate_numbered
+  octets ← field_at fields 6 >>= octets_in
+  Some (record { gateway = gateway; time = time; rate = record { freq = freq; dr = dr }; octets = octets })
+
+-- what was heard, by the type's name and the verdict
+unfoldable pub heard_in : List ℕ → Report → List ℕ → Option Message
+heard_in type_name report verdict =
+    if bytes_eq type_name (codes "JoinHeard") then option_map (JoinHeard report) (join_verdict_named verdict)
+    else if bytes_eq type_name (codes "FrameHeard") then option_map (FrameHeard report) (counter_or_none verdict)
+    else None
+
+-- the envelope that eight fields are
+unfoldable pub envelope_in : List ℕ → List (List ℕ) → Option Envelope
+envelope_in sender fields = do
+  all ← only_if (λ fs. length fs == 8) fields
+  transaction ← field_at all 0 >>= decimal_below (2 ^ 32)
+  type_name ← field_at all 1
+  report ← report_in all
+  verdict ← field_at all 7
+  message ← heard_in type_name report verdict
+  Some (record { sender = sender; transaction = transaction; message = message })
+
+-- ---- a report
+
+-- the field at this place, from 0, is this text
+abbrev pub has_field : ℕ → List ℕ → List (List ℕ) → Bool
+has_field place text fields = option_map_or (λ field. bytes_eq field text) (field_at fields place) false
+
+-- the first record: the eight fields' names, exactly
+unfoldable pub is_header : List (List ℕ) → Bool
+is_header fields =
+    length fields == 8
+    && has_field 0 (codes "transaction") fields
+    && has_field 1 (codes "type") fields
+    && has_field 2 (codes "gateway") fields
+    && has_field 3 (codes "time_us") fields
+    && has_field 4 (codes "freq_hz") fields
+    && has_field 5 (codes "dr") fields
+    && has_field 6 (codes "phy") fields
+    && has_field 7 (codes "verdict") fields
+
+-- an envelope before others
+abbrev pub with_first : Envelope → Result (List Envelope) CsvFault → Result (List Envelope) CsvFault
+with_first e (Ok es) = Ok (e ∷ es)
+with_first e (Err fault) = Err fault
+
+-- the envelope of record n and those after it; a record that isn't one is the fault
+abbrev pub record_in : ℕ → Option Envelope → Result (List Envelope) CsvFault → Result (List Envelope) CsvFault
+record_in n None rest = Err (Record n)
+record_in n (Some e) rest = with_first e rest
+
+-- the envelopes of the records from number n on, or the first fault; a record with a number above 100,001 is one too many
+unfoldable pub envelopes_from : List ℕ → ℕ → List (List (List ℕ)) → Result (List Envelope) CsvFault
+envelopes_from sender n [] = Ok []
+envelopes_from sender n (fields ∷ rest) =
+    if nat_lt 100001 n then Err Size else record_in n (envelope_in sender fields) (envelopes_from sender (n + 1) rest)
+
+-- the header is record 1
+abbrev pub report_of_records : List ℕ → List (List (List ℕ)) → Result (List Envelope) CsvFault
+report_of_records sender [] = Err Header
+report_of_records sender (fields ∷ rest) = if is_header fields then envelopes_from sender 2 rest else Err Header
+
+-- The records of a text as csv reads them: of fields that may be quoted, with empty lines between them, behind a byte order
+-- mark. The header, 100,000 records, and the one that is too many are all that matter.
+abbrev pub records_of : List ℕ → List (List (List ℕ))
+records_of text = records_from default_config 100002 StartRecord (strip_bom text)
+
+abbrev pub is_line_feed : Option ℕ → Bool
+is_line_feed None = false
+is_line_feed (Some octet) = octet == 10
+
+-- the last octet is LF
+abbrev pub is_ended : List ℕ → Bool
+is_ended text = is_line_feed (slice_get text (length text - 1))
+
+-- the envelopes that a text is, each with this sender, or its first fault
+abbrev pub reads_report : List ℕ → List ℕ → Result (List Envelope) CsvFault
+reads_report sender text =
+    if nat_lt 16777216 (length text) then Err Size
+    else if is_ended text then report_of_records sender (records_of text)
+    else Err Unended
+
+-- ---- what a function gives
+
+abbrev pub IsReportUnlessMemory : CsvFault → Result (List Envelope) CsvFault → Type 0
+IsReportUnlessMemory Memory wanted = ⊤
+IsReportUnlessMemory fault wanted = wanted ≡ Err fault
+
+-- ---- records that are still to be read
+
+-- the octets of a slice are known
+abbrev pub octets_known : Bor (List ℕ) → Option (List ℕ)
+octets_known text = Some text.now
+
+-- the next n records of these octets, or fewer
+abbrev pub next_records : ℕ → State → Option (List ℕ) → List (List (List ℕ))
+next_records n state None = []
+next_records n state (Some octets) = records_from default_config n state octets
+
+abbrev pub rows_left : ℕ → Reader (Bor (List ℕ)) → List (List (List ℕ))
+rows_left n rows = next_records n (reader_state rows) (source_of octets_known rows)
+
+-- a reader at the start of a record, by csv's defaults, whose octets are known
+pub record IsReading (rows : Reader (Bor (List ℕ))) : Type 0 where
+  pub config : reader_config rows ≡ default_config
+  pub trim : reader_trim rows ≡ trim.None
+  pub ready : Ready rows
+  pub known : (octets : List ℕ) × (source_of octets_known rows ≡ Some octets)

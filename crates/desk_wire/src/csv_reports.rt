@@ -1,0 +1,268 @@
+//! A gateway's report in CSV, read as envelopes.
+ghost use Rattle.std.specs.Prelude.{◌≡◌, ◌∷◌, ◌++◌, ◌^◌, ℕ, [], suc, IfOk, IfErr, OnOk, true, if◌then◌else◌};
+ghost use Rattle.std.specs.Char.{is_ascii_digit};
+ghost use Rattle.std.specs.List.{list_all};
+ghost use Rattle.csv.specs.Records.{fields_of};
+ghost use Rattle.desk_wire.specs.CsvReports.{
+  counter_or_none,
+  decimal_below,
+  decimal_in,
+  envelope_in,
+  envelopes_from,
+  has_field,
+  heard_in,
+  is_decimal,
+  is_header,
+  reads_report,
+  report_in,
+  report_of_records,
+  rows_left,
+  IsReading,
+  IsReportUnlessMemory,
+};
+
+use crate::csv_faults::CsvFault;
+use crate::hexadecimal::octets_of;
+use crate::verdicts::join_verdict_named;
+use csv::{ByteRecord, Reader, ReaderBuilder};
+use radio_core::{DataRate, Name, Rate};
+use registry_core::{Envelope, Message, Report, Whole};
+use std::alloc::Global;
+use std::str;
+
+fn are_digits(text: &[u8]) -> bool
+    ensures { result ≡ list_all is_ascii_digit text.now }
+{
+    text.iter().all(|octet| octet.is_ascii_digit())
+}
+
+/// One to sixteen decimal digits and nothing else.
+fn is_decimal(text: &[u8]) -> bool
+    ensures { result ≡ is_decimal text.now }
+{
+    1 <= text.len() && text.len() <= 16 && are_digits(text)
+}
+
+#[tactic(auto, unfolding(crate::specs::CsvReports::decimal_in))]
+fn decimal_of(text: &[u8]) -> Option<u64>
+    ensures { result ≡ decimal_in text.now }
+{
+    if !is_decimal(text) {
+        return None;
+    }
+    u64::from_str_radix(str::from_utf8(text).ok()?, 10).ok()
+}
+
+fn u32_of(text: &[u8]) -> Option<u32>
+    ensures { result ≡ decimal_below (2 ^ 32) text.now }
+{
+    u32::try_from(decimal_of(text)?).ok()
+}
+
+fn counter_or_none_of(text: &[u8]) -> Option<Option<u32>>
+    ensures { result ≡ counter_or_none text.now }
+{
+    if text.is_empty() {
+        Some(None)
+    } else {
+        u32_of(text).map(Some)
+    }
+}
+
+#[tactic(auto, unfolding(crate::specs::CsvReports::report_in))]
+fn report_of(row: &ByteRecord) -> Option<Report>
+    ensures { result ≡ report_in (fields_of row.now) }
+{
+    let gateway = Name::new(row.get(2)?)?;
+    let time = Whole::new(decimal_of(row.get(3)?)?)?;
+    let freq = u32_of(row.get(4)?)?;
+    let dr = DataRate::new(u8::try_from(decimal_of(row.get(5)?)?).ok()?)?;
+    let octets = octets_of(row.get(6)?)?;
+    Some(Report {
+        gateway,
+        time,
+        rate: Rate { freq, dr },
+        octets,
+    })
+}
+
+#[tactic(auto, unfolding(crate::specs::CsvReports::heard_in))]
+fn heard_of(type_name: &[u8], report: Report, verdict: &[u8]) -> Option<Message>
+    ensures { result ≡ heard_in type_name.now report verdict.now }
+{
+    if type_name == b"JoinHeard".as_slice() {
+        let verdict = join_verdict_named(verdict)?;
+        Some(Message::JoinHeard { report, verdict })
+    } else if type_name == b"FrameHeard".as_slice() {
+        let verdict = counter_or_none_of(verdict)?;
+        Some(Message::FrameHeard { report, verdict })
+    } else {
+        None
+    }
+}
+
+#[tactic(auto, unfolding(crate::specs::CsvReports::envelope_in))]
+fn envelope_of(sender: &Name, row: &ByteRecord) -> Option<Envelope>
+    ensures { result ≡ envelope_in sender.now (fields_of row.now) }
+{
+    if row.len() != 8 {
+        return None;
+    }
+    let transaction = u32_of(row.get(0)?)?;
+    let type_name = row.get(1)?;
+    let report = report_of(row)?;
+    let message = heard_of(type_name, report, row.get(7)?)?;
+    Some(Envelope {
+        sender: *sender,
+        transaction,
+        message,
+    })
+}
+
+/// The field at this place, from 0, is this text.
+fn has_field(row: &ByteRecord, place: usize, text: &[u8]) -> bool
+    ensures { result ≡ has_field place text.now (fields_of row.now) }
+{
+    match row.get(place) {
+        Some(field) => field == text,
+        None => false,
+    }
+}
+
+#[tactic(auto, unfolding(crate::specs::CsvReports::is_header))]
+fn is_header(row: &ByteRecord) -> bool
+    ensures { result ≡ is_header (fields_of row.now) }
+{
+    row.len() == 8
+        && has_field(row, 0, b"transaction")
+        && has_field(row, 1, b"type")
+        && has_field(row, 2, b"gateway")
+        && has_field(row, 3, b"time_us")
+        && has_field(row, 4, b"freq_hz")
+        && has_field(row, 5, b"dr")
+        && has_field(row, 6, b"phy")
+        && has_field(row, 7, b"verdict")
+}
+
+/// Whether there is one more record, which is then in the row.
+fn next_row(rows: &mut Reader<&[u8]>, row: &mut ByteRecord) -> Result<bool, CsvFault>
+    ensures reading { IsReading rows.old → IfOk result (λ found. found ≡ true → IsReading rows.new) }
+    ensures left { (n : ℕ) → IsReading rows.old → IfOk result (λ found.
+        rows_left (suc n) rows.old ≡ (if found then fields_of row.new ∷ rows_left n rows.new else [])) }
+    ensures fault { IfErr result (λ fault. fault ≡ CsvFault.Memory) }
+{
+    let Ok(found) = rows.read_byte_record(row) else {
+        return Err(CsvFault::Memory);
+    };
+    Ok(found)
+}
+
+fn put_envelope(
+    envelopes: &mut Vec<Envelope>,
+    sender: &Name,
+    transaction: u32,
+    message: Message,
+) -> Result<(), CsvFault>
+    ensures put { OnOk result (envelopes.new.items ≡ envelopes.old.items
+        ++ record { sender = sender.now; transaction = transaction; message = message } ∷ []) }
+    ensures fault { IfErr result (λ fault. fault ≡ CsvFault.Memory) }
+{
+    let envelope = Envelope {
+        sender: *sender,
+        transaction,
+        message,
+    };
+    match envelopes.push(envelope) {
+        Ok(()) => Ok(()),
+        Err(_) => Err(CsvFault::Memory),
+    }
+}
+
+/// The envelopes of the records behind the header.
+fn envelopes_of(
+    alloc: Global,
+    rows: &mut Reader<&[u8]>,
+    row: &mut ByteRecord,
+    sender: &Name,
+) -> Result<Vec<Envelope>, CsvFault>
+    ensures ok { IsReading rows.old
+        → IfOk result (λ envelopes. envelopes_from sender.now 2 (rows_left 100001 rows.old) ≡ Ok envelopes.items) }
+    ensures err { IsReading rows.old
+        → IfErr result (λ fault. IsReportUnlessMemory fault (envelopes_from sender.now 2 (rows_left 100001 rows.old))) }
+{
+    let mut envelopes = Vec::new(alloc);
+    for number in 2u32..100_002 {
+        if !next_row(rows, row)? {
+            return Ok(envelopes);
+        }
+        let Some(envelope) = envelope_of(sender, row) else {
+            return Err(CsvFault::Record(number));
+        };
+        put_envelope(
+            &mut envelopes,
+            &envelope.sender,
+            envelope.transaction,
+            envelope.message,
+        )?;
+    }
+    if next_row(rows, row)? {
+        Err(CsvFault::Size)
+    } else {
+        Ok(envelopes)
+    }
+}
+
+/// The envelopes of the records behind the header, which is the first record.
+fn report_of_rows(
+    alloc: Global,
+    rows: &mut Reader<&[u8]>,
+    sender: &Name,
+) -> Result<Vec<Envelope>, CsvFault>
+    ensures ok { IsReading rows.old
+        → IfOk result (λ envelopes. report_of_records sender.now (rows_left 100002 rows.old) ≡ Ok envelopes.items) }
+    ensures err { IsReading rows.old
+        → IfErr result (λ fault. IsReportUnlessMemory fault (report_of_records sender.now (rows_left 100002 rows.old))) }
+{
+    let mut row = ByteRecord::new(alloc);
+    if !next_row(rows, &mut row)? {
+        return Err(CsvFault::Header);
+    }
+    if !is_header(&row) {
+        return Err(CsvFault::Header);
+    }
+    envelopes_of(alloc, rows, &mut row, sender)
+}
+
+/// The envelopes that a gateway's report is, each with this sender and the transaction number of its record; or the first
+/// fault, by the order of `CsvFault`. A fault gives nothing.
+///
+/// The text is CSV (RFC 4180), each record with these eight fields, quoted or not, the first record with their names:
+///
+/// | Field | Form |
+/// |---|---|
+/// | transaction | a whole number of 32 bits |
+/// | type | `JoinHeard` or `FrameHeard` |
+/// | gateway | a name |
+/// | time_us | a whole number of 53 bits, in microseconds since 1970 UTC |
+/// | freq_hz | a whole number of 32 bits, in hertz |
+/// | dr | a data rate, 0 to 6 |
+/// | phy | 0 to 510 hexadecimal digits, an even number of them, in either case, with or without `0x` before them |
+/// | verdict | of a join `Good` or `Bad`; of a data frame a whole number of 32 bits, or nothing |
+///
+/// A number is one to sixteen decimal digits. Empty lines are no records and aren't counted.
+pub fn read_report(alloc: Global, text: &[u8], sender: &Name) -> Result<Vec<Envelope>, CsvFault>
+    ensures ok { IfOk result (λ envelopes. reads_report sender.now text.now ≡ Ok envelopes.items) }
+    ensures err { IfErr result (λ fault. IsReportUnlessMemory fault (reads_report sender.now text.now)) }
+{
+    if text.len() > 16_777_216 {
+        return Err(CsvFault::Size);
+    }
+    if text.last() != Some(&b'\n') {
+        return Err(CsvFault::Unended);
+    }
+    let mut rows = ReaderBuilder::new()
+        .has_headers(false)
+        .flexible(true)
+        .from_reader(alloc, text);
+    report_of_rows(alloc, &mut rows, sender)
+}
