@@ -1,5 +1,7 @@
 //! `desk lines`: messages from a reader, answers to a writer, over lists in memory.
-ghost use Rattle.std.specs.Prelude.{◌≡◌};
+ghost use Rattle.std.specs.Prelude.{◌≡◌, [], IfOk};
+ghost use Rattle.registry_core.specs.State.{opening};
+ghost use Rattle.desk_store.specs.Lists.{kept_of, settings_of};
 ghost use Rattle.desk_cli.specs.Endings.{IsDoneOrFailed};
 ghost use Rattle.desk_cli.specs.Runs.{AnswersLines};
 
@@ -8,7 +10,7 @@ use desk_engine::{LinesEnd, run_lines};
 use desk_store::Lists;
 use registry_core::Config;
 use registry_core::laws::nothing_is_heard;
-use std::alloc::Global;
+use std::alloc::{AllocError, Global};
 use std::io::{Read, Write};
 
 /// Answers the messages of the reader, one a line, over lists made for it: exit status 0 where the input ended.
@@ -29,11 +31,11 @@ pub fn lines_command<R: Read, W: Write, F: Write>(
     ensures ends { IsDoneOrFailed result }
 {
     nothing_is_heard();
-    let mut lists = match Lists::new(alloc, *config) {
+    let mut lists = match opened(alloc, config) {
         Ok(lists) => lists,
         Err(_) => return fail(faults, "desk: unavailable\n"),
     };
-    match run_lines(alloc, &mut lists, reader, answers) {
+    match run_lines(alloc, &mut *lists, reader, answers) {
         LinesEnd::Done => match answers.flush() {
             Ok(()) => Ending::Done,
             Err(_) => fail(faults, "desk: file\n"),
@@ -42,6 +44,15 @@ pub fn lines_command<R: Read, W: Write, F: Write>(
         LinesEnd::Write => fail(faults, "desk: file\n"),
         LinesEnd::Unavailable(_) => fail(faults, "desk: unavailable\n"),
     }
+}
+
+/// The store that the lines go to, in a box: it is large, and would be moved about.
+fn opened(alloc: Global, config: &Config) -> Result<Box<Lists>, AllocError>
+    ensures opens { IfOk result (λ lists. kept_of lists.value ≡ record { facts = opening config.now; entries = [] }) }
+    ensures config { IfOk result (λ lists. settings_of lists.value ≡ config.now) }
+{
+    let lists = Lists::new(alloc, *config)?;
+    Ok(Box::new(alloc, lists)?)
 }
 
 /// Says why on the fault line. Where even this can't be written, the exit status still tells.

@@ -1,3 +1,4 @@
+pub mod AirUse
 pub mod Arms
 pub mod HeardTexts
 pub mod HearingAgain
@@ -7,7 +8,11 @@ pub mod Keeping
 pub mod LineCuts
 pub mod LineParts
 pub mod LineRuns
+pub mod OwnerLines
 pub mod Places
 pub mod Replies
+pub mod ReportLaw
+pub mod Reporting
+pub mod RisingLists
 pub mod Runs
 pub mod Unread

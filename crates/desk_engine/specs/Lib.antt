@@ -3,6 +3,10 @@ pub mod Importing
 pub mod InOrder
 pub mod Laws
 pub mod Lines
+pub mod Months
 pub mod Outcomes
+pub mod Reporting
+pub mod Reports
 pub mod Taking
 pub mod Told
+pub mod Uses

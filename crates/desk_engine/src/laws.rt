@@ -1,8 +1,10 @@
 //! Laws of the definitions: each is the contract of a function that does nothing.
 ghost use Rattle.desk_engine.specs.Laws.{DeliveriesLeaveHeardLists, HeardAgain, KeptAnswersStay};
 ghost use Rattle.desk_engine.specs.Lines.{InputsAreCut};
+ghost use Rattle.desk_engine.specs.Reports.{OwnerReportsAgree};
 
 use desk_wire::laws::reads_in_range;
+use duty_core::laws::peak_has_an_edge;
 use registry_core::laws::{heard_lists_stay, same_message_tells, senders_stay};
 
 /// One more delivery leaves a heard list, while there is room.
@@ -34,3 +36,10 @@ pub fn heard_again()
 pub fn inputs_are_cut()
     ensures { InputsAreCut }
 {}
+
+/// Two states that agree on an owner, on its devices and on their uplinks give the same report on it.
+pub fn owner_reports_agree()
+    ensures { OwnerReportsAgree }
+{
+    peak_has_an_edge();
+}

@@ -4,6 +4,7 @@ mod downlinks;
 mod importing;
 mod joins;
 mod refused_memory;
+mod reports;
 mod rows;
 
 use crate::{Outcome, deliver, run};
@@ -30,8 +31,9 @@ fn config(addresses: u32) -> Option<Config> {
 }
 
 /// A desk with so many addresses that has heard nothing.
-fn opening(alloc: Global, addresses: u32) -> Result<Lists, Fail> {
-    Ok(Lists::new(alloc, config(addresses).ok_or("no configuration")?)?)
+fn opening(alloc: Global, addresses: u32) -> Result<Box<Lists>, Fail> {
+    let config = config(addresses).ok_or("no configuration")?;
+    Ok(Box::new(alloc, Lists::new(alloc, config)?)?)
 }
 
 /// The outcome has this number and this text.
@@ -83,7 +85,7 @@ fn run_all<R: Abort + AllocGlobal>(rt: &R, lists: &mut Lists, rows: &[Row]) -> R
 #[test]
 fn one_by_one(rt: HostRuntime) -> Result<(), Fail> {
     let mut lists = opening(rt.alloc(), 65_536)?;
-    deliver_each(&rt, &mut lists, &OWNERS)?;
+    deliver_each(&rt, &mut *lists, &OWNERS)?;
     for (addresses, rows) in [
         (65_536, &REGISTRY[..]),
         (65_536, &JOINS),
@@ -100,8 +102,8 @@ fn one_by_one(rt: HostRuntime) -> Result<(), Fail> {
         (65_536, &LENGTHS),
     ] {
         let mut lists = opening(rt.alloc(), addresses)?;
-        deliver_each(&rt, &mut lists, &SETUP)?;
-        deliver_each(&rt, &mut lists, rows)?;
+        deliver_each(&rt, &mut *lists, &SETUP)?;
+        deliver_each(&rt, &mut *lists, rows)?;
     }
     Ok(())
 }
@@ -109,7 +111,7 @@ fn one_by_one(rt: HostRuntime) -> Result<(), Fail> {
 #[test]
 fn at_once(rt: HostRuntime) -> Result<(), Fail> {
     let mut lists = opening(rt.alloc(), 65_536)?;
-    run_all(&rt, &mut lists, &OWNERS)?;
+    run_all(&rt, &mut *lists, &OWNERS)?;
     for (addresses, rows) in [
         (65_536, &REGISTRY[..]),
         (65_536, &JOINS),
@@ -126,8 +128,8 @@ fn at_once(rt: HostRuntime) -> Result<(), Fail> {
         (65_536, &LENGTHS),
     ] {
         let mut lists = opening(rt.alloc(), addresses)?;
-        run_all(&rt, &mut lists, &SETUP)?;
-        run_all(&rt, &mut lists, rows)?;
+        run_all(&rt, &mut *lists, &SETUP)?;
+        run_all(&rt, &mut *lists, rows)?;
     }
     Ok(())
 }
@@ -146,10 +148,10 @@ fn the_longest_text(rt: HostRuntime) -> Result<(), Fail> {
     let mut lists = opening(rt.alloc(), 65_536)?;
     let longest = spaced(rt.alloc(), 65_413)?;
     assert_eq!(rt; longest.len(), 65_536);
-    let outcome = deliver(rt.alloc(), &mut lists, &longest);
+    let outcome = deliver(rt.alloc(), &mut *lists, &longest);
     expect(&rt, &outcome, 0, ADDED);
     let longer = spaced(rt.alloc(), 65_414)?;
-    let outcome = deliver(rt.alloc(), &mut lists, &longer);
+    let outcome = deliver(rt.alloc(), &mut *lists, &longer);
     expect(&rt, &outcome, 1, MALFORMED);
     Ok(())
 }

@@ -1,6 +1,9 @@
 pub mod Calls
 pub mod Downlinks
 pub mod Facts
+pub mod Growing
 pub mod Kept
 pub mod Lists
 pub mod Lookups
+pub mod Sessions
+pub mod Uplinks

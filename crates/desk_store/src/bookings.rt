@@ -4,28 +4,28 @@ ghost use Rattle.duty_core.specs.Near.{is_near};
 ghost use Rattle.registry_core.specs.Bookings.{is_answered, is_down_of, next_down};
 ghost use Rattle.desk_store.specs.Lookups.{stands_within, downlinks_near};
 
-use crate::lookups::item_at;
+use crate::uplinks::Uplinks;
 use duty_core::Span;
 use radio_core::{Band, Name};
-use registry_core::{Booking, Kind, Standing, Uplink};
+use registry_core::{Booking, Kind, Standing};
 use std::alloc::{AllocError, Global};
 
 /// An hour and 3,000,000 microseconds: what begins less than this apart is near.
 const NEAR: i128 = 3_603_000_000;
 
 /// The booking answers a data uplink of the session.
-fn is_down_of(booking: &Booking, uplinks: &[Uplink], session: u64) -> bool
-    ensures { result ≡ is_down_of uplinks.now session booking.now }
+fn is_down_of(booking: &Booking, uplinks: &Uplinks, session: u64) -> bool
+    ensures { result ≡ is_down_of uplinks.now.items session booking.now }
 {
-    match item_at(uplinks, booking.uplink) {
+    match uplinks.at(booking.uplink) {
         Some(uplink) => uplink.kind == Kind::Data && uplink.session == session,
         None => false,
     }
 }
 
 /// How many bookings answer data uplinks of the session, dropped ones too.
-pub(crate) fn next_down(bookings: &[Booking], uplinks: &[Uplink], session: u64) -> u64
-    ensures { result ≡ next_down bookings.now uplinks.now session }
+pub(crate) fn next_down(bookings: &[Booking], uplinks: &Uplinks, session: u64) -> u64
+    ensures { result ≡ next_down bookings.now uplinks.now.items session }
 {
     bookings
         .iter()
@@ -41,7 +41,7 @@ pub(crate) fn is_answered(bookings: &[Booking], uplink: u64) -> bool
 }
 
 /// The booking isn't dropped and is the gateway's, in the band if one is given.
-fn stands_within(booking: &Booking, gateway: &Name, band: Option<Band>) -> bool
+pub(crate) fn stands_within(booking: &Booking, gateway: &Name, band: Option<Band>) -> bool
     ensures { result ≡ stands_within gateway.now band booking.now }
 {
     booking.gateway.get() == gateway.get()

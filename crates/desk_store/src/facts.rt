@@ -1,26 +1,27 @@
-//! The registry's facts in the plain form: rows in the order in which they came.
-ghost use Rattle.std.specs.Prelude.{◌≡◌, ◌+◌, [], ◌∷◌, ◌++◌, length, IfOk, OnOk, OnErr, map};
-ghost use Rattle.registry_core.specs.Fits.{Fits};
+//! The registry's facts in the plain form: what has a key in maps and sets, and what is numbered in lists.
+ghost use Rattle.std.specs.Prelude.{◌≡◌, ◌+◌, [], ◌∷◌, ◌++◌, length, IfOk, OnOk, OnErr};
 ghost use Rattle.registry_core.specs.Numbered.{item_changed};
 ghost use Rattle.registry_core.specs.State.{ended, opening, state_with};
-ghost use Rattle.desk_store.specs.Facts.{facts_of};
-ghost use Rattle.desk_store.specs.Lookups.{row_moved};
+ghost use Rattle.desk_store.specs.Facts.{copies_of, copy_added, device_moved, devices_of, facts_of};
 
-use crate::rows::{CopyRow, DeviceRow, SenderRow};
+use crate::sessions::Sessions;
+use crate::uplinks::Uplinks;
+use indexmap::{IndexMap, IndexSet};
 use radio_core::{Eui, Name};
-use registry_core::{Booking, Config, Effect, Reception, Role, Session, Standing, Uplink};
+use registry_core::{Booking, Config, Device, Effect, Reception, Role, Standing, Uplink};
 use std::alloc::{AllocError, Global};
 
 /// The registry's facts. Contracts see what they are by `facts_of`.
 #[derive(Debug, Drop)]
 pub(crate) struct Facts {
-    pub(crate) senders: Vec<SenderRow>,
-    pub(crate) owners: Vec<Name>,
-    pub(crate) gateways: Vec<Name>,
-    pub(crate) devices: Vec<DeviceRow>,
-    pub(crate) sessions: Vec<Session>,
-    pub(crate) uplinks: Vec<Uplink>,
-    pub(crate) copies: Vec<CopyRow>,
+    pub(crate) senders: IndexMap<Name, Role>,
+    pub(crate) owners: IndexSet<Name>,
+    pub(crate) gateways: IndexSet<Name>,
+    pub(crate) devices: IndexMap<Eui, Device>,
+    pub(crate) sessions: Sessions,
+    pub(crate) uplinks: Uplinks,
+    /// By the uplink's number and the gateway.
+    pub(crate) copies: IndexMap<(u64, Name), Reception>,
     pub(crate) bookings: Vec<Booking>,
 }
 
@@ -29,36 +30,38 @@ impl Facts {
     pub(crate) fn opening(alloc: Global, config: &Config) -> Result<Facts, AllocError>
         ensures { IfOk result (λ facts. facts_of facts ≡ opening config.now) }
     {
-        let mut senders = Vec::new(alloc);
-        senders.push(SenderRow {
-            name: *config.operator(),
-            role: Role::Operator,
-        })?;
+        let mut senders = IndexMap::new(alloc);
+        senders.insert(*config.operator(), Role::Operator)?;
         Ok(Facts {
             senders,
-            owners: Vec::new(alloc),
-            gateways: Vec::new(alloc),
-            devices: Vec::new(alloc),
-            sessions: Vec::new(alloc),
-            uplinks: Vec::new(alloc),
-            copies: Vec::new(alloc),
+            owners: IndexSet::new(alloc),
+            gateways: IndexSet::new(alloc),
+            devices: IndexMap::new(alloc),
+            sessions: Sessions::new(alloc),
+            uplinks: Uplinks::new(alloc),
+            copies: IndexMap::new(alloc),
             bookings: Vec::new(alloc),
         })
     }
 
     /// Makes the change, or none.
     pub(crate) fn add(&mut self, effect: &Effect) -> Result<(), AllocError>
-        ensures ok { Fits effect.now (facts_of self.old)
-            → OnOk result (facts_of self.new ≡ state_with (facts_of self.old) effect.now) }
+        ensures ok { OnOk result (facts_of self.new ≡ state_with (facts_of self.old) effect.now) }
         ensures err { OnErr result (facts_of self.new ≡ facts_of self.old) }
     {
         match *effect {
             Effect::Nothing => {}
-            Effect::AddsSender { name, role } => self.senders.push(SenderRow { name, role })?,
-            Effect::AddsOwner { name } => self.owners.push(name)?,
-            Effect::AddsGateway { name } => self.gateways.push(name)?,
+            Effect::AddsSender { name, role } => {
+                self.senders.insert(name, role)?;
+            }
+            Effect::AddsOwner { name } => {
+                self.owners.insert(name)?;
+            }
+            Effect::AddsGateway { name } => {
+                self.gateways.insert(name)?;
+            }
             Effect::AddsDevice { dev_eui, device } => {
-                self.devices.push(DeviceRow { dev_eui, device })?
+                self.devices.insert(dev_eui, device)?;
             }
             Effect::MovesDevice { dev_eui, owner } => move_in(&mut self.devices, dev_eui, owner),
             Effect::AddsSession {
@@ -67,7 +70,7 @@ impl Facts {
                 gateway,
                 reception,
             } => {
-                self.sessions.reserve(1)?;
+                self.sessions.make_room()?;
                 add_uplink(
                     &mut self.uplinks,
                     &mut self.copies,
@@ -92,11 +95,9 @@ impl Facts {
                 uplink,
                 gateway,
                 reception,
-            } => self.copies.push(CopyRow {
-                uplink,
-                gateway,
-                reception,
-            })?,
+            } => {
+                self.copies.insert((uplink, gateway), reception)?;
+            }
             Effect::AddsBooking { booking } => self.bookings.push(booking)?,
             Effect::EndsBooking { booking, sent } => end_in(&mut self.bookings, booking, sent),
         }
@@ -106,37 +107,31 @@ impl Facts {
 
 /// The uplink goes to the end with the next number, and so does its copy; or neither.
 fn add_uplink(
-    uplinks: &mut Vec<Uplink>,
-    copies: &mut Vec<CopyRow>,
+    uplinks: &mut Uplinks,
+    copies: &mut IndexMap<(u64, Name), Reception>,
     uplink: Uplink,
     gateway: Name,
     reception: Reception,
 ) -> Result<(), AllocError>
     ensures uplinks { OnOk result (uplinks.new.items ≡ uplinks.old.items ++ uplink ∷ []) }
-    ensures copies { OnOk result (copies.new.items ≡ copies.old.items
-        ++ record { uplink = length uplinks.old.items + 1; gateway = gateway; reception = reception } ∷ []) }
+    ensures copies { OnOk result (copies_of copies.new
+        ≡ copy_added (copies_of copies.old) (length uplinks.old.items + 1) gateway reception) }
     ensures err { OnErr result ((uplinks.new.items ≡ uplinks.old.items)
-        × (copies.new.items ≡ copies.old.items)) }
+        × (copies_of copies.new ≡ copies_of copies.old)) }
 {
     let number = uplinks.len() as u64 + 1;
-    uplinks.reserve(1)?;
-    copies.push(CopyRow {
-        uplink: number,
-        gateway,
-        reception,
-    })?;
+    uplinks.make_room()?;
+    copies.insert((number, gateway), reception)?;
     uplinks.push(uplink)?;
     Ok(())
 }
 
 /// The device has this owner, and all else stays.
-fn move_in(devices: &mut [DeviceRow], dev_eui: Eui, owner: Name)
-    ensures { devices.new ≡ map (row_moved dev_eui owner) devices.old }
+fn move_in(devices: &mut IndexMap<Eui, Device>, dev_eui: Eui, owner: Name)
+    ensures { devices_of devices.new ≡ device_moved (devices_of devices.old) dev_eui owner }
 {
-    for row in devices.iter_mut() {
-        if row.dev_eui == dev_eui {
-            row.device.owner = owner;
-        }
+    if let Some(device) = devices.get_mut(&dev_eui) {
+        device.owner = owner;
     }
 }
 

@@ -1,11 +1,15 @@
 //! A store as the engine sees it: what it holds, and what a crash may leave.
-ghost use Rattle.std.specs.Prelude.{◌≡◌, ◌≤◌, List, [], ◌∷◌, Bool, true, false, IfOk, IfErr, OnOk, OnErr, IsErrOf, is_ok, length};
+ghost use Rattle.std.specs.Prelude.{◌≡◌, ◌≤◌, List, [], ◌∷◌, Bool, true, false, IfOk, IfErr, IsPermutation, OnOk, OnErr, IsErrOf, is_ok, length};
+ghost use Rattle.registry_core.specs.Bookings.{downlinks_in};
 ghost use Rattle.registry_core.specs.Heard.{most_heard};
+ghost use Rattle.registry_core.specs.Reports.{IsNextDevice, in_band, uplinks_from};
 ghost use Rattle.registry_core.specs.Settings.{Settings};
 ghost use Rattle.desk_store.specs.Calls.{IsCall, Reads, Loads, IsUnavailability};
 ghost use Rattle.desk_store.specs.Kept.{Kept, with_entry, CanAdd, HaveCommon};
 
 use crate::faults::StoreFault;
+use duty_core::Span;
+use radio_core::{Band, Eui, Name};
 use registry_core::{Config, Effect, Envelope, View};
 
 /// What a store knows of a message.
@@ -81,6 +85,55 @@ pub trait Keeper {
             → leaves self.new (kept ∷ with_entry kept envelope.now message.now effect.now answer.now ∷ []) }
         ensures stays { (all : List Kept) → sound self.new → down self.old ≡ true → leaves self.old all
             → leaves self.new all };
+
+    // ---- for reports: nothing changes
+
+    /// Whether there is an owner of this name.
+    fn has_owner(&mut self, name: &Name) -> Result<bool, StoreFault>
+        ensures call { IsCall configuration sound down full self.old self.new result }
+        ensures reads { Reads sound holds leaves self.old self.new }
+        ensures told { (kept : Kept) → sound self.new → holds self.old kept
+            → IfOk result (λ known. known ≡ kept.facts.owners name.now) }
+        ensures fault { (kept : Kept) → sound self.new → holds self.old kept → IfErr result IsUnavailability };
+
+    /// Whether there is a gateway of this name.
+    fn has_gateway(&mut self, name: &Name) -> Result<bool, StoreFault>
+        ensures call { IsCall configuration sound down full self.old self.new result }
+        ensures reads { Reads sound holds leaves self.old self.new }
+        ensures told { (kept : Kept) → sound self.new → holds self.old kept
+            → IfOk result (λ known. known ≡ kept.facts.gateways name.now) }
+        ensures fault { (kept : Kept) → sound self.new → holds self.old kept → IfErr result IsUnavailability };
+
+    /// The least DevEUI of the owner's devices, above `after` where it is given.
+    fn next_device(&mut self, owner: &Name, after: Option<Eui>) -> Result<Option<Eui>, StoreFault>
+        ensures call { IsCall configuration sound down full self.old self.new result }
+        ensures reads { Reads sound holds leaves self.old self.new }
+        ensures told { (kept : Kept) → sound self.new → holds self.old kept
+            → IfOk result (IsNextDevice kept.facts owner.now after) }
+        ensures fault { (kept : Kept) → sound self.new → holds self.old kept → IfErr result IsUnavailability };
+
+    /// When the device's uplinks in the band were on the air that start from the one time on and before the other, in
+    /// microseconds since 1970 UTC, in any order.
+    fn uplinks_of(
+        &mut self,
+        device: Eui,
+        band: Band,
+        from: i64,
+        to: i64,
+    ) -> Result<Vec<Span>, StoreFault>
+        ensures call { IsCall configuration sound down full self.old self.new result }
+        ensures reads { Reads sound holds leaves self.old self.new }
+        ensures told { (kept : Kept) → sound self.new → holds self.old kept
+            → IfOk result (λ spans. IsPermutation (in_band band (uplinks_from kept.facts.uplinks kept.facts.sessions device from to)) spans.items) }
+        ensures fault { (kept : Kept) → sound self.new → holds self.old kept → IfErr result IsUnavailability };
+
+    /// When the gateway's downlinks in the band that aren't dropped are on the air, in any order.
+    fn bookings_of(&mut self, gateway: &Name, band: Band) -> Result<Vec<Span>, StoreFault>
+        ensures call { IsCall configuration sound down full self.old self.new result }
+        ensures reads { Reads sound holds leaves self.old self.new }
+        ensures told { (kept : Kept) → sound self.new → holds self.old kept
+            → IfOk result (λ spans. IsPermutation (downlinks_in kept.facts.bookings gateway.now band) spans.items) }
+        ensures fault { (kept : Kept) → sound self.new → holds self.old kept → IfErr result IsUnavailability };
 
     /// While it isn't down, a crash leaves its own facts and entries alone.
     ghost own: { (keeper : Self) (kept : Kept) → sound keeper → down keeper ≡ false → holds keeper kept → leaves keeper (kept ∷ []) };

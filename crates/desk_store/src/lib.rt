@@ -9,9 +9,12 @@ mod faults;
 mod keeper;
 mod lists;
 mod lookups;
-mod rows;
+mod reports;
+mod sessions;
 #[cfg(test)]
 mod tests;
+mod uplink_index;
+mod uplinks;
 mod views;
 
 pub use faults::StoreFault;

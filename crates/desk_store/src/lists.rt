@@ -1,34 +1,36 @@
-//! The store in its plain form: lists in memory, looked through from the front.
-ghost use Rattle.std.specs.Prelude.{◌≡◌, false, [], ◌≤◌, map, length, IfOk, IfSome, IfNone, Some, None};
+//! The store in its plain form: maps and lists in memory.
+ghost use Rattle.std.specs.Prelude.{◌≡◌, false, [], ◌≤◌, length, option_map, IfOk, IfSome, IfNone, Some, None};
 ghost use Rattle.std.proofs.Common.{sym, ◌∙◌, inl};
 ghost use Rattle.registry_core.specs.Heard.{most_heard};
 ghost use Rattle.registry_core.specs.State.{opening};
-ghost use Rattle.desk_store.specs.Kept.{entry_of, IsOneOf};
-ghost use Rattle.desk_store.specs.Lists.{entry_shown, kept_of, settings_of};
+ghost use Rattle.desk_store.specs.Kept.{entry_of, texts_of, IsOneOf};
+ghost use Rattle.desk_store.specs.Lists.{entries_shown, kept_of, settings_of};
 
 use crate::facts::Facts;
 use crate::faults::StoreFault;
 use crate::keeper::{Keeper, Loaded};
-use radio_core::Name;
+use crate::reports::{Period, downlinks_in, uplinks_in};
+use duty_core::Span;
+use indexmap::IndexMap;
+use radio_core::{Band, Eui, Name};
 use registry_core::{Config, Effect, Envelope};
 use std::alloc::{AllocError, Global};
 
-/// A message that was heard, with its text and the answer's.
+/// The texts of a message that was heard and of its answer.
 #[derive(Debug, Drop)]
-pub(crate) struct EntryRow {
-    pub(crate) sender: Name,
-    pub(crate) transaction: u32,
+pub(crate) struct Texts {
     pub(crate) message: Vec<u8>,
     pub(crate) answer: Vec<u8>,
 }
 
-/// A store of plain lists in memory. It is never down, and answers only `Memory` and `Size`.
+/// A store in memory. It is never down, and answers only `Memory` and `Size`.
 #[derive(Debug, Drop)]
 pub struct Lists {
     alloc: Global,
     config: Config,
     facts: Facts,
-    entries: Vec<EntryRow>,
+    /// By the transaction number and the sender, in the order in which they were heard.
+    entries: IndexMap<(u32, Name), Texts>,
 }
 
 impl Lists {
@@ -41,21 +43,18 @@ impl Lists {
             alloc,
             config,
             facts: Facts::opening(alloc, &config)?,
-            entries: Vec::new(alloc),
+            entries: IndexMap::new(alloc),
         })
     }
 }
 
-fn entry_in<'a>(entries: &'a [EntryRow], envelope: &Envelope) -> Option<&'a EntryRow>
-    ensures found { IfSome result (λ row. entry_of envelope.now (map entry_shown entries.entry.now) ≡ Some (entry_shown row.now)) }
-    ensures none { IfNone result (entry_of envelope.now (map entry_shown entries.entry.now) ≡ None) }
+/// The texts of the message that was heard with the envelope's pair.
+fn texts_in<'a>(entries: &'a IndexMap<(u32, Name), Texts>, envelope: &Envelope) -> Option<&'a Texts>
+    ensures found { IfSome result (λ texts. option_map texts_of (entry_of envelope.now (entries_shown entries.entry.now))
+        ≡ Some (texts.now.message.items, texts.now.answer.items)) }
+    ensures none { IfNone result (entry_of envelope.now (entries_shown entries.entry.now) ≡ None) }
 {
-    for row in entries {
-        if envelope.transaction == row.transaction && envelope.sender.get() == row.sender.get() {
-            return Some(row);
-        }
-    }
-    None
+    entries.get(&(envelope.transaction, envelope.sender))
 }
 
 impl Keeper for Lists {
@@ -85,9 +84,9 @@ impl Keeper for Lists {
         let Some(role) = self.facts.role_of(&envelope.sender) else {
             return Ok(Loaded::Stranger);
         };
-        if let Some(row) = entry_in(&self.entries, envelope) {
-            let message = row.message.to_vec(self.alloc)?;
-            let answer = row.answer.to_vec(self.alloc)?;
+        if let Some(texts) = texts_in(&self.entries, envelope) {
+            let message = texts.message.to_vec(self.alloc)?;
+            let answer = texts.answer.to_vec(self.alloc)?;
             return Ok(Loaded::Heard { message, answer });
         }
         let view = self
@@ -106,15 +105,46 @@ impl Keeper for Lists {
         if self.entries.len() >= 9_007_199_254_740_991 {
             return Err(StoreFault::Size);
         }
-        let row = EntryRow {
-            sender: envelope.sender,
-            transaction: envelope.transaction,
+        let pair = (envelope.transaction, envelope.sender);
+        let texts = Texts {
             message: message.to_vec(self.alloc)?,
             answer: answer.to_vec(self.alloc)?,
         };
         self.entries.reserve(1)?;
         self.facts.add(effect)?;
-        self.entries.push(row)?;
+        self.entries.insert(pair, texts)?;
         Ok(())
+    }
+
+    fn has_owner(&mut self, name: &Name) -> Result<bool, StoreFault> {
+        Ok(self.facts.owners.contains(name))
+    }
+
+    fn has_gateway(&mut self, name: &Name) -> Result<bool, StoreFault> {
+        Ok(self.facts.gateways.contains(name))
+    }
+
+    fn next_device(&mut self, owner: &Name, after: Option<Eui>) -> Result<Option<Eui>, StoreFault> {
+        Ok(self.facts.next_device(owner, after))
+    }
+
+    fn uplinks_of(
+        &mut self,
+        device: Eui,
+        band: Band,
+        from: i64,
+        to: i64,
+    ) -> Result<Vec<Span>, StoreFault> {
+        let Facts {
+            uplinks,
+            sessions,
+            ..
+        } = &self.facts;
+        let period = Period { from, to };
+        Ok(uplinks_in(self.alloc, uplinks, sessions, device, band, &period)?)
+    }
+
+    fn bookings_of(&mut self, gateway: &Name, band: Band) -> Result<Vec<Span>, StoreFault> {
+        Ok(downlinks_in(self.alloc, &self.facts.bookings, gateway, band)?)
     }
 }

@@ -1,5 +1,6 @@
 //! The plain form, called through the bound as the engine calls it.
 mod downlinks;
+mod reports;
 
 use crate::{Keeper, Lists, Loaded};
 use radio_core::{Band, DataRate, Eui, Name, Octets, Rate};
@@ -14,9 +15,9 @@ fn name(text: &str) -> Result<Name, &'static str> {
     Name::new(text.as_bytes()).ok_or("no name")
 }
 
-fn lists(alloc: Global) -> Result<Lists, Fail> {
+fn lists(alloc: Global) -> Result<Box<Lists>, Fail> {
     let config = Config::new(name("desk")?, name("office")?, 0x01a0_0000, 65536).ok_or("no block")?;
-    Ok(Lists::new(alloc, config)?)
+    Ok(Box::new(alloc, Lists::new(alloc, config)?)?)
 }
 
 fn envelope(sender: &str, transaction: u32, message: Message) -> Result<Envelope, &'static str> {
@@ -44,10 +45,10 @@ fn what_is_committed_is_loaded(rt: HostRuntime) -> Result<(), Fail> {
     let owner = name("town")?;
     let mut message = envelope("office", 1, Message::OwnerAdd { owner })?;
     assert!(rt; lists.config().receiver().get() == b"desk".as_slice());
-    let view = fresh_view(&mut lists, &message).ok_or("not fresh")?;
+    let view = fresh_view(&mut *lists, &message).ok_or("not fresh")?;
     assert!(rt; view.role == Role::Operator);
     assert!(rt; !view.owner_known);
-    assert!(rt; keeps(&mut lists, &message, &Effect::AddsOwner { name: owner }));
+    assert!(rt; keeps(&mut *lists, &message, &Effect::AddsOwner { name: owner }));
     let loaded = lists.load(&message);
     match &loaded {
         Ok(Loaded::Heard { message, answer }) => {
@@ -57,7 +58,7 @@ fn what_is_committed_is_loaded(rt: HostRuntime) -> Result<(), Fail> {
         _ => assert!(rt; false),
     }
     message.transaction = 2;
-    let view = fresh_view(&mut lists, &message).ok_or("not fresh")?;
+    let view = fresh_view(&mut *lists, &message).ok_or("not fresh")?;
     assert!(rt; view.owner_known);
     message.sender = name("desk")?;
     let loaded = lists.load(&message);
@@ -75,31 +76,37 @@ fn senders_and_gateways_are_added(rt: HostRuntime) -> Result<(), Fail> {
     let role = Role::Radio;
     let message = envelope("office", 1, Message::SenderAdd { sender, role })?;
     assert!(rt;
-        !fresh_view(&mut lists, &message)
+        !fresh_view(&mut *lists, &message)
             .ok_or("not fresh")?
             .sender_known
     );
     assert!(rt;
         keeps(
-            &mut lists,
+            &mut *lists,
             &message,
             &Effect::AddsSender { name: sender, role }
         )
     );
     let message = envelope("office", 2, Message::SenderAdd { sender, role })?;
     assert!(rt;
-        fresh_view(&mut lists, &message)
+        fresh_view(&mut *lists, &message)
             .ok_or("not fresh")?
             .sender_known
     );
     let gateway = name("gw-a")?;
     let message = envelope("bridge", 3, Message::GatewayAdd { gateway })?;
-    let view = fresh_view(&mut lists, &message).ok_or("not fresh")?;
+    let view = fresh_view(&mut *lists, &message).ok_or("not fresh")?;
     assert!(rt; view.role == Role::Radio);
     assert!(rt; !view.gateway_known);
-    assert!(rt; keeps(&mut lists, &message, &Effect::AddsGateway { name: gateway }));
+    assert!(rt;
+        keeps(
+            &mut *lists,
+            &message,
+            &Effect::AddsGateway { name: gateway }
+        )
+    );
     let message = envelope("office", 3, Message::GatewayAdd { gateway })?;
-    let view = fresh_view(&mut lists, &message).ok_or("not fresh")?;
+    let view = fresh_view(&mut *lists, &message).ok_or("not fresh")?;
     assert!(rt; view.role == Role::Operator);
     assert!(rt; view.gateway_known);
     Ok(())
@@ -126,7 +133,7 @@ fn a_device_is_added_and_moved(rt: HostRuntime) -> Result<(), Fail> {
     let one = Eui::new(0x0004_a30b_001a_2b3c);
     let other = Eui::new(0x0004_a30b_001a_2b3d);
     for (transaction, dev_eui) in [(1, one), (2, other)] {
-        assert!(rt; device_of(&mut lists, dev_eui)? == None);
+        assert!(rt; device_of(&mut *lists, dev_eui)? == None);
         let Device { join_eui, owner } = town;
         let message = Message::DeviceAdd {
             dev_eui,
@@ -137,7 +144,7 @@ fn a_device_is_added_and_moved(rt: HostRuntime) -> Result<(), Fail> {
         let device = town;
         assert!(rt;
             keeps(
-                &mut lists,
+                &mut *lists,
                 &message,
                 &Effect::AddsDevice { dev_eui, device }
             )
@@ -145,18 +152,18 @@ fn a_device_is_added_and_moved(rt: HostRuntime) -> Result<(), Fail> {
     }
     let (dev_eui, owner) = (other, city.owner);
     let message = envelope("office", 3, Message::DeviceMove { dev_eui, owner })?;
-    let view = fresh_view(&mut lists, &message).ok_or("not fresh")?;
+    let view = fresh_view(&mut *lists, &message).ok_or("not fresh")?;
     assert!(rt; view.device == Some(town));
     assert!(rt; !view.owner_known);
     assert!(rt;
         keeps(
-            &mut lists,
+            &mut *lists,
             &message,
             &Effect::MovesDevice { dev_eui, owner }
         )
     );
-    assert!(rt; device_of(&mut lists, other)? == Some(city));
-    assert!(rt; device_of(&mut lists, one)? == Some(town));
+    assert!(rt; device_of(&mut *lists, other)? == Some(city));
+    assert!(rt; device_of(&mut *lists, one)? == Some(town));
     Ok(())
 }
 
@@ -182,7 +189,7 @@ fn a_session_has_its_uplink_and_its_copies(rt: HostRuntime) -> Result<(), Fail> 
     };
     let verdict = JoinVerdict::Good;
     let mut message = envelope("office", 1, Message::JoinHeard { report, verdict })?;
-    let view = fresh_view(&mut lists, &message).ok_or("not fresh")?;
+    let view = fresh_view(&mut *lists, &message).ok_or("not fresh")?;
     assert!(rt; view.base == 0x01a0_0000 && view.addresses == 65_536);
     assert!(rt; view.sessions == 0 && view.uplinks == 0);
     assert!(rt; view.device == None && view.last_nonce == None && view.uplink == None);
@@ -192,7 +199,7 @@ fn a_session_has_its_uplink_and_its_copies(rt: HostRuntime) -> Result<(), Fail> 
         kind: Kind::Join,
         counter: 0,
         octets,
-        start: 1_706_745_600_000_000,
+        start: Whole::new(1_706_745_600_000_000).ok_or("too great")?,
         airtime: 61_696,
         band: Band::B3,
     };
@@ -203,9 +210,9 @@ fn a_session_has_its_uplink_and_its_copies(rt: HostRuntime) -> Result<(), Fail> 
         gateway,
         reception,
     };
-    assert!(rt; keeps(&mut lists, &message, &effect));
+    assert!(rt; keeps(&mut *lists, &message, &effect));
     message.transaction = 2;
-    let view = fresh_view(&mut lists, &message).ok_or("not fresh")?;
+    let view = fresh_view(&mut *lists, &message).ok_or("not fresh")?;
     assert!(rt; view.sessions == 1 && view.uplinks == 1);
     assert!(rt; view.last_nonce == Some(0));
     let at_gateway = Some(reception);
@@ -220,7 +227,7 @@ fn a_session_has_its_uplink_and_its_copies(rt: HostRuntime) -> Result<(), Fail> 
     let gateway = name("gw-b")?;
     let report = Report { gateway, ..report };
     message.message = Message::JoinHeard { report, verdict };
-    let view = fresh_view(&mut lists, &message).ok_or("not fresh")?;
+    let view = fresh_view(&mut *lists, &message).ok_or("not fresh")?;
     let at_gateway = None;
     assert!(rt;
         view.uplink
@@ -235,9 +242,9 @@ fn a_session_has_its_uplink_and_its_copies(rt: HostRuntime) -> Result<(), Fail> 
         gateway,
         reception,
     };
-    assert!(rt; keeps(&mut lists, &message, &effect));
+    assert!(rt; keeps(&mut *lists, &message, &effect));
     message.transaction = 3;
-    let view = fresh_view(&mut lists, &message).ok_or("not fresh")?;
+    let view = fresh_view(&mut *lists, &message).ok_or("not fresh")?;
     let at_gateway = Some(reception);
     assert!(rt;
         view.uplink
@@ -270,7 +277,7 @@ fn a_data_frame_is_looked_up_by_its_session(rt: HostRuntime) -> Result<(), Fail>
         kind: Kind::Join,
         counter: 5,
         octets,
-        start: 1_706_745_600_000_000,
+        start: Whole::new(1_706_745_600_000_000).ok_or("too great")?,
         airtime: 61_696,
         band: Band::B3,
     };
@@ -282,7 +289,7 @@ fn a_data_frame_is_looked_up_by_its_session(rt: HostRuntime) -> Result<(), Fail>
         octets,
     };
     let mut message = envelope("office", 1, Message::FrameHeard { report, verdict })?;
-    let view = fresh_view(&mut lists, &message).ok_or("not fresh")?;
+    let view = fresh_view(&mut *lists, &message).ok_or("not fresh")?;
     assert!(rt; view.session == None && view.uplink == None);
     for (transaction, nonce, session) in [(1, 0, 1), (2, 1, 2)] {
         message.transaction = transaction;
@@ -292,7 +299,7 @@ fn a_data_frame_is_looked_up_by_its_session(rt: HostRuntime) -> Result<(), Fail>
             gateway,
             reception,
         };
-        assert!(rt; keeps(&mut lists, &message, &effect));
+        assert!(rt; keeps(&mut *lists, &message, &effect));
     }
     message.transaction = 3;
     let mut session = SessionView {
@@ -301,7 +308,7 @@ fn a_data_frame_is_looked_up_by_its_session(rt: HostRuntime) -> Result<(), Fail>
         last_counter: None,
         below_floor: false,
     };
-    let view = fresh_view(&mut lists, &message).ok_or("not fresh")?;
+    let view = fresh_view(&mut *lists, &message).ok_or("not fresh")?;
     assert!(rt; view.session == Some(session));
     assert!(rt; view.uplink == None);
     for (transaction, session, counter) in [(3, 1, 5), (4, 1, 3), (5, 2, 9)] {
@@ -317,12 +324,12 @@ fn a_data_frame_is_looked_up_by_its_session(rt: HostRuntime) -> Result<(), Fail>
             gateway,
             reception,
         };
-        assert!(rt; keeps(&mut lists, &message, &effect));
+        assert!(rt; keeps(&mut *lists, &message, &effect));
     }
     message.transaction = 6;
     session.last_counter = Some(5);
     session.below_floor = true;
-    let view = fresh_view(&mut lists, &message).ok_or("not fresh")?;
+    let view = fresh_view(&mut *lists, &message).ok_or("not fresh")?;
     assert!(rt; view.uplinks == 5);
     assert!(rt; view.session == Some(session));
     let seen = view.uplink.ok_or("not seen")?;
@@ -333,7 +340,7 @@ fn a_data_frame_is_looked_up_by_its_session(rt: HostRuntime) -> Result<(), Fail>
         report,
         verdict: None,
     };
-    let view = fresh_view(&mut lists, &message).ok_or("not fresh")?;
+    let view = fresh_view(&mut *lists, &message).ok_or("not fresh")?;
     assert!(rt; view.session == Some(session));
     assert!(rt; view.uplink == None);
     Ok(())

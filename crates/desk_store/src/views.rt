@@ -9,10 +9,7 @@ ghost use Rattle.desk_store.specs.Facts.{facts_of};
 
 use crate::downlinks::DownlinkView;
 use crate::facts::Facts;
-use crate::lookups::{
-    copy_in, data_in, device_in, is_below_floor, item_at, join_in, last_counter_in, last_nonce_in,
-    name_in, role_in, session_in,
-};
+use crate::lookups::{is_below_floor, join_in, session_in};
 use radio_core::Name;
 use registry_core::{
     Config, Device, JoinRequest, Message, Role, Session, SessionView, Uplink, UplinkView, View,
@@ -25,7 +22,7 @@ impl Facts {
     pub(crate) fn role_of(&self, sender: &Name) -> Option<Role>
         ensures { result ≡ (facts_of self.now).senders sender.now }
     {
-        role_in(&self.senders, sender)
+        self.senders.get(sender).copied()
     }
 
     /// What the facts hold for a message of a sender with this role.
@@ -75,7 +72,7 @@ impl Facts {
         ensures { result ≡ sender_known (facts_of self.now) message.now }
     {
         match message {
-            Message::SenderAdd { sender, role: _ } => role_in(&self.senders, sender).is_some(),
+            Message::SenderAdd { sender, role: _ } => self.senders.contains_key(sender),
             _ => false,
         }
     }
@@ -86,7 +83,7 @@ impl Facts {
         match message {
             Message::OwnerAdd { owner }
             | Message::DeviceAdd { owner, .. }
-            | Message::DeviceMove { owner, .. } => name_in(&self.owners, owner),
+            | Message::DeviceMove { owner, .. } => self.owners.contains(owner),
             _ => false,
         }
     }
@@ -96,10 +93,10 @@ impl Facts {
     {
         match message {
             Message::GatewayAdd { gateway } | Message::DownBook { gateway, .. } => {
-                name_in(&self.gateways, gateway)
+                self.gateways.contains(gateway)
             }
             Message::JoinHeard { report, .. } | Message::FrameHeard { report, .. } => {
-                name_in(&self.gateways, &report.gateway)
+                self.gateways.contains(&report.gateway)
             }
             _ => false,
         }
@@ -110,10 +107,10 @@ impl Facts {
     {
         match message {
             Message::DeviceAdd { dev_eui, .. } | Message::DeviceMove { dev_eui, .. } => {
-                device_in(&self.devices, *dev_eui)
+                self.devices.get(dev_eui).copied()
             }
             _ => match join {
-                Some(join) => device_in(&self.devices, join.dev_eui),
+                Some(join) => self.devices.get(&join.dev_eui).copied(),
                 None => None,
             },
         }
@@ -124,7 +121,7 @@ impl Facts {
             (λ (told : JoinRequest). last_nonce (facts_of self.now).sessions told.dev_eui) join.now }
     {
         match join {
-            Some(join) => last_nonce_in(&self.sessions, join.dev_eui),
+            Some(join) => self.sessions.last_nonce(join.dev_eui),
             None => None,
         }
     }
@@ -147,7 +144,7 @@ impl Facts {
             Some((number, session)) => Some(SessionView {
                 number: *number,
                 device: session.device,
-                last_counter: last_counter_in(&self.uplinks, *number),
+                last_counter: self.uplinks.last_counter(*number),
                 below_floor: is_below_floor(&self.uplinks, &self.sessions, session.device, *number),
             }),
             None => None,
@@ -186,7 +183,7 @@ impl Facts {
         Some(UplinkView {
             number,
             uplink,
-            at_gateway: copy_in(&self.copies, number, gateway),
+            at_gateway: self.copies.get(&(number, *gateway)).copied(),
         })
     }
 
@@ -194,7 +191,7 @@ impl Facts {
     fn uplink_numbered(&self, number: u64) -> Option<(u64, Uplink)>
         ensures { result ≡ uplink_numbered (facts_of self.now) number }
     {
-        Some((number, item_at(&self.uplinks, number)?))
+        Some((number, self.uplinks.at(number)?))
     }
 
     fn join_found(&self, join: &Option<JoinRequest>) -> Option<(u64, Uplink)>
@@ -215,7 +212,7 @@ impl Facts {
         ensures { result ≡ data_told (facts_of self.now) session.now verdict }
     {
         match session {
-            Some((number, _)) => data_in(&self.uplinks, *number, verdict?),
+            Some((number, _)) => self.uplinks.data_with(*number, verdict?),
             None => None,
         }
     }

@@ -17,6 +17,7 @@ pub mod Numbered
 pub mod Ranges
 pub mod Refusals
 pub mod ReportOrder
+pub mod Reports
 pub mod Same
 pub mod Settings
 pub mod State

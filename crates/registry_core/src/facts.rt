@@ -32,7 +32,7 @@ pub struct Uplink {
     pub kind: Kind,
     pub counter: u32,
     pub octets: Octets,
-    pub start: u64,
+    pub start: Whole,
     pub airtime: u32,
     pub band: Band,
 }

@@ -52,7 +52,7 @@ pub(crate) fn uplink_of(
         kind,
         counter,
         octets: report.octets,
-        start: report.time.get().saturating_sub(u64::from(airtime)),
+        start: report.time.minus(airtime),
         airtime,
         band,
     }

@@ -21,7 +21,7 @@ impl Model for Whole {
 }
 
 impl Whole {
-    ghost use Rattle.std.specs.Prelude.{◌≡◌, SomeIff};
+    ghost use Rattle.std.specs.Prelude.{◌≡◌, ◌-◌, SomeIff};
     ghost use Rattle.registry_core.specs.Wholes.{IsWhole};
 
     /// `None` exactly where the number is greater.
@@ -40,5 +40,14 @@ impl Whole {
         ensures range { IsWhole self.now }
     {
         self.number
+    }
+
+    /// The number less `less`, or 0 where it is smaller.
+    pub(crate) fn minus(&self, less: u32) -> Whole
+        ensures { result ≡ self.now - less }
+    {
+        Whole {
+            number: self.number.saturating_sub(u64::from(less)),
+        }
     }
 }

@@ -69,11 +69,11 @@ impl Write for Failing {
 }
 
 /// A desk that has heard nothing.
-fn opening(alloc: Global) -> Result<Lists, Fail> {
+fn opening(alloc: Global) -> Result<Box<Lists>, Fail> {
     let desk = Name::new(b"desk").ok_or("no name")?;
     let office = Name::new(b"office").ok_or("no name")?;
     let config = Config::new(desk, office, 0x01a0_0000, 65536).ok_or("no block")?;
-    Ok(Lists::new(alloc, config)?)
+    Ok(Box::new(alloc, Lists::new(alloc, config)?)?)
 }
 
 /// What the desk writes for the input, with sound ends.
@@ -104,7 +104,7 @@ fn lines_are_answered(rt: HostRuntime) -> Result<(), Fail> {
         ),
     ] {
         let mut lists = opening(alloc)?;
-        let written = answers(alloc, &mut lists, input.as_str())?;
+        let written = answers(alloc, &mut *lists, input.as_str())?;
         assert!(rt; written.as_slice() == want.as_bytes());
     }
     Ok(())
@@ -116,7 +116,7 @@ fn read_in_pieces(
     alloc: Global,
     input: &str,
     until_failure: usize,
-) -> Result<(Lists, LinesEnd, Vec<u8>), Fail> {
+) -> Result<(Box<Lists>, LinesEnd, Vec<u8>), Fail> {
     let mut lists = opening(alloc)?;
     let mut written = Vec::new(alloc);
     let mut reader = Pieces {
@@ -124,7 +124,7 @@ fn read_in_pieces(
         until_failure,
         interrupted: false,
     };
-    let end = run_lines(alloc, &mut lists, &mut reader, &mut written);
+    let end = run_lines(alloc, &mut *lists, &mut reader, &mut written);
     Ok((lists, end, written))
 }
 
@@ -144,10 +144,10 @@ fn a_read_fails(rt: HostRuntime) -> Result<(), Fail> {
         let (mut lists, ended, written) = read_in_pieces(alloc, input.as_str(), until_failure)?;
         assert_eq!(rt; ended, end);
         assert!(rt; written.as_slice() == want.as_bytes());
-        let again = answers(alloc, &mut lists, input.as_str())?;
+        let again = answers(alloc, &mut *lists, input.as_str())?;
         assert!(rt; again.as_slice() == both.as_bytes());
         let (mut lists, _, _) = read_in_pieces(alloc, input.as_str(), until_failure)?;
-        let other = answers(alloc, &mut lists, OTHER_OWNER)?;
+        let other = answers(alloc, &mut *lists, OTHER_OWNER)?;
         assert!(rt; other.as_slice() == want_other.as_bytes());
     }
     Ok(())
@@ -163,7 +163,7 @@ fn a_write_fails(rt: HostRuntime) -> Result<(), Fail> {
         let mut lists = opening(alloc)?;
         let mut reader = input.as_bytes();
         let mut writer = Failing { until_failure };
-        let ended = run_lines(alloc, &mut lists, &mut reader, &mut writer);
+        let ended = run_lines(alloc, &mut *lists, &mut reader, &mut writer);
         assert_eq!(rt;
             ended,
             if until_failure < 4 {
@@ -172,16 +172,16 @@ fn a_write_fails(rt: HostRuntime) -> Result<(), Fail> {
                 LinesEnd::Done
             }
         );
-        let again = answers(alloc, &mut lists, input.as_str())?;
+        let again = answers(alloc, &mut *lists, input.as_str())?;
         assert!(rt; again.as_slice() == want.as_bytes());
-        let other = answers(alloc, &mut lists, OTHER_OWNER)?;
+        let other = answers(alloc, &mut *lists, OTHER_OWNER)?;
         assert!(rt; other.as_slice() == REUSED.as_bytes());
     }
     let mut lists = opening(alloc)?;
     let mut room = [0u8; 162];
     let mut writer: &mut [u8] = &mut room;
     let mut reader = input.as_bytes();
-    let ended = run_lines(alloc, &mut lists, &mut reader, &mut writer);
+    let ended = run_lines(alloc, &mut *lists, &mut reader, &mut writer);
     assert_eq!(rt; ended, LinesEnd::Write);
     assert!(rt; room.as_slice() == &ADDED.as_bytes()[..162]);
     Ok(())

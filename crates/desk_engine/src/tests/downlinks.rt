@@ -24,9 +24,9 @@ pub(super) const DEVICE_EUI: &str = "0004a30b001a2b3c";
 
 // Data frames of the device, by FCnt.
 
-const UP_0: &str = "400000a00100000011223344";
+pub(super) const UP_0: &str = "400000a00100000011223344";
 
-const UP_1: &str = "400000a00100010011223344";
+pub(super) const UP_1: &str = "400000a00100010011223344";
 
 const UP_2: &str = "400000a00100020011223344";
 
@@ -36,7 +36,7 @@ const UP_4: &str = "400000a00100040011223344";
 
 // Data frames for the device, by FCnt.
 
-const DOWN_0: &str = "600000a00100000055667788";
+pub(super) const DOWN_0: &str = "600000a00100000055667788";
 
 pub(super) const DOWN_1: &str = "600000a00100010055667788";
 
@@ -64,7 +64,7 @@ const DOWN_1_OF_65: &str =
 /// For the address 01a00001.
 const DOWN_TO_OTHER: &str = "600100a00100000055667788";
 
-const ACCEPT: &str = "20000102030405060708090a0b0c0d0e0f";
+pub(super) const ACCEPT: &str = "20000102030405060708090a0b0c0d0e0f";
 
 /// The report of a data frame that ends where the worked month begins.
 const HEARD: Heard = Heard {

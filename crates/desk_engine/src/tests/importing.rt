@@ -9,16 +9,16 @@ use std::alloc::Global;
 use std::process::Abort;
 use std::test::Fail;
 
-const WORKED: &[u8] =
+pub(super) const WORKED: &[u8] =
     b"transaction,type,gateway,time_us,freq_hz,dr,phy,verdict\n10,JoinHeard,gw-a,1706745600061696,868100000,5,00010000d07ed5b3703c2b1a000ba304000000a1b2c3d4,Good\n11,FrameHeard,gw-a,1706745700041216,868300000,5,400000a00100000011223344,0\n12,FrameHeard,gw-b,1706745700041220,868300000,5,400000a00100000011223344,0\n";
 
 /// A used number with another message, a frame of an unknown gateway, a repeat, and a new frame.
 const MIXED: &[u8] =
     b"transaction,type,gateway,time_us,freq_hz,dr,phy,verdict\n11,FrameHeard,gw-b,1706745700041216,868300000,5,400000a00100000011223344,0\n13,FrameHeard,gw-c,1706745700041216,868300000,5,400000a00100000011223344,0\n12,FrameHeard,gw-b,1706745700041220,868300000,5,400000a00100000011223344,0\n14,FrameHeard,gw-a,1706745800041216,868300000,5,400000a00100010011223344,1\n";
 
-type Told = (u8, &'static str);
+pub(super) type Told = (u8, &'static str);
 
-static WORKED_ANSWERS: [Told; 3] = [
+pub(super) static WORKED_ANSWERS: [Told; 3] = [
     (
         0,
         r#"{"Airtime":61696,"Band":"B3","Copy":false,"DevAddr":"01a00000","MessageType":"JoinHeardAns","ProtocolVersion":"1.0","ReceiverID":"bridge","Result":{"Description":"","ResultCode":"Success"},"SenderID":"desk","TransactionID":10,"Uplink":1}"#,
@@ -81,7 +81,7 @@ fn imported(
 }
 
 /// The report is imported whole, and each answer is the one that is told.
-fn expect_imported<R: Abort + AllocGlobal>(
+pub(super) fn expect_imported<R: Abort + AllocGlobal>(
     rt: &R,
     lists: &mut Lists,
     text: &[u8],
@@ -100,11 +100,11 @@ fn expect_imported<R: Abort + AllocGlobal>(
 #[test]
 fn reports_are_heard_in_order(rt: HostRuntime) -> Result<(), Fail> {
     let mut lists = opening(rt.alloc(), 65_536)?;
-    deliver_each(&rt, &mut lists, &SETUP)?;
-    deliver_each(&rt, &mut lists, &DEVICE_ADDED)?;
-    expect_imported(&rt, &mut lists, WORKED, b"bridge", &WORKED_ANSWERS)?;
-    expect_imported(&rt, &mut lists, WORKED, b"bridge", &WORKED_ANSWERS)?;
-    expect_imported(&rt, &mut lists, MIXED, b"bridge", &MIXED_ANSWERS)?;
-    expect_imported(&rt, &mut lists, MIXED, b"bridge", &MIXED_ANSWERS)?;
-    expect_imported(&rt, &mut lists, WORKED, b"stranger", &STRANGERS_ANSWERS)
+    deliver_each(&rt, &mut *lists, &SETUP)?;
+    deliver_each(&rt, &mut *lists, &DEVICE_ADDED)?;
+    expect_imported(&rt, &mut *lists, WORKED, b"bridge", &WORKED_ANSWERS)?;
+    expect_imported(&rt, &mut *lists, WORKED, b"bridge", &WORKED_ANSWERS)?;
+    expect_imported(&rt, &mut *lists, MIXED, b"bridge", &MIXED_ANSWERS)?;
+    expect_imported(&rt, &mut *lists, MIXED, b"bridge", &MIXED_ANSWERS)?;
+    expect_imported(&rt, &mut *lists, WORKED, b"stranger", &STRANGERS_ANSWERS)
 }

@@ -38,7 +38,7 @@ fn kept_after<R: Abort + AllocGlobal>(
 ) -> Result<String, Fail> {
     let mut lists = opening(rt.alloc(), 65_536)?;
     for delivery in deliveries.iter().take(count) {
-        let outcome = deliver(rt.alloc(), &mut lists, delivery.text.as_bytes());
+        let outcome = deliver(rt.alloc(), &mut *lists, delivery.text.as_bytes());
         if let Outcome::Unavailable(_) = &outcome {
             return Err("no memory for the test itself".into());
         }
@@ -57,14 +57,14 @@ fn deliver_or_again<R: Abort + AllocGlobal>(rt: &R, rows: &[Row]) -> Result<(), 
     let mut lists = opening(rt.alloc(), 65_536)?;
     let mut refused = false;
     for (place, delivery) in deliveries.iter().enumerate() {
-        let mut outcome = deliver(rt.alloc(), &mut lists, delivery.text.as_bytes());
+        let mut outcome = deliver(rt.alloc(), &mut *lists, delivery.text.as_bytes());
         if let Outcome::Unavailable(StoreFault::Memory) = &outcome {
             assert!(rt; !refused, "at {place}");
             refused = true;
             let left = format!(in rt.alloc(); "{lists:?}")?;
             let before = kept_after(rt, &deliveries, place)?;
             assert!(rt; left == before, "at {place}");
-            outcome = deliver(rt.alloc(), &mut lists, delivery.text.as_bytes());
+            outcome = deliver(rt.alloc(), &mut *lists, delivery.text.as_bytes());
         }
         expect_told(rt, &outcome, delivery);
     }

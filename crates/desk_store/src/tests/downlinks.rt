@@ -27,19 +27,19 @@ static BOOKINGS: [(u64, &str, Band, i64); 7] = [
     (1, "gw-a", Band::B3, 3_603_000_000),
 ];
 
-fn uplink(kind: Kind, counter: u32) -> Result<Uplink, Fail> {
+pub(crate) fn uplink(kind: Kind, counter: u32) -> Result<Uplink, Fail> {
     Ok(Uplink {
         session: 1,
         kind,
         counter,
         octets: Octets::new(&[0x40]).ok_or("too long")?,
-        start: 1_706_745_700_000_000,
+        start: Whole::new(1_706_745_700_000_000).ok_or("too great")?,
         airtime: 41_216,
         band: Band::B3,
     })
 }
 
-fn reception() -> Result<Reception, Fail> {
+pub(crate) fn reception() -> Result<Reception, Fail> {
     Ok(Reception {
         end: Whole::new(END).ok_or("too great")?,
         rate: Rate {
@@ -49,7 +49,7 @@ fn reception() -> Result<Reception, Fail> {
     })
 }
 
-fn span(from_start: i64) -> Result<Span, Fail> {
+pub(crate) fn span(from_start: i64) -> Result<Span, Fail> {
     Ok(Span::new(START.saturating_add(from_start), 41_216).ok_or("out of range")?)
 }
 
@@ -111,7 +111,7 @@ fn standing(lists: &mut Lists, booking: u64) -> Result<Option<Standing>, Fail> {
     Ok(fresh_view(lists, &message).ok_or("not fresh")?.booking)
 }
 
-fn keep(lists: &mut Lists, transaction: u32, effect: &Effect) -> Result<(), Fail> {
+pub(crate) fn keep(lists: &mut Lists, transaction: u32, effect: &Effect) -> Result<(), Fail> {
     let message = envelope(
         "office",
         transaction,
@@ -127,18 +127,18 @@ fn keep(lists: &mut Lists, transaction: u32, effect: &Effect) -> Result<(), Fail
 }
 
 /// A store that holds the uplinks and the bookings, of which the first was sent and the third is dropped.
-fn booked(alloc: Global) -> Result<Lists, Fail> {
+pub(crate) fn booked(alloc: Global) -> Result<Box<Lists>, Fail> {
     let mut lists = lists(alloc)?;
     for (transaction, effect) in (1..).zip(&uplinks()?) {
-        keep(&mut lists, transaction, effect)?;
+        keep(&mut *lists, transaction, effect)?;
     }
     for (transaction, row) in (11..).zip(&BOOKINGS) {
         let booking = booking(*row)?;
-        keep(&mut lists, transaction, &Effect::AddsBooking { booking })?;
+        keep(&mut *lists, transaction, &Effect::AddsBooking { booking })?;
     }
     for (transaction, booking, sent) in [(21, 1, true), (22, 3, false)] {
         keep(
-            &mut lists,
+            &mut *lists,
             transaction,
             &Effect::EndsBooking { booking, sent },
         )?;
@@ -157,7 +157,7 @@ fn bookings_are_added_and_ended(rt: HostRuntime) -> Result<(), Fail> {
         (7, Some(Standing::Booked)),
         (8, None),
     ] {
-        assert!(rt; standing(&mut lists, booking)? == found, "at {booking}");
+        assert!(rt; standing(&mut *lists, booking)? == found, "at {booking}");
     }
     Ok(())
 }
@@ -165,7 +165,7 @@ fn bookings_are_added_and_ended(rt: HostRuntime) -> Result<(), Fail> {
 #[test]
 fn a_new_downlink_is_shown_what_is_near(rt: HostRuntime) -> Result<(), Fail> {
     let mut lists = booked(rt.alloc())?;
-    let view = down_book(&mut lists, 2, "gw-a")?;
+    let view = down_book(&mut *lists, 2, "gw-a")?;
     assert!(rt;
         view.uplink
             == Some(UplinkView {
@@ -191,7 +191,7 @@ fn without_its_copy_nothing_is_near(rt: HostRuntime) -> Result<(), Fail> {
         (3, "gw-a", true, true, 2),
         (4, "gw-c", false, false, 0),
     ] {
-        let view = down_book(&mut lists, uplink, gateway)?;
+        let view = down_book(&mut *lists, uplink, gateway)?;
         assert!(rt;
             view.gateway_known == known && view.answered == answered,
             "at {uplink}"

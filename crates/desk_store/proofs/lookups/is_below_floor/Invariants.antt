@@ -1,7 +1,13 @@
-use Rattle.std.proofs.Common.{◌≡◌, drop}
-use Rattle.registry_core.specs.Derived.{is_below_floor}
+use Rattle.std.proofs.Common.{◌≡◌, ◌<◌, true, false}
+use Rattle.registry_core.specs.Derived.{is_below_floor, is_of_device}
 use Rattle.desk_store.proofs.lookups.is_below_floor.Given as goal
 
--- the uplink, if there is one, stands in what is still to be looked through
-abbrev pub invariant-loop-uplink : goal.invariant-loop-uplink
-invariant-loop-uplink l = is_below_floor (drop l.uplink-index l.uplinks) l.sessions l.device l.session ≡ is_below_floor l.uplinks l.sessions l.device l.session
+-- the number is that of one of the device's sessions, if it is one, and none after it has a data uplink
+abbrev pub invariant-loop-number : goal.invariant-loop-number
+invariant-loop-number l = record {
+  own : 0 < l.number → is_of_device l.sessions.items l.fn.device l.number ≡ true;
+  none : is_below_floor l.uplinks.items l.sessions.items l.fn.device l.number ≡ false;
+}
+
+abbrev pub decreases-loop-number : goal.decreases-loop-number
+decreases-loop-number l = l.number

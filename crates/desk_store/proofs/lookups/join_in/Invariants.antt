@@ -1,8 +1,15 @@
-use Rattle.std.proofs.Common.{◌≡◌, ◌+◌, drop}
-use Rattle.registry_core.specs.Derived.{is_join_with, join_with}
-use Rattle.registry_core.specs.Numbered.{first_from}
+use Rattle.std.proofs.Common.{◌≡◌, ◌<◌, true}
+use Rattle.registry_core.specs.Derived.{is_of_device}
+use Rattle.registry_core.specs.Numbered.{first_that}
+use Rattle.desk_store.proofs.Joins.{is_later_join}
 use Rattle.desk_store.proofs.lookups.join_in.Given as goal
 
--- the uplink, if there is one, stands in what is still to be looked through
-abbrev pub invariant-loop-place : goal.invariant-loop-place
-invariant-loop-place l = first_from (l.place + 1) (is_join_with l.sessions l.device l.nonce) (drop l.place l.uplinks) ≡ join_with l.uplinks l.sessions l.device l.nonce
+-- the number is that of one of the device's sessions, if it is one, and of those after it the first was found
+abbrev pub invariant-loop-number : goal.invariant-loop-number
+invariant-loop-number l = record {
+  own : 0 < l.number → is_of_device l.sessions.items l.fn.device l.number ≡ true;
+  first : l.found ≡ first_that (is_later_join l.sessions.items l.fn.device l.nonce l.number) l.uplinks.items;
+}
+
+abbrev pub decreases-loop-number : goal.decreases-loop-number
+decreases-loop-number l = l.number

@@ -1,0 +1,6 @@
+use Rattle.std.proofs.Common.{◌≡◌, ◌≤◌, ◌*◌, ◌^◌, take}
+use Rattle.std.specs.Prelude.{sum_by}
+use Rattle.desk_engine.proofs.uses.airtime_of.Given as goal
+
+abbrev pub invariant-loop-span : goal.invariant-loop-span
+invariant-loop-span l = (l.airtime ≡ sum_by (λ a. a.len) (take l.span-index l.spans)) × (l.airtime ≤ l.span-index * 2 ^ 32)

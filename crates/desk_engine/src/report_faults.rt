@@ -1,0 +1,26 @@
+//! Why there is no report.
+ghost use Rattle.std.specs.Prelude.{◌≡◌};
+ghost use Rattle.desk_engine.specs.declared.report_faults.ReportFault.TheVariants.{Unavailable};
+
+use desk_store::StoreFault;
+
+/// Why there is no report.
+#[derive(Clone, Copy, Debug, PartialEq, Eq)]
+pub enum ReportFault {
+    /// The text is no month's: refusal 31.
+    Time,
+    /// No owner has the name: refusal 10.
+    Owner,
+    /// No gateway has the name: refusal 11.
+    Gateway,
+    /// The store, or memory, isn't available: refusal 32, or 33 where the store is no desk's.
+    Unavailable(StoreFault),
+}
+
+impl From<StoreFault> for ReportFault {
+    ghost from_gives = { λ fault e. e ≡ Unavailable fault };
+
+    fn from(fault: StoreFault) -> Self {
+        ReportFault::Unavailable(fault)
+    }
+}

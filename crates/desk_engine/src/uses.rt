@@ -1,0 +1,50 @@
+//! How much the air was used.
+ghost use Rattle.std.specs.Prelude.{◌≡◌, IfOk};
+ghost use Rattle.std.specs.String.{string_bytes};
+ghost use Rattle.desk_engine.specs.Reports.{band_columns};
+ghost use Rattle.desk_engine.specs.Uses.{use_shown, use_told};
+
+use duty_core::{Span, peak};
+use radio_core::Band;
+use std::alloc::{AllocError, Global};
+
+/// The bands, in the order of reports.
+pub(crate) const BANDS: [Band; 6] = [Band::B1, Band::B2, Band::B3, Band::B4, Band::B5, Band::B6];
+
+/// How much the air was used: how many times, for how long in all, and the greatest use of any sliding hour, in
+/// microseconds.
+#[derive(Clone, Copy, Debug)]
+pub(crate) struct Use {
+    pub count: u64,
+    pub airtime: u128,
+    pub peak: u128,
+}
+
+/// How long it was used in all, in microseconds.
+fn airtime_of(spans: &[Span]) -> u128
+    ensures { result ≡ (use_told spans.now).airtime }
+{
+    let mut airtime: u128 = 0;
+    for span in spans {
+        airtime += u128::from(span.len());
+    }
+    airtime
+}
+
+/// How much it was used by what was on the air then.
+pub(crate) fn use_of(spans: &[Span]) -> Use
+    ensures { use_shown result ≡ use_told spans.now }
+{
+    Use {
+        count: spans.len() as u64,
+        airtime: airtime_of(spans),
+        peak: peak(spans),
+    }
+}
+
+/// The columns of a band: the airtime and the peak, each after a comma.
+pub(crate) fn columns_of(alloc: Global, used: &Use) -> Result<String, AllocError>
+    ensures { IfOk result (λ text. string_bytes text ≡ band_columns (use_shown used.now)) }
+{
+    format!(in alloc; ",{},{}", used.airtime, used.peak)
+}

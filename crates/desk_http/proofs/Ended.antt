@@ -1,0 +1,79 @@
+-- How a connection was served, from how its parts were.
+use Rattle.std.proofs.Common.{◌≡◌, ℕ, Bool, List, [], ◌∷◌, ◌++◌, Option, length, take, drop, map, refl, ap, ◌∙◌, subst, append-nil}
+use Rattle.std.proofs.KnownBytes.{Consumes-trans}
+use Rattle.std.specs.List.{All}
+use Rattle.std.specs.Io.KnownBytes.{Consumes, IsAtEnd}
+use Rattle.httparse.specs.Grammar.{RequestHead, print_request}
+use Rattle.httparse.specs.Spans.{IsHeaderWithin, IsRequestAt, header_bytes, span_bytes}
+use Rattle.httparse.specs.declared.spans.HeaderSpan.{HeaderSpan}
+use Rattle.httparse.specs.declared.spans.RequestSpans.{RequestSpans}
+use Rattle.registry_core.specs.Settings.{Settings}
+use Rattle.desk_store.specs.Kept.{Kept}
+use Rattle.desk_http.specs.declared.asking.Asked.{Asked}
+use Rattle.desk_http.specs.declared.serving.ServeEnd.{ServeEnd}
+use Rattle.desk_http.specs.declared.serving.ServeEnd.TheVariants.{Done, Closed, Read, Write, Memory}
+use Rattle.desk_http.specs.Heads.{IsWithinLimits}
+use Rattle.desk_http.specs.Requests.{asked_of, asked_by_head}
+use Rattle.desk_http.specs.Responses.{Response}
+use Rattle.desk_http.specs.Serving.{EndsBy, Serves, ServesHead, Writes, head}
+
+-- what serves one way serves another
+pub ends-more : {K : Type 0} (old new : K) (P Q : Response → Type 0) (A B : Type 0) (before after : Option (List ℕ)) (end : ServeEnd)
+    → ((r : Response) → P r → Q r) → (A → B) → EndsBy old new P A before after end → EndsBy old new Q B before after end
+ends-more old new P Q A B before after (Done status) f a h = (h.0, h.1, f h.0 h.2, h.3)
+ends-more old new P Q A B before after Closed f a h = (a h.0, h.1)
+ends-more old new P Q A B before after Read f a h = h
+ends-more old new P Q A B before after Write f a h = (h.0, f h.0 h.1)
+ends-more old new P Q A B before after Memory f a h = h
+
+-- a response that was written, or a write of it failed
+pub ends-written : {K : Type 0} (old new : K) (response : Response) (P : Response → Type 0) (A : Type 0) (before after : Option (List ℕ)) (end : ServeEnd)
+    → P response → Writes response before after end → EndsBy old new P A before after end
+ends-written old new response P A before after (Done status) serves h = (response, h.0, serves, h.1)
+ends-written old new response P A before after Closed serves h = absurd h
+ends-written old new response P A before after Read serves h = absurd h
+ends-written old new response P A before after Write serves h = (response, serves)
+ends-written old new response P A before after Memory serves h = absurd h
+
+drop-all : (xs : List ℕ) → drop (length xs) xs ≡ []
+drop-all [] = refl
+drop-all (x ∷ xs) = drop-all xs
+
+-- every span lies in the head, which is all of the octets
+pub spans_fit : (octets : List ℕ) (spans : RequestSpans) (fields : List HeaderSpan) (len : ℕ) → spans.len ≡ len → All (IsHeaderWithin spans.len) fields → All (IsHeaderWithin len) fields
+spans_fit octets spans fields len e h = subst (λ n. All (IsHeaderWithin n) fields) e h
+
+-- octets of which a head is all are the head
+all_head : (octets : List ℕ) (headers : List HeaderSpan) (spans : RequestSpans) (h : RequestHead) → IsRequestAt octets headers spans h → spans.len ≡ length octets → octets ≡ print_request h
+all_head octets headers spans h at all =
+    let rest : drop spans.len octets ≡ [] = rw all (drop-all octets) in
+    at.reads.1 ∙ ap (λ l. print_request h ++ l) rest ∙ append-nil (print_request h)
+
+-- what the parts of a head ask for is what the head asks for
+asked_is : (octets : List ℕ) (headers : List HeaderSpan) (spans : RequestSpans) (h : RequestHead) → IsRequestAt octets headers spans h
+    → asked_of (span_bytes octets spans.method) (span_bytes octets spans.path) (map (header_bytes octets) (take spans.headers headers)) ≡ asked_by_head h
+asked_is octets headers spans h at =
+    ap (λ m. asked_of m (span_bytes octets spans.path) (map (header_bytes octets) (take spans.headers headers))) at.method
+    ∙ ap (λ t. asked_of h.method t (map (header_bytes octets) (take spans.headers headers))) at.path
+    ∙ ap (λ f. asked_of h.method h.target f) at.fields
+
+module _ {K : Type 0} (configuration : K → Settings) (sound : K → Type 0) (down : K → Bool) (full : K → Type 0) (holds : K → Kept → Type 0) (leaves : K → List Kept → Type 0) (old new : K) where
+  -- a head and what came after it
+  pub served : (end : ServeEnd) (h : RequestHead) (octets : List ℕ) (headers : List HeaderSpan) (spans : RequestSpans) (asked : Asked) (target : List ℕ) (from mid rest before after : Option (List ℕ))
+      → Consumes from mid octets → IsRequestAt octets headers spans h → spans.len ≡ length octets → IsWithinLimits h → target ≡ span_bytes octets spans.path
+      → asked ≡ asked_of (span_bytes octets spans.method) (span_bytes octets spans.path) (map (header_bytes octets) (take spans.headers headers))
+      → EndsBy old new (λ r. (body : List ℕ) × Consumes mid rest body × ServesHead configuration sound down full holds leaves old new asked target body rest r) ⊥ before after end
+      → EndsBy old new (λ r. (input : List ℕ) × Consumes from rest input × Serves configuration sound down full holds leaves old new input rest r) (Consumes from rest [] × IsAtEnd rest) before after end
+  served end h octets headers spans asked target from mid rest before after read at all fits target_is asked_are done =
+      let octets_are = all_head octets headers spans h at all in
+      let asks : asked ≡ asked_by_head h = asked_are ∙ asked_is octets headers spans h at in
+      let names : target ≡ h.target = target_is ∙ at.path in
+      ends-more old new _ _ _ _ before after end
+      (λ r p. (
+        octets ++ p.0,
+        Consumes-trans from mid rest octets p.0 read p.1,
+        head h p.0 at.reads.0 fits (ap (λ l. l ++ p.0) octets_are)
+            (subst (λ a. ServesHead configuration sound down full holds leaves old new a h.target p.0 rest r) asks
+            (subst (λ t. ServesHead configuration sound down full holds leaves old new asked t p.0 rest r) names p.2)),
+      ))
+      (λ a. absurd a) done

@@ -1,0 +1,6 @@
+pub mod Digits
+pub mod Ended
+pub mod Ends
+pub mod Reported
+pub mod Routes
+pub mod Written

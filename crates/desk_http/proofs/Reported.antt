@@ -1,0 +1,76 @@
+-- What a report is answered, from what the engine says of it.
+use Rattle.std.proofs.Common.{◌≡◌, ◌↔◌, ℕ, Bool, List, Option, Result, Ok, Err, IfOk, IfErr, OnOk, IsTrue, refl, ap}
+use Rattle.std.specs.Prelude.{ℤ}
+use Rattle.registry_core.specs.declared.messages.Envelope.{Envelope}
+use Rattle.registry_core.specs.Heard.{state_of}
+use Rattle.registry_core.specs.Settings.{Settings}
+use Rattle.registry_core.specs.State.{State}
+use Rattle.desk_store.specs.Kept.{Kept}
+use Rattle.desk_engine.specs.declared.report_faults.ReportFault.{ReportFault}
+use Rattle.desk_engine.specs.declared.report_faults.ReportFault.TheVariants.{Time, Owner, Gateway, Unavailable}
+use Rattle.desk_engine.specs.InOrder.{IsInOrder, kept_after}
+use Rattle.desk_engine.specs.Months.{IsMonth}
+use Rattle.desk_engine.specs.Reporting.{IsGatewayFault, IsOwnerFault, OnlyReads, store_fault}
+use Rattle.desk_engine.specs.Reports.{IsBandReport, IsOwnerReport, is_gateway, is_owner}
+use Rattle.desk_http.specs.Reports.{IsBandAnswer, IsOwnerAnswer, answer_told}
+use Rattle.desk_http.specs.Responses.{report_response}
+use Rattle.desk_http.specs.Serving.{ServesBandReport, ServesOwnerReport}
+
+module _ {T : Type 0} (octets : T → List ℕ) where
+  same_fault : (r : Result T ReportFault) → store_fault (answer_told octets r) ≡ store_fault r
+  same_fault (Ok text) = refl
+  same_fault (Err Time) = refl
+  same_fault (Err Owner) = refl
+  same_fault (Err Gateway) = refl
+  same_fault (Err (Unavailable fault)) = refl
+
+  same_time : (r : Result T ReportFault) (P : Type 0) → (r ≡ Err Time) ↔ P → (answer_told octets r ≡ Err Time) ↔ P
+  same_time (Ok text) P h = (λ e. cc, λ p. let e = h.1 p in cc)
+  same_time (Err fault) P h = (λ e. let same : fault ≡ Time = cc in h.0 (ap Err same), λ p. let e = h.1 p in let same : fault ≡ Time = cc in ap Err same)
+
+  owner_answer : (s : State) (owner month : List ℕ) (r : Result T ReportFault) → OnOk r (IsTrue (is_owner s owner))
+      → ((from to : ℤ) → IsMonth month from to → IfOk r (λ text. IsOwnerReport s owner from to (octets text)))
+      → ((from to : ℤ) → IsMonth month from to → IfErr r (IsOwnerFault s owner)) → IsOwnerAnswer s owner month (answer_told octets r)
+  owner_answer s owner month (Ok text) known report fault = record { known = known; report = report; fault = fault }
+  owner_answer s owner month (Err why) known report fault = record { known = known; report = report; fault = fault }
+
+  band_answer : (s : State) (gateway : List ℕ) (r : Result T ReportFault) → OnOk r (IsTrue (is_gateway s gateway))
+      → IfOk r (λ text. IsBandReport s gateway (octets text)) → IfErr r (IsGatewayFault s gateway) → IsBandAnswer s gateway (answer_told octets r)
+  band_answer s gateway (Ok text) known report fault = record { known = known; report = report; fault = fault }
+  band_answer s gateway (Err why) known report fault = record { known = known; report = report; fault = fault }
+
+  module _ {K : Type 0} (configuration : K → Settings) (sound : K → Type 0) (down : K → Bool) (full : K → Type 0) (holds : K → Kept → Type 0) (leaves : K → List Kept → Type 0) (old new : K) where
+    stays : (fault : Option _) → OnlyReads configuration sound down full holds leaves old new fault → (c : Settings) (heard : List Envelope) → sound new → IsInOrder holds c old heard → IsInOrder holds c new heard
+    stays fault reads c heard is order = record { list = order.list; kept = reads.held (kept_after c heard) is order.kept }
+
+    pub owner_served : (owner month : List ℕ) (r : Result T ReportFault) → OnlyReads configuration sound down full holds leaves old new (store_fault r)
+        → (r ≡ Err Time) ↔ ((from to : ℤ) → ¬ (IsMonth month from to))
+        → ((kept : Kept) → sound new → holds old kept → OnOk r (IsTrue (is_owner kept.facts owner)))
+        → ((kept : Kept) (from to : ℤ) → IsMonth month from to → sound new → holds old kept → IfOk r (λ text. IsOwnerReport kept.facts owner from to (octets text)))
+        → ((kept : Kept) (from to : ℤ) → IsMonth month from to → sound new → holds old kept → IfErr r (IsOwnerFault kept.facts owner))
+        → ServesOwnerReport configuration sound down full holds leaves old new owner month (report_response (answer_told octets r))
+    unfolding kept_after
+    owner_served owner month r reads time known report fault = record {
+      answer = answer_told octets r;
+      response_is = refl;
+      reads = rw (same_fault r) reads;
+      time = same_time r _ time;
+      told = λ c heard same is order. owner_answer (state_of c heard) owner month r (known (kept_after c heard) is order.kept)
+          (λ from to month_is. report (kept_after c heard) from to month_is is order.kept) (λ from to month_is. fault (kept_after c heard) from to month_is is order.kept);
+      order = λ c heard same is order. stays _ reads c heard is order;
+    }
+
+    pub band_served : (gateway : List ℕ) (r : Result T ReportFault) → OnlyReads configuration sound down full holds leaves old new (store_fault r)
+        → ((kept : Kept) → sound new → holds old kept → OnOk r (IsTrue (is_gateway kept.facts gateway)))
+        → ((kept : Kept) → sound new → holds old kept → IfOk r (λ text. IsBandReport kept.facts gateway (octets text)))
+        → ((kept : Kept) → sound new → holds old kept → IfErr r (IsGatewayFault kept.facts gateway))
+        → ServesBandReport configuration sound down full holds leaves old new gateway (report_response (answer_told octets r))
+    unfolding kept_after
+    band_served gateway r reads known report fault = record {
+      answer = answer_told octets r;
+      response_is = refl;
+      reads = rw (same_fault r) reads;
+      told = λ c heard same is order. band_answer (state_of c heard) gateway r (known (kept_after c heard) is order.kept)
+          (report (kept_after c heard) is order.kept) (fault (kept_after c heard) is order.kept);
+      order = λ c heard same is order. stays _ reads c heard is order;
+    }

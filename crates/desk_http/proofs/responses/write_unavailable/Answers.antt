@@ -1,0 +1,7 @@
+use Rattle.std.specs.Fmt.{digits}
+use Rattle.desk_http.specs.Responses.{response_text}
+use Rattle.desk_http.proofs.responses.write_unavailable.Goals as goal
+
+pub returns : goal.returns
+unfolding response_text digits
+returns g c = c.write_all.ensures.bytes

@@ -1,0 +1,4 @@
+use Rattle.desk_http.proofs.serving.write_fault.Goals as goal
+
+pub returns-in-Owner : goal.returns-in-Owner
+returns-in-Owner g c = rw c.in-Owner.is c.refuse-in-Owner.ensures

@@ -1,0 +1,106 @@
+-- What a connection is served.
+use Rattle.std.specs.Prelude.{◌≡◌, ◌<◌, ◌||◌, ◌⊎◌, ◌↔◌, ℕ, ℤ, Bool, List, [], ◌++◌, length, Option, Result, Err}
+use Rattle.std.specs.Io.KnownBytes.{Appends, IsAtEnd, Keeps}
+use Rattle.httparse.specs.Grammar.{RequestHead, IsRequestHead, print_request}
+use Rattle.registry_core.specs.declared.messages.Envelope.{Envelope}
+use Rattle.registry_core.specs.Heard.{state_of}
+use Rattle.registry_core.specs.Settings.{Settings}
+use Rattle.desk_store.specs.declared.faults.StoreFault.TheVariants.{Size}
+use Rattle.desk_store.specs.Kept.{Kept}
+use Rattle.desk_engine.specs.declared.report_faults.ReportFault.{ReportFault}
+use Rattle.desk_engine.specs.declared.report_faults.ReportFault.TheVariants.{Time}
+use Rattle.desk_engine.specs.declared.outcomes.Outcome.{Outcome}
+use Rattle.desk_engine.specs.declared.outcomes.Outcome.TheVariants.{Unavailable}
+use Rattle.desk_engine.specs.Deliveries.{heard_after}
+use Rattle.desk_engine.specs.InOrder.{HoldsHours, IsInOrder, Survives, doubt_after}
+use Rattle.desk_engine.specs.Months.{IsMonth}
+use Rattle.desk_engine.specs.Outcomes.{IsOutcome, delivery_of, doubt_of_text, is_disk_outcome}
+use Rattle.desk_engine.specs.Reporting.{OnlyReads, store_fault}
+use Rattle.desk_engine.specs.Told.{text_told}
+use Rattle.desk_http.specs.declared.asking.Asked.{Asked}
+use Rattle.desk_http.specs.declared.asking.Asked.TheVariants.{NoRoute, OtherMethod, NoLength, BadLength, TooLong, Deliver, OwnerReport, BandReport}
+use Rattle.desk_http.specs.declared.serving.ServeEnd.{ServeEnd}
+use Rattle.desk_http.specs.declared.serving.ServeEnd.TheVariants.{Done, Closed, Read, Write, Memory}
+use Rattle.desk_http.specs.Heads.{IsNoHead, IsWithinLimits}
+use Rattle.desk_http.specs.Reports.{IsBandAnswer, IsOwnerAnswer}
+use Rattle.desk_http.specs.Requests.{asked_by_head}
+use Rattle.desk_http.specs.Responses.{Response, response_text, no_head, no_route, other_method, no_length, too_long, cut_body, outcome_response, report_response}
+use Rattle.desk_http.specs.Targets.{gateway_of, month_of, owner_of}
+
+module _ {K : Type 0} (configuration : K → Settings) (sound : K → Type 0) (down : K → Bool) (full : K → Type 0) (holds : K → Kept → Type 0) (leaves : K → List Kept → Type 0) (old new : K) where
+  -- The body was delivered once, with this outcome: it is what the text is told, and the store is in order for what is heard with it.
+  pub record IsDelivered (body : List ℕ) (outcome : Outcome) : Type 0 where
+    pub shut : down new ≡ (down old || is_disk_outcome outcome)
+    pub size : outcome ≡ Unavailable Size → full new
+    pub told : (c : Settings) (heard : List Envelope) → c ≡ configuration old → sound new → IsInOrder holds c old heard → IsOutcome (text_told c heard body) outcome
+    pub order : (c : Settings) (heard : List Envelope) → c ≡ configuration old → sound new → IsInOrder holds c old heard
+        → IsInOrder holds c new (heard_after c heard (delivery_of body outcome))
+    pub crash : (c : Settings) (heard : List Envelope) (doubt : Option Envelope) → c ≡ configuration old → sound new → IsInOrder holds c old heard → Survives leaves down c old heard doubt
+        → Survives leaves down c new (heard_after c heard (delivery_of body outcome)) (doubt_after (down old) doubt (doubt_of_text c body outcome))
+    pub hours : (c : Settings) (heard : List Envelope) → c ≡ configuration old → sound new → IsInOrder holds c old heard → HoldsHours holds down new
+
+  -- no octet after the head was read, the store stands as before, and this is the response
+  abbrev pub IsRefused : Response → List ℕ → Response → Type 0
+  IsRefused wanted body response = (body ≡ []) × (new ≡ old) × (response ≡ wanted)
+
+  -- A body of so many octets was read and delivered once; or the input ended before, and the store stands as before.
+  abbrev pub ServesMessage : ℕ → List ℕ → Option (List ℕ) → Response → Type 0
+  ServesMessage count body rest response =
+      ((length body ≡ count) × (outcome : Outcome) × IsDelivered body outcome × (response ≡ outcome_response outcome))
+      ⊎ ((length body < count) × IsAtEnd rest × (new ≡ old) × (response ≡ cut_body))
+
+  -- The owner's report of a month was asked for once, and this is the response. The store is read alone, and stays in order.
+  pub record ServesOwnerReport (owner month : List ℕ) (response : Response) : Type 0 where
+    pub answer : Result (List ℕ) ReportFault
+    pub response_is : response ≡ report_response answer
+    pub reads : OnlyReads configuration sound down full holds leaves old new (store_fault answer)
+    pub time : (answer ≡ Err Time) ↔ ((from to : ℤ) → ¬ (IsMonth month from to))
+    pub told : (c : Settings) (heard : List Envelope) → c ≡ configuration old → sound new → IsInOrder holds c old heard → IsOwnerAnswer (state_of c heard) owner month answer
+    pub order : (c : Settings) (heard : List Envelope) → c ≡ configuration old → sound new → IsInOrder holds c old heard → IsInOrder holds c new heard
+
+  -- the same of the report of a gateway's bands
+  pub record ServesBandReport (gateway : List ℕ) (response : Response) : Type 0 where
+    pub answer : Result (List ℕ) ReportFault
+    pub response_is : response ≡ report_response answer
+    pub reads : OnlyReads configuration sound down full holds leaves old new (store_fault answer)
+    pub told : (c : Settings) (heard : List Envelope) → c ≡ configuration old → sound new → IsInOrder holds c old heard → IsBandAnswer (state_of c heard) gateway answer
+    pub order : (c : Settings) (heard : List Envelope) → c ≡ configuration old → sound new → IsInOrder holds c old heard → IsInOrder holds c new heard
+
+  -- what was read after a head, the response, and what the store has by then
+  abbrev pub ServesHead : Asked → List ℕ → List ℕ → Option (List ℕ) → Response → Type 0
+  ServesHead NoRoute target body rest response = IsRefused no_route body response
+  ServesHead (OtherMethod route) target body rest response = IsRefused (other_method route) body response
+  ServesHead NoLength target body rest response = IsRefused no_length body response
+  ServesHead BadLength target body rest response = IsRefused no_head body response
+  ServesHead TooLong target body rest response = IsRefused too_long body response
+  ServesHead (Deliver count) target body rest response = ServesMessage count body rest response
+  ServesHead OwnerReport target body rest response = (body ≡ []) × ServesOwnerReport (owner_of target) (month_of target) response
+  ServesHead BandReport target body rest response = (body ≡ []) × ServesBandReport (gateway_of target) response
+
+  -- This input was read, and this is what may be left of it: no head; or a head, and after it no more than the body that it asks for.
+  pub data Serves (input : List ℕ) (rest : Option (List ℕ)) (response : Response) : Type 0 where
+    bad_head : IsNoHead input rest → new ≡ old → response ≡ no_head → Serves input rest response
+    head : (h : RequestHead) (body : List ℕ) → IsRequestHead h → IsWithinLimits h → input ≡ print_request h ++ body → ServesHead (asked_by_head h) h.target body rest response
+        → Serves input rest response
+
+-- the store stands as before, and nothing was written
+abbrev pub IsIdle : {K : Type 0} → K → K → Option (List ℕ) → Option (List ℕ) → Type 0
+IsIdle old new before after = (new ≡ old) × Keeps before after
+
+-- How a connection was served, by how it ended: with `Done` the response was written whole. With `Write` the store is as with `Done`, and nothing is said
+-- of what was written. The store was old and is new, the writer had before and has after.
+abbrev pub EndsBy : {K : Type 0} → K → K → (Response → Type 0) → Type 0 → Option (List ℕ) → Option (List ℕ) → ServeEnd → Type 0
+EndsBy old new serves closed before after (Done status) =
+    (response : Response) × (status ≡ response.status) × serves response × Appends before after (response_text response)
+EndsBy old new serves closed before after Closed = closed × IsIdle old new before after
+EndsBy old new serves closed before after Read = IsIdle old new before after
+EndsBy old new serves closed before after Write = (response : Response) × serves response
+EndsBy old new serves closed before after Memory = IsIdle old new before after
+
+-- ---- of private functions
+
+-- the response was written whole, or a write failed
+abbrev pub Writes : Response → Option (List ℕ) → Option (List ℕ) → ServeEnd → Type 0
+Writes response before after (Done status) = (status ≡ response.status) × Appends before after (response_text response)
+Writes response before after Write = Unit {0}
+Writes response before after _ = ⊥

@@ -1,0 +1,77 @@
+//! What a request's head asks for: the checks in order.
+ghost use Rattle.std.specs.Prelude.{◌≡◌, length, map, IfOk};
+ghost use Rattle.std.specs.List.{All};
+ghost use Rattle.httparse.specs.Spans.{IsHeaderWithin, header_bytes};
+ghost use Rattle.desk_http.specs.Requests.{asked_by_route, asked_of, asked_of_messages};
+
+use crate::fields::{BodyLength, body_length, has_transfer_encoding};
+use crate::targets::{Route, method_of, path_of, route_of};
+use httparse::spans::HeaderSpan;
+use matchit::InsertError;
+use std::alloc::Global;
+
+/// What a request's head asks for, or why it is refused at once.
+#[derive(Clone, Copy)]
+pub(crate) enum Asked {
+    NoRoute,
+    /// The route is asked for by another method than its own.
+    OtherMethod(Route),
+    /// A message under a transfer encoding, or without a length.
+    NoLength,
+    /// A length given twice, or not one or more digits.
+    BadLength,
+    TooLong,
+    /// The delivery of a body of so many octets.
+    Deliver(u32),
+    OwnerReport,
+    BandReport,
+}
+
+/// What a head with these parts asks for.
+#[tactic(auto, unfolding(crate::specs::Requests::asked_of))]
+pub(crate) fn asked_of(
+    alloc: Global,
+    method: &[u8],
+    target: &str,
+    octets: &[u8],
+    headers: &[HeaderSpan],
+) -> Result<Asked, InsertError>
+    requires { All (IsHeaderWithin (length octets.now)) headers.now }
+    ensures { IfOk result (λ asked. asked ≡ asked_of method.now target.now (map (header_bytes octets.now) headers.now)) }
+{
+    let Some(route) = route_of(alloc, path_of(target))? else {
+        return Ok(Asked::NoRoute);
+    };
+    if method != method_of(route).as_bytes() {
+        return Ok(Asked::OtherMethod(route));
+    }
+    Ok(asked_by_route(route, octets, headers))
+}
+
+/// What a route is asked for by its own method.
+fn asked_by_route(route: Route, octets: &[u8], headers: &[HeaderSpan]) -> Asked
+    requires { All (IsHeaderWithin (length octets.now)) headers.now }
+    ensures { result ≡ asked_by_route route (map (header_bytes octets.now) headers.now) }
+{
+    match route {
+        Route::Messages => asked_of_messages(octets, headers),
+        Route::OwnerReport => Asked::OwnerReport,
+        Route::BandReport => Asked::BandReport,
+    }
+}
+
+/// A message needs a length, and under a transfer encoding it has none.
+fn asked_of_messages(octets: &[u8], headers: &[HeaderSpan]) -> Asked
+    requires { All (IsHeaderWithin (length octets.now)) headers.now }
+    ensures { result ≡ asked_of_messages (map (header_bytes octets.now) headers.now) }
+{
+    if has_transfer_encoding(octets, headers) {
+        return Asked::NoLength;
+    }
+    match body_length(octets, headers) {
+        BodyLength::Absent => Asked::NoLength,
+        BodyLength::Number(count) => Asked::Deliver(count),
+        BodyLength::TooLong => Asked::TooLong,
+        BodyLength::Bad => Asked::BadLength,
+    }
+}

@@ -1,0 +1,125 @@
+//! What the fields of a request's head say of its body.
+ghost use Rattle.std.specs.Prelude.{◌≡◌, length, map, min, true, codes};
+ghost use Rattle.std.specs.List.{All, list_all};
+ghost use Rattle.std.specs.Char.{is_ascii_digit, to_ascii_lowercase};
+ghost use Rattle.std.specs.Str.Parse.{digits_value};
+ghost use Rattle.httparse.specs.Spans.{IsHeaderWithin, header_bytes};
+ghost use Rattle.desk_http.specs.Fields.{is_name, is_number, length_of, length_with, length_after, body_length, has_transfer_encoding, names_encoding};
+
+use httparse::spans::HeaderSpan;
+
+/// The octets of a body, at most (this project's limit).
+const MOST_OCTETS: u32 = 65_536;
+
+/// The length of a body, by the fields of its head.
+#[derive(Clone, Copy)]
+pub(crate) enum BodyLength {
+    /// No field gives one.
+    Absent,
+    Number(u32),
+    /// More than a body may have.
+    TooLong,
+    /// Not one or more digits, or given twice.
+    Bad,
+}
+
+/// Whether a field names a transfer encoding.
+pub(crate) fn has_transfer_encoding(octets: &[u8], headers: &[HeaderSpan]) -> bool
+    requires { All (IsHeaderWithin (length octets.now)) headers.now }
+    ensures { result ≡ has_transfer_encoding (map (header_bytes octets.now) headers.now) }
+{
+    let mut found = false;
+    for header in headers {
+        found = names_encoding(octets, found, *header);
+    }
+    found
+}
+
+fn names_encoding(octets: &[u8], so_far: bool, header: HeaderSpan) -> bool
+    requires { IsHeaderWithin (length octets.now) header }
+    ensures { result ≡ names_encoding so_far (header_bytes octets.now header) }
+{
+    so_far || is_name(header.name.of(octets), b"transfer-encoding")
+}
+
+/// The length that the fields give.
+pub(crate) fn body_length(octets: &[u8], headers: &[HeaderSpan]) -> BodyLength
+    requires { All (IsHeaderWithin (length octets.now)) headers.now }
+    ensures { result ≡ body_length (map (header_bytes octets.now) headers.now) }
+{
+    let mut so_far = BodyLength::Absent;
+    for header in headers {
+        so_far = length_after(octets, so_far, *header);
+    }
+    so_far
+}
+
+/// The length with one more field.
+fn length_after(octets: &[u8], so_far: BodyLength, header: HeaderSpan) -> BodyLength
+    requires { IsHeaderWithin (length octets.now) header }
+    ensures { result ≡ length_after so_far (header_bytes octets.now header) }
+{
+    if is_name(header.name.of(octets), b"content-length") {
+        length_with(so_far, length_of(header.value.of(octets)))
+    } else {
+        so_far
+    }
+}
+
+fn length_with(so_far: BodyLength, new: BodyLength) -> BodyLength
+    ensures { result ≡ length_with so_far new }
+{
+    match so_far {
+        BodyLength::Absent => new,
+        _ => BodyLength::Bad,
+    }
+}
+
+/// Whether a text is this name in any case. The name is given in lower case.
+fn is_name(text: &[u8], name: &[u8]) -> bool
+    requires { map to_ascii_lowercase name.now ≡ name.now }
+    ensures { result ≡ is_name name.now text.now }
+{
+    text.eq_ignore_ascii_case(name)
+}
+
+/// The length that a value gives.
+#[tactic(auto, unfolding(crate::specs::Fields::length_of))]
+fn length_of(text: &[u8]) -> BodyLength
+    ensures { result ≡ length_of text.now }
+{
+    if !is_number(text) {
+        return BodyLength::Bad;
+    }
+    let length = capped(text);
+    if length > MOST_OCTETS {
+        BodyLength::TooLong
+    } else {
+        BodyLength::Number(length)
+    }
+}
+
+/// One or more digits.
+fn is_number(text: &[u8]) -> bool
+    ensures { result ≡ is_number text.now }
+{
+    !text.is_empty() && has_digits(text)
+}
+
+fn has_digits(text: &[u8]) -> bool
+    ensures { result ≡ list_all is_ascii_digit text.now }
+{
+    text.iter().all(|c| c.is_ascii_digit())
+}
+
+/// The number that digits write, or one more than a body may have, so that no number of digits overflows.
+fn capped(text: &[u8]) -> u32
+    requires { list_all is_ascii_digit text.now ≡ true }
+    ensures { result ≡ min (digits_value 10 text.now) 65537 }
+{
+    let mut number = 0;
+    for c in text {
+        number = (number * 10 + u32::from(*c - b'0')).min(65_537);
+    }
+    number
+}

@@ -1,0 +1,14 @@
+//! One HTTP request in, one response out, over any store, reader and writer.
+#![tactic(auto)]
+
+mod asking;
+mod bodies;
+mod fields;
+mod heads;
+mod responses;
+mod serving;
+mod targets;
+#[cfg(test)]
+mod tests;
+
+pub use serving::{ServeEnd, serve_one};

@@ -1,0 +1,92 @@
+//! What a request's target names.
+ghost use Rattle.std.specs.Prelude.{◌≡◌, IfOk, MatchOption, Option, None, Some};
+ghost use Rattle.std.specs.Str.{IsUtf8};
+ghost use Rattle.desk_http.specs.Targets.{path_of, before_slash, after_slash, names_of, route_of, method_of};
+
+use matchit::{InsertError, Router};
+use std::alloc::Global;
+use std::str;
+
+/// The routes that are served.
+#[derive(Clone, Copy)]
+pub(crate) enum Route {
+    /// Messages to be delivered.
+    Messages,
+    /// An owner's report of a month.
+    OwnerReport,
+    /// The report of a gateway's bands.
+    BandReport,
+}
+
+/// The method of a route.
+pub(crate) fn method_of(route: Route) -> &'static str
+    ensures { result.now ≡ method_of route }
+{
+    match route {
+        Route::Messages => "POST",
+        Route::OwnerReport => "GET",
+        Route::BandReport => "GET",
+    }
+}
+
+/// The target as a text.
+pub(crate) fn text_of(target: &[u8]) -> &str
+    requires { IsUtf8 target.now }
+    ensures { result.now ≡ target.now }
+{
+    match str::from_utf8(target) {
+        Ok(text) => text,
+        Err(_) => unreachable!(),
+    }
+}
+
+/// The target up to its first question mark.
+pub(crate) fn path_of(target: &str) -> &str
+    ensures { result.now ≡ path_of target.now }
+{
+    match target.split_once('?') {
+        Some((path, _)) => path,
+        None => target,
+    }
+}
+
+/// What stands after the first slash, or nothing where there is none.
+pub(crate) fn after_slash(text: &str) -> &str
+    ensures { result.now ≡ after_slash text.now }
+{
+    match text.split_once('/') {
+        Some((_, after)) => after,
+        None => "",
+    }
+}
+
+/// What stands before the first slash, or all where there is none.
+pub(crate) fn before_slash(text: &str) -> &str
+    ensures { result.now ≡ before_slash text.now }
+{
+    match text.split_once('/') {
+        Some((before, _)) => before,
+        None => text,
+    }
+}
+
+/// What stands after the third slash of a path.
+pub(crate) fn names_of(path: &str) -> &str
+    ensures { result.now ≡ names_of path.now }
+{
+    after_slash(after_slash(after_slash(path)))
+}
+
+/// The route of a path.
+pub(crate) fn route_of(alloc: Global, path: &str) -> Result<Option<Route>, InsertError>
+    ensures { IfOk result (λ route. route ≡ route_of path.now) }
+{
+    let mut router = Router::new(alloc);
+    router.insert("/v1/messages", Route::Messages)?;
+    router.insert("/v1/reports/{owner}/{month}", Route::OwnerReport)?;
+    router.insert("/v1/bands/{gateway}", Route::BandReport)?;
+    match router.at(path) {
+        Ok(found) => Ok(Some(*found.value)),
+        Err(_) => Ok(None),
+    }
+}

@@ -1,0 +1,12 @@
+use Rattle.std.proofs.Common.{refl}
+use Rattle.std.proofs.lemmas.Result.{on_ok_weaker}
+use Rattle.desk_store.proofs.Indexed.{join_noted, data_noted}
+use Rattle.desk_store.proofs.uplink_index.UplinkIndex.note.Goals as goal
+
+pub returns-in-Join-clause-noted : goal.returns-in-Join-clause-noted
+returns-in-Join-clause-noted c = λ uplinks last was.
+    on_ok_weaker _ (λ noted. join_noted uplinks c.args.uplink.now c.args.number last c.args.self.now _ was c.in-Join.is noted refl refl) c.note_first.ensures.noted
+
+pub returns-in_ok-note_first-in-Data-clause-noted : goal.returns-in_ok-note_first-in-Data-clause-noted
+returns-in_ok-note_first-in-Data-clause-noted c = λ uplinks last was.
+    on_ok_weaker _ (λ noted. data_noted uplinks c.args.uplink.now c.args.number last c.args.self.now _ was c.in-Data.is refl c.in_ok-note_first-in-Data.ensures.noted noted) c.note_last.ensures.noted
