@@ -1,5 +1,5 @@
 //! Hears a message once: the first time it is decided and kept, and each later time its first answer is given.
-ghost use Rattle.std.specs.Prelude.{◌≡◌, ◌||◌, ℕ, false, List, Option, Some, None, option_map};
+ghost use Rattle.std.specs.Prelude.{◌≡◌, ◌||◌, false, List, Option, Some, None, option_map};
 ghost use Rattle.registry_core.specs.declared.messages.Envelope.{Envelope};
 ghost use Rattle.registry_core.specs.Heard.{state_of};
 ghost use Rattle.registry_core.specs.Settings.{Settings};

@@ -1,7 +1,6 @@
 //! What an owner's devices sent in a month.
-ghost use Rattle.std.specs.Prelude.{◌≡◌, ◌↔◌, ◌∷◌, ◌++◌, ◌<◌, ◌≤◌, ◌*◌, ◌^◌, ℤ, sum_by, length, Err, Option, IsTrue, IfOk, IfSome, OnOk, IfErr, MatchResult, codes, []};
+ghost use Rattle.std.specs.Prelude.{◌≡◌, ◌↔◌, ◌∷◌, ◌++◌, ◌<◌, ◌^◌, ℤ, Err, Option, IsTrue, IfOk, IfSome, OnOk, IfErr, MatchResult, codes, []};
 ghost use Rattle.std.specs.Fmt.{decimal};
-ghost use Rattle.std.specs.List.{flat_map};
 ghost use Rattle.std.specs.Option.{option_map_or};
 ghost use Rattle.std.specs.Result.{result_err};
 ghost use Rattle.std.specs.String.{string_bytes};
@@ -12,7 +11,7 @@ ghost use Rattle.desk_store.specs.Kept.{Kept};
 ghost use Rattle.desk_engine.specs.Lines.{line_feed};
 ghost use Rattle.desk_engine.specs.Months.{IsMonth};
 ghost use Rattle.desk_engine.specs.Reporting.{IsOwnerFault, OnlyReads, store_fault};
-ghost use Rattle.desk_engine.specs.Reports.{IsOwnerReport, band_columns, is_owner, sixteen_digits};
+ghost use Rattle.desk_engine.specs.Reports.{IsOwnerReport, is_owner, sixteen_digits};
 ghost use Rattle.desk_engine.specs.Uses.{HasColumns, device_told, use_shown, use_told};
 
 use crate::months::{Month, month_of};

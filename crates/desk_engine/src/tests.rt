@@ -1,6 +1,7 @@
 //! The messages of runs from the opening state, through `deliver` one by one and through `run` at once.
 mod data_frames;
 mod downlinks;
+mod failing_disk;
 mod importing;
 mod joins;
 mod refused_memory;
@@ -82,36 +83,25 @@ fn run_all<R: Abort + AllocGlobal>(rt: &R, lists: &mut Lists, rows: &[Row]) -> R
     Ok(())
 }
 
-#[test]
-fn one_by_one(rt: HostRuntime) -> Result<(), Fail> {
-    let mut lists = opening(rt.alloc(), 65_536)?;
-    deliver_each(&rt, &mut *lists, &OWNERS)?;
-    for (addresses, rows) in [
-        (65_536, &REGISTRY[..]),
-        (65_536, &JOINS),
-        (1, &ONE_ADDRESS),
-        (65_536, &DATA),
-        (65_536, &SESSIONS),
-        (65_536, &WORKED_DOWNLINKS),
-        (65_536, &HOURS),
-        (65_536, &HOURS_ABOVE),
-        (65_536, &BETWEEN),
-        (65_536, &BETWEEN_ABOVE),
-        (65_536, &COLLISIONS),
-        (65_536, &DOWNLINKS),
-        (65_536, &LENGTHS),
-    ] {
-        let mut lists = opening(rt.alloc(), addresses)?;
-        deliver_each(&rt, &mut *lists, &SETUP)?;
-        deliver_each(&rt, &mut *lists, rows)?;
-    }
-    Ok(())
+/// Delivers what is before the rows and then these, one by one and at once, each time to a desk with so many addresses that has
+/// heard nothing. Each delivery has its outcome.
+fn expect_run<R: Abort + AllocGlobal>(
+    rt: &R,
+    addresses: u32,
+    before: &[Row],
+    rows: &[Row],
+) -> Result<(), Fail> {
+    let mut lists = opening(rt.alloc(), addresses)?;
+    deliver_each(rt, &mut *lists, before)?;
+    deliver_each(rt, &mut *lists, rows)?;
+    let mut lists = opening(rt.alloc(), addresses)?;
+    run_all(rt, &mut *lists, before)?;
+    run_all(rt, &mut *lists, rows)
 }
 
 #[test]
-fn at_once(rt: HostRuntime) -> Result<(), Fail> {
-    let mut lists = opening(rt.alloc(), 65_536)?;
-    run_all(&rt, &mut *lists, &OWNERS)?;
+fn runs_have_their_outcomes(rt: HostRuntime) -> Result<(), Fail> {
+    expect_run(&rt, 65_536, &[], &OWNERS)?;
     for (addresses, rows) in [
         (65_536, &REGISTRY[..]),
         (65_536, &JOINS),
@@ -127,9 +117,7 @@ fn at_once(rt: HostRuntime) -> Result<(), Fail> {
         (65_536, &DOWNLINKS),
         (65_536, &LENGTHS),
     ] {
-        let mut lists = opening(rt.alloc(), addresses)?;
-        run_all(&rt, &mut *lists, &SETUP)?;
-        run_all(&rt, &mut *lists, rows)?;
+        expect_run(&rt, addresses, &SETUP, rows)?;
     }
     Ok(())
 }

@@ -1,5 +1,5 @@
 -- How the reading of a request's head ends.
-use Rattle.std.specs.Prelude.{◌≡◌, ◌≤◌, ℕ, List, [], length, Option}
+use Rattle.std.specs.Prelude.{◌≡◌, ◌<◌, ◌≤◌, ℕ, List, [], length, Option}
 use Rattle.std.specs.Io.KnownBytes.{IsAtEnd}
 use Rattle.httparse.specs.Grammar.{RequestHead, HasNoRequest, print_request}
 use Rattle.httparse.specs.Spans.{RequestOverflows, IsRequestAt, IsRequestOf, IsRequestWithin}
@@ -21,10 +21,10 @@ most_headers = 32
 abbrev pub IsWithinLimits : RequestHead → Type 0
 IsWithinLimits h = (length (print_request h) ≤ most_octets) × (length h.fields ≤ most_headers)
 
--- What was read is no head: no head with so few headers begins with these octets; or they hold none, and the input ended there or a head has no more octets.
+-- What was read is no head: no head with so few headers begins with these octets; or they hold none, and the input ended after some of them, or a head has no more octets.
 pub data IsNoHead (octets : List ℕ) (rest : Option (List ℕ)) : Type 0 where
   bad : RequestOverflows most_headers octets → IsNoHead octets rest
-  cut_off : HasNoRequest octets → IsAtEnd rest → IsNoHead octets rest
+  cut_off : 0 < length octets → HasNoRequest octets → IsAtEnd rest → IsNoHead octets rest
   too_long : HasNoRequest octets → most_octets ≤ length octets → IsNoHead octets rest
 
 -- ---- of private functions

@@ -1,5 +1,5 @@
 //! What the fields of a request's head say of its body.
-ghost use Rattle.std.specs.Prelude.{◌≡◌, length, map, min, true, codes};
+ghost use Rattle.std.specs.Prelude.{◌≡◌, length, map, min, true};
 ghost use Rattle.std.specs.List.{All, list_all};
 ghost use Rattle.std.specs.Char.{is_ascii_digit, to_ascii_lowercase};
 ghost use Rattle.std.specs.Str.Parse.{digits_value};

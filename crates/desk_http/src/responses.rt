@@ -1,5 +1,5 @@
 //! Responses. None takes memory, so that nothing is refused once a message is heard.
-ghost use Rattle.std.specs.Prelude.{◌≡◌, List, ℕ, [], OnOk, option_map, unwrap_or};
+ghost use Rattle.std.specs.Prelude.{◌≡◌, [], OnOk, option_map, unwrap_or};
 ghost use Rattle.std.specs.Io.KnownBytes.{Appends};
 ghost use Rattle.http.specs.StatusCode.{reason_phrase};
 ghost use Rattle.desk_http.specs.Responses.{start_lines, allow_line, response_text, status_of, unavailable};

@@ -1,8 +1,6 @@
 //! One request in, one response out.
-ghost use Rattle.std.specs.Prelude.{◌≡◌, ℕ, List, [], None, length, map};
-ghost use Rattle.std.specs.List.{All};
+ghost use Rattle.std.specs.Prelude.{◌≡◌, ℕ, List, [], None, length};
 ghost use Rattle.std.specs.Io.KnownBytes.{Consumes, IsAtEnd};
-ghost use Rattle.httparse.specs.Spans.{IsHeaderWithin, header_bytes};
 ghost use Rattle.desk_http.specs.Reports.{answer_told};
 ghost use Rattle.desk_http.specs.Responses.{csv, fault_response, json, other_method, plain, unavailable, outcome_response, report_response};
 ghost use Rattle.desk_http.specs.Requests.{asked_of};

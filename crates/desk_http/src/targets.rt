@@ -1,5 +1,5 @@
 //! What a request's target names.
-ghost use Rattle.std.specs.Prelude.{◌≡◌, IfOk, MatchOption, Option, None, Some};
+ghost use Rattle.std.specs.Prelude.{◌≡◌, IfOk, Option, None, Some};
 ghost use Rattle.std.specs.Str.{IsUtf8};
 ghost use Rattle.desk_http.specs.Targets.{path_of, before_slash, after_slash, names_of, route_of, method_of};
 

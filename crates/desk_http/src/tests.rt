@@ -1,8 +1,12 @@
-//! Requests over plain lists: whole responses, what is left unread, limits, and reads and writes that fail.
+//! Requests over plain lists: whole responses, what is left unread, limits, and reads and writes that fail. And over a store
+//! that is down.
+ghost use Rattle.std.specs.Prelude.{true};
+
 use crate::{ServeEnd, serve_one};
-use desk_store::Lists;
-use radio_core::Name;
-use registry_core::Config;
+use desk_store::{Keeper, Lists, Loaded, StoreFault};
+use duty_core::Span;
+use radio_core::{Band, Eui, Name};
+use registry_core::{Config, Effect, Envelope};
 use std::alloc::Global;
 use std::io;
 use std::io::{ErrorKind, Read, Write};
@@ -83,6 +87,9 @@ const NO_OWNER: &str =
 const NO_GATEWAY: &str =
     "HTTP/1.1 404 Not Found\r\ncontent-type: text/plain\r\ncontent-length: 8\r\nconnection: close\r\n\r\ngateway\n";
 
+const UNAVAILABLE: &str =
+    "HTTP/1.1 503 Service Unavailable\r\ncontent-type: text/plain\r\ncontent-length: 12\r\nconnection: close\r\n\r\nunavailable\n";
+
 const EMPTY_REPORT: &str =
     "HTTP/1.1 200 OK\r\ncontent-type: text/csv\r\ncontent-length: 118\r\nconnection: close\r\n\r\ndev_eui,uplinks,b1_us,b1_peak_us,b2_us,b2_peak_us,b3_us,b3_peak_us,b4_us,b4_peak_us,b5_us,b5_peak_us,b6_us,b6_peak_us\n";
 
@@ -95,12 +102,15 @@ const UNUSED_BANDS: &str =
 const BAND_REPORT: &str =
     "HTTP/1.1 200 OK\r\ncontent-type: text/csv\r\ncontent-length: 156\r\nconnection: close\r\n\r\nband,limit_us,bookings,booked_us,peak_us\nB1,3600000,0,0,0\nB2,36000000,0,0,0\nB3,36000000,1,46336,46336\nB4,3600000,0,0,0\nB5,360000000,0,0,0\nB6,36000000,0,0,0\n";
 
-/// A desk that has heard nothing.
-fn opening(alloc: Global) -> Result<Box<Lists>, Fail> {
+fn config() -> Result<Config, Fail> {
     let desk = Name::new(b"desk").ok_or("no name")?;
     let office = Name::new(b"office").ok_or("no name")?;
-    let config = Config::new(desk, office, 0x01a0_0000, 65536).ok_or("no block")?;
-    Ok(Box::new(alloc, Lists::new(alloc, config)?)?)
+    Ok(Config::new(desk, office, 0x01a0_0000, 65536).ok_or("no block")?)
+}
+
+/// A desk that has heard nothing.
+fn opening(alloc: Global) -> Result<Box<Lists>, Fail> {
+    Ok(Box::new(alloc, Lists::new(alloc, config()?)?)?)
 }
 
 /// A message as the body of a POST, and so many octets of another request after it.
@@ -112,9 +122,9 @@ fn posted(alloc: Global, message: &str, after: &str) -> Result<String, Fail> {
 }
 
 /// The desk serves the input, leaves so many octets of it unread, and writes this response.
-fn expect<R: Abort + AllocGlobal>(
+fn expect<R: Abort + AllocGlobal, K: Keeper>(
     rt: &R,
-    lists: &mut Lists,
+    keeper: &mut K,
     input: &[u8],
     unread: usize,
     status: u16,
@@ -122,7 +132,7 @@ fn expect<R: Abort + AllocGlobal>(
 ) {
     let mut reader = input;
     let mut written = Vec::new(rt.alloc());
-    let end = serve_one(rt.alloc(), lists, &mut reader, &mut written);
+    let end = serve_one(rt.alloc(), keeper, &mut reader, &mut written);
     assert_eq!(rt; end, ServeEnd::Done(status));
     assert!(rt; written.as_slice() == response.as_bytes(), "{response}");
     assert_eq!(rt; reader.len(), unread);
@@ -231,7 +241,7 @@ fn requests_are_refused(rt: HostRuntime) -> Result<(), Fail> {
     for (input, unread, status, response) in &REFUSED {
         expect(
             &rt,
-            &mut lists,
+            &mut *lists,
             input.as_bytes(),
             *unread,
             *status,
@@ -240,7 +250,7 @@ fn requests_are_refused(rt: HostRuntime) -> Result<(), Fail> {
     }
     // None of them was heard.
     let input = posted(rt.alloc(), OTHER_OWNER, "")?;
-    expect(&rt, &mut lists, input.as_bytes(), 0, 200, ADDED);
+    expect(&rt, &mut *lists, input.as_bytes(), 0, 200, ADDED);
     Ok(())
 }
 
@@ -261,7 +271,7 @@ fn messages_are_delivered(rt: HostRuntime) -> Result<(), Fail> {
         ("", 400, MALFORMED),
     ] {
         let input = posted(rt.alloc(), message, "GET / HTTP/1.1\r\n")?;
-        expect(&rt, &mut lists, input.as_bytes(), 16, status, response);
+        expect(&rt, &mut *lists, input.as_bytes(), 16, status, response);
     }
     Ok(())
 }
@@ -275,7 +285,7 @@ fn forms_of_a_head(rt: HostRuntime) -> Result<(), Fail> {
         "\r\n\r\nPOST /v1/messages HTTP/1.1\r\nHost: desk\r\ncontent-length: \t123 \t\r\n\r\n",
     ] {
         let input = format!(in rt.alloc(); "{start}{OWNER_ADD}")?;
-        expect(&rt, &mut lists, input.as_bytes(), 0, 200, ADDED);
+        expect(&rt, &mut *lists, input.as_bytes(), 0, 200, ADDED);
     }
     Ok(())
 }
@@ -308,28 +318,28 @@ fn limits_of_a_head(rt: HostRuntime) -> Result<(), Fail> {
     let alloc = rt.alloc();
     let mut lists = opening(alloc)?;
     let input = padded(alloc, 8_193)?;
-    expect(&rt, &mut lists, input.as_bytes(), 124, 400, NO_HEAD);
+    expect(&rt, &mut *lists, input.as_bytes(), 124, 400, NO_HEAD);
     let input = headed(alloc, 33)?;
-    expect_no_head(&rt, &mut lists, input.as_bytes());
+    expect_no_head(&rt, &mut *lists, input.as_bytes());
     // The head isn't ended.
     assert_eq!(rt; input.len(), 366);
-    expect_no_head(&rt, &mut lists, beginning(input.as_bytes(), 242));
+    expect_no_head(&rt, &mut *lists, beginning(input.as_bytes(), 242));
     expect_no_head(
         &rt,
-        &mut lists,
+        &mut *lists,
         b"POST /v1/messages HTTP/1.1\r\nA: \0\r\n\r\n",
     );
-    expect_no_head(&rt, &mut lists, b"POST /v1/messages HTTP/2.0\r\n\r\n");
+    expect_no_head(&rt, &mut *lists, b"POST /v1/messages HTTP/2.0\r\n\r\n");
     // A target that isn't UTF-8, in its query too.
-    expect_no_head(&rt, &mut lists, b"GET /v1/\xff HTTP/1.1\r\n\r\n");
-    expect_no_head(&rt, &mut lists, b"GET /v1/messages?\xff HTTP/1.1\r\n\r\n");
+    expect_no_head(&rt, &mut *lists, b"GET /v1/\xff HTTP/1.1\r\n\r\n");
+    expect_no_head(&rt, &mut *lists, b"GET /v1/messages?\xff HTTP/1.1\r\n\r\n");
     let input = posted(alloc, OTHER_OWNER, "")?;
-    expect(&rt, &mut lists, input.as_bytes(), 0, 200, ADDED);
+    expect(&rt, &mut *lists, input.as_bytes(), 0, 200, ADDED);
     let mut lists = opening(alloc)?;
     let input = padded(alloc, 8_192)?;
-    expect(&rt, &mut lists, input.as_bytes(), 0, 200, ADDED);
+    expect(&rt, &mut *lists, input.as_bytes(), 0, 200, ADDED);
     let input = headed(alloc, 32)?;
-    expect(&rt, &mut lists, input.as_bytes(), 0, 200, ADDED);
+    expect(&rt, &mut *lists, input.as_bytes(), 0, 200, ADDED);
     Ok(())
 }
 
@@ -340,10 +350,10 @@ fn limits_of_a_body(rt: HostRuntime) -> Result<(), Fail> {
     let spaces = String::from_utf8(vec![in alloc; b' '; 65_413]?)?;
     let message = format!(in alloc; "{OWNER_ADD}{spaces}")?;
     let input = posted(alloc, message.as_str(), "")?;
-    expect(&rt, &mut lists, input.as_bytes(), 0, 200, ADDED);
+    expect(&rt, &mut *lists, input.as_bytes(), 0, 200, ADDED);
     let message = format!(in alloc; "{OWNER_ADD}{spaces} ")?;
     let input = posted(alloc, message.as_str(), "")?;
-    expect(&rt, &mut lists, input.as_bytes(), 65_537, 413, TOO_LONG);
+    expect(&rt, &mut *lists, input.as_bytes(), 65_537, 413, TOO_LONG);
     Ok(())
 }
 
@@ -362,7 +372,7 @@ fn every_beginning(rt: HostRuntime) -> Result<(), Fail> {
     for length in 1..51 {
         expect(
             &rt,
-            &mut lists,
+            &mut *lists,
             &input.as_bytes()[..length],
             0,
             400,
@@ -372,7 +382,7 @@ fn every_beginning(rt: HostRuntime) -> Result<(), Fail> {
     for length in 51..174 {
         expect(
             &rt,
-            &mut lists,
+            &mut *lists,
             &input.as_bytes()[..length],
             0,
             400,
@@ -381,7 +391,7 @@ fn every_beginning(rt: HostRuntime) -> Result<(), Fail> {
     }
     // None of them was heard.
     let other = posted(alloc, OTHER_OWNER, "")?;
-    expect(&rt, &mut lists, other.as_bytes(), 0, 200, ADDED);
+    expect(&rt, &mut *lists, other.as_bytes(), 0, 200, ADDED);
     Ok(())
 }
 
@@ -428,12 +438,12 @@ fn a_read_fails(rt: HostRuntime) -> Result<(), Fail> {
         if until_failure == 53 {
             assert_eq!(rt; end, ServeEnd::Done(200));
             assert_eq!(rt; reader.left.len(), 3);
-            expect(&rt, &mut lists, other.as_bytes(), 0, 409, REUSED);
+            expect(&rt, &mut *lists, other.as_bytes(), 0, 409, REUSED);
         } else {
             assert_eq!(rt; end, ServeEnd::Read);
             assert!(rt; written.is_empty());
             // Nothing was heard.
-            expect(&rt, &mut lists, other.as_bytes(), 0, 200, ADDED);
+            expect(&rt, &mut *lists, other.as_bytes(), 0, 200, ADDED);
         }
     }
     Ok(())
@@ -482,8 +492,8 @@ fn a_write_fails(rt: HostRuntime) -> Result<(), Fail> {
             assert_eq!(rt; end, ServeEnd::Done(200));
         }
         // The message was heard, and the same request gets its first answer.
-        expect(&rt, &mut lists, input.as_bytes(), 0, 200, ADDED);
-        expect(&rt, &mut lists, other.as_bytes(), 0, 409, REUSED);
+        expect(&rt, &mut *lists, input.as_bytes(), 0, 200, ADDED);
+        expect(&rt, &mut *lists, other.as_bytes(), 0, 409, REUSED);
     }
     let mut lists = opening(alloc)?;
     let mut room = [0u8; 60];
@@ -492,7 +502,7 @@ fn a_write_fails(rt: HostRuntime) -> Result<(), Fail> {
     let end = serve_one(alloc, &mut *lists, &mut reader, &mut writer);
     assert_eq!(rt; end, ServeEnd::Write);
     assert!(rt; room.as_slice() == &ADDED.as_bytes()[..60]);
-    expect(&rt, &mut lists, input.as_bytes(), 0, 200, ADDED);
+    expect(&rt, &mut *lists, input.as_bytes(), 0, 200, ADDED);
     Ok(())
 }
 
@@ -510,15 +520,15 @@ static TRAFFIC: [&str; 9] = [
 ];
 
 /// What a GET of the target is answered. Its length and what comes after the head aren't looked at.
-fn expect_report<R: Abort + AllocGlobal>(
+fn expect_report<R: Abort + AllocGlobal, K: Keeper>(
     rt: &R,
-    lists: &mut Lists,
+    keeper: &mut K,
     target: &str,
     status: u16,
     response: &str,
 ) -> Result<(), Fail> {
     let input = format!(in rt.alloc(); "GET {target} HTTP/1.1\r\nContent-Length: x\r\n\r\nabc")?;
-    expect(rt, lists, input.as_bytes(), 3, status, response);
+    expect(rt, keeper, input.as_bytes(), 3, status, response);
     Ok(())
 }
 
@@ -532,7 +542,7 @@ fn reports_are_given(rt: HostRuntime) -> Result<(), Fail> {
         ("/v1/bands/gw-z", 404, NO_GATEWAY),
         ("/v1/bands/gw-z?gw-a", 404, NO_GATEWAY),
     ] {
-        expect_report(&rt, &mut lists, target, status, response)?;
+        expect_report(&rt, &mut *lists, target, status, response)?;
     }
     for message in &TRAFFIC {
         let input = posted(rt.alloc(), message, "")?;
@@ -550,7 +560,79 @@ fn reports_are_given(rt: HostRuntime) -> Result<(), Fail> {
         ("/v1/bands/gw-b", 200, UNUSED_BANDS),
         ("/v1/bands/town", 404, NO_GATEWAY),
     ] {
-        expect_report(&rt, &mut lists, target, status, response)?;
+        expect_report(&rt, &mut *lists, target, status, response)?;
     }
+    Ok(())
+}
+
+/// A store that the disk has shut: each call that can fail does.
+#[derive(Drop)]
+struct Shut {
+    config: Config,
+}
+
+impl Keeper for Shut {
+    ghost configuration = { λ s. s.config };
+
+    ghost sound = { λ s. Unit {0} };
+
+    ghost down = { λ s. true };
+
+    ghost full = { λ s. ⊥ };
+
+    ghost holds = { λ s kept. ⊥ };
+
+    ghost leaves = { λ s all. ⊥ };
+
+    ghost own = { λ s kept sound up held. held };
+
+    ghost one = { λ s a b sound up held here. absurd held };
+
+    ghost common = { λ s a b sound left other. absurd left };
+
+    fn config(&self) -> &Config {
+        &self.config
+    }
+
+    fn load(&mut self, _: &Envelope) -> Result<Loaded, StoreFault> {
+        Err(StoreFault::Disk)
+    }
+
+    fn commit(&mut self, _: &Envelope, _: &[u8], _: &Effect, _: &[u8]) -> Result<(), StoreFault> {
+        Err(StoreFault::Disk)
+    }
+
+    fn has_owner(&mut self, _: &Name) -> Result<bool, StoreFault> {
+        Err(StoreFault::Disk)
+    }
+
+    fn has_gateway(&mut self, _: &Name) -> Result<bool, StoreFault> {
+        Err(StoreFault::Disk)
+    }
+
+    fn next_device(&mut self, _: &Name, _: Option<Eui>) -> Result<Option<Eui>, StoreFault> {
+        Err(StoreFault::Disk)
+    }
+
+    fn uplinks_of(&mut self, _: Eui, _: Band, _: i64, _: i64) -> Result<Vec<Span>, StoreFault> {
+        Err(StoreFault::Disk)
+    }
+
+    fn bookings_of(&mut self, _: &Name, _: Band) -> Result<Vec<Span>, StoreFault> {
+        Err(StoreFault::Disk)
+    }
+}
+
+#[test]
+fn a_store_is_down(rt: HostRuntime) -> Result<(), Fail> {
+    let mut shut = Shut { config: config()? };
+    let input = posted(rt.alloc(), OWNER_ADD, "abc")?;
+    expect(&rt, &mut shut, input.as_bytes(), 3, 503, UNAVAILABLE);
+    expect_report(&rt, &mut shut, "/v1/reports/town/2024-02", 503, UNAVAILABLE)?;
+    expect_report(&rt, &mut shut, "/v1/bands/gw-a", 503, UNAVAILABLE)?;
+    // What needs no store is answered as ever.
+    expect_report(&rt, &mut shut, "/v1/reports/town/2024-13", 400, BAD_MONTH)?;
+    let input = posted(rt.alloc(), "{", "")?;
+    expect(&rt, &mut shut, input.as_bytes(), 0, 400, MALFORMED);
     Ok(())
 }

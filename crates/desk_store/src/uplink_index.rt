@@ -1,5 +1,5 @@
 //! What is told of uplinks by their session, without looking through them.
-ghost use Rattle.std.specs.Prelude.{◌≡◌, ◌+◌, ◌≤◌, [], ◌∷◌, ◌++◌, List, ℕ, length, min, max, IsOk, OnOk, OnErr, if◌then◌else◌, ◌==◌, Some, nat_eq};
+ghost use Rattle.std.specs.Prelude.{◌≡◌, ◌+◌, ◌≤◌, [], ◌∷◌, ◌++◌, List, ℕ, length, max, IsOk, OnOk, if◌then◌else◌, ◌==◌, Some, nat_eq};
 ghost use Rattle.std.specs.Option.{option_map_or, unwrap_or};
 ghost use Rattle.indexmap.specs.IndexMap.{get, spare, IsUnchanged};
 ghost use Rattle.registry_core.specs.declared.facts.Uplink.{Uplink};

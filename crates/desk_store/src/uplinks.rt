@@ -1,5 +1,5 @@
 //! The uplinks in order, found by session and counter in a time that doesn't grow with how many there are.
-ghost use Rattle.std.specs.Prelude.{◌≡◌, ◌^◌, ◌<◌, ◌≤◌, [], ◌∷◌, ◌++◌, length, option_and_then, option_map, IsOk, IfOk, OnOk, OnErr};
+ghost use Rattle.std.specs.Prelude.{◌≡◌, ◌^◌, ◌<◌, ◌≤◌, [], ◌∷◌, ◌++◌, length, option_and_then, option_map, IsOk, OnOk, OnErr};
 ghost use Rattle.registry_core.specs.Derived.{data_with, last_counter};
 ghost use Rattle.registry_core.specs.Numbered.{item_at};
 

@@ -1,5 +1,5 @@
 //! How long a transmission takes (Semtech AN1200.13).
-ghost use Rattle.std.specs.Prelude.{◌≡◌, ◌*◌, ◌≤◌, ℕ};
+ghost use Rattle.std.specs.Prelude.{◌≡◌, ◌*◌, ◌≤◌};
 ghost use Rattle.radio_core.specs.DataRates.{max_length, spreading_factor, symbol_time};
 ghost use Rattle.radio_core.specs.TimeOnAir.{IsAirtime, airtime_of, block_count, low_rate};
 
