@@ -14,6 +14,7 @@ pub mod HeardStates
 pub mod Items
 pub mod JoinOrder
 pub mod JoinsByView
+pub mod NumberedLaws
 pub mod Register
 pub mod Replies
 pub mod ReportOrder

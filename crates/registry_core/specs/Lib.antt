@@ -14,6 +14,7 @@ pub mod Heard
 pub mod Joins
 pub mod Laws
 pub mod Numbered
+pub mod NumberedLaws
 pub mod Ranges
 pub mod Refusals
 pub mod ReportOrder

@@ -5,6 +5,7 @@ ghost use Rattle.registry_core.specs.DownlinkLaws.{BookedExactly, CopiesLieInBan
 ghost use Rattle.registry_core.specs.Fits.{DecisionsFit};
 ghost use Rattle.registry_core.specs.Heard.{FirstAnswersStay, HeardListsStay, NewNumbersAreDecided, NothingIsHeard, UsedNumbersAreRefused};
 ghost use Rattle.registry_core.specs.Laws.{AddressesAreApart, AddressesLieInBlock, CopiesBookNothing, CountersAgreeWithFrames, CountersRise, DataCopiesAreFound, FramesAreBookedOnce, JoinCopiesAreFound, NoncesRise, OperatorsKeepTheRegister, RefusalsChangeNothing, SendersStay, SessionsAreFound, SessionsHaveJoins, UplinksHaveCopies, UplinksHaveSessions, UplinksStay};
+ghost use Rattle.registry_core.specs.NumberedLaws.{FirstIsFirst, GreatestIsMost, OneIsChanged};
 ghost use Rattle.registry_core.specs.Ranges.{IsEnvelope, IsOctets, IsReport, IsSettings};
 ghost use Rattle.registry_core.specs.ReportOrder.{DataInAnyOrder, JoinsInAnyOrder};
 ghost use Rattle.registry_core.specs.Same.{SameMessageTells};
@@ -26,6 +27,14 @@ pub fn same_message_tells()
 #[tactic(auto, using(crate::proofs::Decisions::decisions_fit))]
 pub fn decisions_fit()
     ensures { DecisionsFit }
+{}
+
+/// What the facts' definitions say of numbers and places: the greatest of some numbers, the first uplink that passes a test, and
+/// what changing one booking does to all.
+pub fn numbered_items_are_meant()
+    ensures greatest { GreatestIsMost }
+    ensures first { FirstIsFirst }
+    ensures changed { OneIsChanged }
 {}
 
 /// No messages are a heard list: the one that a new store is in order for.
