@@ -7,15 +7,15 @@ use Rattle.std.proofs.lemmas.Bool.{eqb-true, eq-eqb}
 use Rattle.indexmap.specs.IndexMap.{IndexMap, Updates, get}
 use Rattle.registry_core.specs.declared.facts.Device.{Device}
 use Rattle.registry_core.specs.declared.facts.Reception.{Reception}
-use Rattle.registry_core.specs.State.{at_name, at_number, owned_by}
-use Rattle.desk_store.specs.Facts.{copies_of, copy_added, device_moved, devices_of, same_copy}
+use Rattle.registry_core.specs.State.{at_name, at_number, copies_with, devices_with_move, owned_by}
+use Rattle.desk_store.specs.Facts.{copies_of, devices_of, same_copy}
 
 -- functions with one value at each argument are one
 at_each : {X Y : Type 0} {f g : X → Y} → ((x : X) → f x ≡ g x) → f ≡ g
 at_each h = λ i x. h x i
 
 copy_key : (copies : ℕ → List ℕ → Option Reception) (number : ℕ) (gateway : List ℕ) (reception : Reception) (n : ℕ) (at : List ℕ) (b : Bool) → (n == number) ≡ b
-    → cond (nat_eq number n && bytes_eq gateway at) (Some reception) (copies n at) ≡ copy_added copies number gateway reception n at
+    → cond (nat_eq number n && bytes_eq gateway at) (Some reception) (copies n at) ≡ copies_with copies number gateway reception n at
 copy_key copies number gateway reception n at true is = rw (eqb-true n number is, eq-eqb number number refl)
     (ap (λ b. cond b (Some reception) (copies number at)) (nat_list_eq_equiv.symm gateway at))
 copy_key copies number gateway reception n at false is = rw (nat_eq_equiv.symm number n, is) refl
@@ -29,16 +29,16 @@ module _ {S : Type 0} where
       → get nat_eq new ≡ at_number (get nat_eq old) number (Some x)
   at_number-updated old new number x updates = at_each (λ other. updates.0 other ∙ ap (λ b. cond b (Some x) (get nat_eq old other)) (nat_eq_equiv.symm number other))
 
-  pub copy_added-updated : (old new : IndexMap (ℕ × List ℕ) Reception S) (number : ℕ) (gateway : List ℕ) (reception : Reception)
+  pub copies_with-updated : (old new : IndexMap (ℕ × List ℕ) Reception S) (number : ℕ) (gateway : List ℕ) (reception : Reception)
       → Updates same_copy old new (number, gateway) (Some reception)
-      → copies_of new ≡ copy_added (copies_of old) number gateway reception
-  copy_added-updated old new number gateway reception updates = at_each (λ n. at_each (λ at.
+      → copies_of new ≡ copies_with (copies_of old) number gateway reception
+  copies_with-updated old new number gateway reception updates = at_each (λ n. at_each (λ at.
       updates.0 (n, at) ∙ copy_key (copies_of old) number gateway reception n at (n == number) refl))
 
 -- ---- a device moved
 
-pub device_moved-written : {S : Type 0} (old new : IndexMap ℕ Device S) (dev_eui : ℕ) (owner : List ℕ) (device : Device) → devices_of old dev_eui ≡ Some device
-    → Updates nat_eq old new dev_eui (Some (owned_by owner device)) → devices_of new ≡ device_moved (devices_of old) dev_eui owner
-device_moved-written old new dev_eui owner device there updates =
+pub devices_with_move-written : {S : Type 0} (old new : IndexMap ℕ Device S) (dev_eui : ℕ) (owner : List ℕ) (device : Device) → devices_of old dev_eui ≡ Some device
+    → Updates nat_eq old new dev_eui (Some (owned_by owner device)) → devices_of new ≡ devices_with_move (devices_of old) dev_eui owner
+devices_with_move-written old new dev_eui owner device there updates =
     at_number-updated old new dev_eui (owned_by owner device) updates
     ∙ ap (λ found. at_number (devices_of old) dev_eui (option_map (owned_by owner) found)) (sym there)

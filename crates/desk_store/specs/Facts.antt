@@ -1,10 +1,10 @@
 -- The registry's facts as maps, sets and lists in memory.
-use Rattle.std.specs.Prelude.{ℕ, ◌&&◌, Bool, List, Option, Some, bytes_eq, nat_eq, option_map}
+use Rattle.std.specs.Prelude.{ℕ, ◌&&◌, Bool, List, Option, bytes_eq, nat_eq}
 use Rattle.indexmap.specs.IndexMap.{IndexMap, get}
 use Rattle.indexmap.specs.IndexSet.{contains}
 use Rattle.registry_core.specs.declared.facts.Device.{Device}
 use Rattle.registry_core.specs.declared.facts.Reception.{Reception}
-use Rattle.registry_core.specs.State.{State, at_name, at_number, owned_by}
+use Rattle.registry_core.specs.State.{State}
 use Rattle.desk_store.specs.declared.facts.Facts.{Facts}
 
 -- two pairs of an uplink's number and a gateway's name are the same
@@ -19,14 +19,6 @@ module _ {S : Type 0} where
   -- the copies by their uplinks' numbers and their gateways
   abbrev pub copies_of : IndexMap (ℕ × List ℕ) Reception S → ℕ → List ℕ → Option Reception
   copies_of copies number gateway = get same_copy copies (number, gateway)
-
--- with this copy of the uplink at the gateway
-abbrev pub copy_added : (ℕ → List ℕ → Option Reception) → ℕ → List ℕ → Reception → ℕ → List ℕ → Option Reception
-copy_added copies number gateway reception = at_number copies number (at_name (copies number) gateway (Some reception))
-
--- the device, if it is there, with this owner
-abbrev pub device_moved : (ℕ → Option Device) → ℕ → List ℕ → ℕ → Option Device
-device_moved devices dev_eui owner = at_number devices dev_eui (option_map (owned_by owner) (devices dev_eui))
 
 abbrev pub facts_of : Facts → State
 facts_of facts = record {

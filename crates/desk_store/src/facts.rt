@@ -1,8 +1,8 @@
 //! The registry's facts in the plain form: what has a key in maps and sets, and what is numbered in lists.
 ghost use Rattle.std.specs.Prelude.{◌≡◌, ◌+◌, [], ◌∷◌, ◌++◌, length, IfOk, OnOk, OnErr};
 ghost use Rattle.registry_core.specs.Numbered.{item_changed};
-ghost use Rattle.registry_core.specs.State.{ended, opening, state_with};
-ghost use Rattle.desk_store.specs.Facts.{copies_of, copy_added, device_moved, devices_of, facts_of};
+ghost use Rattle.registry_core.specs.State.{copies_with, devices_with_move, ended, opening, state_with};
+ghost use Rattle.desk_store.specs.Facts.{copies_of, devices_of, facts_of};
 
 use crate::sessions::Sessions;
 use crate::uplinks::Uplinks;
@@ -115,7 +115,7 @@ fn add_uplink(
 ) -> Result<(), AllocError>
     ensures uplinks { OnOk result (uplinks.new.items ≡ uplinks.old.items ++ uplink ∷ []) }
     ensures copies { OnOk result (copies_of copies.new
-        ≡ copy_added (copies_of copies.old) (length uplinks.old.items + 1) gateway reception) }
+        ≡ copies_with (copies_of copies.old) (length uplinks.old.items + 1) gateway reception) }
     ensures err { OnErr result ((uplinks.new.items ≡ uplinks.old.items)
         × (copies_of copies.new ≡ copies_of copies.old)) }
 {
@@ -128,7 +128,7 @@ fn add_uplink(
 
 /// The device has this owner, and all else stays.
 fn move_in(devices: &mut IndexMap<Eui, Device>, dev_eui: Eui, owner: Name)
-    ensures { devices_of devices.new ≡ device_moved (devices_of devices.old) dev_eui owner }
+    ensures { devices_of devices.new ≡ devices_with_move (devices_of devices.old) dev_eui owner }
 {
     if let Some(device) = devices.get_mut(&dev_eui) {
         device.owner = owner;

@@ -5,11 +5,7 @@ use Rattle.std.proofs.lemmas.Bool.{both_ways, eq-eqb, eqb-true, false_from_ne_tr
 use Rattle.std.proofs.lemmas.Option.{same_Some}
 use Rattle.std.proofs.lemmas.Slice.Eq.{bytes_eq-Decides}
 use Rattle.registry_core.specs.declared.facts.Reception.{Reception}
-use Rattle.registry_core.specs.State.{at_name, at_number}
-
--- the copies with one more: of the uplink with the number, at the gateway
-abbrev pub copies_with : (ℕ → List ℕ → Option Reception) → ℕ → List ℕ → Reception → ℕ → List ℕ → Option Reception
-copies_with copies number gateway reception = at_number copies number (at_name (copies number) gateway (Some reception))
+use Rattle.registry_core.specs.State.{at_name, copies_with}
 
 -- the uplink with the number has a copy at some gateway
 abbrev pub HasCopy : (ℕ → List ℕ → Option Reception) → ℕ → Type 0

@@ -23,8 +23,8 @@ use Rattle.registry_core.specs.Frames.{data_up}
 use Rattle.registry_core.specs.Fits.{Fits}
 use Rattle.registry_core.specs.Numbered.{item_at}
 use Rattle.registry_core.specs.Settings.{Settings}
-use Rattle.registry_core.specs.State.{State, next_uplink, opening, state_with}
-use Rattle.registry_core.proofs.Copies.{HasCopy, copies_with, copy_stays, copy_was, each_copy}
+use Rattle.registry_core.specs.State.{State, copies_with, next_uplink, opening, state_with}
+use Rattle.registry_core.proofs.Copies.{HasCopy, copy_stays, copy_was, each_copy}
 use Rattle.registry_core.proofs.Items.{above_each, item_last, item_new, item_stays, item_within, rise_with}
 
 -- ---- nonces rise

@@ -71,8 +71,12 @@ with_device s dev_eui device = record s { devices = at_number s.devices dev_eui 
 abbrev pub owned_by : List ℕ → Device → Device
 owned_by owner device = record device { owner = owner }
 
+-- the devices, the one with the DevEUI with this owner, if it is there
+abbrev pub devices_with_move : (ℕ → Option Device) → ℕ → List ℕ → ℕ → Option Device
+devices_with_move devices dev_eui owner = at_number devices dev_eui (option_map (owned_by owner) (devices dev_eui))
+
 abbrev pub with_move : State → ℕ → List ℕ → State
-with_move s dev_eui owner = record s { devices = at_number s.devices dev_eui (option_map (owned_by owner) (s.devices dev_eui)) }
+with_move s dev_eui owner = record s { devices = devices_with_move s.devices dev_eui owner }
 
 abbrev pub with_session : State → Session → State
 with_session s session = record s { sessions = s.sessions ++ session ∷ [] }
@@ -80,8 +84,12 @@ with_session s session = record s { sessions = s.sessions ++ session ∷ [] }
 abbrev pub with_uplink : State → Uplink → State
 with_uplink s uplink = record s { uplinks = s.uplinks ++ uplink ∷ [] }
 
+-- the copies with one more: of the uplink with the number, at the gateway
+abbrev pub copies_with : (ℕ → List ℕ → Option Reception) → ℕ → List ℕ → Reception → ℕ → List ℕ → Option Reception
+copies_with copies number gateway reception = at_number copies number (at_name (copies number) gateway (Some reception))
+
 abbrev pub with_copy : State → ℕ → List ℕ → Reception → State
-with_copy s number gateway reception = record s { copies = at_number s.copies number (at_name (s.copies number) gateway (Some reception)) }
+with_copy s number gateway reception = record s { copies = copies_with s.copies number gateway reception }
 
 abbrev pub with_booking : State → Booking → State
 with_booking s booking = record s { bookings = s.bookings ++ booking ∷ [] }
