@@ -1,5 +1,5 @@
 -- Decimal digits, as std reads them.
-use Rattle.std.proofs.Common.{◌≡◌, ◌≢◌, ◌∙◌, ℕ, Bor, ◌<◌, ◌≤◌, ◌^◌, List, [], ◌∷◌, true, Result, Ok, Err, Some, None, Option, length, subst, lit<, arith, refl, sym}
+use Rattle.std.proofs.Common.{◌≡◌, ◌≢◌, ℕ, Bor, ◌<◌, ◌≤◌, ◌^◌, List, [], ◌∷◌, true, Result, Ok, Err, Some, None, Option, length, subst, lit<, arith, refl}
 use Rattle.std.proofs.Math.Nat.{pow-le-pow_right}
 use Rattle.std.proofs.lemmas.Bool.{and_parts}
 use Rattle.std.proofs.lemmas.Bool.Decides.{nat_tests}
@@ -12,7 +12,7 @@ use Rattle.std.specs.List.{list_all}
 use Rattle.std.specs.Prelude.{IsUtf8, MatchResult}
 use Rattle.std.specs.Result.{result_ok}
 use Rattle.std.specs.Str.{IsAscii}
-use Rattle.std.specs.Str.Parse.{AllDigits, ParsesUnsigned, digits_value, without_leading_plus}
+use Rattle.std.specs.Str.Parse.{AllDigits, ParsesUnsigned, without_leading_plus}
 use Rattle.desk_wire.specs.CsvReports.{decimal_in, is_decimal}
 
 digit : (c : ℕ) → is_ascii_digit c ≡ true → digit_value c < 10

@@ -1,14 +1,13 @@
 -- Records of a gateway's report, one read after another.
-use Rattle.std.proofs.Common.{◌≡◌, ◌∙◌, ◌<◌, ◌≤◌, ◌+◌, ◌-◌, inl, ℕ, suc, Bor, Bool, true, false, List, [], ◌∷◌, ◌++◌, Some, None, Option, Result, Ok, Err, refl, ap, sym, subst, nat_lt, if◌then◌else◌, arith}
-use Rattle.std.proofs.lemmas.Bool.{lt-ltb}
+use Rattle.std.proofs.Common.{◌≡◌, ◌∙◌, ◌<◌, ◌+◌, ◌-◌, inl, ℕ, suc, Bor, Bool, true, false, List, [], ◌∷◌, ◌++◌, Some, None, Option, Result, Ok, Err, refl, ap, sym, nat_lt, if◌then◌else◌, arith}
 use Rattle.std.proofs.lemmas.List.{append-nil, append_assoc}
 use Rattle.csv.proofs.ReadFacts.{rows-end, rows-more}
-use Rattle.csv.specs.Machine.{Read, next_record}
-use Rattle.csv.specs.Reading.{Reached, ReadRecord, default_config, records_from, records_next, source_of, took_first}
+use Rattle.csv.specs.Machine.{next_record}
+use Rattle.csv.specs.Reading.{Reached, ReadRecord, default_config, records_from, source_of, took_first}
 use Rattle.csv.specs.declared.parser.State.{State}
 use Rattle.csv.specs.declared.reader.Reader.{Reader}
 use Rattle.registry_core.specs.declared.messages.Envelope.{Envelope}
-use Rattle.desk_wire.specs.CsvReports.{IsReading, envelope_in, envelopes_from, next_records, octets_known, record_in, rows_left, with_first}
+use Rattle.desk_wire.specs.CsvReports.{IsReading, envelope_in, envelopes_from, next_records, octets_known, rows_left, with_first}
 use Rattle.desk_wire.specs.declared.csv_faults.CsvFault.{CsvFault}
 use Rattle.desk_wire.specs.declared.csv_faults.CsvFault.TheVariants.{Size, Record}
 

@@ -1,4 +1,4 @@
-use Rattle.std.proofs.Common.{◌∙◌, sym, refl}
+use Rattle.std.proofs.Common.{◌∙◌, sym}
 use Rattle.desk_wire.proofs.CsvDecimals.{decimal_parses, reads_utf8, text_read}
 use Rattle.desk_wire.proofs.csv_reports.decimal_of.Goals as goal
 

@@ -1,4 +1,3 @@
-use Rattle.std.proofs.Common.{ℕ}
 use Rattle.desk_wire.proofs.CsvRows.{left_step, still_reading}
 use Rattle.desk_wire.proofs.csv_reports.next_row.Goals as goal
 
