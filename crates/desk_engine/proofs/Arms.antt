@@ -1,8 +1,9 @@
 -- What each arm of hearing makes of the clauses, over plain variables.
 use Rattle.std.proofs.Common.{◌≡◌, ℕ, ◌<◌, ◌≤◌, Bool, true, false, List, [], ◌∷◌, ◌++◌, length, Option, Some, None, Result, Ok, Err, is_ok, refl, ap, sym, ◌∙◌, subst, inl, inr, arith}
-use Rattle.std.specs.Prelude.{option_map, is_some}
+use Rattle.std.specs.Prelude.{◌⊎◌, option_map, is_some}
 use Rattle.std.proofs.lemmas.Bool.{cases_Bool, cases_lt}
 use Rattle.registry_core.specs.declared.answers.Answer.{Answer}
+use Rattle.registry_core.specs.declared.answers.Refusal.{Refusal}
 use Rattle.registry_core.specs.declared.answers.Refusal.TheVariants.{UnknownSender}
 use Rattle.registry_core.specs.declared.messages.Envelope.{Envelope}
 use Rattle.registry_core.specs.declared.views.View.{View}
@@ -15,9 +16,10 @@ use Rattle.registry_core.specs.Decision.{Decision}
 use Rattle.registry_core.specs.Step.{decision_of, step}
 use Rattle.registry_core.specs.Viewed.{IsView}
 use Rattle.desk_store.specs.declared.faults.StoreFault.{StoreFault}
-use Rattle.desk_store.specs.declared.faults.StoreFault.TheVariants.{Disk}
-use Rattle.desk_store.specs.Calls.{IsCall, IsUnavailability, Reads, is_disk}
+use Rattle.desk_store.specs.declared.faults.StoreFault.TheVariants.{Memory, Disk, Size}
+use Rattle.desk_store.specs.Calls.{IsOfCalls, IsUnavailability, TellsDown, is_disk, is_foreign}
 use Rattle.desk_store.specs.Kept.{CanAdd, Kept, entry_of, texts_of}
+use Rattle.desk_store.specs.Meaning.{Meaning}
 use Rattle.desk_wire.specs.Answers.{answer_text, head_of_envelope}
 use Rattle.desk_wire.specs.Laws.{MessageReadsBack}
 use Rattle.desk_wire.specs.Reading.{reads}
@@ -25,9 +27,9 @@ use Rattle.desk_wire.specs.Writing.{message_text}
 use Rattle.desk_engine.specs.declared.outcomes.Outcome.{Outcome}
 use Rattle.desk_engine.specs.declared.outcomes.Outcome.TheVariants.{Answered, Refused, Unavailable}
 use Rattle.desk_engine.specs.Deliveries.{heard_unless}
-use Rattle.desk_engine.specs.InOrder.{IsInOrder, Survives, doubt_after, entries_of, entry_at, kept_after}
-use Rattle.desk_engine.specs.Outcomes.{HearsNew, IsOutcome, Repeats, Says, doubt_of, is_disk_outcome, is_unavailable}
-use Rattle.desk_engine.specs.Told.{AnswerText, Told, envelope_told, refusal_told, reply_told}
+use Rattle.desk_engine.specs.InOrder.{HasNoRoom, IsInOrder, Survives, entries_of, entry_at, kept_after}
+use Rattle.desk_engine.specs.Outcomes.{HearsNew, IfRefused, IsOutcome, IsUnheardEnvelope, Repeats, Says, doubt_of, fault_of, is_unavailable}
+use Rattle.desk_engine.specs.Told.{AnswerText, RefusalText, Told, envelope_told, refusal_told, reply_told}
 use Rattle.desk_engine.proofs.Keeping.{length-kept_after}
 use Rattle.desk_engine.proofs.Places.{cases_option, entry_of-entries_of, has_pair-place_of, no_place, same_envelope, stands_for}
 use Rattle.desk_engine.proofs.Replies.{heard_with-new, reply-known, reply-stranger}
@@ -39,10 +41,41 @@ says_outcome told (Answered text) said = said
 says_outcome told (Refused refusal text) said = said
 says_outcome told (Unavailable fault) said = subst IsUnavailability (sym said) tt
 
-pub says-not_disk : (told : Told) (o : Outcome) → Says told o → is_disk_outcome o ≡ false
-says-not_disk told (Answered text) said = refl
-says-not_disk told (Refused refusal text) said = refl
-says-not_disk told (Unavailable fault) said = ap (λ f. is_disk_outcome (Unavailable f)) said
+-- an outcome that tells no fault but want of memory
+pub record IsQuiet (o : Outcome) : Type 0 where
+  pub disk : is_disk (fault_of o) ≡ false
+  pub foreign : is_foreign (fault_of o) ≡ false
+  pub size : fault_of o ≡ Some Size → ⊥
+  pub told : IsOfCalls (fault_of o)
+
+quiet_memory : IsQuiet (Unavailable Memory)
+quiet_memory = record { disk = refl; foreign = refl; size = λ e. cc; told = tt }
+
+pub says_quiet : (told : Told) (o : Outcome) → Says told o → IsQuiet o
+says_quiet told (Answered text) said = record { disk = refl; foreign = refl; size = λ e. cc; told = tt }
+says_quiet told (Refused refusal text) said = record { disk = refl; foreign = refl; size = λ e. cc; told = tt }
+says_quiet told (Unavailable fault) said = subst (λ f. IsQuiet (Unavailable f)) (sym said) quiet_memory
+
+pub repeats_quiet : (c : Settings) (e : Envelope) (message answer : List ℕ) (o : Outcome) → Repeats c e message answer o → IsQuiet o
+repeats_quiet c e message answer (Answered text) said = record { disk = refl; foreign = refl; size = λ e. cc; told = tt }
+repeats_quiet c e message answer (Refused refusal text) said = record { disk = refl; foreign = refl; size = λ e. cc; told = tt }
+repeats_quiet c e message answer (Unavailable fault) said = subst (λ f. IsQuiet (Unavailable f)) (sym said) quiet_memory
+
+-- ---- what is refused
+
+abbrev refusal_in : Told → Refusal → Refusal
+refusal_in (AnswerText text) other = other
+refusal_in (RefusalText refusal text) other = refusal
+
+pub says_refused : (P : Refusal → Type 0) (refusal : Refusal) (text : List ℕ) (o : Outcome) → P refusal → Says (RefusalText refusal text) o → IfRefused o P
+says_refused P refusal text (Answered other) is said = tt
+says_refused P refusal text (Refused told other) is said = subst P (ap (λ t. refusal_in t refusal) said) is
+says_refused P refusal text (Unavailable fault) is said = tt
+
+pub repeats_refused : (c : Settings) (e : Envelope) (message answer : List ℕ) (o : Outcome) → Repeats c e message answer o → IfRefused o IsUnheardEnvelope
+repeats_refused c e message answer (Answered text) said = tt
+repeats_refused c e message answer (Refused refusal text) said = subst IsUnheardEnvelope (ap (λ t. refusal_in t refusal) said.1) tt
+repeats_refused c e message answer (Unavailable fault) said = tt
 
 pub says_at : (a b : Settings) (told : Settings → Told) (o : Outcome) → a ≡ b → Says (told a) o → Says (told b) o
 says_at a b told o same said = subst (λ c. Says (told c) o) same said
@@ -111,57 +144,49 @@ repeat_outcome c heard e message answer o back tells name in_range list known te
 
 -- ---- a new pair
 
-pub new_outcome : {K : Type 0} (holds : K → Kept → Type 0) (leaves : K → List Kept → Type 0) (down : K → Bool) (c : Settings) (heard : List Envelope) (e : Envelope) (new : K) (o : Outcome)
-    → is_sender (state_of c heard) e.sender ≡ true → entry_of e (entries_of c heard) ≡ None → HearsNew holds leaves down c heard e new o → IsOutcome (envelope_told c heard e) o
-new_outcome holds leaves down c heard e new o known none hears = rw (reply-known c heard e known, no_place c heard e none) (by_outcome o hears)
+pub new_outcome : {K : Type 0} (m : Meaning K) (c : Settings) (heard : List Envelope) (e : Envelope) (new : K) (o : Outcome)
+    → is_sender (state_of c heard) e.sender ≡ true → entry_of e (entries_of c heard) ≡ None → HearsNew m c heard e new o → IsOutcome (envelope_told c heard e) o
+new_outcome m c heard e new o known none hears = rw (reply-known c heard e known, no_place c heard e none) (by_outcome o hears)
   where
-    by_outcome : (o : Outcome) → HearsNew holds leaves down c heard e new o → IsOutcome (reply_told c e (Answers (step c (state_of c heard) e).1)) o
+    by_outcome : (o : Outcome) → HearsNew m c heard e new o → IsOutcome (reply_told c e (Answers (step c (state_of c heard) e).1)) o
     by_outcome (Answered text) h = ap AnswerText (sym h.0)
     by_outcome (Refused refusal text) h = absurd h
     by_outcome (Unavailable fault) h = h.0
 
-pub new_pair : (c : Settings) (heard : List Envelope) (e : Envelope) → entry_of e (entries_of c heard) ≡ None → has_pair heard e ≡ false
+new_pair : (c : Settings) (heard : List Envelope) (e : Envelope) → entry_of e (entries_of c heard) ≡ None → has_pair heard e ≡ false
 new_pair c heard e none = has_pair-place_of c heard e ∙ ap is_some (no_place c heard e none)
 
-pub new_order : {K : Type 0} (holds : K → Kept → Type 0) (leaves : K → List Kept → Type 0) (down : K → Bool) (c : Settings) (heard : List Envelope) (e : Envelope) (new : K) (o : Outcome)
-    → is_sender (state_of c heard) e.sender ≡ true → has_pair heard e ≡ false → HearsNew holds leaves down c heard e new o
-    → IsInOrder holds c new (heard_unless (is_unavailable o) c heard e)
-new_order holds leaves down c heard e new (Answered text) known fresh h = rw (heard_with-new c heard e known fresh) h.1
-new_order holds leaves down c heard e new (Refused refusal text) known fresh h = absurd h
-new_order holds leaves down c heard e new (Unavailable fault) known fresh h = h.1
+new_order : {K : Type 0} (m : Meaning K) (c : Settings) (heard : List Envelope) (e : Envelope) (new : K) (o : Outcome)
+    → is_sender (state_of c heard) e.sender ≡ true → has_pair heard e ≡ false → HearsNew m c heard e new o
+    → IsInOrder m c new (heard_unless (is_unavailable o) c heard e)
+new_order m c heard e new (Answered text) known fresh h = rw (heard_with-new c heard e known fresh) h.1
+new_order m c heard e new (Refused refusal text) known fresh h = absurd h
+new_order m c heard e new (Unavailable fault) known fresh h = h.1
 
-pub new_crash : {K : Type 0} (holds : K → Kept → Type 0) (leaves : K → List Kept → Type 0) (down : K → Bool) (c : Settings) (heard : List Envelope) (e : Envelope) (new : K) (o : Outcome)
-    → is_sender (state_of c heard) e.sender ≡ true → has_pair heard e ≡ false → HearsNew holds leaves down c heard e new o
-    → Survives leaves down c new (heard_unless (is_unavailable o) c heard e) (doubt_of e o)
-new_crash holds leaves down c heard e new (Answered text) known fresh h = inl (rw (heard_with-new c heard e known fresh) h.2)
-new_crash holds leaves down c heard e new (Refused refusal text) known fresh h = absurd h
-new_crash holds leaves down c heard e new (Unavailable fault) known fresh h = h.2
+new_crash : {K : Type 0} (m : Meaning K) (c : Settings) (heard : List Envelope) (e : Envelope) (new : K) (o : Outcome)
+    → is_sender (state_of c heard) e.sender ≡ true → has_pair heard e ≡ false → HearsNew m c heard e new o
+    → Survives m c new (heard_unless (is_unavailable o) c heard e) (doubt_of e o)
+new_crash m c heard e new (Answered text) known fresh h = inl (rw (heard_with-new c heard e known fresh) h.2)
+new_crash m c heard e new (Refused refusal text) known fresh h = absurd h
+new_crash m c heard e new (Unavailable fault) known fresh h = h.2
 
--- ---- what a crash leaves
+-- what it makes of a store in order
+pub record IsHeardAfter {K : Type 0} (m : Meaning K) (c : Settings) (heard : List Envelope) (e : Envelope) (new : K) (o : Outcome) : Type 0 where
+  pub order : IsInOrder m c new (heard_unless (is_unavailable o) c heard e)
+  pub crash : Survives m c new (heard_unless (is_unavailable o) c heard e) (doubt_of e o)
 
--- a call that only reads keeps what a crash leaves, with its doubt
-pub survives_reads : {K : Type 0} {T : Type 0} (configuration : K → Settings) (sound : K → Type 0) (down : K → Bool) (full : K → Type 0) (holds : K → Kept → Type 0) (leaves : K → List Kept → Type 0)
-    (c : Settings) (heard : List Envelope) (doubt now : Option Envelope) (old new : K) (r : Result T StoreFault)
-    → IsCall configuration sound down full old new r → Reads sound holds leaves old new → sound new
-    → Survives leaves down c old heard doubt → Survives leaves down c new heard (doubt_after (down old) doubt now)
-survives_reads configuration sound down full holds leaves c heard doubt now old new r call reads is_sound (inl alone) = inl (reads.left _ is_sound alone)
-survives_reads configuration sound down full holds leaves c heard doubt now old new r call reads is_sound (inr (e, in_doubt, d)) =
-    inr (
-      e,
-      ap (λ b. doubt_after b doubt now) d.is_down ∙ in_doubt,
-      record {
-        is_down = call.shut ∙ ap is_disk (call.tells d.is_down);
-        list = d.list;
-        left = reads.left _ is_sound d.left;
-      },
-    )
+pub is_heard : {K : Type 0} (m : Meaning K) (c : Settings) (heard : List Envelope) (e : Envelope) (new : K) (o : Outcome)
+    → is_sender (state_of c heard) e.sender ≡ true → entry_of e (entries_of c heard) ≡ None → HearsNew m c heard e new o → IsHeardAfter m c heard e new o
+is_heard m c heard e new o known none hears = record {
+  order = new_order m c heard e new o known (new_pair c heard e none) hears;
+  crash = new_crash m c heard e new o known (new_pair c heard e none) hears;
+}
 
 -- a call with an answer found the store up
-pub was_up : {K : Type 0} {T : Type 0} (configuration : K → Settings) (sound : K → Type 0) (down : K → Bool) (full : K → Type 0) (old new : K) (r : Result T StoreFault)
-    → IsCall configuration sound down full old new r → is_ok r ≡ true → down old ≡ false
-was_up configuration sound down full old new r call answered = elim (cases_Bool (down old)) [
+pub was_up : {K : Type 0} {T : Type 0} (m : Meaning K) (old : K) (r : Result T StoreFault) → TellsDown m old r → is_ok r ≡ true → m.down old ≡ false
+was_up m old r tells answered = elim (cases_Bool (m.down old)) [
   | inr up ↦ up
-  | inl is_down ↦ let k : true ≡ false = sym answered ∙ ap is_ok (call.tells is_down) in cc
+  | inl is_down ↦ let k : true ≡ false = sym answered ∙ ap is_ok (tells is_down) in cc
 ]
 
 -- ---- the commit
@@ -188,15 +213,20 @@ can_add c heard e view d viewed none fits is = record {
 }
 
 -- after a fault the store holds what it held, and the message is in doubt where the fault is the disk's
-pub survives_fault : {K : Type 0} (leaves : K → List Kept → Type 0) (down : K → Bool) (c : Settings) (new : K) (heard : List Envelope) (e : Envelope) (fault : StoreFault)
-    → down new ≡ is_disk {T = Unit {0}} (Err fault)
-    → (down new ≡ false → leaves new (kept_after c heard ∷ []))
-    → (most_heard ≤ length (kept_after c heard).entries → leaves new (kept_after c heard ∷ []))
+pub survives_fault : {K : Type 0} (m : Meaning K) (c : Settings) (new : K) (heard : List Envelope) (e : Envelope) (fault : StoreFault)
+    → m.down new ≡ is_disk (Some fault)
+    → (m.down new ≡ false → m.leaves new (kept_after c heard ∷ []))
+    → (most_heard ≤ length (kept_after c heard).entries → m.leaves new (kept_after c heard ∷ []))
     → (length heard < most_heard → IsHeard c (heard ++ e ∷ []))
-    → (fault ≡ Disk → leaves new (kept_after c heard ∷ kept_after c (heard ++ e ∷ []) ∷ []))
-    → Survives leaves down c new heard (doubt_of e (Unavailable fault))
-survives_fault leaves down c new heard e Disk shut alone full list doubt = elim (cases_lt (length heard) most_heard) [
+    → (fault ≡ Disk → m.leaves new (kept_after c heard ∷ kept_after c (heard ++ e ∷ []) ∷ []))
+    → Survives m c new heard (doubt_of e (Unavailable fault))
+survives_fault m c new heard e Disk shut alone full list doubt = elim (cases_lt (length heard) most_heard) [
   | inl room ↦ inr (e, refl, record { is_down = shut; list = list room; left = doubt refl })
   | inr no_room ↦ let n = length-kept_after c heard in inl (full (omega arith))
 ]
-survives_fault leaves down c new heard e fault shut alone full list doubt = inl (alone shut)
+survives_fault m c new heard e fault shut alone full list doubt = inl (alone shut)
+
+-- a store without room for an entry has none for an envelope
+pub no_room : {K : Type 0} (m : Meaning K) (c : Settings) (new : K) (heard : List Envelope) → (most_heard ≤ length (kept_after c heard).entries) ⊎ m.sized new → HasNoRoom m new heard
+no_room m c new heard (inl full) = let n = length-kept_after c heard in inl (omega arith)
+no_room m c new heard (inr sized) = inr sized

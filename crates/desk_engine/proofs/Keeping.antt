@@ -11,6 +11,7 @@ use Rattle.registry_core.specs.State.{State, opening}
 use Rattle.registry_core.specs.Decision.{Decision}
 use Rattle.registry_core.specs.Step.{decision_of, step}
 use Rattle.desk_store.specs.Kept.{Entry, Kept, with_entry}
+use Rattle.desk_store.specs.Meaning.{Meaning}
 use Rattle.desk_wire.specs.Answers.{answer_text, head_of_envelope}
 use Rattle.desk_wire.specs.Writing.{message_text}
 use Rattle.desk_engine.specs.InOrder.{HoldsHours, IsInOrder, entry_at, kept_after}
@@ -61,9 +62,12 @@ pub hours_of : HoursAreKept → (c : Settings) (heard : List Envelope) (kept : K
 unfolding kept_after
 hours_of law c heard kept same = subst (λ (k : Kept). EveryHourKept k.facts) same (law c heard)
 
--- nor in what a store holds that is in order, since it holds one thing
-pub holds_hours : {K : Type 0} (sound : K → Type 0) (down : K → Bool) (holds : K → Kept → Type 0)
-    → ((keeper : K) (a b : Kept) → sound keeper → down keeper ≡ false → holds keeper a → holds keeper b → a ≡ b)
-    → HoursAreKept → (c : Settings) (heard : List Envelope) (keeper : K) → sound keeper → IsInOrder holds c keeper heard → HoldsHours holds down keeper
-holds_hours sound down holds one law c heard keeper is_sound order = λ kept up held.
-    hours_of law c heard kept (one keeper (kept_after c heard) kept is_sound up order.kept held)
+-- a store that is up holds one thing at most
+abbrev pub HoldsOne : {K : Type 0} → Meaning K → Type 0
+HoldsOne {K} m = (keeper : K) (a b : Kept) → m.sound keeper → m.down keeper ≡ false → m.holds keeper a → m.holds keeper b → a ≡ b
+
+-- so no hour holds more in what a store holds that is in order
+pub holds_hours : {K : Type 0} (m : Meaning K) → HoldsOne m → HoursAreKept → (c : Settings) (heard : List Envelope) (keeper : K) → m.sound keeper
+    → IsInOrder m c keeper heard → HoldsHours m keeper
+holds_hours m one law c heard keeper sound order = λ kept up held.
+    hours_of law c heard kept (one keeper (kept_after c heard) kept sound up order.kept held)

@@ -2,6 +2,7 @@ pub mod AirUse
 pub mod Arms
 pub mod HeardTexts
 pub mod HearingAgain
+pub mod Hearings
 pub mod Imports
 pub mod InputCuts
 pub mod Keeping
@@ -12,7 +13,6 @@ pub mod OwnerLines
 pub mod Places
 pub mod Replies
 pub mod ReportLaw
-pub mod Reporting
 pub mod RisingLists
 pub mod Runs
 pub mod Unread

@@ -4,13 +4,17 @@ use Rattle.std.specs.Prelude.{◌||◌, Result, Ok, Err}
 use Rattle.std.proofs.lemmas.List.{take_more, map-append, take_all}
 use Rattle.registry_core.specs.declared.messages.Envelope.{Envelope}
 use Rattle.registry_core.specs.Settings.{Settings}
-use Rattle.desk_store.specs.Kept.{Kept}
+use Rattle.desk_store.specs.declared.faults.StoreFault.TheVariants.{Size}
+use Rattle.desk_store.specs.Calls.{is_disk, is_foreign}
+use Rattle.desk_store.specs.Meaning.{Meaning}
 use Rattle.desk_wire.specs.declared.faults.WireFault.{WireFault}
 use Rattle.desk_engine.specs.declared.outcomes.Outcome.{Outcome}
 use Rattle.desk_engine.specs.Deliveries.{heard_after, heard_all}
-use Rattle.desk_engine.specs.InOrder.{IsInOrder, Survives, doubt_after}
-use Rattle.desk_engine.specs.Outcomes.{AreOutcomes, HasRun, IsOutcome, deliveries_of, delivery_of, doubt_of_text, doubt_read, first_doubt, has_disk_outcome, is_disk_outcome}
+use Rattle.desk_engine.specs.Hearing.{Hears}
+use Rattle.desk_engine.specs.InOrder.{HasNoRoom, WasInOrder}
+use Rattle.desk_engine.specs.Outcomes.{AreOutcomes, IsOutcome, SizesAreTold, deliveries_of, delivery_of, doubt_of_text, doubt_read, fault_of, first_doubt, has_disk, has_foreign}
 use Rattle.desk_engine.specs.Told.{envelope_of_text, text_told}
+use Rattle.desk_engine.proofs.Hearings.{hears_as, hears_then, was_before}
 
 heard_all-push : (c : Settings) (heard : List Envelope) (ts : List (List ℕ)) (os : List Outcome) (t : List ℕ) (o : Outcome) → AreOutcomes c heard ts os
     → heard_all c heard (deliveries_of (ts ++ t ∷ []) (os ++ o ∷ [])) ≡ heard_after c (heard_all c heard (deliveries_of ts os)) (delivery_of t o)
@@ -28,54 +32,69 @@ outcomes-push c heard (x ∷ xs) [] t o all one = absurd all
 
 -- ---- the message in doubt
 
-pub has_disk_outcome-push : (os : List Outcome) (o : Outcome) → has_disk_outcome (os ++ o ∷ []) ≡ (has_disk_outcome os || is_disk_outcome o)
-has_disk_outcome-push [] o = elim (is_disk_outcome o) as (λ b. (b || false) ≡ b) [ true ↦ refl | false ↦ refl ]
-has_disk_outcome-push (y ∷ ys) o =
-    elim (is_disk_outcome y) as (λ b. (b || has_disk_outcome (ys ++ o ∷ [])) ≡ ((b || has_disk_outcome ys) || is_disk_outcome o)) [ true ↦ refl | false ↦ has_disk_outcome-push ys o ]
+pub has_disk-push : (os : List Outcome) (o : Outcome) → has_disk (os ++ o ∷ []) ≡ (has_disk os || is_disk (fault_of o))
+has_disk-push [] o = elim (is_disk (fault_of o)) as (λ b. (b || false) ≡ b) [ true ↦ refl | false ↦ refl ]
+has_disk-push (y ∷ ys) o =
+    elim (is_disk (fault_of y)) as (λ b. (b || has_disk (ys ++ o ∷ [])) ≡ ((b || has_disk ys) || is_disk (fault_of o))) [ true ↦ refl | false ↦ has_disk-push ys o ]
 
-one_doubt : (wanted : Result Envelope WireFault) (o : Outcome) → cond (is_disk_outcome o) (doubt_read wanted o) None ≡ doubt_read wanted o
-one_doubt (Ok e) o = elim (is_disk_outcome o) as (λ b. cond b (cond b (Some e) None) None ≡ cond b (Some e) None) [ true ↦ refl | false ↦ refl ]
-one_doubt (Err fault) o = elim (is_disk_outcome o) as (λ b. cond {A = Option Envelope} b None None ≡ None) [ true ↦ refl | false ↦ refl ]
+one_doubt : (wanted : Result Envelope WireFault) (o : Outcome) → cond (is_disk (fault_of o)) (doubt_read wanted o) None ≡ doubt_read wanted o
+one_doubt (Ok e) o = elim (is_disk (fault_of o)) as (λ b. cond b (cond b (Some e) None) None ≡ cond b (Some e) None) [ true ↦ refl | false ↦ refl ]
+one_doubt (Err fault) o = elim (is_disk (fault_of o)) as (λ b. cond {A = Option Envelope} b None None ≡ None) [ true ↦ refl | false ↦ refl ]
 
 first_doubt-push : (c : Settings) (heard : List Envelope) (ts : List (List ℕ)) (os : List Outcome) (t : List ℕ) (o : Outcome) → AreOutcomes c heard ts os
-    → first_doubt c (ts ++ t ∷ []) (os ++ o ∷ []) ≡ cond (has_disk_outcome os) (first_doubt c ts os) (doubt_of_text c t o)
+    → first_doubt c (ts ++ t ∷ []) (os ++ o ∷ []) ≡ cond (has_disk os) (first_doubt c ts os) (doubt_of_text c t o)
 first_doubt-push c heard [] [] t o all = one_doubt (envelope_of_text c t) o
 first_doubt-push c heard (x ∷ xs) (y ∷ ys) t o all =
-    elim (is_disk_outcome y) as (λ b. cond b (doubt_of_text c x y) (first_doubt c (xs ++ t ∷ []) (ys ++ o ∷ []))
-    ≡ cond (b || has_disk_outcome ys) (cond b (doubt_of_text c x y) (first_doubt c xs ys)) (doubt_of_text c t o)) [
+    elim (is_disk (fault_of y)) as (λ b. cond b (doubt_of_text c x y) (first_doubt c (xs ++ t ∷ []) (ys ++ o ∷ []))
+    ≡ cond (b || has_disk ys) (cond b (doubt_of_text c x y) (first_doubt c xs ys)) (doubt_of_text c t o)) [
       | true ↦ refl
       | false ↦ first_doubt-push c (heard_after c heard (delivery_of x y)) xs ys t o all.1
     ]
 first_doubt-push c heard [] (y ∷ ys) t o all = absurd all
 first_doubt-push c heard (x ∷ xs) [] t o all = absurd all
 
-doubts : (was disk mid : Bool) (before first last : Option Envelope) → mid ≡ (was || disk)
-    → doubt_after mid (doubt_after was before first) last ≡ doubt_after was before (cond disk first last)
-doubts true disk mid before first last is = rw is refl
-doubts false true mid before first last is = rw is refl
-doubts false false mid before first last is = rw is refl
+has_foreign-push : (os : List Outcome) (o : Outcome) → has_foreign (os ++ o ∷ []) ≡ (has_foreign os || is_foreign (fault_of o))
+has_foreign-push [] o = elim (is_foreign (fault_of o)) as (λ b. (b || false) ≡ b) [ true ↦ refl | false ↦ refl ]
+has_foreign-push (y ∷ ys) o =
+    elim (is_foreign (fault_of y)) as (λ b. (b || has_foreign (ys ++ o ∷ [])) ≡ ((b || has_foreign ys) || is_foreign (fault_of o))) [ true ↦ refl | false ↦ has_foreign-push ys o ]
 
 -- ---- one more
 
-pub run_more : {K : Type 0} (holds : K → Kept → Type 0) (leaves : K → List Kept → Type 0) (down : K → Bool) (c : Settings) (heard : List Envelope) (old mid new : K) (ts : List (List ℕ)) (os : List Outcome) (t : List ℕ) (o : Outcome)
-    → HasRun holds leaves down c heard old mid ts os
-    → down mid ≡ (down old || has_disk_outcome os)
-    → IsOutcome (text_told c (heard_all c heard (deliveries_of ts os)) t) o
-    → IsInOrder holds c new (heard_after c (heard_all c heard (deliveries_of ts os)) (delivery_of t o))
-    → ((doubt : Option Envelope) → Survives leaves down c mid (heard_all c heard (deliveries_of ts os)) doubt
-    → Survives leaves down c new (heard_after c (heard_all c heard (deliveries_of ts os)) (delivery_of t o)) (doubt_after (down mid) doubt (doubt_of_text c t o)))
-    → HasRun holds leaves down c heard old new (ts ++ t ∷ []) (os ++ o ∷ [])
-run_more holds leaves down c heard old mid new ts os t o ran shut outcome order crash =
-    let more = heard_all-push c heard ts os t o ran.outcomes_are in
-    let P : Option Envelope → Type 0 = λ d. Survives leaves down c new (heard_after c (heard_all c heard (deliveries_of ts os)) (delivery_of t o)) d in
-    record {
-      outcomes_are = outcomes-push c heard ts os t o ran.outcomes_are outcome;
-      order = rw more order;
-      crash = λ doubt was. rw more
-          (subst P (doubts (down old) (has_disk_outcome os) (down mid) doubt (first_doubt c ts os) (doubt_of_text c t o) shut
-          ∙ ap (doubt_after (down old) doubt) (sym (first_doubt-push c heard ts os t o ran.outcomes_are)))
-          (crash (doubt_after (down old) doubt (first_doubt c ts os)) (ran.crash doubt was)));
-    }
+module _ {K : Type 0} (m : Meaning K) where
+  pub run_more : (old mid new : K) (ts : List (List ℕ)) (os : List Outcome) (t : List ℕ) (o : Outcome)
+      → Hears m old mid (has_disk os) (has_foreign os) (λ c heard. heard_all c heard (deliveries_of ts os)) (λ c. first_doubt c ts os)
+      → ((c : Settings) (heard : List Envelope) → WasInOrder m c heard old mid → AreOutcomes c heard ts os)
+      → Hears m mid new (is_disk (fault_of o)) (is_foreign (fault_of o)) (λ c heard. heard_after c heard (delivery_of t o)) (λ c. doubt_of_text c t o)
+      → Hears m old new (has_disk (os ++ o ∷ [])) (has_foreign (os ++ o ∷ []))
+      (λ c heard. heard_all c heard (deliveries_of (ts ++ t ∷ []) (os ++ o ∷ []))) (λ c. first_doubt c (ts ++ t ∷ []) (os ++ o ∷ []))
+  run_more old mid new ts os t o ran told more =
+      rw (has_disk-push os o, has_foreign-push os o)
+      (hears_as m old new _ _ _ (λ c heard. heard_all c heard (deliveries_of (ts ++ t ∷ []) (os ++ o ∷ []))) _ (λ c. first_doubt c (ts ++ t ∷ []) (os ++ o ∷ []))
+      (hears_then m old mid new _ _ _ _ _ _ _ _ ran more)
+      (λ c heard was. heard_all-push c heard ts os t o (told c heard (was_before m c heard old mid new more.call.was_sound was)))
+      (λ c heard was. first_doubt-push c heard ts os t o (told c heard (was_before m c heard old mid new more.call.was_sound was))))
+
+  sizes-push : (c : Settings) (heard : List Envelope) (ts : List (List ℕ)) (os : List Outcome) (t : List ℕ) (o : Outcome) → AreOutcomes c heard ts os
+      → SizesAreTold m c heard ts os → (fault_of o ≡ Some Size → (k : K) × HasNoRoom m k (heard_all c heard (deliveries_of ts os)))
+      → SizesAreTold m c heard (ts ++ t ∷ []) (os ++ o ∷ [])
+  sizes-push c heard [] [] t o all told size = (size, tt)
+  sizes-push c heard (x ∷ xs) (y ∷ ys) t o all told size = (told.0, sizes-push c (heard_after c heard (delivery_of x y)) xs ys t o all.1 told.1 size)
+  sizes-push c heard [] (y ∷ ys) t o all told size = absurd all
+  sizes-push c heard (x ∷ xs) [] t o all told size = absurd all
+
+  -- what a run has told, of a store that was in order
+  pub record HasTold (c : Settings) (heard : List Envelope) (ts : List (List ℕ)) (os : List Outcome) : Type 0 where
+    pub outcomes : AreOutcomes c heard ts os
+    pub sizes : SizesAreTold m c heard ts os
+
+  pub told_more : (c : Settings) (heard : List Envelope) (ts : List (List ℕ)) (os : List Outcome) (t : List ℕ) (o : Outcome) (new : K) → HasTold c heard ts os
+      → IsOutcome (text_told c (heard_all c heard (deliveries_of ts os)) t) o
+      → (fault_of o ≡ Some Size → HasNoRoom m new (heard_all c heard (deliveries_of ts os)))
+      → HasTold c heard (ts ++ t ∷ []) (os ++ o ∷ [])
+  told_more c heard ts os t o new told outcome size = record {
+    outcomes = outcomes-push c heard ts os t o told.outcomes outcome;
+    sizes = sizes-push c heard ts os t o told.outcomes told.sizes (λ is. (new, size is));
+  }
 
 -- what the texts say, as far as the loop has come
 pub seen_more : (ts : List (Bor (List ℕ))) (i : ℕ) (d : Bor (List ℕ)) → i < length ts → map (λ t. t.now) (take (i + 1) ts) ≡ map (λ t. t.now) (take i ts) ++ (get_or ts i d).now ∷ []
@@ -83,9 +102,3 @@ seen_more ts i d within = ap (map (λ (t : Bor (List ℕ)). t.now)) (take_more t
 
 pub seen_all : (ts : List (Bor (List ℕ))) (i : ℕ) → length ts ≤ i → take i ts ≡ ts
 seen_all ts i past = take_all i ts past
-
--- the store is down where it was, or where a fault of the disk was told
-pub more_shut : (was mid new : Bool) (os : List Outcome) (o : Outcome) → mid ≡ (was || has_disk_outcome os) → new ≡ (mid || is_disk_outcome o)
-    → new ≡ (was || has_disk_outcome (os ++ o ∷ []))
-more_shut true mid new os o shut shuts = rw (shuts, shut) refl
-more_shut false mid new os o shut shuts = rw (shuts, shut) (sym (has_disk_outcome-push os o))

@@ -1,38 +1,32 @@
 -- A text that is no envelope is refused, and nothing is heard of it.
-use Rattle.std.proofs.Common.{◌≡◌, Bool, false, List, Option, None, Result, Ok, Err, refl, ap, sym, ◌∙◌, subst, inl, inr}
+use Rattle.std.proofs.Common.{◌≡◌, List, Result, Ok, Err, refl, sym, subst}
 use Rattle.registry_core.specs.declared.messages.Envelope.{Envelope}
 use Rattle.registry_core.specs.Settings.{Settings}
 use Rattle.desk_store.specs.declared.faults.StoreFault.TheVariants as store_faults
-use Rattle.desk_store.specs.Kept.{Kept}
 use Rattle.desk_wire.specs.declared.faults.WireFault.{WireFault}
 use Rattle.desk_wire.specs.declared.faults.WireFault.TheVariants.{Malformed, InvalidProtocolVersion, UnknownReceiver, UnknownType, BadBody, Memory}
 use Rattle.desk_wire.specs.Reading.{Gives}
 use Rattle.desk_engine.specs.declared.outcomes.Outcome.{Outcome}
 use Rattle.desk_engine.specs.declared.outcomes.Outcome.TheVariants.{Unavailable}
 use Rattle.desk_engine.specs.Deliveries.{heard_read}
-use Rattle.desk_engine.specs.InOrder.{Survives, doubt_after}
-use Rattle.desk_engine.specs.Outcomes.{IsOutcome, RefusesText, Says, doubt_read, is_disk_outcome, is_unavailable}
+use Rattle.desk_engine.specs.Outcomes.{IfRefused, IsOutcome, IsUnheard, RefusesText, Says, is_unavailable}
 use Rattle.desk_engine.specs.Told.{fault_told, read_told}
-use Rattle.desk_engine.proofs.Arms.{says_outcome, says-not_disk}
+use Rattle.desk_engine.proofs.Arms.{IsQuiet, says_outcome, says_quiet, says_refused}
 
 -- what follows from such an outcome
 pub record IsUnread (c : Settings) (heard : List Envelope) (wanted : Result Envelope WireFault) (o : Outcome) : Type 0 where
   pub outcome : IsOutcome (read_told c heard wanted) o
   pub stays : heard_read (is_unavailable o) c heard wanted ≡ heard
-  pub no_doubt : doubt_read wanted o ≡ None
-  pub no_disk : is_disk_outcome o ≡ false
 
 without_memory : (c : Settings) (heard : List Envelope) (wanted : Result Envelope WireFault) → IsUnread c heard wanted (Unavailable store_faults.Memory)
-without_memory c heard (Ok e) = record { outcome = tt; stays = refl; no_doubt = refl; no_disk = refl }
-without_memory c heard (Err fault) = record { outcome = tt; stays = refl; no_doubt = refl; no_disk = refl }
+without_memory c heard (Ok e) = record { outcome = tt; stays = refl }
+without_memory c heard (Err fault) = record { outcome = tt; stays = refl }
 
 with_fault : (c : Settings) (heard : List Envelope) (wanted : Result Envelope WireFault) (fault : WireFault) (o : Outcome) → wanted ≡ Err fault → Says (fault_told c fault) o
     → IsUnread c heard wanted o
 with_fault c heard wanted fault o is said = subst (λ w. IsUnread c heard w o) (sym is) (record {
   outcome = says_outcome (fault_told c fault) o said;
   stays = refl;
-  no_doubt = refl;
-  no_disk = says-not_disk (fault_told c fault) o said;
 })
 
 pub unread : (c : Settings) (heard : List Envelope) (wanted : Result Envelope WireFault) (fault : WireFault) (o : Outcome) → Gives (Err fault) wanted → RefusesText c fault o
@@ -44,8 +38,15 @@ unread c heard wanted (UnknownType head) o is said = with_fault c heard wanted (
 unread c heard wanted (BadBody head) o is said = with_fault c heard wanted (BadBody head) o is said
 unread c heard wanted Memory o is said = subst (IsUnread c heard wanted) (sym said) (without_memory c heard wanted)
 
--- a store that nothing was asked of keeps its doubt
-pub survives_untouched : {K : Type 0} (leaves : K → List Kept → Type 0) (down : K → Bool) (c : Settings) (k : K) (heard : List Envelope) (doubt now : Option Envelope)
-    → Survives leaves down c k heard doubt → Survives leaves down c k heard (doubt_after (down k) doubt now)
-survives_untouched leaves down c k heard doubt now (inl alone) = inl alone
-survives_untouched leaves down c k heard doubt now (inr (e, is, d)) = inr (e, ap (λ b. doubt_after b doubt now) d.is_down ∙ is, d)
+-- it tells no fault but want of memory, and refuses what isn't heard
+pub record IsRefusedText (o : Outcome) : Type 0 where
+  pub quiet : IsQuiet o
+  pub refused : IfRefused o IsUnheard
+
+pub refused_text : (c : Settings) (fault : WireFault) (o : Outcome) → RefusesText c fault o → IsRefusedText o
+refused_text c Malformed o said = record { quiet = says_quiet _ o said; refused = says_refused IsUnheard _ _ o tt said }
+refused_text c (InvalidProtocolVersion head) o said = record { quiet = says_quiet _ o said; refused = says_refused IsUnheard _ _ o tt said }
+refused_text c (UnknownReceiver head) o said = record { quiet = says_quiet _ o said; refused = says_refused IsUnheard _ _ o tt said }
+refused_text c (UnknownType head) o said = record { quiet = says_quiet _ o said; refused = says_refused IsUnheard _ _ o tt said }
+refused_text c (BadBody head) o said = record { quiet = says_quiet _ o said; refused = says_refused IsUnheard _ _ o tt said }
+refused_text c Memory o said = subst IsRefusedText (sym said) (record { quiet = record { disk = refl; foreign = refl; size = λ e. cc; told = tt }; refused = tt })

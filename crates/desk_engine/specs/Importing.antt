@@ -1,13 +1,11 @@
 -- Envelopes heard in order, up to the first that is Unavailable.
-use Rattle.std.specs.Prelude.{◌≡◌, Bool, true, false, List, [], ◌∷◌, Option, Some, None}
+use Rattle.std.specs.Prelude.{◌≡◌, false, List, [], ◌∷◌, Option, Some, None, if◌then◌else◌}
 use Rattle.registry_core.specs.declared.messages.Envelope.{Envelope}
 use Rattle.registry_core.specs.Heard.{heard_with}
 use Rattle.registry_core.specs.Settings.{Settings}
 use Rattle.desk_store.specs.declared.faults.StoreFault.{StoreFault}
-use Rattle.desk_store.specs.declared.faults.StoreFault.TheVariants.{Disk}
-use Rattle.desk_store.specs.Kept.{Kept}
+use Rattle.desk_store.specs.Calls.{is_disk}
 use Rattle.desk_engine.specs.declared.outcomes.Outcome.{Outcome}
-use Rattle.desk_engine.specs.InOrder.{IsInOrder, Survives, doubt_after}
 use Rattle.desk_engine.specs.Outcomes.{IsOutcome, is_unavailable}
 use Rattle.desk_engine.specs.Told.{envelope_told}
 
@@ -23,24 +21,8 @@ AreAnswers c heard (e ∷ es) (o ∷ os) = IsOutcome (envelope_told c heard e) o
 AreAnswers c heard [] (o ∷ os) = ⊥
 AreAnswers c heard (e ∷ es) [] = ⊥
 
--- it stopped for a fault of the disk
-abbrev pub is_disk_stop : Option StoreFault → Bool
-is_disk_stop (Some Disk) = true
-is_disk_stop _ = false
-
-abbrev pub doubt_at : Option StoreFault → Envelope → Option Envelope
-doubt_at (Some Disk) e = Some e
-doubt_at _ e = None
-
 -- the message that a fault of the disk leaves in doubt: the first without an answer
 abbrev pub doubt_at_stop : List Envelope → List Outcome → Option StoreFault → Option Envelope
 doubt_at_stop [] os stopped = None
-doubt_at_stop (e ∷ es) [] stopped = doubt_at stopped e
+doubt_at_stop (e ∷ es) [] stopped = if is_disk stopped then Some e else None
 doubt_at_stop (e ∷ es) (o ∷ os) stopped = doubt_at_stop es os stopped
-
--- what an import has done, as far as it came, with none Unavailable
-pub record HasImported {K : Type 0} (holds : K → Kept → Type 0) (leaves : K → List Kept → Type 0) (down : K → Bool) (c : Settings) (heard : List Envelope) (old new : K) (envelopes : List Envelope) (answers : List Outcome) : Type 0 where
-  pub answers_are : AreAnswers c heard envelopes answers
-  pub order : IsInOrder holds c new (heard_in_order c heard envelopes)
-  pub crash : (doubt : Option Envelope) → Survives leaves down c old heard doubt
-      → Survives leaves down c new (heard_in_order c heard envelopes) (doubt_after (down old) doubt None)

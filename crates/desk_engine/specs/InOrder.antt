@@ -1,11 +1,12 @@
 -- When a store is in order for a heard list, and what a crash may leave of it.
-use Rattle.std.specs.Prelude.{◌≡◌, ◌⊎◌, Bool, true, false, List, [], ◌∷◌, ◌++◌, map, Option, Some, if◌then◌else◌}
+use Rattle.std.specs.Prelude.{◌≡◌, ◌⊎◌, ◌≤◌, Bool, true, false, List, [], ◌∷◌, ◌++◌, length, map, Option, Some, if◌then◌else◌}
 use Rattle.registry_core.specs.declared.answers.Answer.{Answer}
 use Rattle.registry_core.specs.declared.messages.Envelope.{Envelope}
 use Rattle.registry_core.specs.Bookings.{EveryHourKept}
-use Rattle.registry_core.specs.Heard.{IsHeard, answers_of, state_of}
+use Rattle.registry_core.specs.Heard.{IsHeard, answers_of, most_heard, state_of}
 use Rattle.registry_core.specs.Settings.{Settings}
 use Rattle.desk_store.specs.Kept.{Entry, Kept, entry_with}
+use Rattle.desk_store.specs.Meaning.{Meaning}
 use Rattle.desk_wire.specs.Answers.{answer_text, head_of_envelope}
 use Rattle.desk_wire.specs.Writing.{message_text}
 
@@ -22,26 +23,36 @@ unfoldable pub kept_after : Settings → List Envelope → Kept
 kept_after c heard = record { facts = state_of c heard; entries = entries_of c heard }
 
 -- the store is in order for these, which are a heard list
-pub record IsInOrder {K : Type 0} (holds : K → Kept → Type 0) (c : Settings) (keeper : K) (heard : List Envelope) : Type 0 where
+pub record IsInOrder {K : Type 0} (m : Meaning K) (c : Settings) (keeper : K) (heard : List Envelope) : Type 0 where
   pub list : IsHeard c heard
-  pub kept : holds keeper (kept_after c heard)
+  pub kept : m.holds keeper (kept_after c heard)
+
+-- before a call the store was in order for these, with this configuration, and after it it is sound
+pub record WasInOrder {K : Type 0} (m : Meaning K) (c : Settings) (heard : List Envelope) (old new : K) : Type 0 where
+  pub its : c ≡ m.configuration old
+  pub sound : m.sound new
+  pub order : IsInOrder m c old heard
+
+-- as many are heard as ever may be, or the store's medium named its own size in the last call that wrote
+abbrev pub HasNoRoom : {K : Type 0} → Meaning K → K → List Envelope → Type 0
+HasNoRoom m keeper heard = (most_heard ≤ length heard) ⊎ m.sized keeper
 
 -- in whatever a store that is up holds, no hour of any gateway's band has more downlinks than the limit
-abbrev pub HoldsHours : {K : Type 0} → (K → Kept → Type 0) → (K → Bool) → K → Type 0
-HoldsHours holds down keeper = (kept : Kept) → down keeper ≡ false → holds keeper kept → EveryHourKept kept.facts
+abbrev pub HoldsHours : {K : Type 0} → Meaning K → K → Type 0
+HoldsHours m keeper = (kept : Kept) → m.down keeper ≡ false → m.holds keeper kept → EveryHourKept kept.facts
 
 -- the doubtful message could be heard, and a crash leaves these, or these with it
-pub record IsInDoubt {K : Type 0} (leaves : K → List Kept → Type 0) (down : K → Bool) (c : Settings) (keeper : K) (heard : List Envelope) (e : Envelope) : Type 0 where
-  pub is_down : down keeper ≡ true
+pub record IsInDoubt {K : Type 0} (m : Meaning K) (c : Settings) (keeper : K) (heard : List Envelope) (e : Envelope) : Type 0 where
+  pub is_down : m.down keeper ≡ true
   pub list : IsHeard c (heard ++ e ∷ [])
-  pub left : leaves keeper (kept_after c heard ∷ kept_after c (heard ++ e ∷ []) ∷ [])
+  pub left : m.leaves keeper (kept_after c heard ∷ kept_after c (heard ++ e ∷ []) ∷ [])
 
 -- A crash leaves what is in order for these. Only where a fault of the disk has shut the store at a doubtful
 -- message, it may be these with that message.
-abbrev pub Survives : {K : Type 0} → (K → List Kept → Type 0) → (K → Bool) → Settings → K → List Envelope → Option Envelope → Type 0
-Survives leaves down c keeper heard doubt =
-    leaves keeper (kept_after c heard ∷ [])
-    ⊎ ((e : Envelope) × (doubt ≡ Some e) × IsInDoubt leaves down c keeper heard e)
+abbrev pub Survives : {K : Type 0} → Meaning K → Settings → K → List Envelope → Option Envelope → Type 0
+Survives m c keeper heard doubt =
+    m.leaves keeper (kept_after c heard ∷ [])
+    ⊎ ((e : Envelope) × (doubt ≡ Some e) × IsInDoubt m c keeper heard e)
 
 -- a store that was down keeps its doubt
 abbrev pub doubt_after : Bool → Option Envelope → Option Envelope → Option Envelope

@@ -1,4 +1,5 @@
 pub mod Deliveries
+pub mod Hearing
 pub mod Importing
 pub mod InOrder
 pub mod Laws

@@ -1,18 +1,18 @@
 -- An input of lines: how it is cut, what is heard of it, and what is written for it.
-use Rattle.std.specs.Prelude.{◌≡◌, ◌≢◌, ◌==◌, ◌↔◌, ℕ, Bool, true, false, List, [], ◌∷◌, ◌++◌, Option, None, if◌then◌else◌}
+use Rattle.std.specs.Prelude.{◌≡◌, ◌≢◌, ◌==◌, ◌↔◌, ℕ, List, [], ◌∷◌, ◌++◌, Bool, false, Option, Some, None, if◌then◌else◌}
 use Rattle.std.specs.List.{list_any}
 use Rattle.std.specs.Io.KnownBytes.{Appends}
 use Rattle.registry_core.specs.declared.messages.Envelope.{Envelope}
 use Rattle.registry_core.specs.Settings.{Settings}
 use Rattle.desk_store.specs.declared.faults.StoreFault.{StoreFault}
-use Rattle.desk_store.specs.declared.faults.StoreFault.TheVariants.{Disk}
+use Rattle.desk_store.specs.declared.faults.StoreFault.TheVariants.{Size}
 use Rattle.desk_store.specs.Calls.{IsUnavailability}
-use Rattle.desk_store.specs.Kept.{Kept}
+use Rattle.desk_store.specs.Meaning.{Meaning}
 use Rattle.desk_engine.specs.declared.lines.LinesEnd.{LinesEnd}
 use Rattle.desk_engine.specs.declared.lines.LinesEnd.TheVariants.{Done, Read, Write, Unavailable}
 use Rattle.desk_engine.specs.declared.outcomes.Outcome.TheVariants as outcome
 use Rattle.desk_engine.specs.Deliveries.{Delivery, heard_after}
-use Rattle.desk_engine.specs.InOrder.{IsInOrder, Survives, doubt_after}
+use Rattle.desk_engine.specs.InOrder.{HasNoRoom, IsInOrder, Survives, doubt_after}
 use Rattle.desk_engine.specs.Outcomes.{doubt_of_text}
 use Rattle.desk_engine.specs.Told.{text_of, text_told}
 
@@ -90,17 +90,17 @@ answer_lines c heard (line ∷ lines) = answer_line c heard line ++ answer_lines
 abbrev pub IsBeginning : List (List ℕ) → List (List ℕ) → Type 0
 IsBeginning lines all = (more : List (List ℕ)) × (all ≡ lines ++ more)
 
--- Unavailable for a fault of the disk
-abbrev pub is_disk_end : LinesEnd → Bool
-is_disk_end (Unavailable Disk) = true
-is_disk_end _ = false
+-- why the store was unavailable for a line
+abbrev pub fault_of_end : LinesEnd → Option StoreFault
+fault_of_end (Unavailable fault) = Some fault
+fault_of_end _ = None
 
-module _ {K : Type 0} (holds : K → Kept → Type 0) (leaves : K → List Kept → Type 0) (down : K → Bool) (c : Settings) (heard : List Envelope) (old new : K) where
+module _ {K : Type 0} (m : Meaning K) (c : Settings) (heard : List Envelope) (old new : K) where
   -- the store is in order for what is heard after these lines, and a crash leaves that, or that with the message in doubt
   pub record HasHeard (lines : List (List ℕ)) (now : Option Envelope) : Type 0 where
-    pub order : IsInOrder holds c new (heard_lines c heard lines)
-    pub crash : (doubt : Option Envelope) → Survives leaves down c old heard doubt
-        → Survives leaves down c new (heard_lines c heard lines) (doubt_after (down old) doubt now)
+    pub order : IsInOrder m c new (heard_lines c heard lines)
+    pub crash : (doubt : Option Envelope) → Survives m c old heard doubt
+        → Survives m c new (heard_lines c heard lines) (doubt_after (m.down old) doubt now)
 
   -- and their answers are what was written
   pub record HasAnswered (before after : Option (List ℕ)) (lines : List (List ℕ)) (now : Option Envelope) : Type 0 where
@@ -123,6 +123,7 @@ module _ {K : Type 0} (holds : K → Kept → Type 0) (leaves : K → List Kept 
     pub beginning : IsBeginning (lines ++ line ∷ []) (all_lines input)
     pub answered : HasAnswered before after lines (doubt_of_text c line (outcome.Unavailable fault))
     pub unavailability : IsUnavailability fault
+    pub size : fault ≡ Size → HasNoRoom m new (heard_lines c heard lines)
 
   -- what a run has heard and written, by how it ended, where this is what it read
   abbrev pub EndsBy : Option (List ℕ) → Option (List ℕ) → List ℕ → LinesEnd → Type 0

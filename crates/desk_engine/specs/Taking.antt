@@ -1,15 +1,18 @@
 -- Where a run stands in its input, and what one line does. For private clauses.
-use Rattle.std.specs.Prelude.{◌≡◌, ◌≢◌, ◌+◌, ℕ, Bool, false, List, [], ◌∷◌, ◌++◌, Option, None, Result, Ok, Err, length, nat_lt, take, if◌then◌else◌}
+use Rattle.std.specs.Prelude.{◌≡◌, ◌≢◌, ◌+◌, ℕ, List, [], ◌∷◌, ◌++◌, Option, None, Result, Ok, Err, length, nat_lt, take, if◌then◌else◌}
 use Rattle.registry_core.specs.declared.messages.Envelope.{Envelope}
 use Rattle.registry_core.specs.Settings.{Settings}
+use Rattle.desk_store.specs.declared.faults.StoreFault.{StoreFault}
+use Rattle.desk_store.specs.declared.faults.StoreFault.TheVariants.{Size}
 use Rattle.desk_store.specs.Calls.{IsUnavailability}
-use Rattle.desk_store.specs.Kept.{Kept}
+use Rattle.desk_store.specs.Meaning.{Meaning}
 use Rattle.desk_engine.specs.declared.lines.LinesEnd.{LinesEnd}
 use Rattle.desk_engine.specs.declared.lines.LinesEnd.TheVariants as lines_end
 use Rattle.desk_engine.specs.declared.lines.Stop.{Stop}
 use Rattle.desk_engine.specs.declared.lines.Stop.TheVariants.{Write, Unavailable}
 use Rattle.desk_engine.specs.declared.outcomes.Outcome.TheVariants as outcome
-use Rattle.desk_engine.specs.Lines.{whole_lines, last_line, is_disk_end, HasHeard, HasAnswered, EndsBy}
+use Rattle.desk_engine.specs.InOrder.{HasNoRoom}
+use Rattle.desk_engine.specs.Lines.{whole_lines, last_line, fault_of_end, HasHeard, HasAnswered, EndsBy}
 use Rattle.desk_engine.specs.Outcomes.{doubt_of_text}
 use Rattle.desk_engine.specs.Told.{most_octets}
 
@@ -25,26 +28,27 @@ abbrev pub end_of : Stop → LinesEnd
 end_of Write = lines_end.Write
 end_of (Unavailable fault) = lines_end.Unavailable fault
 
--- it stopped, and for a fault of the disk
-abbrev pub is_disk_stop : {T : Type 0} → Result T Stop → Bool
-is_disk_stop (Ok done) = false
-is_disk_stop (Err stop) = is_disk_end (end_of stop)
+-- why the store was unavailable, if that is why it stopped
+abbrev pub fault_of_stop : {T : Type 0} → Result T Stop → Option StoreFault
+fault_of_stop (Ok done) = None
+fault_of_stop (Err stop) = fault_of_end (end_of stop)
 
-module _ {K : Type 0} (holds : K → Kept → Type 0) (leaves : K → List Kept → Type 0) (down : K → Bool) (c : Settings) (heard : List Envelope) (old new : K) (before after : Option (List ℕ)) where
+module _ {K : Type 0} (m : Meaning K) (c : Settings) (heard : List Envelope) (old new : K) (before after : Option (List ℕ)) where
   -- What one line does. It is answered; or, where it has an octet, heard without an answer, or the store is unavailable.
   abbrev pub TakesLine : {T : Type 0} → List ℕ → Result T Stop → Type 0
-  TakesLine line (Ok done) = HasAnswered holds leaves down c heard old new before after (line ∷ []) None
-  TakesLine line (Err Write) = (line ≢ []) × HasHeard holds leaves down c heard old new (line ∷ []) None
+  TakesLine line (Ok done) = HasAnswered m c heard old new before after (line ∷ []) None
+  TakesLine line (Err Write) = (line ≢ []) × HasHeard m c heard old new (line ∷ []) None
   TakesLine line (Err (Unavailable fault)) =
-      (line ≢ []) × HasAnswered holds leaves down c heard old new before after [] (doubt_of_text c line (outcome.Unavailable fault)) × IsUnavailability fault
+      (line ≢ []) × HasAnswered m c heard old new before after [] (doubt_of_text c line (outcome.Unavailable fault)) × IsUnavailability fault
+      × (fault ≡ Size → HasNoRoom m new heard)
 
   -- The lines of this input are answered, and this is kept of the line that stands after them.
   pub record StandsAt (input line : List ℕ) : Type 0 where
-    pub up : down new ≡ down old
+    pub up : m.down new ≡ m.down old
     pub begun : line ≡ part (last_line input)
-    pub answered : HasAnswered holds leaves down c heard old new before after (whole_lines input) None
+    pub answered : HasAnswered m c heard old new before after (whole_lines input) None
 
   -- it stands at the end of this input, or has stopped in it, whatever follows
   abbrev pub GoesTo : {T : Type 0} → List ℕ → List ℕ → Result T Stop → Type 0
   GoesTo input line (Ok done) = StandsAt input line
-  GoesTo input line (Err stop) = (more : List ℕ) → EndsBy holds leaves down c heard old new before after (input ++ more) (end_of stop)
+  GoesTo input line (Err stop) = (more : List ℕ) → EndsBy m c heard old new before after (input ++ more) (end_of stop)

@@ -7,8 +7,7 @@ use Rattle.httparse.specs.Grammar.{RequestHead, print_request}
 use Rattle.httparse.specs.Spans.{IsHeaderWithin, IsRequestAt, header_bytes, span_bytes}
 use Rattle.httparse.specs.declared.spans.HeaderSpan.{HeaderSpan}
 use Rattle.httparse.specs.declared.spans.RequestSpans.{RequestSpans}
-use Rattle.registry_core.specs.Settings.{Settings}
-use Rattle.desk_store.specs.Kept.{Kept}
+use Rattle.desk_store.specs.Meaning.{Meaning}
 use Rattle.desk_http.specs.declared.asking.Asked.{Asked}
 use Rattle.desk_http.specs.declared.serving.ServeEnd.{ServeEnd}
 use Rattle.desk_http.specs.declared.serving.ServeEnd.TheVariants.{Done, Closed, Read, Write, Memory}
@@ -57,13 +56,13 @@ asked_is octets headers spans h at =
     ∙ ap (λ t. asked_of h.method t (map (header_bytes octets) (take spans.headers headers))) at.path
     ∙ ap (λ f. asked_of h.method h.target f) at.fields
 
-module _ {K : Type 0} (configuration : K → Settings) (sound : K → Type 0) (down : K → Bool) (full : K → Type 0) (holds : K → Kept → Type 0) (leaves : K → List Kept → Type 0) (old new : K) where
+module _ {K : Type 0} (m : Meaning K) (old new : K) where
   -- a head and what came after it
   pub served : (end : ServeEnd) (h : RequestHead) (octets : List ℕ) (headers : List HeaderSpan) (spans : RequestSpans) (asked : Asked) (target : List ℕ) (from mid rest before after : Option (List ℕ))
       → Consumes from mid octets → IsRequestAt octets headers spans h → spans.len ≡ length octets → IsWithinLimits h → target ≡ span_bytes octets spans.path
       → asked ≡ asked_of (span_bytes octets spans.method) (span_bytes octets spans.path) (map (header_bytes octets) (take spans.headers headers))
-      → EndsBy old new (λ r. (body : List ℕ) × Consumes mid rest body × ServesHead configuration sound down full holds leaves old new asked target body rest r) ⊥ before after end
-      → EndsBy old new (λ r. (input : List ℕ) × Consumes from rest input × Serves configuration sound down full holds leaves old new input rest r) (Consumes from rest [] × IsAtEnd rest) before after end
+      → EndsBy old new (λ r. (body : List ℕ) × Consumes mid rest body × ServesHead m old new asked target body rest r) ⊥ before after end
+      → EndsBy old new (λ r. (input : List ℕ) × Consumes from rest input × Serves m old new input rest r) (Consumes from rest [] × IsAtEnd rest) before after end
   served end h octets headers spans asked target from mid rest before after read at all fits target_is asked_are done =
       let octets_are = all_head octets headers spans h at all in
       let asks : asked ≡ asked_by_head h = asked_are ∙ asked_is octets headers spans h at in
@@ -73,7 +72,7 @@ module _ {K : Type 0} (configuration : K → Settings) (sound : K → Type 0) (d
         octets ++ p.0,
         Consumes-trans from mid rest octets p.0 read p.1,
         head h p.0 at.reads.0 fits (ap (λ l. l ++ p.0) octets_are)
-            (subst (λ a. ServesHead configuration sound down full holds leaves old new a h.target p.0 rest r) asks
-            (subst (λ t. ServesHead configuration sound down full holds leaves old new asked t p.0 rest r) names p.2)),
+            (subst (λ a. ServesHead m old new a h.target p.0 rest r) asks
+            (subst (λ t. ServesHead m old new asked t p.0 rest r) names p.2)),
       ))
       (λ a. absurd a) done

@@ -5,12 +5,14 @@ use Rattle.registry_core.specs.declared.messages.Envelope.{Envelope}
 use Rattle.registry_core.specs.Heard.{state_of}
 use Rattle.registry_core.specs.Settings.{Settings}
 use Rattle.registry_core.specs.State.{State}
-use Rattle.desk_store.specs.Kept.{Kept}
+use Rattle.desk_store.specs.declared.faults.StoreFault.{StoreFault}
+use Rattle.desk_store.specs.Calls.{ForHeld, IsRead}
+use Rattle.desk_store.specs.Meaning.{Meaning}
 use Rattle.desk_engine.specs.declared.report_faults.ReportFault.{ReportFault}
 use Rattle.desk_engine.specs.declared.report_faults.ReportFault.TheVariants.{Time, Owner, Gateway, Unavailable}
-use Rattle.desk_engine.specs.InOrder.{IsInOrder, kept_after}
+use Rattle.desk_engine.specs.InOrder.{IsInOrder, WasInOrder, kept_after}
 use Rattle.desk_engine.specs.Months.{IsMonth}
-use Rattle.desk_engine.specs.Reporting.{IsGatewayFault, IsOwnerFault, OnlyReads, store_fault}
+use Rattle.desk_engine.specs.Reporting.{IsGatewayFault, IsOwnerFault, store_fault}
 use Rattle.desk_engine.specs.Reports.{IsBandReport, IsOwnerReport, is_gateway, is_owner}
 use Rattle.desk_http.specs.Reports.{IsBandAnswer, IsOwnerAnswer, answer_told}
 use Rattle.desk_http.specs.Responses.{report_response}
@@ -39,38 +41,38 @@ module _ {T : Type 0} (octets : T → List ℕ) where
   band_answer s gateway (Ok text) known report fault = record { known = known; report = report; fault = fault }
   band_answer s gateway (Err why) known report fault = record { known = known; report = report; fault = fault }
 
-  module _ {K : Type 0} (configuration : K → Settings) (sound : K → Type 0) (down : K → Bool) (full : K → Type 0) (holds : K → Kept → Type 0) (leaves : K → List Kept → Type 0) (old new : K) where
-    stays : (fault : Option _) → OnlyReads configuration sound down full holds leaves old new fault → (c : Settings) (heard : List Envelope) → sound new → IsInOrder holds c old heard → IsInOrder holds c new heard
-    stays fault reads c heard is order = record { list = order.list; kept = reads.held (kept_after c heard) is order.kept }
+  module _ {K : Type 0} (m : Meaning K) (old new : K) where
+    stays : (fault : Option StoreFault) → IsRead m old new fault → (c : Settings) (heard : List Envelope) → WasInOrder m c heard old new → IsInOrder m c new heard
+    stays fault read c heard was = record { list = was.order.list; kept = read.held (kept_after c heard) was.sound was.order.kept }
 
-    pub owner_served : (owner month : List ℕ) (r : Result T ReportFault) → OnlyReads configuration sound down full holds leaves old new (store_fault r)
+    pub owner_served : (owner month : List ℕ) (r : Result T ReportFault) → IsRead m old new (store_fault r)
         → (r ≡ Err Time) ↔ ((from to : ℤ) → ¬ (IsMonth month from to))
-        → ((kept : Kept) → sound new → holds old kept → OnOk r (IsTrue (is_owner kept.facts owner)))
-        → ((kept : Kept) (from to : ℤ) → IsMonth month from to → sound new → holds old kept → IfOk r (λ text. IsOwnerReport kept.facts owner from to (octets text)))
-        → ((kept : Kept) (from to : ℤ) → IsMonth month from to → sound new → holds old kept → IfErr r (IsOwnerFault kept.facts owner))
-        → ServesOwnerReport configuration sound down full holds leaves old new owner month (report_response (answer_told octets r))
+        → ForHeld m old new (λ kept. OnOk r (IsTrue (is_owner kept.facts owner)))
+        → ForHeld m old new (λ kept. (from to : ℤ) → IsMonth month from to → IfOk r (λ text. IsOwnerReport kept.facts owner from to (octets text)))
+        → ForHeld m old new (λ kept. (from to : ℤ) → IsMonth month from to → IfErr r (IsOwnerFault kept.facts owner))
+        → ServesOwnerReport m old new owner month (report_response (answer_told octets r))
     unfolding kept_after
-    owner_served owner month r reads time known report fault = record {
+    owner_served owner month r read time known report fault = record {
       answer = answer_told octets r;
       response_is = refl;
-      reads = rw (same_fault r) reads;
+      read = rw (same_fault r) read;
       time = same_time r _ time;
-      told = λ c heard same is order. owner_answer (state_of c heard) owner month r (known (kept_after c heard) is order.kept)
-          (λ from to month_is. report (kept_after c heard) from to month_is is order.kept) (λ from to month_is. fault (kept_after c heard) from to month_is is order.kept);
-      order = λ c heard same is order. stays _ reads c heard is order;
+      told = λ c heard was. owner_answer (state_of c heard) owner month r (known (kept_after c heard) was.sound was.order.kept)
+          (report (kept_after c heard) was.sound was.order.kept) (fault (kept_after c heard) was.sound was.order.kept);
+      order = stays _ read;
     }
 
-    pub band_served : (gateway : List ℕ) (r : Result T ReportFault) → OnlyReads configuration sound down full holds leaves old new (store_fault r)
-        → ((kept : Kept) → sound new → holds old kept → OnOk r (IsTrue (is_gateway kept.facts gateway)))
-        → ((kept : Kept) → sound new → holds old kept → IfOk r (λ text. IsBandReport kept.facts gateway (octets text)))
-        → ((kept : Kept) → sound new → holds old kept → IfErr r (IsGatewayFault kept.facts gateway))
-        → ServesBandReport configuration sound down full holds leaves old new gateway (report_response (answer_told octets r))
+    pub band_served : (gateway : List ℕ) (r : Result T ReportFault) → IsRead m old new (store_fault r)
+        → ForHeld m old new (λ kept. OnOk r (IsTrue (is_gateway kept.facts gateway)))
+        → ForHeld m old new (λ kept. IfOk r (λ text. IsBandReport kept.facts gateway (octets text)))
+        → ForHeld m old new (λ kept. IfErr r (IsGatewayFault kept.facts gateway))
+        → ServesBandReport m old new gateway (report_response (answer_told octets r))
     unfolding kept_after
-    band_served gateway r reads known report fault = record {
+    band_served gateway r read known report fault = record {
       answer = answer_told octets r;
       response_is = refl;
-      reads = rw (same_fault r) reads;
-      told = λ c heard same is order. band_answer (state_of c heard) gateway r (known (kept_after c heard) is order.kept)
-          (report (kept_after c heard) is order.kept) (fault (kept_after c heard) is order.kept);
-      order = λ c heard same is order. stays _ reads c heard is order;
+      read = rw (same_fault r) read;
+      told = λ c heard was. band_answer (state_of c heard) gateway r (known (kept_after c heard) was.sound was.order.kept)
+          (report (kept_after c heard) was.sound was.order.kept) (fault (kept_after c heard) was.sound was.order.kept);
+      order = stays _ read;
     }

@@ -1,21 +1,22 @@
 -- What a connection is served.
-use Rattle.std.specs.Prelude.{◌≡◌, ◌<◌, ◌||◌, ◌⊎◌, ◌↔◌, ℕ, ℤ, Bool, List, [], ◌++◌, length, Option, Result, Err}
+use Rattle.std.specs.Prelude.{◌≡◌, ◌<◌, ◌⊎◌, ◌↔◌, ℕ, ℤ, List, [], ◌++◌, length, Option, Some, Result, Err}
 use Rattle.std.specs.Io.KnownBytes.{Appends, IsAtEnd, Keeps}
 use Rattle.httparse.specs.Grammar.{RequestHead, IsRequestHead, print_request}
 use Rattle.registry_core.specs.declared.messages.Envelope.{Envelope}
 use Rattle.registry_core.specs.Heard.{state_of}
 use Rattle.registry_core.specs.Settings.{Settings}
 use Rattle.desk_store.specs.declared.faults.StoreFault.TheVariants.{Size}
-use Rattle.desk_store.specs.Kept.{Kept}
+use Rattle.desk_store.specs.Calls.{IsOfCalls, IsRead, is_disk, is_foreign}
+use Rattle.desk_store.specs.Meaning.{Meaning}
 use Rattle.desk_engine.specs.declared.report_faults.ReportFault.{ReportFault}
 use Rattle.desk_engine.specs.declared.report_faults.ReportFault.TheVariants.{Time}
 use Rattle.desk_engine.specs.declared.outcomes.Outcome.{Outcome}
-use Rattle.desk_engine.specs.declared.outcomes.Outcome.TheVariants.{Unavailable}
 use Rattle.desk_engine.specs.Deliveries.{heard_after}
-use Rattle.desk_engine.specs.InOrder.{HoldsHours, IsInOrder, Survives, doubt_after}
+use Rattle.desk_engine.specs.Hearing.{Hears}
+use Rattle.desk_engine.specs.InOrder.{HasNoRoom, IsInOrder, WasInOrder}
 use Rattle.desk_engine.specs.Months.{IsMonth}
-use Rattle.desk_engine.specs.Outcomes.{IsOutcome, delivery_of, doubt_of_text, is_disk_outcome}
-use Rattle.desk_engine.specs.Reporting.{OnlyReads, store_fault}
+use Rattle.desk_engine.specs.Outcomes.{IfRefused, IsOutcome, IsUnheard, delivery_of, doubt_of_text, fault_of}
+use Rattle.desk_engine.specs.Reporting.{store_fault}
 use Rattle.desk_engine.specs.Told.{text_told}
 use Rattle.desk_http.specs.declared.asking.Asked.{Asked}
 use Rattle.desk_http.specs.declared.asking.Asked.TheVariants.{NoRoute, OtherMethod, NoLength, BadLength, TooLong, Deliver, OwnerReport, BandReport}
@@ -27,17 +28,15 @@ use Rattle.desk_http.specs.Requests.{asked_by_head}
 use Rattle.desk_http.specs.Responses.{Response, response_text, no_head, no_route, other_method, no_length, too_long, cut_body, outcome_response, report_response}
 use Rattle.desk_http.specs.Targets.{gateway_of, month_of, owner_of}
 
-module _ {K : Type 0} (configuration : K → Settings) (sound : K → Type 0) (down : K → Bool) (full : K → Type 0) (holds : K → Kept → Type 0) (leaves : K → List Kept → Type 0) (old new : K) where
+module _ {K : Type 0} (m : Meaning K) (old new : K) where
   -- The body was delivered once, with this outcome: it is what the text is told, and the store is in order for what is heard with it.
   pub record IsDelivered (body : List ℕ) (outcome : Outcome) : Type 0 where
-    pub shut : down new ≡ (down old || is_disk_outcome outcome)
-    pub size : outcome ≡ Unavailable Size → full new
-    pub told : (c : Settings) (heard : List Envelope) → c ≡ configuration old → sound new → IsInOrder holds c old heard → IsOutcome (text_told c heard body) outcome
-    pub order : (c : Settings) (heard : List Envelope) → c ≡ configuration old → sound new → IsInOrder holds c old heard
-        → IsInOrder holds c new (heard_after c heard (delivery_of body outcome))
-    pub crash : (c : Settings) (heard : List Envelope) (doubt : Option Envelope) → c ≡ configuration old → sound new → IsInOrder holds c old heard → Survives leaves down c old heard doubt
-        → Survives leaves down c new (heard_after c heard (delivery_of body outcome)) (doubt_after (down old) doubt (doubt_of_text c body outcome))
-    pub hours : (c : Settings) (heard : List Envelope) → c ≡ configuration old → sound new → IsInOrder holds c old heard → HoldsHours holds down new
+    pub store : Hears m old new (is_disk (fault_of outcome)) (is_foreign (fault_of outcome))
+        (λ c heard. heard_after c heard (delivery_of body outcome)) (λ c. doubt_of_text c body outcome)
+    pub told : (c : Settings) (heard : List Envelope) → WasInOrder m c heard old new → IsOutcome (text_told c heard body) outcome
+    pub refused : IfRefused outcome IsUnheard
+    pub fault : IsOfCalls (fault_of outcome)
+    pub size : (c : Settings) (heard : List Envelope) → WasInOrder m c heard old new → fault_of outcome ≡ Some Size → HasNoRoom m new heard
 
   -- no octet after the head was read, the store stands as before, and this is the response
   abbrev pub IsRefused : Response → List ℕ → Response → Type 0
@@ -53,18 +52,18 @@ module _ {K : Type 0} (configuration : K → Settings) (sound : K → Type 0) (d
   pub record ServesOwnerReport (owner month : List ℕ) (response : Response) : Type 0 where
     pub answer : Result (List ℕ) ReportFault
     pub response_is : response ≡ report_response answer
-    pub reads : OnlyReads configuration sound down full holds leaves old new (store_fault answer)
+    pub read : IsRead m old new (store_fault answer)
     pub time : (answer ≡ Err Time) ↔ ((from to : ℤ) → ¬ (IsMonth month from to))
-    pub told : (c : Settings) (heard : List Envelope) → c ≡ configuration old → sound new → IsInOrder holds c old heard → IsOwnerAnswer (state_of c heard) owner month answer
-    pub order : (c : Settings) (heard : List Envelope) → c ≡ configuration old → sound new → IsInOrder holds c old heard → IsInOrder holds c new heard
+    pub told : (c : Settings) (heard : List Envelope) → WasInOrder m c heard old new → IsOwnerAnswer (state_of c heard) owner month answer
+    pub order : (c : Settings) (heard : List Envelope) → WasInOrder m c heard old new → IsInOrder m c new heard
 
   -- the same of the report of a gateway's bands
   pub record ServesBandReport (gateway : List ℕ) (response : Response) : Type 0 where
     pub answer : Result (List ℕ) ReportFault
     pub response_is : response ≡ report_response answer
-    pub reads : OnlyReads configuration sound down full holds leaves old new (store_fault answer)
-    pub told : (c : Settings) (heard : List Envelope) → c ≡ configuration old → sound new → IsInOrder holds c old heard → IsBandAnswer (state_of c heard) gateway answer
-    pub order : (c : Settings) (heard : List Envelope) → c ≡ configuration old → sound new → IsInOrder holds c old heard → IsInOrder holds c new heard
+    pub read : IsRead m old new (store_fault answer)
+    pub told : (c : Settings) (heard : List Envelope) → WasInOrder m c heard old new → IsBandAnswer (state_of c heard) gateway answer
+    pub order : (c : Settings) (heard : List Envelope) → WasInOrder m c heard old new → IsInOrder m c new heard
 
   -- what was read after a head, the response, and what the store has by then
   abbrev pub ServesHead : Asked → List ℕ → List ℕ → Option (List ℕ) → Response → Type 0

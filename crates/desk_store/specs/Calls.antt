@@ -1,18 +1,25 @@
 -- What each call of a store does, whatever it answers.
-use Rattle.std.specs.Prelude.{◌≡◌, Bool, true, false, List, Some, None, Result, Err, IsTrue, option_map}
-use Rattle.registry_core.specs.declared.messages.Envelope.{Envelope}
-use Rattle.registry_core.specs.Heard.{is_sender}
-use Rattle.registry_core.specs.Settings.{Settings}
-use Rattle.registry_core.specs.Viewed.{IsView}
+use Rattle.std.specs.Prelude.{◌≡◌, ◌||◌, Bool, true, false, List, Option, Some, None, Result, Ok, Err, IfOk, IfSome}
 use Rattle.desk_store.specs.declared.faults.StoreFault.{StoreFault}
 use Rattle.desk_store.specs.declared.faults.StoreFault.TheVariants.{Memory, Disk, Size, NotADesk, SchemaVersion, Exists}
-use Rattle.desk_store.specs.declared.keeper.Loaded.{Loaded}
-use Rattle.desk_store.specs.declared.keeper.Loaded.TheVariants.{Stranger, Heard, Fresh}
-use Rattle.desk_store.specs.Kept.{Kept, entry_of, texts_of}
+use Rattle.desk_store.specs.Kept.{Kept}
+use Rattle.desk_store.specs.Meaning.{Meaning}
 
-abbrev pub is_disk : {T : Type 0} → Result T StoreFault → Bool
-is_disk (Err Disk) = true
+-- ---- faults
+
+-- the fault that a call told
+abbrev pub fault_in : {T : Type 0} → Result T StoreFault → Option StoreFault
+fault_in (Ok x) = None
+fault_in (Err fault) = Some fault
+
+abbrev pub is_disk : Option StoreFault → Bool
+is_disk (Some Disk) = true
 is_disk _ = false
+
+-- what is stored is no desk's
+abbrev pub is_foreign : Option StoreFault → Bool
+is_foreign (Some NotADesk) = true
+is_foreign _ = false
 
 -- memory, disk or size: what makes a delivery Unavailable
 abbrev pub IsUnavailability : StoreFault → Type 0
@@ -23,24 +30,49 @@ IsUnavailability NotADesk = ⊥
 IsUnavailability SchemaVersion = ⊥
 IsUnavailability Exists = ⊥
 
--- what is loaded of a message is what is held
-abbrev pub Loads : Settings → Kept → Envelope → Loaded → Type 0
-Loads c kept e Stranger = is_sender kept.facts e.sender ≡ false
-Loads c kept e (Heard message answer) = IsTrue (is_sender kept.facts e.sender)
-    × (option_map texts_of (entry_of e kept.entries) ≡ Some (message.items, answer.items))
-Loads c kept e (Fresh view) = (entry_of e kept.entries ≡ None) × IsView c kept.facts e view
+-- what calls of a store tell: the other two are told where one is made or opened
+abbrev pub IsOfCalls : Option StoreFault → Type 0
+IsOfCalls (Some SchemaVersion) = ⊥
+IsOfCalls (Some Exists) = ⊥
+IsOfCalls _ = Unit {0}
+
+-- and calls that only read tell no size
+abbrev pub IsOfReading : Option StoreFault → Type 0
+IsOfReading (Some Size) = ⊥
+IsOfReading (Some SchemaVersion) = ⊥
+IsOfReading (Some Exists) = ⊥
+IsOfReading _ = Unit {0}
+
+-- ---- calls
 
 module _ {K : Type 0} where
-  -- The configuration stays. What is sound was sound. A fault of the disk and nothing else makes it down, and then
-  -- each call tells one. Size is told only where it is full.
-  pub record IsCall (configuration : K → Settings) (sound : K → Type 0) (down : K → Bool) (full : K → Type 0) {T : Type 0} (old new : K) (result : Result T StoreFault) : Type 0 where
-    pub same : configuration new ≡ configuration old
-    pub was_sound : sound new → sound old
-    pub shut : down new ≡ is_disk result
-    pub tells : down old ≡ true → result ≡ Err Disk
-    pub told_size : result ≡ Err Size → full new
+  -- Calls in a row, none of them or some, of which one told a fault of the disk, or that what is stored is no desk's, or none
+  -- did. The configuration stays. What is sound was sound. A fault of the disk and nothing else makes the store down.
+  pub record IsCall (m : Meaning K) (old new : K) (disk foreign : Bool) : Type 0 where
+    pub same : m.configuration new ≡ m.configuration old
+    pub was_sound : m.sound new → m.sound old
+    pub shut : m.down new ≡ disk || m.down old
+    pub strange : m.foreign new ≡ foreign || m.foreign old
 
-  -- what it holds stays, and so does what a crash leaves
-  pub record Reads (sound : K → Type 0) (holds : K → Kept → Type 0) (leaves : K → List Kept → Type 0) (old new : K) : Type 0 where
-    pub held : (kept : Kept) → sound new → holds old kept → holds new kept
-    pub left : (all : List Kept) → sound new → leaves old all → leaves new all
+  -- Reading calls in a row, which ended with this fault or with none: what the store holds and what a crash leaves stay.
+  pub record IsRead (m : Meaning K) (old new : K) (fault : Option StoreFault) : Type 0 where
+    pub same : m.configuration new ≡ m.configuration old
+    pub was_sound : m.sound new → m.sound old
+    pub shut : m.down new ≡ is_disk fault || m.down old
+    pub strange : m.foreign new ≡ is_foreign fault || m.foreign old
+    pub reading : IsOfReading fault
+    pub held : (kept : Kept) → m.sound new → m.holds old kept → m.holds new kept
+    pub left : (kept : Kept) (all : List Kept) → m.sound new → m.holds old kept → m.leaves old all → m.leaves new all
+    pub unavailable : (kept : Kept) → m.sound new → m.holds old kept → IfSome fault IsUnavailability
+
+  -- of all that the store held, where it is sound after the call
+  abbrev pub ForHeld : Meaning K → K → K → (Kept → Type 0) → Type 0
+  ForHeld m old new P = (kept : Kept) → m.sound new → m.holds old kept → P kept
+
+  -- what was read is so of all that the store held
+  abbrev pub Tells : {T : Type 0} → Meaning K → K → K → Result T StoreFault → (Kept → T → Type 0) → Type 0
+  Tells m old new result P = ForHeld m old new (λ kept. IfOk result (P kept))
+
+  -- a store that is down tells a fault of the disk
+  abbrev pub TellsDown : {T : Type 0} → Meaning K → K → Result T StoreFault → Type 0
+  TellsDown m old result = m.down old ≡ true → result ≡ Err Disk

@@ -46,9 +46,9 @@ abbrev pub IsOneOf : List Kept → Kept → Type 0
 IsOneOf [] kept = ⊥
 IsOneOf (k ∷ ks) kept = (kept ≡ k) ⊎ IsOneOf ks kept
 
--- one of the one list is one of the other
+-- one of the one list is one of the other: which one can't always be told
 abbrev pub HaveCommon : List Kept → List Kept → Type 0
-HaveCommon a b = (kept : Kept) × IsOneOf a kept × IsOneOf b kept
+HaveCommon a b = ∥ ((kept : Kept) × IsOneOf a kept × IsOneOf b kept) ∥₁
 
 -- ---- when a change can be added
 

@@ -1,25 +1,23 @@
-use Rattle.std.proofs.Common.{◌+◌, ◌++◌, take, drop, sym, ◌∙◌}
-use Rattle.std.proofs.Math.Bool.{or-false}
+use Rattle.std.proofs.Common.{◌+◌, ◌++◌, take, drop, sym, ◌∙◌, false}
 use Rattle.std.proofs.lemmas.List.{take_all}
+use Rattle.desk_engine.proofs.Hearings.{call_then}
 use Rattle.desk_engine.proofs.LineRuns as runs
 use Rattle.desk_engine.proofs.lines.take_octets.Goals as goal
 
 pub loop-octet-preserved : goal.loop-octet-preserved
 loop-octet-preserved g c = record {
-  same = c.in-Ok.ensures.same ∙ c.loop-octet.invariant.same;
-  was_sound = λ sound. c.loop-octet.invariant.was_sound (c.in-Ok.ensures.was_sound sound);
-  up = c.in-Ok.ensures.shut ∙ or-false _ ∙ c.loop-octet.invariant.up;
+  call = call_then g.K.Looks.meaning c.args.keeper.now c.loop-octet.keeper c.take_octet.new.keeper false false c.loop-octet.invariant.call c.in-Ok.ensures.call;
   stands = λ s heard start before input same sound stands.
       rw (runs.octets-more input c.args.octets.now c.loop-octet.octet-index c.loop-octet-test.true) at
-      (c.in-Ok.ensures.goes s heard start before (input ++ take c.loop-octet.octet-index c.args.octets.now) (same ∙ sym c.loop-octet.invariant.same) sound
-      (c.loop-octet.invariant.stands s heard start before input same (c.in-Ok.ensures.was_sound sound) stands));
+      (c.in-Ok.ensures.goes s heard start before (input ++ take c.loop-octet.octet-index c.args.octets.now) (same ∙ sym c.loop-octet.invariant.call.same) sound
+      (c.loop-octet.invariant.stands s heard start before input same (c.in-Ok.ensures.call.was_sound sound) stands));
 }
 
 pub returns-in-Err-clause-goes : goal.returns-in-Err-clause-goes
 returns-in-Err-clause-goes g c = λ s heard start before input same sound stands more.
     rw (runs.octets-rest input c.args.octets.now more c.loop-octet.octet-index c.loop-octet-test.true) at
-    (c.in-Err.ensures.goes s heard start before (input ++ take c.loop-octet.octet-index c.args.octets.now) (same ∙ sym c.loop-octet.invariant.same) sound
-    (c.loop-octet.invariant.stands s heard start before input same (c.in-Err.ensures.was_sound sound) stands)
+    (c.in-Err.ensures.goes s heard start before (input ++ take c.loop-octet.octet-index c.args.octets.now) (same ∙ sym c.loop-octet.invariant.call.same) sound
+    (c.loop-octet.invariant.stands s heard start before input same (c.in-Err.ensures.call.was_sound sound) stands)
     (drop (c.loop-octet.octet-index + 1) c.args.octets.now ++ more))
 
 pub returns-clause-goes : goal.returns-clause-goes

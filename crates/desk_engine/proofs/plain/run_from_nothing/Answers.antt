@@ -6,15 +6,18 @@ use Rattle.desk_engine.proofs.plain.run_from_nothing.Goals as goal
 pub returns-clause-outcomes : goal.returns-clause-outcomes
 unfolding kept_after
 returns-clause-outcomes c =
-    c.in_ok-outcomes.ensures.outcomes c.args.config [] (sym c.in_ok-lists.ensures.config) tt (record { list = c.nothing_is_heard.ensures c.args.config; kept = sym c.in_ok-lists.ensures.opens })
+    c.in_ok-outcomes.ensures.outcomes c.args.config []
+    (record { its = sym c.in_ok-lists.ensures.config; sound = tt; order = record { list = c.nothing_is_heard.ensures c.args.config; kept = sym c.in_ok-lists.ensures.opens } })
 
 pub returns-clause-kept : goal.returns-clause-kept
 unfolding kept_after
 returns-clause-kept c =
-    sym (c.in_ok-outcomes.ensures.order c.args.config [] (sym c.in_ok-lists.ensures.config) tt (record { list = c.nothing_is_heard.ensures c.args.config; kept = sym c.in_ok-lists.ensures.opens })).kept
+    sym (c.in_ok-outcomes.ensures.store.order c.args.config []
+    (record { its = sym c.in_ok-lists.ensures.config; sound = tt; order = record { list = c.nothing_is_heard.ensures c.args.config; kept = sym c.in_ok-lists.ensures.opens } })).kept
 
 pub returns-clause-hours : goal.returns-clause-hours
 unfolding kept_after
 returns-clause-hours c =
-    let order = c.in_ok-outcomes.ensures.order c.args.config [] (sym c.in_ok-lists.ensures.config) tt (record { list = c.nothing_is_heard.ensures c.args.config; kept = sym c.in_ok-lists.ensures.opens }) in
+    let order = c.in_ok-outcomes.ensures.store.order c.args.config []
+    (record { its = sym c.in_ok-lists.ensures.config; sound = tt; order = record { list = c.nothing_is_heard.ensures c.args.config; kept = sym c.in_ok-lists.ensures.opens } }) in
     hours_of c.hours_are_kept.ensures c.args.config _ _ order.kept
