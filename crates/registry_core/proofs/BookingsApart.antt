@@ -1,136 +1,67 @@
 -- A gateway's downlinks are apart, and no uplink is answered twice, whatever was heard.
-use Rattle.std.proofs.Common.{◌≡◌, ℕ, zero, suc, ◌+◌, ◌<◌, List, [], ◌∷◌, ◌++◌, length, map, filter, Bool, true, false, cond, not, Option, Some, None, refl, sym, ap, ◌∙◌, subst, arith, inl, inr, rules}
+use Rattle.std.proofs.Common.{◌≡◌, ℕ, zero, suc, ◌+◌, ◌<◌, List, [], ◌∷◌, ◌++◌, length, map, filter, Bool, true, false, cond, not, Some, refl, sym, ap, ◌∙◌, subst, arith, inl, inr}
 use Rattle.std.specs.Prelude.{ℤ, ◌==◌, ◌⊎◌, bytes_eq, slice_get}
 use Rattle.std.specs.List.{list_all}
 use Rattle.std.proofs.lemmas.Bool.{and_parts, both_ways, cases_order, eq-eqb, eqb-true, not-true}
 use Rattle.std.proofs.lemmas.List.Elements.{recursion_from_All}
 use Rattle.std.proofs.lemmas.Slice.Eq.{bytes_eq-Decides}
 use Rattle.radio_core.specs.declared.bands.Band.{Band}
-use Rattle.radio_core.specs.Bands.{band_at, limit_of}
+use Rattle.radio_core.specs.Bands.{band_at}
 use Rattle.duty_core.specs.Computed.{is_clear, hours_within}
 use Rattle.duty_core.specs.Laws.{IsClearTells}
 use Rattle.duty_core.specs.Use.{Interval, is_in, shared_count}
-use Rattle.registry_core.specs.declared.answers.Refusal.{Refusal}
 use Rattle.registry_core.specs.declared.answers.Refusal.TheVariants.{UnknownGateway, UnknownDevAddr, BadFrame, OutOfBand, NoUplink, DownCounter, Collision, Duty, Answered}
 use Rattle.registry_core.specs.declared.effects.Effect.{Effect}
 use Rattle.registry_core.specs.declared.effects.Effect.TheVariants.{Nothing, AddsSender, AddsOwner, AddsGateway, AddsDevice, MovesDevice, AddsSession, AddsUplink, AddsCopy, AddsBooking, EndsBooking}
 use Rattle.registry_core.specs.declared.facts.Booking.{Booking}
-use Rattle.registry_core.specs.declared.facts.Reception.{Reception}
 use Rattle.registry_core.specs.declared.facts.Standing.TheVariants.{Booked}
 use Rattle.registry_core.specs.declared.messages.Envelope.{Envelope}
-use Rattle.registry_core.specs.declared.messages.JoinVerdict.{JoinVerdict}
-use Rattle.registry_core.specs.declared.messages.Message.{Message}
-use Rattle.registry_core.specs.declared.messages.Message.TheVariants.{SenderAdd, OwnerAdd, GatewayAdd, DeviceAdd, DeviceMove, JoinHeard, FrameHeard, DownBook, DownDone}
-use Rattle.registry_core.specs.declared.messages.Report.{Report}
-use Rattle.registry_core.specs.declared.messages.Role.{Role}
 use Rattle.registry_core.specs.declared.windows.Window.{Window}
-use Rattle.registry_core.specs.Administration.{sender_add, owner_add, gateway_add, device_add, device_move}
-use Rattle.registry_core.specs.Bookings.{downlinks, downlinks_in, is_answer_to, is_answered, is_dropped, next_down, stands_at}
-use Rattle.registry_core.specs.Checks.{Checked, ◌>>=◌, ◌>>◌, wants, needs}
-use Rattle.registry_core.specs.DataFrames.{data_added, frame_heard}
-use Rattle.registry_core.specs.Decision.{Decision, decision_or_refusal}
+use Rattle.registry_core.specs.Bookings.{downlinks, downlinks_in, is_answer_to, is_answered, is_dropped, limit_in, next_down, stands_at}
 use Rattle.registry_core.specs.Derived.{address_of}
 use Rattle.registry_core.specs.DownlinkLaws.{GatewaysSendOneAtATime, UplinksAreAnsweredOnce}
-use Rattle.registry_core.specs.Downlinks.{down_added, down_book, down_done, on_air}
+use Rattle.registry_core.specs.Downlinks.{down_added, down_book, on_air}
 use Rattle.registry_core.specs.Frames.{counts_as, downlink_to, frame_at, goes_to}
 use Rattle.registry_core.specs.Heard.{state_after, state_of}
-use Rattle.registry_core.specs.Joins.{join_added, join_heard}
 use Rattle.registry_core.specs.Numbered.{item_at, item_changed, place_changed}
 use Rattle.registry_core.specs.Settings.{Settings}
 use Rattle.registry_core.specs.State.{State, ended, opening, state_with}
-use Rattle.registry_core.specs.Step.{checked_decision, decision_of, step}
-use Rattle.registry_core.specs.Uplinks.{copy_added}
+use Rattle.registry_core.specs.Step.{decision_of, step}
 use Rattle.registry_core.specs.Windows.{delay, rate_in}
 use Rattle.registry_core.proofs.Decisions.{is_decision}
 use Rattle.registry_core.proofs.HeardStates.{IsAllowed, IsSound, change_sound, opening_sound}
 use Rattle.std.proofs.lemmas.Option.{same_Some}
 use Rattle.registry_core.proofs.Items.{item_last, item_within}
 use Rattle.registry_core.proofs.BookedUplinks.{none_passes}
+use Rattle.registry_core.proofs.NewItems.{Lets, OfBooking, lets_needs, lets_wants, new_booking}
 
 -- ---- what a booking asks of the state
 
--- the uplink is unanswered, and the gateway isn't on the air with another downlink
+-- its uplink is unanswered, and its gateway isn't on the air with another downlink
+abbrev IsFree : State → Booking → Type 0
+IsFree s b = (is_answered s.bookings b.uplink ≡ false) × (is_clear (downlinks s.bookings b.gateway) b.span ≡ true)
+
 abbrev Books : State → Effect → Type 0
-Books s (AddsBooking b) = (is_answered s.bookings b.uplink ≡ false) × (is_clear (downlinks s.bookings b.gateway) b.span ≡ true)
-Books s effect = Unit {0}
+Books s = OfBooking (IsFree s)
 
-abbrev BooksBy : State → Checked Decision → Type 0
-BooksBy s checked = Books s (decision_or_refusal checked).0
-
-by_wants : (s : State) (b : Bool) (r : Refusal) (rest : Checked Decision) → (b ≡ true → BooksBy s rest) → BooksBy s (wants b r >> rest)
-by_wants s true r rest h = h refl
-by_wants s false r rest h = tt
-
-by_needs : {X : Type 0} (s : State) (x : Option X) (r : Refusal) (rest : X → Checked Decision) → ((y : X) → BooksBy s (rest y)) → BooksBy s (needs x r >>= rest)
-by_needs s (Some x) r rest h = h x
-by_needs s None r rest h = tt
-
-added_books : (s : State) (number : ℕ) (gateway : List ℕ) (band : Band) (start : ℕ) (span : Interval) → is_answered s.bookings number ≡ false → BooksBy s (down_added s number gateway band start span)
+added_books : (s : State) (number : ℕ) (gateway : List ℕ) (band : Band) (start : ℕ) (span : Interval) → is_answered s.bookings number ≡ false → Lets (Books s) (down_added s number gateway band start span)
 unfolding down_added
 added_books s number gateway band start span unanswered =
-    by_wants s (is_clear (downlinks s.bookings gateway) span) Collision _ (λ clear.
-    by_wants s (hours_within (downlinks_in s.bookings gateway band ++ span ∷ []) (limit_of band)) Duty _ (λ _. (unanswered, clear)))
+    lets_wants (Books s) tt (is_clear (downlinks s.bookings gateway) span) Collision _ (λ clear.
+    lets_wants (Books s) tt (hours_within (downlinks_in s.bookings gateway band ++ span ∷ []) (limit_in s gateway band)) Duty _ (λ _. (unanswered, clear)))
 
-book_books : (c : Settings) (s : State) (number : ℕ) (gateway : List ℕ) (window : Window) (octets : List ℕ) → BooksBy s (down_book c s number gateway window octets)
+book_books : (c : Settings) (s : State) (number : ℕ) (gateway : List ℕ) (window : Window) (octets : List ℕ) → Lets (Books s) (down_book c s number gateway window octets)
 unfolding down_book
 book_books c s number gateway window octets =
-    by_wants s (s.gateways gateway) UnknownGateway _ (λ _.
-    by_needs s (item_at s.uplinks number) NoUplink _ (λ uplink.
-    by_needs s (s.copies number gateway) NoUplink _ (λ copy.
-    by_needs s (downlink_to uplink.kind (frame_at (rate_in window copy.rate).dr octets)) BadFrame _ (λ down.
-    by_wants s (goes_to (address_of c uplink.session) down) UnknownDevAddr _ (λ _.
-    by_wants s (not (is_answered s.bookings number)) Answered _ (λ unanswered.
-    by_wants s (counts_as (next_down s.bookings s.uplinks uplink.session) down) DownCounter _ (λ _.
-    by_needs s (band_at (rate_in window copy.rate).freq (rate_in window copy.rate).dr) OutOfBand _ (λ band.
+    lets_wants (Books s) tt (s.gateways gateway) UnknownGateway _ (λ _.
+    lets_needs (Books s) tt (item_at s.uplinks number) NoUplink _ (λ uplink _.
+    lets_needs (Books s) tt (s.copies number gateway) NoUplink _ (λ copy _.
+    lets_needs (Books s) tt (downlink_to uplink.kind (frame_at (rate_in window copy.rate).dr octets)) BadFrame _ (λ down _.
+    lets_wants (Books s) tt (goes_to (address_of c uplink.session) down) UnknownDevAddr _ (λ _.
+    lets_wants (Books s) tt (not (is_answered s.bookings number)) Answered _ (λ unanswered.
+    lets_wants (Books s) tt (counts_as (next_down s.bookings s.uplinks uplink.session) down) DownCounter _ (λ _.
+    lets_needs (Books s) tt (band_at (rate_in window copy.rate).freq (rate_in window copy.rate).dr) OutOfBand _ (λ band _.
     added_books s number gateway band (copy.end + delay uplink.kind window) (on_air (copy.end + delay uplink.kind window) (rate_in window copy.rate) octets) (not-true (is_answered s.bookings number) unanswered)))))))))
-
--- no other message books
-
-copy_books : (s : State) (number : ℕ) (at : Option Reception) (report : Report) → Books s (copy_added number at report)
-copy_books s number at report = search rules
-
-sender_books : (s : State) (e : Envelope) (sender : List ℕ) (role : Role) → BooksBy s (sender_add s e sender role)
-unfolding sender_add
-sender_books s e sender role = search rules
-
-owner_books : (s : State) (e : Envelope) (owner : List ℕ) → BooksBy s (owner_add s e owner)
-unfolding owner_add
-owner_books s e owner = search rules
-
-gateway_books : (s : State) (e : Envelope) (gateway : List ℕ) → BooksBy s (gateway_add s e gateway)
-unfolding gateway_add
-gateway_books s e gateway = search rules
-
-device_books : (s : State) (e : Envelope) (dev_eui join_eui : ℕ) (owner : List ℕ) → BooksBy s (device_add s e dev_eui join_eui owner)
-unfolding device_add
-device_books s e dev_eui join_eui owner = search rules
-
-move_books : (s : State) (e : Envelope) (dev_eui : ℕ) (owner : List ℕ) → BooksBy s (device_move s e dev_eui owner)
-unfolding device_move
-move_books s e dev_eui owner = search rules
-
-join_books : (c : Settings) (s : State) (report : Report) (verdict : JoinVerdict) → BooksBy s (join_heard c s report verdict)
-unfolding join_heard join_added
-join_books c s report verdict = search (rules, copy_books)
-
-frame_books : (c : Settings) (s : State) (report : Report) (verdict : Option ℕ) → BooksBy s (frame_heard c s report verdict)
-unfolding frame_heard data_added
-frame_books c s report verdict = search (rules, copy_books)
-
-done_books : (s : State) (number : ℕ) (sent : Bool) → BooksBy s (down_done s number sent)
-unfolding down_done
-done_books s number sent = search rules
-
-books : (c : Settings) (s : State) (e : Envelope) (m : Message) → BooksBy s (checked_decision c s e m)
-books c s e (SenderAdd sender role) = sender_books s e sender role
-books c s e (OwnerAdd owner) = owner_books s e owner
-books c s e (GatewayAdd gateway) = gateway_books s e gateway
-books c s e (DeviceAdd dev_eui join_eui owner) = device_books s e dev_eui join_eui owner
-books c s e (DeviceMove dev_eui owner) = move_books s e dev_eui owner
-books c s e (JoinHeard report verdict) = join_books c s report verdict
-books c s e (FrameHeard report verdict) = frame_books c s report verdict
-books c s e (DownBook uplink gateway window octets) = book_books c s uplink gateway window octets
-books c s e (DownDone booking sent) = done_books s booking sent
 
 -- ---- what every state keeps
 
@@ -202,7 +133,7 @@ get_was {X = X} f (x ∷ xs) (suc k) (suc i) y e = let was = get_was f xs k i y 
     deeper (inr changed) = inr (ap suc changed.0, changed.1)
 
 -- an item was there before, or is what was made of the one with the number
-item_was : {X : Type 0} (f : X → X) (xs : List X) (number m : ℕ) (y : X) → item_at (item_changed f xs number) m ≡ Some y
+pub item_was : {X : Type 0} (f : X → X) (xs : List X) (number m : ℕ) (y : X) → item_at (item_changed f xs number) m ≡ Some y
     → (x : X) × (item_at xs m ≡ Some x) × ((x ≡ y) ⊎ ((m ≡ number) × (f x ≡ y)))
 item_was f xs zero m y e = (y, e, inl refl)
 item_was f xs (suc k) zero y e = cc
@@ -269,7 +200,7 @@ apart_after : (c : Settings) (s : State) (es : List Envelope) → IsSound c s �
 apart_after c s [] sound h = h
 apart_after c s (e ∷ es) sound h =
     let allowed = (is_decision c s e sound).allowed in
-    apart_after c (step c s e).0 es (change_sound c s (decision_of c s e).0 sound allowed) (change_apart c s (decision_of c s e).0 allowed (books c s e e.message) h)
+    apart_after c (step c s e).0 es (change_sound c s (decision_of c s e).0 sound allowed) (change_apart c s (decision_of c s e).0 allowed (new_booking (IsFree s) c s (book_books c s) e e.message) h)
 
 apart_of : (c : Settings) (heard : List Envelope) → AreApart (state_of c heard).bookings
 apart_of c heard = apart_after c (opening c) heard (opening_sound c) (record {

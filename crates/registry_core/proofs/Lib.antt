@@ -1,8 +1,10 @@
+pub mod BookedDownlinks
 pub mod BookedHours
 pub mod BookedUplinks
 pub mod BookingsApart
 pub mod Copies
 pub mod CopyLaws
+pub mod Counts
 pub mod DataByView
 pub mod DataOrder
 pub mod Decisions
@@ -14,7 +16,10 @@ pub mod HeardStates
 pub mod Items
 pub mod JoinOrder
 pub mod JoinsByView
+pub mod KeptCopies
+pub mod NewItems
 pub mod NumberedLaws
+pub mod ReceivedUplinks
 pub mod Register
 pub mod Replies
 pub mod ReportOrder
@@ -22,6 +27,7 @@ pub mod Rooms
 pub mod Sameness
 pub mod SessionJoins
 pub mod SessionLaws
+pub mod StepRefusals
 pub mod Telling
 pub mod UplinkLaws
 pub mod WorkedRows

@@ -38,18 +38,19 @@ frames_are_booked_once c heard m n u v em en same kinds counter = once_by c hear
 pub uplinks_have_copies : UplinksHaveCopies
 uplinks_have_copies c heard = (sound_of c heard).copied
 
-stay_with : (s : State) (effect : Effect) (n : ℕ) (u : Uplink) → item_at s.uplinks n ≡ Some u → item_at (state_with s effect).uplinks n ≡ Some u
-stay_with s Nothing n u e = e
-stay_with s (AddsSender name role) n u e = e
-stay_with s (AddsOwner name) n u e = e
-stay_with s (AddsGateway name) n u e = e
-stay_with s (AddsDevice dev_eui device) n u e = e
-stay_with s (MovesDevice dev_eui owner) n u e = e
-stay_with s (AddsSession session new gateway reception) n u e = item_stays s.uplinks new n u e
-stay_with s (AddsUplink new gateway reception) n u e = item_stays s.uplinks new n u e
-stay_with s (AddsCopy number gateway reception) n u e = e
-stay_with s (AddsBooking booking) n u e = e
-stay_with s (EndsBooking number sent) n u e = e
+-- no change changes an uplink
+pub uplink_stays_with : (s : State) (effect : Effect) (n : ℕ) (u : Uplink) → item_at s.uplinks n ≡ Some u → item_at (state_with s effect).uplinks n ≡ Some u
+uplink_stays_with s Nothing n u e = e
+uplink_stays_with s (AddsSender name role) n u e = e
+uplink_stays_with s (AddsOwner name) n u e = e
+uplink_stays_with s (AddsGateway name) n u e = e
+uplink_stays_with s (AddsDevice dev_eui device) n u e = e
+uplink_stays_with s (MovesDevice dev_eui owner) n u e = e
+uplink_stays_with s (AddsSession session new gateway reception) n u e = item_stays s.uplinks new n u e
+uplink_stays_with s (AddsUplink new gateway reception) n u e = item_stays s.uplinks new n u e
+uplink_stays_with s (AddsCopy number gateway reception) n u e = e
+uplink_stays_with s (AddsBooking booking) n u e = e
+uplink_stays_with s (EndsBooking number sent) n u e = e
 
 pub uplinks_stay : UplinksStay
-uplinks_stay c s e n u there = stay_with s (decision_of c s e).0 n u there
+uplinks_stay c s e n u there = uplink_stays_with s (decision_of c s e).0 n u there

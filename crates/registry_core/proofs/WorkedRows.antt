@@ -1,6 +1,6 @@
 -- Worked rows, computed from the definitions alone: lists of messages, the answers that they get, and what they leave.
 use Rattle.std.proofs.Common.{◌≡◌, ℕ, ◌+◌, ◌-◌, List, [], ◌∷◌, ◌++◌, map, length, replicate, take, Some, None, true, false, refl}
-use Rattle.std.specs.Prelude.{codes}
+use Rattle.std.specs.Prelude.{codes, pos}
 use Rattle.radio_core.specs.declared.bands.Band.TheVariants.{B3, B4, B5}
 use Rattle.radio_core.specs.declared.data_rates.DataRate.{DataRate}
 use Rattle.radio_core.specs.declared.data_rates.DataRate.TheVariants.{Dr0, Dr5, Dr6}
@@ -21,10 +21,12 @@ use Rattle.registry_core.specs.declared.messages.Role.TheVariants.{Operator, Rad
 use Rattle.registry_core.specs.declared.windows.Window.{Window}
 use Rattle.registry_core.specs.declared.windows.Window.TheVariants.{First, Second}
 use Rattle.registry_core.specs.Administration.{sender_add, owner_add, gateway_add, device_add, device_move}
+use Rattle.registry_core.specs.CopyLaws.{copied_uplink}
 use Rattle.registry_core.specs.DataFrames.{data_added, frame_heard, original_data}
 use Rattle.registry_core.specs.Downlinks.{down_added, down_book, down_done}
 use Rattle.registry_core.specs.Heard.{Reply, Answers, Reused, Stranger, answers_of, heard_with, reply_to, state_of}
 use Rattle.registry_core.specs.Joins.{join_added, join_heard, original_join}
+use Rattle.registry_core.specs.Reports.{interval_of}
 use Rattle.registry_core.specs.Same.{same_message}
 use Rattle.registry_core.specs.Settings.{Settings}
 
@@ -101,6 +103,11 @@ three_joins = names ++ by_bridge 1 (join_at gw_a 0 0xa1) ∷ by_bridge 2 (join_a
 join_and_copy : answers three_joins ≡ named ++ JoinSuccess 61696 B3 false 0x01a00000 1 ∷ JoinSuccess 61696 B3 true 0x01a00000 1 ∷ Refused refusals.Nonce ∷ []
 unfolding sender_add owner_add gateway_add device_add join_heard join_added original_join frame_of band_at airtime_of
 join_and_copy = refl
+
+-- the second tells of the uplink that the first booked
+join_copied : map copied_uplink (answers three_joins) ≡ None ∷ None ∷ None ∷ None ∷ None ∷ None ∷ Some 1 ∷ None ∷ []
+unfolding sender_add owner_add gateway_add device_add join_heard join_added original_join frame_of band_at airtime_of
+join_copied = refl
 
 -- one session, one uplink, and a copy at each gateway are left
 join_leaves : (length (state_of desk three_joins).sessions ≡ 1) × (length (state_of desk three_joins).uplinks ≡ 1)
@@ -307,6 +314,12 @@ asked_answers = refl
 asked_leaves : map (λ b. b.standing) (state_of desk asked).bookings ≡ Sent ∷ []
 unfolding sender_add owner_add gateway_add device_add join_heard join_added original_join frame_of band_at airtime_of frame_heard data_added original_data down_book down_added down_done is_clear hours_within peak_of
 asked_leaves = refl
+
+-- 23 and 12 octets at DR5, each up to the end of its copy; 64 octets at DR0 without CRC, 2 s after the second
+asked_on_air : (map interval_of (state_of desk asked).uplinks ≡ record { start = pos start; len = 61696 } ∷ record { start = pos (start - 41216); len = 41216 } ∷ [])
+    × (map (λ b. b.span) (state_of desk asked).bookings ≡ record { start = pos (start + 2000000); len = 2793472 } ∷ [])
+unfolding sender_add owner_add gateway_add device_add join_heard join_added original_join frame_of band_at airtime_of frame_heard data_added original_data down_book down_added down_done is_clear hours_within peak_of
+asked_on_air = (refl, refl)
 
 -- a join request, a data frame and its copy, as two gateways report them, and answers to both uplinks
 reported_and_answered : answers (names ++ by_bridge 10 (join_at gw_a 0 0xa1) ∷ by_bridge 11 (up_at 868300000 Dr5 (start + 100041216) 0)

@@ -1,4 +1,4 @@
--- What follows from the bookings: which of them stand, and when a gateway is on the air.
+-- What follows from the bookings: which of them stand, when a gateway is on the air, what its limits are.
 use Rattle.std.specs.Prelude.{ℕ, ◌==◌, Bool, true, false, not, ◌&&◌, List, map, filter, count_by, bytes_eq}
 use Rattle.std.specs.List.{list_any}
 use Rattle.std.specs.Option.{option_map_or}
@@ -60,6 +60,13 @@ downlinks bookings gateway = map (λ booking. booking.span) (filter (stands_at g
 abbrev pub downlinks_in : List Booking → List ℕ → Band → List Interval
 downlinks_in bookings gateway band = map (λ booking. booking.span) (filter (stands_in gateway band) bookings)
 
+-- ---- the limit
+
+-- The limit of a gateway's band, the most time on air within any hour: the band's own, at every gateway.
+abbrev pub limit_in : State → List ℕ → Band → ℕ
+limit_in s gateway band = limit_of band
+
 -- No hour of any gateway's band holds more than the limit: the use of every sliding hour, by downlinks that aren't dropped.
 abbrev pub EveryHourKept : State → Type 0
-EveryHourKept s = (gateway : List ℕ) (band : Band) → EveryHourWithin (downlinks_in s.bookings gateway band) (limit_of band)
+EveryHourKept s = (gateway : List ℕ) (band : Band)
+    → EveryHourWithin (downlinks_in s.bookings gateway band) (limit_in s gateway band)

@@ -1,5 +1,5 @@
 -- What holds of the registry, whatever was heard.
-use Rattle.std.specs.Prelude.{◌≡◌, ◌↔◌, ℕ, ◌+◌, ◌%◌, ◌<◌, ◌≤◌, Bool, true, false, List, Some, IsTrue}
+use Rattle.std.specs.Prelude.{◌≡◌, ◌↔◌, ◌⊎◌, ℕ, ◌+◌, ◌%◌, ◌<◌, ◌≤◌, Bool, true, false, List, Some, IsTrue}
 use Rattle.radio_core.specs.Frames.{frame_of}
 use Rattle.registry_core.specs.declared.answers.Answer.{Answer}
 use Rattle.registry_core.specs.declared.answers.Answer.TheVariants.{JoinSuccess, FrameSuccess, Refused}
@@ -20,6 +20,7 @@ use Rattle.registry_core.specs.Frames.{data_up}
 use Rattle.registry_core.specs.Heard.{state_of}
 use Rattle.registry_core.specs.Joins.{original_join}
 use Rattle.registry_core.specs.Numbered.{item_at}
+use Rattle.registry_core.specs.Refusals.{refusal_number}
 use Rattle.registry_core.specs.Settings.{Settings}
 use Rattle.registry_core.specs.State.{State}
 use Rattle.registry_core.specs.Step.{step}
@@ -108,6 +109,15 @@ CopiesBookNothing = (c : Settings) (heard : List Envelope) (e : Envelope) → le
 abbrev pub RefusalsChangeNothing : Type 0
 RefusalsChangeNothing = (c : Settings) (heard : List Envelope) (e : Envelope) (refusal : Refusal) → let s : State = state_of c heard in (step c s e).1 ≡ Refused refusal
     → (step c s e).0 ≡ s
+
+-- the refusal of a check: 6, for the sender's role, or from 9 to 31
+abbrev pub IsStepRefusal : Refusal → Type 0
+IsStepRefusal refusal = let n : ℕ = refusal_number refusal in (n ≡ 6) ⊎ ((9 ≤ n) × (n ≤ 31))
+
+-- A step gives no other refusal: 1 to 5, 7 and 8 are told without one, and 32 to 34 of a store.
+abbrev pub StepsRefuseByNumber : Type 0
+StepsRefuseByNumber = (c : Settings) (s : State) (e : Envelope) (refusal : Refusal)
+    → (step c s e).1 ≡ Refused refusal → IsStepRefusal refusal
 
 abbrev pub adds_sender : Message → Bool
 adds_sender (SenderAdd sender role) = true

@@ -1,7 +1,10 @@
 pub mod Administration
+pub mod AirtimeLaws
 pub mod Bookings
 pub mod ByView
 pub mod Checks
+pub mod CopyLaws
+pub mod Counts
 pub mod DataFrames
 pub mod Decision
 pub mod Derived

@@ -1,10 +1,13 @@
 //! Laws of the definitions: each is the contract of a function that does nothing, or only reads what its
 //! arguments keep.
 ghost use Rattle.std.specs.Prelude.{ℕ, ◌<◌, ◌^◌, IfSome, get_or};
+ghost use Rattle.registry_core.specs.AirtimeLaws.{BookingsAreDownlinks, UplinksAreReceived};
+ghost use Rattle.registry_core.specs.CopyLaws.{CopiesAddOneAtMost, CopiesStay};
+ghost use Rattle.registry_core.specs.Counts.{FactsAreNoMoreThanMessages};
 ghost use Rattle.registry_core.specs.DownlinkLaws.{BookedExactly, CopiesLieInBands, DownlinksAreShort, DownlinksHaveBands, GatewaysSendOneAtATime, HoursAreKept, UplinksAreAnsweredOnce};
 ghost use Rattle.registry_core.specs.Fits.{DecisionsFit};
 ghost use Rattle.registry_core.specs.Heard.{FirstAnswersStay, HeardListsStay, NewNumbersAreDecided, NothingIsHeard, UsedNumbersAreRefused};
-ghost use Rattle.registry_core.specs.Laws.{AddressesAreApart, AddressesLieInBlock, CopiesBookNothing, CountersAgreeWithFrames, CountersRise, DataCopiesAreFound, FramesAreBookedOnce, JoinCopiesAreFound, NoncesRise, OperatorsKeepTheRegister, RefusalsChangeNothing, SendersStay, SessionsAreFound, SessionsHaveJoins, UplinksHaveCopies, UplinksHaveSessions, UplinksStay};
+ghost use Rattle.registry_core.specs.Laws.{AddressesAreApart, AddressesLieInBlock, CopiesBookNothing, CountersAgreeWithFrames, CountersRise, DataCopiesAreFound, FramesAreBookedOnce, JoinCopiesAreFound, NoncesRise, OperatorsKeepTheRegister, RefusalsChangeNothing, SendersStay, SessionsAreFound, SessionsHaveJoins, StepsRefuseByNumber, UplinksHaveCopies, UplinksHaveSessions, UplinksStay};
 ghost use Rattle.registry_core.specs.NumberedLaws.{FirstIsFirst, GreatestIsMost, OneIsChanged};
 ghost use Rattle.registry_core.specs.Ranges.{IsEnvelope, IsOctets, IsReport, IsSettings};
 ghost use Rattle.registry_core.specs.ReportOrder.{DataInAnyOrder, JoinsInAnyOrder};
@@ -15,7 +18,7 @@ use crate::configuration::Config;
 use crate::messages::{Envelope, Message, Report};
 use duty_core::laws::computed_forms_tell;
 use radio_core::Octets;
-use radio_core::laws::airtime_is_bounded;
+use radio_core::laws::{airtime_is_bounded, airtime_is_computed, band_is_found};
 
 /// The test of two messages tells whether they are equal.
 #[tactic(auto, using(crate::proofs::Sameness::same_message_tells))]
@@ -136,10 +139,17 @@ pub fn uplinks_stay()
     ensures { UplinksStay }
 {}
 
-/// Whatever was heard, what is answered as a copy adds no session and no uplink, and changes no booking.
-#[tactic(auto, using(crate::proofs::CopyLaws::copies_book_nothing))]
+/// Whatever was heard, what is answered as a copy adds no session and no uplink, and changes no booking. It is a
+/// report, and adds no more than its gateway's copy of the uplink that is told, where that gateway had none.
 pub fn copies_book_nothing()
-    ensures { CopiesBookNothing }
+    ensures nothing { CopiesBookNothing }
+    ensures copy { CopiesAddOneAtMost }
+{}
+
+/// Whatever was heard, no message changes a copy that is kept.
+#[tactic(auto, using(crate::proofs::KeptCopies::copies_stay))]
+pub fn copies_stay()
+    ensures { CopiesStay }
 {}
 
 /// Whatever was heard, two gateways may report a frame in either order: what is left differs in nothing but which copy came
@@ -148,6 +158,26 @@ pub fn reports_in_any_order()
     ensures joins { JoinsInAnyOrder }
     ensures data { DataInAnyOrder }
 {}
+
+/// Whatever was heard, each booking is a downlink in a receive window of the uplink that it answers. The octets of a
+/// frame that the uplink's kind asks for take its length on the air at the window's data rate, without a payload CRC,
+/// and the window lies in its band.
+pub fn bookings_are_downlinks()
+    ensures { BookingsAreDownlinks }
+{
+    airtime_is_computed();
+    band_is_found();
+}
+
+/// Whatever was heard, each uplink is as one of its gateways received it: on the air as long as its octets are at the
+/// copy's data rate, with a payload CRC, up to the end of the copy, and in the copy's band.
+pub fn uplinks_are_received()
+    ensures { UplinksAreReceived }
+{
+    airtime_is_computed();
+    airtime_is_bounded();
+    band_is_found();
+}
 
 /// Whatever was heard, no hour of any gateway's band holds more downlinks than the limit.
 pub fn hours_are_kept()
@@ -200,6 +230,19 @@ pub fn downlinks_have_bands()
 /// Whatever was heard, a message that is refused changes nothing.
 pub fn refusals_change_nothing()
     ensures { RefusalsChangeNothing }
+{}
+
+/// There are at most as many owners, gateways, devices and copies as messages were heard, and one sender more; at most
+/// as many sessions as uplinks; and of uplinks and bookings, taken together, at most as many as messages.
+#[tactic(auto, using(crate::proofs::Counts::facts_are_no_more_than_messages))]
+pub fn facts_are_no_more_than_messages()
+    ensures { FactsAreNoMoreThanMessages }
+{}
+
+/// What a step refuses has the number 6 or one from 9 to 31.
+#[tactic(auto, using(crate::proofs::StepRefusals::steps_refuse_by_number))]
+pub fn steps_refuse_by_number()
+    ensures { StepsRefuseByNumber }
 {}
 
 /// What is kept of senders, owners, gateways and devices is changed by messages of operators alone.

@@ -1,0 +1,60 @@
+-- What is booked of the air: when each downlink and each uplink is on it, for how long, and in which band.
+use Rattle.std.specs.Prelude.{◌≡◌, ℕ, ◌+◌, ◌≤◌, true, false, List, length, Some, IsTrue, pos}
+use Rattle.radio_core.specs.declared.data_rates.Rate.{Rate}
+use Rattle.radio_core.specs.Bands.{lies_in}
+use Rattle.radio_core.specs.DataRates.{max_length}
+use Rattle.radio_core.specs.TimeOnAir.{IsAirtime}
+use Rattle.registry_core.specs.declared.facts.Booking.{Booking}
+use Rattle.registry_core.specs.declared.facts.Reception.{Reception}
+use Rattle.registry_core.specs.declared.facts.Uplink.{Uplink}
+use Rattle.registry_core.specs.declared.frames.Downlink.{Downlink}
+use Rattle.registry_core.specs.declared.messages.Envelope.{Envelope}
+use Rattle.registry_core.specs.declared.windows.Window.{Window}
+use Rattle.registry_core.specs.Derived.{address_of}
+use Rattle.registry_core.specs.Frames.{downlink_to, frame_at, goes_to}
+use Rattle.registry_core.specs.Heard.{state_of}
+use Rattle.registry_core.specs.Numbered.{item_at}
+use Rattle.registry_core.specs.Settings.{Settings}
+use Rattle.registry_core.specs.State.{State}
+use Rattle.registry_core.specs.Windows.{delay, rate_in}
+
+-- The booking answers an uplink of which its gateway has a copy, in one of the two windows after that. Its octets
+-- are a frame that the uplink's kind asks for and that the window's data rate carries, to the session's address. It
+-- begins where the window opens, is on the air as long as so many octets are without a payload CRC, and the window
+-- lies in its band.
+pub record IsDownlink (c : Settings) (s : State) (booking : Booking) : Type 0 where
+  pub uplink : Uplink
+  pub there : item_at s.uplinks booking.uplink ≡ Some uplink
+  pub copy : Reception
+  pub heard : s.copies booking.uplink booking.gateway ≡ Some copy
+  pub window : Window
+  pub rate : Rate
+  pub sent_so : rate ≡ rate_in window copy.rate
+  pub octets : List ℕ
+  pub down : Downlink
+  pub frame : downlink_to uplink.kind (frame_at rate.dr octets) ≡ Some down
+  pub address : IsTrue (goes_to (address_of c uplink.session) down)
+  pub start : booking.span.start ≡ pos (copy.end + delay uplink.kind window)
+  pub airtime : IsAirtime rate.dr (length octets) false booking.span.len
+  pub band : IsTrue (lies_in rate.freq rate.dr booking.band)
+
+-- so it is of each booking, whatever was heard
+abbrev pub BookingsAreDownlinks : Type 0
+BookingsAreDownlinks = (c : Settings) (heard : List Envelope) (n : ℕ) (booking : Booking)
+    → item_at (state_of c heard).bookings n ≡ Some booking → IsDownlink c (state_of c heard) booking
+
+-- A gateway has a copy of the uplink with this number whose data rate carries its octets. It is on the air as long as
+-- they are with a payload CRC, up to the end of the copy, and the copy lies in its band.
+pub record IsReceived (s : State) (number : ℕ) (uplink : Uplink) : Type 0 where
+  pub gateway : List ℕ
+  pub copy : Reception
+  pub heard : s.copies number gateway ≡ Some copy
+  pub carried : length uplink.octets ≤ max_length copy.rate.dr
+  pub airtime : IsAirtime copy.rate.dr (length uplink.octets) true uplink.airtime
+  pub ends : uplink.start + uplink.airtime ≡ copy.end
+  pub band : IsTrue (lies_in copy.rate.freq copy.rate.dr uplink.band)
+
+-- so it is of each uplink, whatever was heard
+abbrev pub UplinksAreReceived : Type 0
+UplinksAreReceived = (c : Settings) (heard : List Envelope) (n : ℕ) (uplink : Uplink)
+    → item_at (state_of c heard).uplinks n ≡ Some uplink → IsReceived (state_of c heard) n uplink

@@ -1,0 +1,58 @@
+-- What holds of copies: a report of a frame that is booked adds one at most, and a copy that is kept stays.
+use Rattle.std.specs.Prelude.{◌≡◌, ◌≢◌, ◌⊎◌, ℕ, List, Option, Some, None, unwrap_or, if◌then◌else◌}
+use Rattle.registry_core.specs.declared.answers.Answer.{Answer}
+use Rattle.registry_core.specs.declared.answers.Answer.TheVariants.{JoinSuccess, FrameSuccess}
+use Rattle.registry_core.specs.declared.facts.Reception.{Reception}
+use Rattle.registry_core.specs.declared.facts.Uplink.{Uplink}
+use Rattle.registry_core.specs.declared.messages.Envelope.{Envelope}
+use Rattle.registry_core.specs.declared.messages.Message.{Message}
+use Rattle.registry_core.specs.declared.messages.Message.TheVariants.{JoinHeard, FrameHeard}
+use Rattle.registry_core.specs.declared.messages.Report.{Report}
+use Rattle.registry_core.specs.Heard.{state_of}
+use Rattle.registry_core.specs.Numbered.{item_at}
+use Rattle.registry_core.specs.Settings.{Settings}
+use Rattle.registry_core.specs.State.{State}
+use Rattle.registry_core.specs.Step.{step}
+use Rattle.registry_core.specs.Uplinks.{reception_of}
+
+-- whatever was heard, no message changes a copy that is kept
+abbrev pub CopiesStay : Type 0
+CopiesStay = (c : Settings) (heard : List Envelope) (e : Envelope) (number : ℕ) (gateway : List ℕ) (copy : Reception)
+    → let s : State = state_of c heard in
+    s.copies number gateway ≡ Some copy → (step c s e).0.copies number gateway ≡ Some copy
+
+-- what a gateway reports by the message
+abbrev pub report_in : Message → Option Report
+report_in (JoinHeard report verdict) = Some report
+report_in (FrameHeard report verdict) = Some report
+report_in _ = None
+
+-- the number of the uplink that the answer tells to be known already
+abbrev pub copied_uplink : Answer → Option ℕ
+copied_uplink (JoinSuccess airtime band copy addr uplink) = if copy then Some uplink else None
+copied_uplink (FrameSuccess airtime band copy counter dev_eui uplink) = if copy then Some uplink else None
+copied_uplink _ = None
+
+-- The report is a copy of the uplink with this number. The gateway keeps the copy that it has of it, or else gets this
+-- one, and all else is as it was before.
+pub record KeepsCopy (report : Report) (number : ℕ) (before after : State) : Type 0 where
+  pub uplink : Uplink
+  pub there : item_at before.uplinks number ≡ Some uplink
+  pub octets : uplink.octets ≡ report.octets
+  pub own : after.copies number report.gateway
+      ≡ Some (unwrap_or (before.copies number report.gateway) (reception_of report))
+  pub others : (n : ℕ) (gateway : List ℕ) → (n ≢ number) ⊎ (gateway ≢ report.gateway)
+      → after.copies n gateway ≡ before.copies n gateway
+  pub senders : after.senders ≡ before.senders
+  pub owners : after.owners ≡ before.owners
+  pub gateways : after.gateways ≡ before.gateways
+  pub devices : after.devices ≡ before.devices
+  pub sessions : after.sessions ≡ before.sessions
+  pub uplinks : after.uplinks ≡ before.uplinks
+  pub bookings : after.bookings ≡ before.bookings
+
+-- what is answered as a copy is a report, and adds no more than that
+abbrev pub CopiesAddOneAtMost : Type 0
+CopiesAddOneAtMost = (c : Settings) (s : State) (e : Envelope) (number : ℕ)
+    → copied_uplink (step c s e).1 ≡ Some number
+    → (report : Report) × (report_in e.message ≡ Some report) × KeepsCopy report number s (step c s e).0
