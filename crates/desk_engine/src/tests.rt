@@ -1,7 +1,7 @@
 //! The messages of runs from the opening state, through `deliver` one by one and through `run` at once.
 mod data_frames;
 mod downlinks;
-mod failing_disk;
+mod failing;
 mod importing;
 mod joins;
 mod refused_memory;
@@ -10,7 +10,7 @@ mod rows;
 
 use crate::{Outcome, deliver, run};
 use data_frames::{DATA, SESSIONS};
-use desk_store::Lists;
+use desk_store::{Keeper, Lists};
 use downlinks::{
     BETWEEN, BETWEEN_ABOVE, COLLISIONS, DOWNLINKS, HOURS, HOURS_ABOVE, LENGTHS, WORKED_DOWNLINKS,
 };
@@ -57,13 +57,13 @@ fn expect_told(rt: &impl Abort, outcome: &Outcome, delivery: &Delivery) {
     expect(rt, outcome, delivery.number, delivery.wanted.as_str());
 }
 
-fn deliver_each<R: Abort + AllocGlobal>(
+fn deliver_each<R: Abort + AllocGlobal, K: Keeper>(
     rt: &R,
-    lists: &mut Lists,
+    keeper: &mut K,
     rows: &[Row],
 ) -> Result<(), Fail> {
     for delivery in &deliveries_of(rt.alloc(), rows)? {
-        let outcome = deliver(rt.alloc(), lists, delivery.text.as_bytes());
+        let outcome = deliver(rt.alloc(), keeper, delivery.text.as_bytes());
         expect_told(rt, &outcome, delivery);
     }
     Ok(())

@@ -1,0 +1,142 @@
+//! A store that fails at one call: what is told until then and from then on, and what a crash leaves.
+use super::importing::{WORKED, WORKED_ANSWERS};
+use super::rows::{DEVICE_ADDED, Delivery, SETUP, deliveries_of};
+use super::{config, deliver_each, expect, expect_told};
+use crate::{Outcome, ReportFault, band_report, deliver, import, owner_report};
+use desk_store::{Failure, Keeper, StoreFault, Switched};
+use desk_wire::read_report;
+use radio_core::Name;
+use registry_core::Envelope;
+use std::alloc::Global;
+use std::process::Abort;
+use std::test::Fail;
+
+/// Each way to fail, with what it is told as.
+const FAILURES: [(Failure, StoreFault); 4] = [
+    (Failure::Memory, StoreFault::Memory),
+    (Failure::Disk, StoreFault::Disk),
+    (Failure::DiskAfter, StoreFault::Disk),
+    (Failure::NotADesk, StoreFault::NotADesk),
+];
+
+/// More calls than any of these tests makes.
+const MANY: u64 = 200;
+
+/// A desk that has heard nothing.
+fn opening(alloc: Global) -> Result<Box<Switched>, Fail> {
+    let config = config(65_536).ok_or("no configuration")?;
+    Ok(Box::new(alloc, Switched::new(alloc, config)?)?)
+}
+
+/// A desk with a device.
+fn set_up<R: Abort + AllocGlobal>(rt: &R) -> Result<Box<Switched>, Fail> {
+    let mut store = opening(rt.alloc())?;
+    deliver_each(rt, &mut *store, &SETUP)?;
+    deliver_each(rt, &mut *store, &DEVICE_ADDED)?;
+    Ok(store)
+}
+
+/// Delivers in order. The first that the store fails is told its fault, those before it are told what they are, and those
+/// after it too, unless the disk failed. Answers whether one failed.
+fn deliver_with_failure<R: Abort + AllocGlobal, K: Keeper>(
+    rt: &R,
+    keeper: &mut K,
+    deliveries: &[Delivery],
+    fault: StoreFault,
+) -> bool {
+    let mut failed = false;
+    for delivery in deliveries {
+        let outcome = deliver(rt.alloc(), keeper, delivery.text.as_bytes());
+        match outcome {
+            Outcome::Unavailable(told) => {
+                assert_eq!(rt; told, fault);
+                assert!(rt; !failed || fault == StoreFault::Disk);
+                failed = true;
+            }
+            _ => {
+                assert!(rt; !failed || fault != StoreFault::Disk);
+                expect_told(rt, &outcome, delivery);
+            }
+        }
+    }
+    failed
+}
+
+/// Each call fails in turn, in each way. After a crash all is delivered again, and told what it was: nothing is lost, and
+/// nothing is heard twice.
+#[test]
+fn deliveries(rt: HostRuntime) -> Result<(), Fail> {
+    let setup = deliveries_of(rt.alloc(), &SETUP)?;
+    for (failure, fault) in FAILURES {
+        for calls in 0..MANY {
+            let mut store = opening(rt.alloc())?;
+            store.fail_after(calls, failure);
+            if !deliver_with_failure(&rt, &mut *store, &setup, fault) {
+                break;
+            }
+            store.reopen();
+            deliver_each(&rt, &mut *store, &SETUP)?;
+            deliver_each(&rt, &mut *store, &DEVICE_ADDED)?;
+        }
+    }
+    Ok(())
+}
+
+/// Imports and compares the answers: those before the stop, or all. Answers why it stopped.
+fn import_worked<R: Abort + AllocGlobal, K: Keeper>(
+    rt: &R,
+    keeper: &mut K,
+    envelopes: &[Envelope],
+) -> Option<StoreFault> {
+    let imported = import(rt.alloc(), keeper, envelopes);
+    assert!(rt; imported.stopped.is_some() || imported.answers.len() == WORKED_ANSWERS.len());
+    for (outcome, (number, text)) in imported.answers.iter().zip(&WORKED_ANSWERS) {
+        expect(rt, outcome, *number, text);
+    }
+    imported.stopped
+}
+
+/// An import ends at the first envelope that isn't heard, with the answers before it, and after a crash it is made again.
+#[test]
+fn imports(rt: HostRuntime) -> Result<(), Fail> {
+    let sender = Name::new(b"bridge").ok_or("no name")?;
+    let Ok(envelopes) = read_report(rt.alloc(), WORKED, &sender) else {
+        return Err("no report".into());
+    };
+    for (failure, fault) in FAILURES {
+        for calls in 0..MANY {
+            let mut store = set_up(&rt)?;
+            store.fail_after(calls, failure);
+            let stopped = import_worked(&rt, &mut *store, &envelopes);
+            if stopped.is_none() {
+                break;
+            }
+            assert_eq!(rt; stopped, Some(fault));
+            store.reopen();
+            assert_eq!(rt; import_worked(&rt, &mut *store, &envelopes), None);
+        }
+    }
+    Ok(())
+}
+
+/// A report is whole, or there is none.
+#[test]
+fn reports(rt: HostRuntime) -> Result<(), Fail> {
+    for (failure, fault) in FAILURES {
+        for calls in 0..MANY {
+            let mut store = set_up(&rt)?;
+            store.fail_after(calls, failure);
+            let owned = owner_report(rt.alloc(), &mut *store, "town", "2024-02");
+            let booked = band_report(rt.alloc(), &mut *store, "gw-a");
+            if owned.is_ok() && booked.is_ok() {
+                break;
+            }
+            let told = owned.err().or(booked.err());
+            assert!(rt; told == Some(ReportFault::Unavailable(fault)));
+            store.reopen();
+            assert!(rt; owner_report(rt.alloc(), &mut *store, "town", "2024-02").is_ok());
+            assert!(rt; band_report(rt.alloc(), &mut *store, "gw-a").is_ok());
+        }
+    }
+    Ok(())
+}

@@ -1,0 +1,4 @@
+use Rattle.desk_store.proofs.switched.SwitchedLooks.last_counter.Goals as goal
+
+pub returns-clause-read : goal.returns-clause-read
+returns-clause-read c = c.in_ok-turn.ensures.then c.last_counter.new.self _ c.last_counter.ensures.read

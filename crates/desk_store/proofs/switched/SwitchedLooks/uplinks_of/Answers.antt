@@ -1,0 +1,12 @@
+use Rattle.std.proofs.Common.{rules, FitsSigned, w64}
+use Rattle.std.proofs.lemmas.Int.{to_z-of_z}
+use Rattle.desk_store.proofs.switched.SwitchedLooks.uplinks_of.Goals as goal
+
+pub returns-clause-read : goal.returns-clause-read
+returns-clause-read c = c.in_ok-turn.ensures.then c.uplinks_of.new.self _ c.uplinks_of.ensures.read
+
+pub returns-clause-told : goal.returns-clause-told
+returns-clause-told c = λ kept sound held.
+    let from : FitsSigned w64 c.args.from = search rules in
+    let to : FitsSigned w64 c.args.to = search rules in
+    simp to_z-of_z at (c.uplinks_of.ensures.told kept tt (c.in_ok-turn.ensures.held kept held))
