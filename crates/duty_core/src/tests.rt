@@ -1,6 +1,10 @@
 use crate::hours::{clear, fits, peak, use_at};
 use crate::interval::Span;
+use crate::near::{NearRange, is_near, near_range};
+use crate::sweep::{in_order, sweep_fits, sweep_peak};
 use std::process::Abort;
+
+mod sweeps;
 
 /// An hour, in microseconds.
 const HOUR: i64 = 3_600_000_000;
@@ -94,6 +98,52 @@ fn is_clear_of_neighbours(rt: HostRuntime) {
     assert!(rt; !clear(&[span(&rt, 0, 4_294_967_295)], new));
 }
 
+#[test]
+fn tells_what_is_near(rt: HostRuntime) {
+    let first = -4_611_686_018_427_387_904;
+    let last = 4_611_686_018_427_387_903;
+    for start in [0, MONTH, first, last] {
+        for (apart, near) in [
+            (-3_603_000_000, false),
+            (-3_602_999_999, true),
+            (0, true),
+            (3_602_999_999, true),
+            (3_603_000_000, false),
+        ] {
+            if let Some(beside) = Span::new(start + apart, 1) {
+                assert_eq!(rt;
+                    is_near(&beside, i128::from(start)),
+                    near,
+                    "{apart} from {start}"
+                );
+            }
+        }
+        assert!(rt;
+            near_range(i128::from(start))
+                == NearRange {
+                    after: start - 3_603_000_000,
+                    before: start + 3_603_000_000,
+                },
+            "around {start}"
+        );
+    }
+    for start in [
+        i128::MIN,
+        i128::from(i64::MIN),
+        i128::from(u64::MAX),
+        i128::MAX,
+    ] {
+        assert!(rt;
+            !is_near(&span(&rt, first, 1), start),
+            "the first, at {start}"
+        );
+        assert!(rt;
+            !is_near(&span(&rt, last, 1), start),
+            "the last, at {start}"
+        );
+    }
+}
+
 /// How many microseconds of the spans lie in the hour from `t`, counted one by one.
 fn counted_use(spans: &[Span], t: i64) -> u64 {
     let hour = i128::from(t)..i128::from(t) + i128::from(HOUR);
@@ -151,6 +201,19 @@ fn agrees_with_counting(rt: HostRuntime) {
                 assert!(rt; fits(&[a, b], new, most), "at {i} {j} {k}");
                 if let Some(less) = most.checked_sub(1) {
                     assert!(rt; !fits(&[a, b], new, less), "at {i} {j} {k}");
+                }
+                if in_order(&[a, b, new]) {
+                    assert_eq!(rt;
+                        sweep_peak(&[a, b, new]),
+                        u128::from(most),
+                        "at {i} {j} {k}"
+                    );
+                }
+                if in_order(&[a, b]) {
+                    assert!(rt; sweep_fits(&[a, b], new, most), "at {i} {j} {k}");
+                    if let Some(less) = most.checked_sub(1) {
+                        assert!(rt; !sweep_fits(&[a, b], new, less), "at {i} {j} {k}");
+                    }
                 }
                 assert_eq!(rt;
                     clear(&[a, b], new),

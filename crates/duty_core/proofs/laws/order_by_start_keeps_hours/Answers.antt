@@ -1,0 +1,11 @@
+use Rattle.duty_core.proofs.ByStart.{ordered_use, ordered_hours, ordered_peak}
+use Rattle.duty_core.proofs.laws.order_by_start_keeps_hours.Goals as goal
+
+pub returns-clause-used : goal.returns-clause-used
+returns-clause-used c = ordered_use
+
+pub returns-clause-hours : goal.returns-clause-hours
+returns-clause-hours c = ordered_hours
+
+pub returns-clause-peak : goal.returns-clause-peak
+returns-clause-peak c = ordered_peak

@@ -1,0 +1,102 @@
+//! How far the edges of a list lie before a place, where the edges don't fall.
+//!
+//! Such a height is the sum, over the edges that lie before x, of how far they do. Where the edges don't fall, those at
+//! or before x are the first of the list. So it follows from a mark: from how many there are, and from their places added
+//! up, each place being how far the edge lies after the least `i64`:
+//!
+//!     height(x) = passed * place(x) - sum
+//!
+//! A mark for x is also one for what comes later, so it only moves forward.
+
+ghost use Rattle.std.specs.Prelude.{◌≡◌, ◌↔◌, ◌^◌, ◌<◌, IsTrue};
+ghost use Rattle.duty_core.specs.Marks.{edge_of, IsRising, place_of, height_of, IsMark, IsWhole};
+
+use crate::interval::Span;
+
+/// One of the two edges of a span: where it begins, or where it ends.
+#[derive(Clone, Copy)]
+pub(crate) enum Edge {
+    Start,
+    End,
+}
+
+/// Where the edge of the span is.
+pub(crate) fn edge_of(span: Span, edge: Edge) -> i64
+    ensures { result ≡ edge_of edge span }
+{
+    match edge {
+        Edge::Start => span.start(),
+        Edge::End => span.start() + i64::from(span.len()),
+    }
+}
+
+/// Whether no such edge is less than the one before it.
+pub(crate) fn rises(spans: &[Span], edge: Edge) -> bool
+    ensures { IsTrue result ↔ IsRising edge spans.now }
+{
+    for i in 1..spans.len() {
+        if edge_of(spans[i], edge) < edge_of(spans[i - 1], edge) {
+            return false;
+        }
+    }
+    true
+}
+
+/// The first edges of a list: how many they are, and their places added up.
+#[derive(Clone, Copy)]
+pub(crate) struct Mark {
+    passed: usize,
+    sum: u128,
+}
+
+/// The mark of no edges.
+pub(crate) const UNPASSED: Mark = Mark { passed: 0, sum: 0 };
+
+/// The mark moved on to x, and how far the edges that lie before x do so, added up.
+pub(crate) fn climb(spans: &[Span], edge: Edge, from: Mark, x: i64) -> (Mark, u128)
+    requires mark { IsMark edge spans.now from.passed from.sum x }
+    requires rising { IsRising edge spans.now }
+    ensures mark { IsMark edge spans.now result.0.passed result.0.sum x }
+    ensures same { result.1 ≡ height_of edge spans.now x }
+    ensures small { result.1 < 2 ^ 127 }
+{
+    let mark = forward(spans, edge, from, x);
+    (mark, height(spans, edge, mark, x))
+}
+
+/// The mark moved on over the edges that aren't after x.
+fn forward(spans: &[Span], edge: Edge, from: Mark, x: i64) -> Mark
+    requires { IsMark edge spans.now from.passed from.sum x }
+    ensures mark { IsMark edge spans.now result.passed result.sum x }
+    ensures stop { IsWhole edge spans.now result.passed x }
+{
+    let mut passed = from.passed;
+    let mut sum = from.sum;
+    while passed < spans.len() {
+        let next = edge_of(spans[passed], edge);
+        if x < next {
+            break;
+        }
+        sum += place(next);
+        passed += 1;
+    }
+    Mark { passed, sum }
+}
+
+/// How far the edges that lie before x do so, added up: no edge after the mark does.
+fn height(spans: &[Span], edge: Edge, at: Mark, x: i64) -> u128
+    requires mark { IsMark edge spans.now at.passed at.sum x }
+    requires stop { IsWhole edge spans.now at.passed x }
+    requires rising { IsRising edge spans.now }
+    ensures same { result ≡ height_of edge spans.now x }
+    ensures small { result < 2 ^ 127 }
+{
+    at.passed as u128 * place(x) - at.sum
+}
+
+/// How far x lies after the first place, the least `i64`.
+fn place(x: i64) -> u128
+    ensures { result ≡ place_of x }
+{
+    (i128::from(x) - i128::from(i64::MIN)) as u128
+}

@@ -1,0 +1,123 @@
+//! The peak, and whether one more span fits, by one sweep through a list in order of start.
+//!
+//! Let the height of the starts at x be how far those that lie before x do so, added up, and that of the ends likewise.
+//! Their difference is how many microseconds of the spans lie before x. So for every list, overlapping spans too,
+//!
+//!     use(t) = starts(t + hour) - ends(t + hour) - (starts(t) - ends(t))
+//!
+//! Where neither kind of edge falls from one span to the next, each of these four heights follows from a mark that only
+//! moves forward (`marks`). The hours that begin at a start come in order then, and so do those that end at an end: a
+//! window of four marks slides through the list for each kind. Where some end falls, the plain form answers.
+//!
+//! No clause speaks of time. The test `sweeps_a_million` shows that the sweep is what runs: neither the plain form nor
+//! marks that begin anew for each hour would end within the time of a test.
+
+ghost use Rattle.std.specs.Prelude.{◌≡◌, ◌↔◌, ◌^◌, ◌∷◌, ◌++◌, [], pos, ◌+ℤ◌, ◌<ℤ◌, IsTrue};
+ghost use Rattle.duty_core.specs.Use.{hour, use_of, IsPeak, EveryHourWithin};
+ghost use Rattle.duty_core.specs.Computed.{edge_hours, greatest_use, peak_of, hours_within};
+ghost use Rattle.duty_core.specs.InOrder.{StartsAscend};
+ghost use Rattle.duty_core.specs.declared.marks.Edge.TheVariants.{Start, End};
+ghost use Rattle.duty_core.specs.Marks.{IsRising};
+ghost use Rattle.duty_core.specs.Windows.{IsWindow};
+
+use crate::hours::{HOUR, edges_fit, fits, peak, shared_count};
+use crate::interval::Span;
+use crate::marks::{Edge, Mark, UNPASSED, climb, edge_of, rises};
+
+/// Whether no start is less than the one before it.
+pub fn in_order(spans: &[Span]) -> bool
+    ensures { IsTrue result ↔ StartsAscend spans.now }
+{
+    rises(spans, Edge::Start)
+}
+
+/// The greatest use of any hour, in microseconds; 0 for no spans. The spans are in order of start.
+pub fn sweep_peak(spans: &[Span]) -> u128
+    requires { StartsAscend spans.now }
+    ensures peak { IsPeak spans.now result }
+    ensures exact { result ≡ peak_of spans.now }
+{
+    if rises(spans, Edge::End) {
+        greatest(spans, Span::empty())
+    } else {
+        peak(spans)
+    }
+}
+
+/// Whether with the new span too the use of every hour is at most `most` microseconds. The spans are in order of start;
+/// the new one may stand anywhere, so that its own two hours are summed apart.
+pub fn sweep_fits(spans: &[Span], new: Span, most: u64) -> bool
+    requires { StartsAscend spans.now }
+    ensures hours { IsTrue result ↔ EveryHourWithin (spans.now ++ new ∷ []) most }
+    ensures exact { result ≡ hours_within (spans.now ++ new ∷ []) most }
+{
+    if rises(spans, Edge::End) {
+        edges_fit(spans, new, new, most) && greatest(spans, new) <= u128::from(most)
+    } else {
+        fits(spans, new, most)
+    }
+}
+
+/// The greatest use, with the new span too, of the hours that begin at a start of the list or end at an end of it. The
+/// new one isn't put into the list, whose edges might fall then: it counts in each hour by what it shares with it.
+fn greatest(spans: &[Span], new: Span) -> u128
+    requires starts { IsRising Start spans.now }
+    requires ends { IsRising End spans.now }
+    ensures { result ≡ greatest_use (spans.now ++ new ∷ []) (edge_hours spans.now) }
+{
+    let mut most: u128 = 0;
+    let mut by_start = UNMOVED;
+    let mut by_end = UNMOVED;
+    for span in spans {
+        let start = span.start();
+        let (from_start, at_start) = slide(spans, by_start, start);
+        let with_start = at_start + u128::from(shared_count(new, start, HOUR));
+        let last = edge_of(*span, Edge::End) - i64::from(HOUR);
+        let (from_end, at_end) = slide(spans, by_end, last);
+        let with_end = at_end + u128::from(shared_count(new, last, HOUR));
+        by_start = from_start;
+        by_end = from_end;
+        most = most.max(with_start.max(with_end));
+    }
+    most
+}
+
+/// The marks of an hour: of the edges up to where it begins, and up to where it ends.
+#[derive(Clone, Copy)]
+struct Window {
+    starts: Mark,
+    ends: Mark,
+    later_starts: Mark,
+    later_ends: Mark,
+}
+
+/// The marks before the first hour.
+const UNMOVED: Window = Window {
+    starts: UNPASSED,
+    ends: UNPASSED,
+    later_starts: UNPASSED,
+    later_ends: UNPASSED,
+};
+
+/// The window slid on to the hour from t, and the use of that hour.
+fn slide(spans: &[Span], from: Window, t: i64) -> (Window, u128)
+    requires window { IsWindow spans.now from t }
+    requires range { (t +ℤ pos hour) <ℤ pos (2 ^ 63) }
+    requires starts { IsRising Start spans.now }
+    requires ends { IsRising End spans.now }
+    ensures window { IsWindow spans.now result.0 t }
+    ensures used { result.1 ≡ use_of spans.now t }
+{
+    let later = t + i64::from(HOUR);
+    let (starts, begun) = climb(spans, Edge::Start, from.starts, t);
+    let (ends, ended) = climb(spans, Edge::End, from.ends, t);
+    let (later_starts, later_begun) = climb(spans, Edge::Start, from.later_starts, later);
+    let (later_ends, later_ended) = climb(spans, Edge::End, from.later_ends, later);
+    let window = Window {
+        starts,
+        ends,
+        later_starts,
+        later_ends,
+    };
+    (window, later_begun + ended - (later_ended + begun))
+}
