@@ -4,9 +4,9 @@ use Rattle.std.specs.Fmt.{decimal, digits}
 use Rattle.std.specs.List.{flat_map, list_any}
 use Rattle.std.specs.List.Sorted.{IsStrictlyIncreasing}
 use Rattle.radio_core.specs.declared.bands.Band.{Band}
-use Rattle.radio_core.specs.Bands.{band_number, bands, limit_of}
+use Rattle.radio_core.specs.Bands.{band_number, bands}
 use Rattle.radio_core.specs.Names.{is_name}
-use Rattle.registry_core.specs.Bookings.{downlinks_in}
+use Rattle.registry_core.specs.Bookings.{downlinks_in, limit_in}
 use Rattle.registry_core.specs.Reports.{IsUse, Use, in_band, is_owned, uplinks_from}
 use Rattle.registry_core.specs.State.{State}
 use Rattle.desk_engine.specs.Lines.{line_feed}
@@ -73,4 +73,4 @@ is_gateway s name = is_name name && s.gateways name
 pub record IsBandReport (s : State) (gateway : List ℕ) (text : List ℕ) : Type 0 where
   pub used : Band → Use
   pub used_is : (band : Band) → IsUse (downlinks_in s.bookings gateway band) (used band)
-  pub text_is : text ≡ band_header ++ flat_map (λ band. band_line band (limit_of band) (used band)) bands
+  pub text_is : text ≡ band_header ++ flat_map (λ band. band_line band (limit_in s gateway band) (used band)) bands

@@ -1,6 +1,7 @@
 pub mod CsvDecimals
 pub mod CsvRows
 pub mod DataRateNumbers
+pub mod FirstFaults
 pub mod HexTexts
 pub mod InRange
 pub mod Kept

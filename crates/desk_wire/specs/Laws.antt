@@ -1,7 +1,8 @@
 -- What holds of reading and writing together.
-use Rattle.std.specs.Prelude.{◌≡◌, ℕ, List, Ok}
+use Rattle.std.specs.Prelude.{◌≡◌, ◌≢◌, ℕ, List, Ok, Err}
 use Rattle.registry_core.specs.declared.messages.Envelope.{Envelope}
 use Rattle.registry_core.specs.Ranges.{IsName, IsEnvelope}
+use Rattle.desk_wire.specs.declared.faults.WireFault.TheVariants.{Memory}
 use Rattle.desk_wire.specs.Reading.{reads}
 use Rattle.desk_wire.specs.Writing.{message_text}
 
@@ -13,3 +14,7 @@ MessageReadsBack = (receiver : List ℕ) (e : Envelope) → IsName receiver → 
 -- what is read is in the ranges that the types keep
 abbrev pub ReadsInRange : Type 0
 ReadsInRange = (receiver text : List ℕ) (e : Envelope) → reads receiver text ≡ Ok e → IsEnvelope e
+
+-- no text reads as want of memory: that is told only by what reads it
+abbrev pub ReadsNoMemory : Type 0
+ReadsNoMemory = (receiver text : List ℕ) → reads receiver text ≢ Err Memory

@@ -1,5 +1,5 @@
 //! Laws of the definitions: each is the contract of a function that does nothing.
-ghost use Rattle.desk_wire.specs.Laws.{MessageReadsBack, ReadsInRange};
+ghost use Rattle.desk_wire.specs.Laws.{MessageReadsBack, ReadsInRange, ReadsNoMemory};
 
 /// What is written is read as the same envelope.
 #[tactic(auto, using(crate::proofs::ReadBack::message_reads_back))]
@@ -10,4 +10,10 @@ pub fn message_reads_back()
 /// What is read is in the ranges that the types keep.
 pub fn reads_in_range()
     ensures { ReadsInRange }
+{}
+
+/// No text is one that memory doesn't suffice for.
+#[tactic(auto, using(crate::proofs::FirstFaults::reads_no_memory))]
+pub fn reads_no_memory()
+    ensures { ReadsNoMemory }
 {}
