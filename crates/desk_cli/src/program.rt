@@ -1,8 +1,11 @@
 //! The program's arguments, and what it does with them.
 ghost use Rattle.std.specs.Prelude.{◌≡◌, ◌≢◌, map, string_bytes, IfOk, IfErr};
+ghost use Rattle.std.specs.IoError.{error_kind};
+ghost use Rattle.std.specs.Vec.Iter.{into_iter_items};
 ghost use Rattle.clap.specs.Walk.{texts};
+ghost use Rattle.desk_cli.specs.Named.{named_by, Tells};
 ghost use Rattle.desk_cli.specs.Endings.{ending_of, IsDoneOrFailed};
-ghost use Rattle.desk_cli.specs.Runs.{Asks, IsDone, IsNamed, IsUnread};
+ghost use Rattle.desk_cli.specs.Runs.{Asks, AsksFor, EndsUnread, given, IsDone, IsNamed, IsUnread};
 ghost use Rattle.desk_cli.specs.declared.commands.Command.{Command};
 
 use crate::commands::Command;
@@ -10,9 +13,9 @@ use crate::endings::{Ending, ending_of};
 use crate::lines::lines_command;
 use crate::usage::Usage;
 use crate::words::read_words;
-use std::alloc::Global;
-use std::env;
-use std::io::{ErrorKind, Read, Write};
+use std::alloc::{AllocError, Global};
+use std::env::{self, Args};
+use std::io::{self, ErrorKind, Read, Write};
 use std::rt::Env;
 
 /// Does what the program's arguments ask. What is wrong with them goes to `faults`.
@@ -32,8 +35,31 @@ pub fn run<E: Env + AllocGlobal, R: Read, W: Write, F: Write>(
         → (reader.new ≡ reader.old) × (answers.new ≡ answers.old) }
     ensures ends { result ≢ Ending.Refused }
 {
-    match asked(rt) {
-        Ok(command) => perform(rt.alloc(), &command, reader, answers, faults),
+    run_given(rt.alloc(), env::args(rt), reader, answers, faults)
+}
+
+/// Does what the arguments ask, as std read them. What is wrong with them, or why std has none, goes to `faults`.
+pub fn run_given<R: Read, W: Write, F: Write>(
+    alloc: Global,
+    arguments: io::Result<Args>,
+    reader: &mut R,
+    answers: &mut W,
+    faults: &mut F,
+) -> Ending
+    // With status 0 the words name a command, and what it asks was done.
+    ensures done { result ≡ Ending.Done → (command : Command) × AsksFor (given arguments) command
+        × IsDone (R.remaining reader.old) (R.remaining reader.new)
+        (W.contents answers.old) (W.contents answers.new) command }
+    ensures quiet { result ≡ Ending.Done → faults.new ≡ faults.old }
+    // With status 2 they name no command, nothing was read, and nothing was answered.
+    ensures misused { result ≡ Ending.Misused
+        → ((command : Command) → ¬ (AsksFor (given arguments) command))
+        × (reader.new ≡ reader.old) × (answers.new ≡ answers.old) }
+    ensures unread { IfErr arguments (λ error. EndsUnread (error_kind error) result) }
+    ensures ends { result ≢ Ending.Refused }
+{
+    match asked(alloc, arguments) {
+        Ok(command) => perform(alloc, &command, reader, answers, faults),
         Err(usage) => tell(&usage, faults),
     }
 }
@@ -64,34 +90,52 @@ fn tell<F: Write>(usage: &Usage, faults: &mut F) -> Ending
     ending_of(usage)
 }
 
-/// The command that the program's arguments name.
-fn asked<R: Env + AllocGlobal>(rt: &R) -> Result<Command, Usage>
-    ensures { Asks result }
+/// The command that the arguments name, the program's own name first.
+fn asked(alloc: Global, arguments: io::Result<Args>) -> Result<Command, Usage>
+    ensures { Asks (given arguments) result }
 {
-    let arguments = arguments(rt)?;
-    let words = words_of(rt.alloc(), &arguments)?;
-    read_words(rt.alloc(), &words)
-}
-
-/// The program's arguments, its own name first.
-fn arguments<R: Env + AllocGlobal>(rt: &R) -> Result<Vec<String>, Usage>
-    ensures { IfErr result IsUnread }
-{
-    match env::args(rt) {
-        Ok(arguments) => arguments.collect(rt.alloc()).map_err(|_| Usage::Memory),
-        Err(error) if error.kind() == ErrorKind::OutOfMemory => Err(Usage::Memory),
-        Err(_) => Err(Usage::NotText),
+    match arguments {
+        Ok(arguments) => command_of(alloc, arguments),
+        Err(error) => Err(unread(&error)),
     }
 }
 
-fn words_of<'a>(alloc: Global, arguments: &'a [String]) -> Result<Vec<&'a str>, Usage>
-    ensures words { IfOk result (λ words. texts words.items
-        ≡ map string_bytes arguments.entry.now) }
-    ensures memory { IfErr result (λ usage. usage ≡ Usage.Memory) }
+/// The same of arguments that could be read.
+fn command_of(alloc: Global, arguments: Args) -> Result<Command, Usage>
+    ensures { Tells (named_by (map string_bytes (into_iter_items arguments))) result }
+{
+    let Ok(arguments) = strings_of(alloc, arguments) else {
+        return Err(Usage::Memory);
+    };
+    let Ok(words) = words_of(alloc, &arguments) else {
+        return Err(Usage::Memory);
+    };
+    read_words(alloc, &words)
+}
+
+/// Why the arguments can't be had.
+fn unread(error: &io::Error) -> Usage
+    ensures { IsUnread (error_kind error.now) result }
+{
+    if error.kind() == ErrorKind::OutOfMemory {
+        Usage::Memory
+    } else {
+        Usage::NotText
+    }
+}
+
+fn strings_of(alloc: Global, arguments: Args) -> Result<Vec<String>, AllocError>
+    ensures { IfOk result (λ strings. strings.items ≡ into_iter_items arguments) }
+{
+    arguments.collect(alloc)
+}
+
+fn words_of<'a>(alloc: Global, arguments: &'a [String]) -> Result<Vec<&'a str>, AllocError>
+    ensures { IfOk result (λ words. texts words.items ≡ map string_bytes arguments.entry.now) }
 {
     let words = arguments.iter().map(|argument| argument.as_str());
-    match words.collect(alloc) {
-        Ok(words) => Ok(words),
-        Err(_) => Err(Usage::Memory),
-    }
+    words.collect(alloc)
 }
+
+#[cfg(test)]
+mod tests;

@@ -193,7 +193,7 @@ fn words_that_name_nothing(rt: HostRuntime) -> Result<(), Fail> {
     Ok(())
 }
 
-const LINES_HELP: &str = "\
+pub(crate) const LINES_HELP: &str = "\
 Answers the messages of standard input, one a line
 
 Usage: desk lines [OPTIONS]

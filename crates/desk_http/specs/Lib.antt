@@ -1,4 +1,5 @@
 pub mod Fields
+pub mod HeadLaws
 pub mod Heads
 pub mod Reports
 pub mod Requests

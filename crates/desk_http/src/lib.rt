@@ -5,6 +5,7 @@ mod asking;
 mod bodies;
 mod fields;
 mod heads;
+pub mod laws;
 mod responses;
 mod serving;
 mod targets;

@@ -28,7 +28,7 @@ pub(super) const UP_0: &str = "400000a00100000011223344";
 
 pub(super) const UP_1: &str = "400000a00100010011223344";
 
-const UP_2: &str = "400000a00100020011223344";
+pub(super) const UP_2: &str = "400000a00100020011223344";
 
 const UP_3: &str = "400000a00100030011223344";
 

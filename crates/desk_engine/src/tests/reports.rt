@@ -1,5 +1,5 @@
 //! Reports: the worked ones, months and their edges, a device that is moved, devices in order, and what is no report.
-use super::downlinks::{ACCEPT, DEVICE_EUI, DOWN, DOWN_0, UP_0, UP_1};
+use super::downlinks::{ACCEPT, DEVICE_EUI, DOWN, DOWN_0, UP_0, UP_1, UP_2};
 use super::importing::{WORKED, WORKED_ANSWERS, expect_imported};
 use super::joins::{FIRST, FIRST_ADDED};
 use super::rows::Row::{Asks, Books, Frames, Joins};
@@ -66,8 +66,9 @@ static ACCEPT_DROPPED: [Row; 1] = [Asks(
     SUCCESS,
 )];
 
-/// A join that starts with December 2023, a data frame that starts one microsecond before February 2024, and one in it.
-static MONTHS: [Row; 3] = [
+/// A join that starts with December 2023, a data frame that starts one microsecond before February 2024, and one in it; and one
+/// that starts in the last microsecond of the leap day of 2000.
+static MONTHS: [Row; 4] = [
     Joins(
         "bridge",
         10,
@@ -99,6 +100,17 @@ static MONTHS: [Row; 3] = [
         },
         Framed(41_216, "B3", false, 1, DEVICE_EUI, 3),
     ),
+    Frames(
+        "bridge",
+        13,
+        Heard {
+            time: 951_868_800_041_215,
+            octets: UP_2,
+            verdict: "2",
+            ..FIRST
+        },
+        Framed(41_216, "B3", false, 2, DEVICE_EUI, 4),
+    ),
 ];
 
 static MOVED: [Row; 2] = [
@@ -125,7 +137,12 @@ static MORE_DEVICES: [Row; 2] = [
 ];
 
 /// The months and the device's line in each.
-static LINES: [(&str, &str); 6] = [
+static LINES: [(&str, &str); 8] = [
+    (
+        "2000-02",
+        "0004a30b001a2b3c,1,0,0,0,0,41216,41216,0,0,0,0,0,0\n",
+    ),
+    ("2000-03", UNUSED_LINE),
     (
         "2023-12",
         "0004a30b001a2b3c,1,0,0,0,0,61696,61696,0,0,0,0,0,0\n",

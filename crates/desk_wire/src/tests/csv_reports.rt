@@ -33,7 +33,7 @@ static TAKEN: [&[u8]; 12] = [
 ];
 
 /// Records, each alone behind the header, that aren't.
-static REFUSED: [&[u8]; 35] = [
+static REFUSED: [&[u8]; 36] = [
     b"10,JoinHeard,gw-a,1706745600061696,868100000,5,00,good",
     b"10,JoinHeard,gw-a,1706745600061696,868100000,5,00,",
     b"10,JoinHeard,gw-a,1706745600061696,868100000,5,00,0",
@@ -68,6 +68,7 @@ static REFUSED: [&[u8]; 35] = [
     b"10,FrameHeard,gw-a,0,0,0,00,null",
     b"10,FrameHeard,gw-\xff,0,0,0,00,0",
     b"10,FrameHeard,\"gw-a,0,0,0,00,0",
+    b"10,FrameHeard,gw-a,0,0,0,00,\"0",
     b"transaction,type,gateway,time_us,freq_hz,dr,phy,verdict",
 ];
 
