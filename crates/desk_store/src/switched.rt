@@ -48,6 +48,7 @@ impl Switched {
     pub fn new(alloc: Global, config: Config) -> Result<Switched, AllocError>
         ensures opens { IfOk result (λ store. switched_meaning.holds store (record { facts = opening config; entries = [] })) }
         ensures config { IfOk result (λ store. switched_meaning.configuration store ≡ config) }
+        ensures up { IfOk result (λ store. switched_meaning.down store ≡ false) }
     {
         Ok(Switched {
             lists: Lists::new(alloc, config)?,
