@@ -1,7 +1,7 @@
 //! What reports ask of a store, through the bound as the engine asks it.
 use super::downlinks::{booked, keep, reception, span, uplink};
 use super::{lists, name};
-use crate::{Keeper, Lists, StoreFault};
+use crate::{Keeper, Lists, Looks, StoreFault};
 use duty_core::Span;
 use radio_core::{Band, Eui};
 use registry_core::{Device, Effect, Kind, Session, Uplink, Whole};
