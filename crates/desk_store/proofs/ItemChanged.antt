@@ -1,7 +1,7 @@
 -- A write at a place changes the item with the number of that place.
-use Rattle.std.proofs.Common.{◌≡◌, ℕ, zero, suc, ◌-◌, ◌<◌, ◌≤◌, List, [], ◌∷◌, length, refl, ap, arith}
+use Rattle.std.proofs.Common.{◌≡◌, ℕ, zero, suc, ◌-◌, ◌<◌, ◌≤◌, List, [], ◌∷◌, length, slice_get, None, refl, ap, arith}
 use Rattle.std.specs.Prelude.{slice_index_or, slice_set}
-use Rattle.registry_core.specs.Numbered.{item_changed, place_changed}
+use Rattle.registry_core.specs.Numbered.{item_at, item_changed, place_changed}
 
 place_changed_by : {X : Type 0} (f : X → X) (xs : List X) (n : ℕ) (d : X) → n < length xs → slice_set xs n (f (slice_index_or xs n d)) ≡ place_changed f xs n
 place_changed_by f [] n d within = absurd (omega arith)
@@ -28,3 +28,12 @@ item_changed_none f xs (suc n) none = absurd (omega arith)
 pub item_changed_past : {X : Type 0} (f : X → X) (xs : List X) (number : ℕ) → length xs < number → item_changed f xs number ≡ xs
 item_changed_past f xs zero past = refl
 item_changed_past f xs (suc n) past = place_changed_past f xs n (omega arith)
+
+place_changed_absent : {X : Type 0} (f : X → X) (xs : List X) (n : ℕ) → slice_get xs n ≡ None → place_changed f xs n ≡ xs
+place_changed_absent f [] n none = refl
+place_changed_absent f (x ∷ xs) zero none = let no : ⊥ = cc in absurd no
+place_changed_absent f (x ∷ xs) (suc n) none = ap (λ rest. x ∷ rest) (place_changed_absent f xs n none)
+
+pub item_changed_absent : {X : Type 0} (f : X → X) (xs : List X) (number : ℕ) → item_at xs number ≡ None → item_changed f xs number ≡ xs
+item_changed_absent f xs zero none = refl
+item_changed_absent f xs (suc n) none = place_changed_absent f xs n none

@@ -29,5 +29,5 @@ facts_of facts = record {
   sessions = facts.sessions.items;
   uplinks = facts.uplinks.items;
   copies = copies_of facts.copies;
-  bookings = facts.bookings.items;
+  bookings = facts.bookings;
 }

@@ -1,17 +1,158 @@
-//! Look-ups in bookings: each looks once through them, from the front.
-ghost use Rattle.std.specs.Prelude.{◌≡◌, pos, IfOk};
-ghost use Rattle.duty_core.specs.Near.{is_near};
-ghost use Rattle.registry_core.specs.Bookings.{is_answered, is_down_of, next_down};
-ghost use Rattle.desk_store.specs.Lookups.{stands_within, downlinks_near};
+//! The bookings in order; those of one gateway are found in order of start, without looking through the others.
+ghost use Rattle.std.specs.Prelude.{◌≡◌, pos, ◌+ℤ◌, ◌-ℤ◌, int_lt, ◌&&◌, [], ◌∷◌, ◌++◌, length, filter, IfOk, OnOk, OnErr, ◌^◌, ◌<◌};
+ghost use Rattle.std.specs.List.{filter_map};
+ghost use Rattle.duty_core.specs.InOrder.{IsByStart};
+ghost use Rattle.registry_core.specs.Bookings.{downlinks_in, is_answered, is_down_of, next_down};
+ghost use Rattle.registry_core.specs.Numbered.{item_at, item_changed};
+ghost use Rattle.registry_core.specs.State.{ended};
+ghost use Rattle.desk_store.specs.ByKey.{Rises};
+ghost use Rattle.desk_store.specs.BookingIndex.{is_on_air, is_near_place, span_told};
+ghost use Rattle.desk_store.specs.Lookups.{downlinks_near};
 
+use crate::answers::Answers;
+use crate::booking_index::{BookingIndex, Place, places_near};
+use crate::lookups::item_at;
 use crate::uplinks::Uplinks;
 use duty_core::Span;
 use radio_core::{Band, Name};
 use registry_core::{Booking, Kind, Standing};
 use std::alloc::{AllocError, Global};
+use std::marker::Model;
 
-/// An hour and 3,000,000 microseconds: what begins less than this apart is near.
-const NEAR: i128 = 3_603_000_000;
+/// The bookings in order, with their index. Contracts see the list.
+#[derive(Debug, Drop)]
+pub(crate) struct Bookings {
+    items: Vec<Booking>,
+    index: BookingIndex,
+    answers: Answers,
+}
+
+impl Model for Bookings {
+    ghost use Rattle.std.specs.Prelude.{List};
+    ghost use Rattle.registry_core.specs.declared.facts.Booking.{Booking as BookingValue};
+
+    ghost Value = { List BookingValue };
+
+    ghost use Rattle.desk_store.specs.Answers.{AreCounted};
+    ghost use Rattle.desk_store.specs.BookingIndex.{IsBookingIndex};
+
+    ghost view = { λ b. b.items.items };
+
+    ghost invariant = { λ b. IsBookingIndex b.items.items b.index × AreCounted b.items.items b.answers };
+}
+
+impl Bookings {
+    pub(crate) fn new(alloc: Global) -> Bookings
+        ensures { result ≡ [] }
+    {
+        Bookings {
+            items: Vec::new(alloc),
+            index: BookingIndex::new(alloc),
+            answers: Answers::new(alloc),
+        }
+    }
+
+    pub(crate) fn len(&self) -> usize
+        ensures count { result ≡ length self.now }
+        ensures small { result < 2 ^ 63 }
+    {
+        self.items.len()
+    }
+
+    /// The booking with this number, from 1.
+    pub(crate) fn at(&self, number: u64) -> Option<Booking>
+        ensures { result ≡ item_at self.now number }
+    {
+        item_at(&self.items, number)
+    }
+
+    /// The booking goes to the end, or nowhere.
+    pub(crate) fn push(&mut self, booking: Booking) -> Result<(), AllocError>
+        ensures ok { OnOk result (self.new ≡ self.old ++ booking ∷ []) }
+        ensures err { OnErr result (self.new ≡ self.old) }
+    {
+        self.items.reserve(1)?;
+        self.answers.make_room()?;
+        let number = self.items.len() as u64 + 1;
+        self.index.note(&booking, number)?;
+        self.answers.note(&booking)?;
+        self.items.push(booking)?;
+        Ok(())
+    }
+
+    /// The booking with this number, from 1, is sent, or else dropped, and all else stays; or nothing changes.
+    pub(crate) fn end(&mut self, number: u64, sent: bool) -> Result<(), AllocError>
+        ensures ok { OnOk result (self.new ≡ item_changed (ended sent) self.old number) }
+        ensures err { OnErr result (self.new ≡ self.old) }
+    {
+        if let Some(booking) = item_at(&self.items, number) {
+            self.answers.end(&booking, sent)?;
+            end_in(&mut self.items, number, sent);
+        }
+        Ok(())
+    }
+
+    /// How many bookings answer data uplinks of the session, dropped ones too.
+    pub(crate) fn next_down(&self, uplinks: &Uplinks, session: u64) -> u64
+        ensures { result ≡ next_down self.now uplinks.now.items session }
+    {
+        self.items
+            .iter()
+            .filter(|booking| is_down_of(booking, uplinks, session))
+            .count() as u64
+    }
+
+    /// A booking that isn't dropped answers the uplink with this number.
+    pub(crate) fn is_answered(&self, uplink: u64) -> bool
+        ensures { result ≡ is_answered self.now uplink }
+    {
+        self.answers.standing.at(uplink) > 0
+    }
+
+    /// When the gateway's bookings that aren't dropped and begin near the start are on the air, in order of start: those in the
+    /// band, or in all bands.
+    pub(crate) fn near(
+        &self,
+        alloc: Global,
+        gateway: &Name,
+        band: Option<Band>,
+        start: u64,
+    ) -> Result<Vec<Span>, AllocError>
+        ensures { IfOk result (λ spans. IsByStart (downlinks_near self.now gateway.now band start) spans.items) }
+    {
+        spans_at(
+            alloc,
+            &self.items,
+            places_near(self.index.places(gateway), start),
+            band,
+        )
+    }
+
+    /// When the gateway's bookings in the band that aren't dropped are on the air, in order of start.
+    pub(crate) fn of_band(
+        &self,
+        alloc: Global,
+        gateway: &Name,
+        band: Band,
+    ) -> Result<Vec<Span>, AllocError>
+        ensures { IfOk result (λ spans. IsByStart (downlinks_in self.now gateway.now band) spans.items) }
+    {
+        spans_at(alloc, &self.items, self.index.places(gateway), Some(band))
+    }
+}
+
+/// The booking with this number, from 1, is sent, or else dropped, and all else stays.
+fn end_in(bookings: &mut [Booking], number: u64, sent: bool)
+    ensures { bookings.new ≡ item_changed (ended sent) bookings.old number }
+{
+    if 1 <= number && number <= bookings.len() as u64 {
+        bookings[number as usize - 1].standing = if sent {
+            Standing::Sent
+        } else {
+            Standing::Dropped
+        };
+    }
+}
 
 /// The booking answers a data uplink of the session.
 fn is_down_of(booking: &Booking, uplinks: &Uplinks, session: u64) -> bool
@@ -23,55 +164,35 @@ fn is_down_of(booking: &Booking, uplinks: &Uplinks, session: u64) -> bool
     }
 }
 
-/// How many bookings answer data uplinks of the session, dropped ones too.
-pub(crate) fn next_down(bookings: &[Booking], uplinks: &Uplinks, session: u64) -> u64
-    ensures { result ≡ next_down bookings.now uplinks.now.items session }
+/// The booking isn't dropped, and is in the band if one is given.
+fn is_on_air(booking: &Booking, band: Option<Band>) -> bool
+    ensures { result ≡ is_on_air band booking.now }
 {
-    bookings
-        .iter()
-        .filter(|booking| is_down_of(booking, uplinks, session))
-        .count() as u64
+    booking.standing != Standing::Dropped && band.is_none_or(|band| booking.band == band)
 }
 
-/// A booking that isn't dropped answers the uplink with this number.
-pub(crate) fn is_answered(bookings: &[Booking], uplink: u64) -> bool
-    ensures { result ≡ is_answered bookings.now uplink }
+/// When the booking that stands there is on the air, if it isn't dropped, and is in the band if one is given.
+fn span_told(bookings: &[Booking], place: &Place, band: Option<Band>) -> Option<Span>
+    ensures { result ≡ span_told bookings.now band place.now }
 {
-    bookings.iter().any(|booking| booking.uplink == uplink && booking.standing != Standing::Dropped)
+    let booking = item_at(bookings, place.number)?;
+    is_on_air(&booking, band).then_some(booking.span)
 }
 
-/// The booking isn't dropped and is the gateway's, in the band if one is given.
-pub(crate) fn stands_within(booking: &Booking, gateway: &Name, band: Option<Band>) -> bool
-    ensures { result ≡ stands_within gateway.now band booking.now }
-{
-    booking.gateway.get() == gateway.get()
-        && booking.standing != Standing::Dropped
-        && band.is_none_or(|band| booking.band == band)
-}
-
-/// It begins near the start, on either side.
-fn is_near(span: &Span, start: u64) -> bool
-    ensures { result ≡ is_near (pos start) span.now }
-{
-    let apart = i128::from(span.start()) - i128::from(start);
-    -NEAR < apart && apart < NEAR
-}
-
-/// When the gateway's bookings that aren't dropped and begin near the start are on the air: those in the band, or in all
-/// bands.
-pub(crate) fn downlinks_near(
+/// When the bookings that stand there are on the air, in the places' order: those that aren't dropped, in the band if one is
+/// given.
+fn spans_at(
     alloc: Global,
     bookings: &[Booking],
-    gateway: &Name,
+    places: &[Place],
     band: Option<Band>,
-    start: u64,
 ) -> Result<Vec<Span>, AllocError>
-    ensures { IfOk result (λ spans. spans.items ≡ downlinks_near bookings.now gateway.now band start) }
+    ensures { IfOk result (λ spans. spans.items ≡ filter_map (span_told bookings.now band) places.now) }
 {
     let mut spans = Vec::new(alloc);
-    for booking in bookings {
-        if stands_within(booking, gateway, band) && is_near(&booking.span, start) {
-            spans.push(booking.span)?;
+    for place in places {
+        if let Some(span) = span_told(bookings, place, band) {
+            spans.push(span)?;
         }
     }
     Ok(spans)

@@ -1,14 +1,14 @@
 //! The registry's facts in the plain form: what has a key in maps and sets, and what is numbered in lists.
 ghost use Rattle.std.specs.Prelude.{◌≡◌, ◌+◌, [], ◌∷◌, ◌++◌, length, IfOk, OnOk, OnErr};
-ghost use Rattle.registry_core.specs.Numbered.{item_changed};
-ghost use Rattle.registry_core.specs.State.{copies_with, devices_with_move, ended, opening, state_with};
+ghost use Rattle.registry_core.specs.State.{copies_with, devices_with_move, opening, state_with};
 ghost use Rattle.desk_store.specs.Facts.{copies_of, devices_of, facts_of};
 
+use crate::bookings::Bookings;
 use crate::sessions::Sessions;
 use crate::uplinks::Uplinks;
 use indexmap::{IndexMap, IndexSet};
 use radio_core::{Eui, Name};
-use registry_core::{Booking, Config, Device, Effect, Reception, Role, Standing, Uplink};
+use registry_core::{Config, Device, Effect, Reception, Role, Uplink};
 use std::alloc::{AllocError, Global};
 
 /// The registry's facts. Contracts see what they are by `facts_of`.
@@ -22,7 +22,7 @@ pub(crate) struct Facts {
     pub(crate) uplinks: Uplinks,
     /// By the uplink's number and the gateway.
     pub(crate) copies: IndexMap<(u64, Name), Reception>,
-    pub(crate) bookings: Vec<Booking>,
+    pub(crate) bookings: Bookings,
 }
 
 impl Facts {
@@ -40,7 +40,7 @@ impl Facts {
             sessions: Sessions::new(alloc),
             uplinks: Uplinks::new(alloc),
             copies: IndexMap::new(alloc),
-            bookings: Vec::new(alloc),
+            bookings: Bookings::new(alloc),
         })
     }
 
@@ -99,7 +99,7 @@ impl Facts {
                 self.copies.insert((uplink, gateway), reception)?;
             }
             Effect::AddsBooking { booking } => self.bookings.push(booking)?,
-            Effect::EndsBooking { booking, sent } => end_in(&mut self.bookings, booking, sent),
+            Effect::EndsBooking { booking, sent } => self.bookings.end(booking, sent)?,
         }
         Ok(())
     }
@@ -132,18 +132,5 @@ fn move_in(devices: &mut IndexMap<Eui, Device>, dev_eui: Eui, owner: Name)
 {
     if let Some(device) = devices.get_mut(&dev_eui) {
         device.owner = owner;
-    }
-}
-
-/// The booking with this number, from 1, is sent, or else dropped, and all else stays.
-fn end_in(bookings: &mut [Booking], number: u64, sent: bool)
-    ensures { bookings.new ≡ item_changed (ended sent) bookings.old number }
-{
-    if 1 <= number && number <= bookings.len() as u64 {
-        bookings[number as usize - 1].standing = if sent {
-            Standing::Sent
-        } else {
-            Standing::Dropped
-        };
     }
 }

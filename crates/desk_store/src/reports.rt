@@ -1,19 +1,17 @@
-//! What reports ask of the facts: an owner's devices in order, and when a device's uplinks, and a gateway's downlinks, were
-//! on the air.
+//! What reports ask of the facts: an owner's devices in order, and when a device's uplinks were on the air.
 ghost use Rattle.std.specs.Prelude.{◌≡◌, IfOk, Some, min};
 ghost use Rattle.std.specs.Option.{option_map_or};
-ghost use Rattle.registry_core.specs.Bookings.{downlinks_in};
+ghost use Rattle.duty_core.specs.InOrder.{IsByStart};
 ghost use Rattle.registry_core.specs.Derived.{is_of_device};
 ghost use Rattle.registry_core.specs.Reports.{in_band, interval_of, is_after, is_owned, is_uplink_from, uplinks_from, IsNextDevice};
 ghost use Rattle.desk_store.specs.Facts.{facts_of};
 
-use crate::bookings::stands_within;
 use crate::facts::Facts;
 use crate::sessions::Sessions;
 use crate::uplinks::Uplinks;
 use duty_core::Span;
 use radio_core::{Band, Eui, Name};
-use registry_core::{Booking, Uplink};
+use registry_core::Uplink;
 use std::alloc::{AllocError, Global};
 
 impl Facts {
@@ -96,7 +94,7 @@ fn span_of(uplink: &Uplink) -> Span
     Span::new(uplink.start.get() as i64, uplink.airtime).unwrap()
 }
 
-/// When the device's uplinks in the band were on the air that start in the period.
+/// When the device's uplinks in the band were on the air that start in the period, in order of start.
 pub(crate) fn uplinks_in(
     alloc: Global,
     uplinks: &Uplinks,
@@ -105,8 +103,8 @@ pub(crate) fn uplinks_in(
     band: Band,
     period: &Period,
 ) -> Result<Vec<Span>, AllocError>
-    ensures { IfOk result (λ spans. spans.items ≡ in_band band
-        (uplinks_from uplinks.now.items sessions.now.items device period.now.from period.now.to)) }
+    ensures { IfOk result (λ spans. IsByStart (in_band band
+        (uplinks_from uplinks.now.items sessions.now.items device period.now.from period.now.to)) spans.items) }
 {
     let mut spans = Vec::new(alloc);
     for uplink in uplinks.all() {
@@ -114,23 +112,6 @@ pub(crate) fn uplinks_in(
             spans.push(span_of(uplink))?;
         }
     }
-    Ok(spans)
-}
-
-/// When the gateway's downlinks in the band that aren't dropped are on the air.
-pub(crate) fn downlinks_in(
-    alloc: Global,
-    bookings: &[Booking],
-    gateway: &Name,
-    band: Band,
-) -> Result<Vec<Span>, AllocError>
-    ensures { IfOk result (λ spans. spans.items ≡ downlinks_in bookings.now gateway.now band) }
-{
-    let mut spans = Vec::new(alloc);
-    for booking in bookings {
-        if stands_within(booking, gateway, Some(band)) {
-            spans.push(booking.span)?;
-        }
-    }
+    spans.sort_by_key(|span| span.start())?;
     Ok(spans)
 }

@@ -14,7 +14,7 @@ use std::test::Fail;
 const END: u64 = 1_706_745_700_041_216;
 
 /// When the first window of a data uplink opens.
-const START: i64 = 1_706_745_701_041_216;
+pub(crate) const START: i64 = 1_706_745_701_041_216;
 
 /// Bookings: the uplink that one answers, its gateway, its band, and how far from `START` it begins.
 static BOOKINGS: [(u64, &str, Band, i64); 7] = [
@@ -176,8 +176,8 @@ fn a_new_downlink_is_shown_what_is_near(rt: HostRuntime) -> Result<(), Fail> {
     );
     assert!(rt; view.gateway_known && view.bookings == 7);
     assert!(rt; !view.answered && view.next_down == 2 && view.booking == None);
-    let [before, after, other_band] = [span(-3_602_999_999)?, span(3_602_999_999)?, span(30)?];
-    assert!(rt; view.near.as_slice() == [before, after, other_band].as_slice());
+    let [before, other_band, after] = [span(-3_602_999_999)?, span(30)?, span(3_602_999_999)?];
+    assert!(rt; view.near.as_slice() == [before, other_band, after].as_slice());
     assert!(rt; view.near_in_band.as_slice() == [before, after].as_slice());
     Ok(())
 }

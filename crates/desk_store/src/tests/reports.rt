@@ -18,7 +18,8 @@ static DEVICES: [(u64, &str); 4] = [(5, "town"), (3, "port"), (9, "town"), (7, "
 static SESSIONS: [u64; 2] = [5, 9];
 
 /// Data uplinks: the session, the counter, the band, and when it starts after the first.
-static UPLINKS: [(u64, u32, Band, u64); 3] = [
+static UPLINKS: [(u64, u32, Band, u64); 4] = [
+    (1, 3, Band::B3, 30),
     (1, 1, Band::B3, 10),
     (1, 2, Band::B1, 20),
     (2, 1, Band::B3, 10),
@@ -37,7 +38,8 @@ static NEXT: [(&str, Option<u64>, Option<u64>); 8] = [
 ];
 
 /// A device, a band, a period, and when the uplinks that are told of start, each after the first.
-static TOLD: [(u64, Band, i64, i64, &[i64]); 7] = [
+static TOLD: [(u64, Band, i64, i64, &[i64]); 8] = [
+    (5, Band::B3, 0, 31, &[0, 10, 30]),
     (5, Band::B3, 0, 11, &[0, 10]),
     (5, Band::B3, 0, 10, &[0]),
     (5, Band::B3, 1, 10, &[]),
@@ -47,12 +49,12 @@ static TOLD: [(u64, Band, i64, i64, &[i64]); 7] = [
     (7, Band::B3, 0, 11, &[]),
 ];
 
-/// A gateway, a band, and when its downlinks that aren't dropped start.
+/// A gateway, a band, and when its downlinks that aren't dropped start, in order.
 static BOOKED: [(&str, Band, &[i64]); 4] = [
     (
         "gw-a",
         Band::B3,
-        &[-3_602_999_999, 3_602_999_999, -3_603_000_000, 3_603_000_000],
+        &[-3_603_000_000, -3_602_999_999, 3_602_999_999, 3_603_000_000],
     ),
     ("gw-a", Band::B5, &[30]),
     ("gw-b", Band::B3, &[20]),

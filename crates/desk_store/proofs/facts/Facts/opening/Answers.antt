@@ -20,5 +20,5 @@ returns c =
       sessions = c.new-4.ensures i;
       uplinks = c.new-5.ensures i;
       copies = λ number gateway. lookup (same_copy (number, gateway)) (c.new-6.ensures.empty i);
-      bookings = c.new-7.ensures.items i;
+      bookings = c.new-7.ensures i;
     }

@@ -2,8 +2,8 @@ use Rattle.std.proofs.Common.{◌≡◌, sym, if◌then◌else◌}
 use Rattle.registry_core.specs.declared.facts.Standing.TheVariants.{Sent, Dropped}
 use Rattle.registry_core.specs.State.{ended}
 use Rattle.desk_store.proofs.ItemChanged.{item_changed_by, item_changed_none, item_changed_past}
-use Rattle.desk_store.proofs.facts.end_in.Goals as goal
-use Rattle.desk_store.proofs.facts.end_in.Goals.{then-sent, else-sent, else-number-ge1-via-then-number-ge1+else-number-bookings, else-number-ge1-via-else-number-ge1}
+use Rattle.desk_store.proofs.bookings.end_in.Goals as goal
+use Rattle.desk_store.proofs.bookings.end_in.Goals.{then-sent, else-sent, else-number-ge1-via-then-number-ge1+else-number-bookings, else-number-ge1-via-else-number-ge1}
 
 pub returns-after-sent : goal.returns-after-sent
 returns-after-sent c =

@@ -1,0 +1,14 @@
+use Rattle.std.proofs.Common.{sym, rules}
+use Rattle.std.specs.Prelude.{int_lt}
+use Rattle.std.proofs.lemmas.List.Sorted.{IsPartitionPoint-from_clause}
+use Rattle.desk_store.specs.declared.booking_index.Place.{Place}
+use Rattle.desk_store.proofs.Parted.{parted_before, front_passes}
+use Rattle.desk_store.proofs.booking_index.places_before.Goals as goal
+
+pub returns : goal.returns
+returns c = λ rises.
+    let places = c.args.places.now in
+    let at = c.partition_point-at.result in
+    let point = IsPartitionPoint-from_clause (λ (p : Place). int_lt p.start c.args.moment) places at
+    c.partition_point-at.ensures.partitioned (parted_before (λ (p : Place). p.start) c.args.moment places rises) (λ a r f' q. search rules) in
+    sym (front_passes (λ (p : Place). int_lt p.start c.args.moment) places at c.partition_point-at.ensures.bound point)

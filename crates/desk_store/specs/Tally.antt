@@ -1,0 +1,9 @@
+-- Counts by number.
+use Rattle.std.specs.Prelude.{ℕ, nat_eq}
+use Rattle.std.specs.Option.{unwrap_or}
+use Rattle.indexmap.specs.IndexMap.{get}
+use Rattle.desk_store.specs.declared.tally.Tally.{Tally}
+
+-- the number's count: 0 where none is told
+abbrev pub count_in : Tally → ℕ → ℕ
+count_in tally number = unwrap_or (get nat_eq tally.counts number) 0

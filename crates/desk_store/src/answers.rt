@@ -1,0 +1,74 @@
+//! How many bookings answer an uplink, told without looking through them.
+ghost use Rattle.std.specs.Prelude.{◌≡◌, ◌<◌, ◌≤◌, ◌^◌, ◌++◌, ◌∷◌, [], List, ℕ, length, IsOk, OnOk, OnErr, Some, not};
+ghost use Rattle.indexmap.specs.IndexMap.{spare};
+ghost use Rattle.registry_core.specs.declared.facts.Booking.{Booking};
+ghost use Rattle.registry_core.specs.Bookings.{is_dropped};
+ghost use Rattle.registry_core.specs.Numbered.{item_at, item_changed};
+ghost use Rattle.registry_core.specs.State.{ended};
+ghost use Rattle.desk_store.specs.Answers.{AreCounted};
+ghost use Rattle.desk_store.specs.Tally.{count_in};
+
+use crate::tally::Tally;
+use registry_core::{Booking, Standing};
+use std::alloc::{AllocError, Global};
+
+/// By the number of an uplink, how many bookings that aren't dropped answer it.
+#[derive(Debug, Drop)]
+pub(crate) struct Answers {
+    pub(crate) standing: Tally,
+}
+
+impl Answers {
+    /// The counts of no bookings.
+    pub(crate) fn new(alloc: Global) -> Answers
+        ensures { AreCounted [] result }
+    {
+        Answers {
+            standing: Tally::new(alloc),
+        }
+    }
+
+    /// Makes room for one booking more.
+    pub(crate) fn make_room(&mut self) -> Result<(), AllocError>
+        ensures same { (bookings : List Booking) → AreCounted bookings self.old → AreCounted bookings self.new }
+        ensures room { OnOk result (1 ≤ spare self.new.standing.counts) }
+    {
+        self.standing.make_room()
+    }
+
+    /// Counts a booking that goes to the end of the others.
+    pub(crate) fn note(&mut self, booking: &Booking) -> Result<(), AllocError>
+        ensures noted { (bookings : List Booking) → length bookings < 2 ^ 63 → AreCounted bookings self.old
+            → OnOk result (AreCounted (bookings ++ booking.now ∷ []) self.new) }
+        ensures succeeds { 1 ≤ spare self.old.standing.counts → IsOk result }
+    {
+        let uplink = booking.uplink;
+        let standing = self
+            .standing
+            .at(uplink)
+            .saturating_add(u64::from(stands(booking)));
+        self.standing.set(uplink, standing)
+    }
+
+    /// Counts the booking as sent, or else as dropped, whose number is this one, from 1.
+    pub(crate) fn end(&mut self, booking: &Booking, sent: bool) -> Result<(), AllocError>
+        ensures ended { (bookings : List Booking) (number : ℕ) → length bookings < 2 ^ 63 → item_at bookings number ≡ Some booking.now
+            → AreCounted bookings self.old → OnOk result (AreCounted (item_changed (ended sent) bookings number) self.new) }
+        ensures err { (bookings : List Booking) → AreCounted bookings self.old → OnErr result (AreCounted bookings self.new) }
+    {
+        let uplink = booking.uplink;
+        let others = self
+            .standing
+            .at(uplink)
+            .saturating_sub(u64::from(stands(booking)));
+        self.standing
+            .set(uplink, others.saturating_add(u64::from(sent)))
+    }
+}
+
+/// The booking isn't dropped.
+fn stands(booking: &Booking) -> bool
+    ensures { result ≡ not (is_dropped booking.now.standing) }
+{
+    booking.standing != Standing::Dropped
+}
