@@ -1,12 +1,11 @@
 //! The bookings in order; those of one gateway are found in order of start, without looking through the others.
-ghost use Rattle.std.specs.Prelude.{◌≡◌, pos, ◌+ℤ◌, ◌-ℤ◌, int_lt, ◌&&◌, [], ◌∷◌, ◌++◌, length, filter, IfOk, OnOk, OnErr, ◌^◌, ◌<◌};
+ghost use Rattle.std.specs.Prelude.{◌≡◌, ◌^◌, ◌<◌, [], ◌∷◌, ◌++◌, length, IfOk, OnOk, OnErr};
 ghost use Rattle.std.specs.List.{filter_map};
 ghost use Rattle.duty_core.specs.InOrder.{IsByStart};
 ghost use Rattle.registry_core.specs.Bookings.{downlinks_in, is_answered, is_down_of, next_down};
 ghost use Rattle.registry_core.specs.Numbered.{item_at, item_changed};
 ghost use Rattle.registry_core.specs.State.{ended};
-ghost use Rattle.desk_store.specs.ByKey.{Rises};
-ghost use Rattle.desk_store.specs.BookingIndex.{is_on_air, is_near_place, span_told};
+ghost use Rattle.desk_store.specs.BookingIndex.{is_on_air, span_told};
 ghost use Rattle.desk_store.specs.Lookups.{downlinks_near};
 
 use crate::answers::Answers;
