@@ -6,4 +6,4 @@ use Rattle.desk_engine.proofs.band_reports.booked_use.Goals as goal
 pub returns-clause-told : goal.returns-clause-told
 returns-clause-told g c = λ kept sound held.
     c.use_of.ensures ∙ ap use_told c.deref.ensures.value
-    ∙ use_ignores_order c.peak_has_an_edge.ensures.unique c.computed_forms_tell.ensures.peak c.order_is_ignored.ensures.peak _ _ (c.in_ok-spans.ensures.told kept sound held).same.same
+    ∙ use_ignores_order c.peak_has_an_edge.ensures.unique c.computed_forms_tell.ensures.peak c.order_is_ignored.ensures.peak _ _ (c.in_ok-spans.ensures.told kept sound held).same

@@ -9,4 +9,4 @@ returns-clause-told g c = λ kept sound held.
     let from : FitsSigned w64 c.args.month.from = search rules in
     let to : FitsSigned w64 c.args.month.to = search rules in
     c.use_of.ensures ∙ ap use_told c.deref.ensures.value
-    ∙ use_ignores_order c.peak_has_an_edge.ensures.unique c.computed_forms_tell.ensures.peak c.order_is_ignored.ensures.peak _ _ (simp to_z-of_z at (c.in_ok-spans.ensures.told kept sound held)).same.same
+    ∙ use_ignores_order c.peak_has_an_edge.ensures.unique c.computed_forms_tell.ensures.peak c.order_is_ignored.ensures.peak _ _ (simp to_z-of_z at (c.in_ok-spans.ensures.told kept sound held)).same
