@@ -4,13 +4,11 @@ ghost use Rattle.registry_core.specs.declared.facts.Booking.{Booking};
 ghost use Rattle.desk_store.specs.ByKey.{Rises, put_after};
 ghost use Rattle.desk_store.specs.BookingIndex.{is_near_place, places_in, IsBookingIndex};
 
+use duty_core::NEAR_REACH;
 use indexmap::IndexMap;
 use radio_core::Name;
 use registry_core::Booking;
 use std::alloc::{AllocError, Global};
-
-/// An hour and 3,000,000 microseconds: what begins less than this apart is near.
-const NEAR: i128 = 3_603_000_000;
 
 /// When a booking begins, in microseconds, and its number, from 1.
 #[derive(Clone, Copy, Debug, PartialEq, Eq)]
@@ -97,8 +95,8 @@ fn put(places: &mut Vec<Place>, place: Place) -> Result<(), AllocError>
 pub(crate) fn places_near(places: &[Place], start: u64) -> &[Place]
     ensures { Rises (λ place. place.start) places.now → result.now ≡ filter (is_near_place start) places.now }
 {
-    let start = i128::from(start);
-    places_before(places_after(places, start - NEAR), start + NEAR)
+    let (start, reach) = (i128::from(start), i128::from(NEAR_REACH));
+    places_before(places_after(places, start - reach), start + reach)
 }
 
 /// The places that begin after this moment.

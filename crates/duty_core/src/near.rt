@@ -12,7 +12,7 @@ ghost use Rattle.duty_core.specs.Near.{near_reach, starts_between, is_near};
 use crate::interval::Span;
 
 /// An hour and 3,000,000 microseconds: what begins less than this apart is near.
-const REACH: i64 = 3_603_000_000;
+pub const NEAR_REACH: i64 = 3_603_000_000;
 
 /// Whether the span begins near the start, on either side.
 pub fn is_near(span: &Span, start: i128) -> bool
@@ -39,8 +39,8 @@ pub fn near_range(start: i128) -> NearRange
 {
     let start = within_reach(start);
     NearRange {
-        after: start - REACH,
-        before: start + REACH,
+        after: start - NEAR_REACH,
+        before: start + NEAR_REACH,
     }
 }
 
@@ -51,5 +51,8 @@ fn within_reach(start: i128) -> i64
         let last = pos (2 ^ 63 - 1 - near_reach) in
         result ≡ int_max least (int_min start last) }
 {
-    start.clamp(i128::from(i64::MIN + REACH), i128::from(i64::MAX - REACH)) as i64
+    start.clamp(
+        i128::from(i64::MIN + NEAR_REACH),
+        i128::from(i64::MAX - NEAR_REACH),
+    ) as i64
 }
