@@ -5,8 +5,9 @@
 
 A stream is one owner, 8 gateways and 200 devices, which join, and then send data frames that 1 to 3 gateways hear. Every tenth
 data frame is answered in its first window, and each downlink is told as sent. For each size it prints the lines a second, how
-the time grows from size to size, and the peak memory. Every answer has to be a success. With --write the largest stream goes
-into a file, and nothing is measured.
+the time grows from size to size, and the peak memory, and beside them how many times as long a plain Python program over
+dictionaries takes (dictionaries.py). Every answer has to be a success, and the two programs have to give the same octets. With
+--write the largest stream goes into a file, and nothing is measured.
 """
 
 import argparse
@@ -140,28 +141,36 @@ def peak_of(process):
     return next((int(line.split()[1]) for line in status.splitlines() if line.startswith("VmHWM")), 0)
 
 
-def measure(lines):
-    """Seconds, and kilobytes at the peak."""
+def run(words, lines):
+    """Seconds, kilobytes at the peak, and the answers."""
     with tempfile.TemporaryFile() as given, tempfile.TemporaryFile() as told:
         given.write("".join(line + "\n" for line in lines).encode())
         given.seek(0)
         peak = 0
         begun = time.monotonic()
-        desk = subprocess.Popen([ROOT / "desk", "lines"], stdin=given, stdout=told)
-        while desk.poll() is None:
-            peak = max(peak, peak_of(desk))
+        program = subprocess.Popen(words, stdin=given, stdout=told)
+        while program.poll() is None:
+            peak = max(peak, peak_of(program))
             time.sleep(0.002)
         seconds = time.monotonic() - begun
-        if desk.returncode != 0:
-            sys.exit(f"desk ended with {desk.returncode}")
+        if program.returncode != 0:
+            sys.exit(f"{words[0]} ended with {program.returncode}")
         told.seek(0)
-        answers = told.read().splitlines()
+        return seconds, peak, told.read().splitlines()
+
+
+def measure(lines):
+    """Seconds, kilobytes at the peak, and the seconds of the plain program."""
+    seconds, peak, answers = run([ROOT / "desk", "lines"], lines)
+    plain_seconds, _, plain_answers = run([sys.executable, ROOT / "bench" / "dictionaries.py"], lines)
     if len(answers) != len(lines):
         sys.exit(f"{len(answers)} answers to {len(lines)} lines")
     for line, answer in zip(lines, answers):
         if b'"ResultCode":"Success"' not in answer:
             sys.exit(f"{line}\n{answer.decode()}")
-    return seconds, peak
+    if answers != plain_answers:
+        sys.exit("the plain program answers something else")
+    return seconds, peak, plain_seconds
 
 
 def main():
@@ -176,12 +185,12 @@ def main():
         return
     # the first call may prove and build the program
     subprocess.run([ROOT / "desk", "lines"], stdin=subprocess.DEVNULL, check=True)
-    print(f"{'lines':>8} {'seconds':>9} {'lines/s':>9} {'growth':>8} {'peak MiB':>9}")
+    print(f"{'lines':>8} {'seconds':>9} {'lines/s':>9} {'growth':>8} {'peak MiB':>9} {'plain/desk':>11}")
     before = None
     for size in sizes:
-        seconds, peak = measure(normal_operation(size, given.seed))
+        seconds, peak, plain_seconds = measure(normal_operation(size, given.seed))
         growth = "" if before is None else f"{(seconds / before[1]) / (size / before[0]):.2f}"
-        print(f"{size:>8} {seconds:>9.2f} {size / seconds:>9.0f} {growth:>8} {peak / 1024:>9.1f}")
+        print(f"{size:>8} {seconds:>9.2f} {size / seconds:>9.0f} {growth:>8} {peak / 1024:>9.1f} {plain_seconds / seconds:>11.1f}")
         before = (size, seconds)
 
 
