@@ -10,7 +10,7 @@ use Rattle.registry_core.specs.Bookings.{is_answer_to, is_dropped}
 use Rattle.registry_core.specs.Numbered.{item_at, item_changed}
 use Rattle.registry_core.specs.State.{ended}
 use Rattle.desk_store.specs.declared.answers.Answers.{Answers}
-use Rattle.desk_store.specs.Answers.{AreCounted}
+use Rattle.desk_store.specs.Answers.{is_naming, AreCounted}
 use Rattle.desk_store.specs.Tally.{count_in}
 use Rattle.desk_store.proofs.Counted.{count_changed, count_has, set_is}
 
@@ -23,6 +23,9 @@ sent_is true = refl
 sent_is false = refl
 
 module _ (bookings : List Booking) (number : ℕ) (booking : Booking) (sent : Bool) (there : item_at bookings number ≡ Some booking) where
+  named_same : (uplink : ℕ) → count_by (is_naming uplink) bookings ≡ count_by (is_naming uplink) (item_changed (ended sent) bookings number)
+  named_same uplink = omega (arith, count_changed (is_naming uplink) (ended sent) bookings number booking there)
+
   standing_other : (uplink : ℕ) → (booking.uplink == uplink) ≡ false
       → count_by (is_answer_to uplink) bookings ≡ count_by (is_answer_to uplink) (item_changed (ended sent) bookings number)
   standing_other uplink apart =
@@ -46,12 +49,13 @@ module _ (bookings : List Booking) (number : ℕ) (booking : Booking) (sent : Bo
       at_most true n h = omega arith
       at_most false n h = omega arith
 
-  pub ended_counted : (old new : Answers) → AreCounted bookings old
+  pub ended_counted : (old new : Answers) → AreCounted bookings old → new.named ≡ old.named
       → (one another others count : ℕ) → length bookings < 2 ^ 63 → one ≡ bool_byte (not (is_dropped booking.standing)) → another ≡ bool_byte sent
       → others ≡ count_in old.standing booking.uplink - one → count ≡ min (others + another) 18446744073709551615
       → ((uplink : ℕ) → count_in new.standing uplink ≡ cond (booking.uplink == uplink) count (count_in old.standing uplink))
       → AreCounted (item_changed (ended sent) bookings number) new
-  ended_counted old new was one another others count few one_is another_is others_are is set = record {
+  ended_counted old new was named one another others count few one_is another_is others_are is set = record {
+    named = λ uplink. ap (λ tally. count_in tally uplink) named ∙ was.named uplink ∙ named_same uplink;
     standing = set_is (count_in old.standing) (count_in new.standing) (λ uplink. count_by (is_answer_to uplink) (item_changed (ended sent) bookings number)) booking.uplink count set
         (standing_here one another others count few one_is another_is (others_are ∙ ap (λ n. n - one) (was.standing booking.uplink)) is)
         (λ uplink apart. was.standing uplink ∙ standing_other uplink apart);

@@ -16,7 +16,7 @@ set_is old new goal key count is here other n = is n ∙ by (key == n) refl
     by false apart = other n apart
 
 module _ {X : Type 0} (test : X → Bool) where
-  count_cons : (x : X) (xs : List X) → count_by test (x ∷ xs) ≡ cond (test x) 1 0 + count_by test xs
+  pub count_cons : (x : X) (xs : List X) → count_by test (x ∷ xs) ≡ cond (test x) 1 0 + count_by test xs
   count_cons x xs = sum_by-cons (λ y. cond (test y) 1 0) x xs
 
   pub count_more : (xs : List X) (x : X) → count_by test (xs ++ x ∷ []) ≡ count_by test xs + cond (test x) 1 0
@@ -36,6 +36,16 @@ module _ {X : Type 0} (test : X → Bool) where
       → count_by test (item_changed f xs number) + cond (test x) 1 0 ≡ count_by test xs + cond (test (f x)) 1 0
   count_changed f xs zero x is = let no : ⊥ = cc in absurd no
   count_changed f xs (suc n) x is = count_changed_at f xs n x is
+
+  count_same_at : (f : X → X) → ((x : X) → test (f x) ≡ test x) → (xs : List X) (n : ℕ) → count_by test (place_changed f xs n) ≡ count_by test xs
+  count_same_at f same [] n = refl
+  count_same_at f same (y ∷ ys) zero = count_cons (f y) ys ∙ ap (λ b. cond b 1 0 + count_by test ys) (same y) ∙ sym (count_cons y ys)
+  count_same_at f same (y ∷ ys) (suc n) = omega (arith, count_same_at f same ys n, count_cons y ys, count_cons y (place_changed f ys n))
+
+  -- a change after which the same items pass
+  pub count_same : (f : X → X) → ((x : X) → test (f x) ≡ test x) → (xs : List X) (number : ℕ) → count_by test (item_changed f xs number) ≡ count_by test xs
+  count_same f same xs zero = refl
+  count_same f same xs (suc n) = count_same_at f same xs n
 
   count_has_at : (xs : List X) (n : ℕ) (x : X) → slice_get xs n ≡ Some x → cond (test x) 1 0 ≤ count_by test xs
   count_has_at [] n x is = let no : ⊥ = cc in absurd no

@@ -19,11 +19,11 @@ slice_get-append [] x place within = absurd (omega arith)
 slice_get-append (y ∷ ys) x zero within = refl
 slice_get-append (y ∷ ys) x (suc place) within = slice_get-append ys x place (omega arith)
 
-item_at-append : {X : Type 0} (xs : List X) (x : X) (n : ℕ) → n ≤ length xs → item_at (xs ++ x ∷ []) n ≡ item_at xs n
+pub item_at-append : {X : Type 0} (xs : List X) (x : X) (n : ℕ) → n ≤ length xs → item_at (xs ++ x ∷ []) n ≡ item_at xs n
 item_at-append xs x zero within = refl
 item_at-append xs x (suc n) within = slice_get-append xs x n (omega arith)
 
-item_at_last : {X : Type 0} (xs : List X) (x : X) → slice_get (xs ++ x ∷ []) (length xs) ≡ Some x
+pub item_at_last : {X : Type 0} (xs : List X) (x : X) → slice_get (xs ++ x ∷ []) (length xs) ≡ Some x
 item_at_last [] x = refl
 item_at_last (y ∷ ys) x = item_at_last ys x
 

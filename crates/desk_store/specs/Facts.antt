@@ -27,7 +27,7 @@ facts_of facts = record {
   gateways = contains bytes_eq facts.gateways;
   devices = devices_of facts.devices;
   sessions = facts.sessions.items;
-  uplinks = facts.uplinks.items;
+  uplinks = facts.traffic.uplinks;
   copies = copies_of facts.copies;
-  bookings = facts.bookings;
+  bookings = facts.traffic.bookings;
 }

@@ -12,9 +12,10 @@ use crate::tally::Tally;
 use registry_core::{Booking, Standing};
 use std::alloc::{AllocError, Global};
 
-/// By the number of an uplink, how many bookings that aren't dropped answer it.
+/// By the number of an uplink, how many bookings name it, and how many of these aren't dropped.
 #[derive(Debug, Drop)]
 pub(crate) struct Answers {
+    pub(crate) named: Tally,
     pub(crate) standing: Tally,
 }
 
@@ -24,6 +25,7 @@ impl Answers {
         ensures { AreCounted [] result }
     {
         Answers {
+            named: Tally::new(alloc),
             standing: Tally::new(alloc),
         }
     }
@@ -31,8 +33,10 @@ impl Answers {
     /// Makes room for one booking more.
     pub(crate) fn make_room(&mut self) -> Result<(), AllocError>
         ensures same { (bookings : List Booking) → AreCounted bookings self.old → AreCounted bookings self.new }
-        ensures room { OnOk result (1 ≤ spare self.new.standing.counts) }
+        ensures named { OnOk result (1 ≤ spare self.new.named.counts) }
+        ensures standing { OnOk result (1 ≤ spare self.new.standing.counts) }
     {
+        self.named.make_room()?;
         self.standing.make_room()
     }
 
@@ -40,13 +44,15 @@ impl Answers {
     pub(crate) fn note(&mut self, booking: &Booking) -> Result<(), AllocError>
         ensures noted { (bookings : List Booking) → length bookings < 2 ^ 63 → AreCounted bookings self.old
             → OnOk result (AreCounted (bookings ++ booking.now ∷ []) self.new) }
-        ensures succeeds { 1 ≤ spare self.old.standing.counts → IsOk result }
+        ensures succeeds { 1 ≤ spare self.old.named.counts → 1 ≤ spare self.old.standing.counts → IsOk result }
     {
         let uplink = booking.uplink;
+        let named = self.named.at(uplink).saturating_add(1);
         let standing = self
             .standing
             .at(uplink)
             .saturating_add(u64::from(stands(booking)));
+        self.named.set(uplink, named)?;
         self.standing.set(uplink, standing)
     }
 

@@ -1,20 +1,20 @@
 //! The bookings in order; those of one gateway are found in order of start, without looking through the others.
-ghost use Rattle.std.specs.Prelude.{◌≡◌, ◌^◌, ◌<◌, [], ◌∷◌, ◌++◌, length, IfOk, OnOk, OnErr};
+ghost use Rattle.std.specs.Prelude.{◌≡◌, ◌^◌, ◌<◌, [], ◌∷◌, ◌++◌, length, count_by, IfOk, OnOk, OnErr};
 ghost use Rattle.std.specs.List.{filter_map};
 ghost use Rattle.duty_core.specs.InOrder.{IsByStart};
-ghost use Rattle.registry_core.specs.Bookings.{downlinks_in, is_answered, is_down_of, next_down};
+ghost use Rattle.registry_core.specs.Bookings.{downlinks_in, is_answered};
 ghost use Rattle.registry_core.specs.Numbered.{item_at, item_changed};
 ghost use Rattle.registry_core.specs.State.{ended};
+ghost use Rattle.desk_store.specs.Answers.{is_naming};
 ghost use Rattle.desk_store.specs.BookingIndex.{is_on_air, span_told};
 ghost use Rattle.desk_store.specs.Lookups.{downlinks_near};
 
 use crate::answers::Answers;
 use crate::booking_index::{BookingIndex, Place, places_near};
 use crate::lookups::item_at;
-use crate::uplinks::Uplinks;
 use duty_core::Span;
 use radio_core::{Band, Name};
-use registry_core::{Booking, Kind, Standing};
+use registry_core::{Booking, Standing};
 use std::alloc::{AllocError, Global};
 use std::marker::Model;
 
@@ -69,6 +69,7 @@ impl Bookings {
     pub(crate) fn push(&mut self, booking: Booking) -> Result<(), AllocError>
         ensures ok { OnOk result (self.new ≡ self.old ++ booking ∷ []) }
         ensures err { OnErr result (self.new ≡ self.old) }
+        ensures few { length self.old < 2 ^ 63 }
     {
         self.items.reserve(1)?;
         self.answers.make_room()?;
@@ -91,14 +92,12 @@ impl Bookings {
         Ok(())
     }
 
-    /// How many bookings answer data uplinks of the session, dropped ones too.
-    pub(crate) fn next_down(&self, uplinks: &Uplinks, session: u64) -> u64
-        ensures { result ≡ next_down self.now uplinks.now.items session }
+    /// How many bookings name the uplink with this number, dropped ones too.
+    pub(crate) fn naming(&self, uplink: u64) -> u64
+        ensures count { result ≡ count_by (is_naming uplink) self.now }
+        ensures few { length self.now < 2 ^ 63 }
     {
-        self.items
-            .iter()
-            .filter(|booking| is_down_of(booking, uplinks, session))
-            .count() as u64
+        self.answers.named.at(uplink)
     }
 
     /// A booking that isn't dropped answers the uplink with this number.
@@ -150,16 +149,6 @@ fn end_in(bookings: &mut [Booking], number: u64, sent: bool)
         } else {
             Standing::Dropped
         };
-    }
-}
-
-/// The booking answers a data uplink of the session.
-fn is_down_of(booking: &Booking, uplinks: &Uplinks, session: u64) -> bool
-    ensures { result ≡ is_down_of uplinks.now.items session booking.now }
-{
-    match uplinks.at(booking.uplink) {
-        Some(uplink) => uplink.kind == Kind::Data && uplink.session == session,
-        None => false,
     }
 }
 

@@ -3,9 +3,8 @@ ghost use Rattle.std.specs.Prelude.{◌≡◌, ◌+◌, [], ◌∷◌, ◌++◌,
 ghost use Rattle.registry_core.specs.State.{copies_with, devices_with_move, opening, state_with};
 ghost use Rattle.desk_store.specs.Facts.{copies_of, devices_of, facts_of};
 
-use crate::bookings::Bookings;
 use crate::sessions::Sessions;
-use crate::uplinks::Uplinks;
+use crate::traffic::Traffic;
 use indexmap::{IndexMap, IndexSet};
 use radio_core::{Eui, Name};
 use registry_core::{Config, Device, Effect, Reception, Role, Uplink};
@@ -19,10 +18,9 @@ pub(crate) struct Facts {
     pub(crate) gateways: IndexSet<Name>,
     pub(crate) devices: IndexMap<Eui, Device>,
     pub(crate) sessions: Sessions,
-    pub(crate) uplinks: Uplinks,
+    pub(crate) traffic: Traffic,
     /// By the uplink's number and the gateway.
     pub(crate) copies: IndexMap<(u64, Name), Reception>,
-    pub(crate) bookings: Bookings,
 }
 
 impl Facts {
@@ -38,9 +36,8 @@ impl Facts {
             gateways: IndexSet::new(alloc),
             devices: IndexMap::new(alloc),
             sessions: Sessions::new(alloc),
-            uplinks: Uplinks::new(alloc),
+            traffic: Traffic::new(alloc),
             copies: IndexMap::new(alloc),
-            bookings: Bookings::new(alloc),
         })
     }
 
@@ -72,7 +69,7 @@ impl Facts {
             } => {
                 self.sessions.make_room()?;
                 add_uplink(
-                    &mut self.uplinks,
+                    &mut self.traffic,
                     &mut self.copies,
                     uplink,
                     gateway,
@@ -85,7 +82,7 @@ impl Facts {
                 gateway,
                 reception,
             } => add_uplink(
-                &mut self.uplinks,
+                &mut self.traffic,
                 &mut self.copies,
                 uplink,
                 gateway,
@@ -98,8 +95,8 @@ impl Facts {
             } => {
                 self.copies.insert((uplink, gateway), reception)?;
             }
-            Effect::AddsBooking { booking } => self.bookings.push(booking)?,
-            Effect::EndsBooking { booking, sent } => self.bookings.end(booking, sent)?,
+            Effect::AddsBooking { booking } => self.traffic.push_booking(booking)?,
+            Effect::EndsBooking { booking, sent } => self.traffic.end_booking(booking, sent)?,
         }
         Ok(())
     }
@@ -107,22 +104,23 @@ impl Facts {
 
 /// The uplink goes to the end with the next number, and so does its copy; or neither.
 fn add_uplink(
-    uplinks: &mut Uplinks,
+    traffic: &mut Traffic,
     copies: &mut IndexMap<(u64, Name), Reception>,
     uplink: Uplink,
     gateway: Name,
     reception: Reception,
 ) -> Result<(), AllocError>
-    ensures uplinks { OnOk result (uplinks.new.items ≡ uplinks.old.items ++ uplink ∷ []) }
+    ensures uplinks { OnOk result (traffic.new.uplinks ≡ traffic.old.uplinks ++ uplink ∷ []) }
     ensures copies { OnOk result (copies_of copies.new
-        ≡ copies_with (copies_of copies.old) (length uplinks.old.items + 1) gateway reception) }
-    ensures err { OnErr result ((uplinks.new.items ≡ uplinks.old.items)
+        ≡ copies_with (copies_of copies.old) (length traffic.old.uplinks + 1) gateway reception) }
+    ensures err { OnErr result ((traffic.new.uplinks ≡ traffic.old.uplinks)
         × (copies_of copies.new ≡ copies_of copies.old)) }
+    ensures bookings { traffic.new.bookings ≡ traffic.old.bookings }
 {
-    let number = uplinks.len() as u64 + 1;
-    uplinks.make_room()?;
+    let number = traffic.uplinks().len() as u64 + 1;
+    traffic.make_room()?;
     copies.insert((number, gateway), reception)?;
-    uplinks.push(uplink)?;
+    traffic.push_uplink(uplink)?;
     Ok(())
 }
 

@@ -1,10 +1,10 @@
 //! Bookings out of order of start: they are told in order of start, and those that start together in order of number.
-use super::downlinks::{START, keep};
+use super::downlinks::{START, keep, reception, uplink};
 use super::{lists, name};
 use crate::{Keeper, Looks};
 use duty_core::Span;
 use radio_core::Band;
-use registry_core::{Booking, Effect, Standing};
+use registry_core::{Booking, Effect, Kind, Standing};
 use std::test::Fail;
 
 /// A gateway, a band, how far from `START` the booking begins, and for how long, which tells it from the others.
@@ -59,5 +59,43 @@ fn downlinks_are_told_in_order_of_start(rt: HostRuntime) -> Result<(), Fail> {
     assert!(rt; are_long(&lists.near(&gateway, Some(Band::B3), start)?, &[2, 7, 1, 5]));
     assert!(rt; are_long(&lists.near(&gateway, None, start)?, &[2, 7, 1, 4, 5]));
     assert!(rt; are_long(&lists.near(&name("gw-c")?, None, start)?, &[]));
+    Ok(())
+}
+
+/// Uplinks of session 1, each after a booking that names it, in three messages; whether the booking is sent; and the
+/// session's next downlink counter then: a join uplink has none, and a booking that is dropped stays counted.
+static ANSWERED: [([u32; 3], Kind, bool, u64); 3] = [
+    ([1, 2, 3], Kind::Join, true, 0),
+    ([4, 5, 6], Kind::Data, true, 1),
+    ([7, 8, 9], Kind::Data, false, 2),
+];
+
+#[test]
+fn downlinks_are_counted_where_the_uplink_comes_later(rt: HostRuntime) -> Result<(), Fail> {
+    let mut lists = lists(rt.alloc())?;
+    for (number, (transactions, kind, sent, next_down)) in (1..).zip(&ANSWERED) {
+        let [books, hears, ends] = *transactions;
+        let booking = Booking {
+            uplink: u64::from(number),
+            gateway: name("gw-a")?,
+            band: Band::B3,
+            span: Span::new(START, number).ok_or("out of range")?,
+            standing: Standing::Booked,
+        };
+        keep(&mut *lists, books, &Effect::AddsBooking { booking })?;
+        let heard = Effect::AddsUplink {
+            uplink: uplink(*kind, number)?,
+            gateway: name("gw-a")?,
+            reception: reception()?,
+        };
+        keep(&mut *lists, hears, &heard)?;
+        let ended = Effect::EndsBooking {
+            booking: u64::from(number),
+            sent: *sent,
+        };
+        keep(&mut *lists, ends, &ended)?;
+        assert!(rt; lists.next_down(1)? == *next_down, "at {number}");
+    }
+    assert!(rt; lists.next_down(2)? == 0);
     Ok(())
 }

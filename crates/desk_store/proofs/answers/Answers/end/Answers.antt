@@ -1,4 +1,4 @@
-use Rattle.std.proofs.Common.{◌≡◌, ◌∙◌, ℕ, cond, ap}
+use Rattle.std.proofs.Common.{◌≡◌, ◌∙◌, ℕ, cond, refl, ap}
 use Rattle.std.specs.Prelude.{◌==◌, ◌-◌}
 use Rattle.std.proofs.lemmas.Result.{on_ok_weaker}
 use mir.Val.{bool_byte}
@@ -13,10 +13,10 @@ use Rattle.desk_store.proofs.answers.Answers.end.Goals as goal
 pub returns-clause-ended : goal.returns-clause-ended
 returns-clause-ended c = λ bookings number few there was.
     let old = c.args.self.now in
-    let new : Answers = record { standing = c.set.new.self } in
+    let new : Answers = record { named = c.args.self.now.named; standing = c.set.new.self } in
     let uplink = c.args.booking.now.uplink in
     let counted : ((other : ℕ) → count_in c.set.new.self other ≡ cond (uplink == other) c.saturating_add.result (count_in old.standing other))
     → AreCounted (item_changed (ended c.args.sent) bookings number) new =
-    λ set. ended_counted bookings number c.args.booking.now c.args.sent there old new was c.from.result c.from-2.result c.saturating_sub-others.result c.saturating_add.result few
+    λ set. ended_counted bookings number c.args.booking.now c.args.sent there old new was refl c.from.result c.from-2.result c.saturating_sub-others.result c.saturating_add.result few
     (c.from.ensures ∙ ap bool_byte c.stands.ensures) c.from-2.ensures (c.saturating_sub-others.ensures ∙ ap (λ n. n - c.from.result) c.at.ensures) c.saturating_add.ensures set in
     on_ok_weaker _ counted c.set.ensures.ok

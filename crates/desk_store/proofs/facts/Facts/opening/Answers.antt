@@ -18,7 +18,7 @@ returns c =
       gateways = λ name. list_any (bytes_eq name) (c.new-2.ensures.empty i);
       devices = λ dev_eui. lookup (nat_eq dev_eui) (c.new-3.ensures.empty i);
       sessions = c.new-4.ensures i;
-      uplinks = c.new-5.ensures i;
+      uplinks = c.new-5.ensures.uplinks i;
       copies = λ number gateway. lookup (same_copy (number, gateway)) (c.new-6.ensures.empty i);
-      bookings = c.new-7.ensures i;
+      bookings = c.new-5.ensures.bookings i;
     }

@@ -1,0 +1,140 @@
+//! The uplinks and the bookings that answer them, with each session's next downlink counter, told without looking
+//! through them.
+ghost use Rattle.std.specs.Prelude.{◌≡◌, ◌+◌, ◌≤◌, [], ◌∷◌, ◌++◌, ℕ, min, IsOk, OnOk, OnErr, if◌then◌else◌};
+ghost use Rattle.indexmap.specs.IndexMap.{spare};
+ghost use Rattle.registry_core.specs.Bookings.{next_down};
+ghost use Rattle.registry_core.specs.Derived.{is_data_of};
+ghost use Rattle.registry_core.specs.Numbered.{item_changed};
+ghost use Rattle.registry_core.specs.State.{ended};
+ghost use Rattle.desk_store.specs.Tally.{count_in};
+
+use crate::bookings::Bookings;
+use crate::tally::Tally;
+use crate::uplinks::Uplinks;
+use registry_core::{Booking, Kind, Uplink};
+use std::alloc::{AllocError, Global};
+use std::marker::Model;
+
+/// The uplinks, the bookings, and by a session how many bookings answer its data uplinks, dropped ones too. Contracts
+/// see the lists, and how many more uplinks go in without more memory.
+#[derive(Debug, Drop)]
+pub(crate) struct Traffic {
+    uplinks: Uplinks,
+    bookings: Bookings,
+    downs: Tally,
+}
+
+impl Model for Traffic {
+    ghost use Rattle.desk_store.specs.Traffic.{TrafficSeen, AreDowns};
+
+    ghost Value = { TrafficSeen };
+
+    ghost use Rattle.std.specs.Prelude.{min};
+    ghost use Rattle.indexmap.specs.IndexMap.{spare};
+
+    ghost view = { λ t. record {
+      uplinks = t.uplinks.items;
+      bookings = t.bookings;
+      room = min t.uplinks.room (spare t.downs.counts);
+    } };
+
+    ghost invariant = { λ t. AreDowns t.uplinks.items t.bookings t.downs };
+}
+
+impl Traffic {
+    pub(crate) fn new(alloc: Global) -> Traffic
+        ensures uplinks { result.uplinks ≡ [] }
+        ensures bookings { result.bookings ≡ [] }
+    {
+        Traffic {
+            uplinks: Uplinks::new(alloc),
+            bookings: Bookings::new(alloc),
+            downs: Tally::new(alloc),
+        }
+    }
+
+    pub(crate) fn uplinks(&self) -> &Uplinks
+        ensures { result.now.items ≡ self.now.uplinks }
+    {
+        &self.uplinks
+    }
+
+    pub(crate) fn bookings(&self) -> &Bookings
+        ensures { result.now ≡ self.now.bookings }
+    {
+        &self.bookings
+    }
+
+    /// The session's next downlink counter: how many bookings answer its data uplinks, dropped ones too.
+    pub(crate) fn next_down(&self, session: u64) -> u64
+        ensures { result ≡ next_down self.now.bookings self.now.uplinks session }
+    {
+        self.downs.at(session)
+    }
+
+    /// Makes room for one uplink more.
+    pub(crate) fn make_room(&mut self) -> Result<(), AllocError>
+        ensures uplinks { self.new.uplinks ≡ self.old.uplinks }
+        ensures bookings { self.new.bookings ≡ self.old.bookings }
+        ensures room { OnOk result (1 ≤ self.new.room) }
+    {
+        self.uplinks.make_room()?;
+        self.downs.make_room()
+    }
+
+    /// The uplink goes to the end, or nowhere. Bookings may name its number before it is there.
+    pub(crate) fn push_uplink(&mut self, uplink: Uplink) -> Result<(), AllocError>
+        ensures ok { OnOk result (self.new.uplinks ≡ self.old.uplinks ++ uplink ∷ []) }
+        ensures err { OnErr result (self.new.uplinks ≡ self.old.uplinks) }
+        ensures bookings { self.new.bookings ≡ self.old.bookings }
+        ensures succeeds { 1 ≤ self.old.room → IsOk result }
+    {
+        self.downs.make_room()?;
+        let number = self.uplinks.len() as u64 + 1;
+        let naming = self.bookings.naming(number);
+        self.uplinks.push(uplink)?;
+        grow(&mut self.downs, &uplink, naming)?;
+        Ok(())
+    }
+
+    /// The booking goes to the end, or nowhere.
+    pub(crate) fn push_booking(&mut self, booking: Booking) -> Result<(), AllocError>
+        ensures ok { OnOk result (self.new.bookings ≡ self.old.bookings ++ booking ∷ []) }
+        ensures err { OnErr result (self.new.bookings ≡ self.old.bookings) }
+        ensures uplinks { self.new.uplinks ≡ self.old.uplinks }
+    {
+        self.downs.make_room()?;
+        let answered = self.uplinks.at(booking.uplink);
+        self.bookings.push(booking)?;
+        match answered {
+            Some(uplink) => grow(&mut self.downs, &uplink, 1),
+            None => Ok(()),
+        }
+    }
+
+    /// The booking with this number, from 1, is sent, or else dropped, and all else stays; or nothing changes.
+    pub(crate) fn end_booking(&mut self, number: u64, sent: bool) -> Result<(), AllocError>
+        ensures ok { OnOk result (self.new.bookings
+            ≡ item_changed (ended sent) self.old.bookings number) }
+        ensures err { OnErr result (self.new.bookings ≡ self.old.bookings) }
+        ensures uplinks { self.new.uplinks ≡ self.old.uplinks }
+    {
+        self.bookings.end(number, sent)?;
+        Ok(())
+    }
+}
+
+/// So many bookings more answer the uplink: its session counts them, if it is a data uplink.
+fn grow(downs: &mut Tally, uplink: &Uplink, more: u64) -> Result<(), AllocError>
+    ensures ok { OnOk result ((session : ℕ) → count_in downs.new session
+        ≡ (if is_data_of session uplink.now
+        then min (count_in downs.old session + more) u64.MAX
+        else count_in downs.old session)) }
+    ensures succeeds { 1 ≤ spare downs.old.counts → IsOk result }
+{
+    if uplink.kind != Kind::Data {
+        return Ok(());
+    }
+    let count = downs.at(uplink.session).saturating_add(more);
+    downs.set(uplink.session, count)
+}
