@@ -7,6 +7,7 @@ mod joins;
 mod refused_memory;
 mod reports;
 mod rows;
+mod sweeping;
 
 use crate::{Outcome, deliver, run};
 use data_frames::{DATA, SESSIONS};

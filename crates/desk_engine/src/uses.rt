@@ -1,10 +1,11 @@
 //! How much the air was used.
 ghost use Rattle.std.specs.Prelude.{◌≡◌, IfOk};
 ghost use Rattle.std.specs.String.{string_bytes};
+ghost use Rattle.duty_core.specs.Computed.{peak_of};
 ghost use Rattle.desk_engine.specs.Reports.{band_columns};
 ghost use Rattle.desk_engine.specs.Uses.{use_shown, use_told};
 
-use duty_core::{Span, peak};
+use duty_core::{Span, in_order, peak, sweep_peak};
 use radio_core::Band;
 use std::alloc::{AllocError, Global};
 
@@ -31,6 +32,16 @@ fn airtime_of(spans: &[Span]) -> u128
     airtime
 }
 
+/// The greatest use of any sliding hour, in microseconds: by one sweep through the spans where they stand in order of start.
+fn peak_of(spans: &[Span]) -> u128
+    ensures { result ≡ peak_of spans.now }
+{
+    if in_order(spans) {
+        return sweep_peak(spans);
+    }
+    peak(spans)
+}
+
 /// How much it was used by what was on the air then.
 pub(crate) fn use_of(spans: &[Span]) -> Use
     ensures { use_shown result ≡ use_told spans.now }
@@ -38,7 +49,7 @@ pub(crate) fn use_of(spans: &[Span]) -> Use
     Use {
         count: spans.len() as u64,
         airtime: airtime_of(spans),
-        peak: peak(spans),
+        peak: peak_of(spans),
     }
 }
 

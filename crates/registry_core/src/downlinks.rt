@@ -1,6 +1,7 @@
 //! What a downlink changes and how it is answered, and what became of it (LoRaWAN L2 1.0.4, Class A).
-ghost use Rattle.std.specs.Prelude.{◌≡◌, ◌^◌, ◌<◌, ◌≤◌, length};
+ghost use Rattle.std.specs.Prelude.{◌≡◌, ◌^◌, ◌<◌, ◌≤◌, [], ◌∷◌, ◌++◌, length};
 ghost use Rattle.radio_core.specs.DataRates.{max_length};
+ghost use Rattle.duty_core.specs.Computed.{hours_within};
 ghost use Rattle.registry_core.specs.ByView.{HasRoom};
 ghost use Rattle.registry_core.specs.Downlinks.{on_air};
 ghost use Rattle.registry_core.specs.DownlinksByView.{down_added_by, down_book_by, down_done_by};
@@ -17,7 +18,7 @@ use crate::views::View;
 use crate::wholes::Whole;
 use crate::windows::{Window, receive};
 use duty_core::laws::{computed_forms_tell, near_ones_test};
-use duty_core::{Span, clear, fits};
+use duty_core::{Span, clear, fits, in_order, sweep_fits};
 use radio_core::laws::airtime_is_bounded;
 use radio_core::{Band, Name, Octets, Rate, airtime, band_of, limit};
 
@@ -76,7 +77,10 @@ fn down_added(
     ensures { HasRoom view.now → result ≡ down_added_by view.now uplink gateway.now band start span }
 {
     wants(clear(&view.near, span), Refusal::Collision)?;
-    wants(fits(&view.near_in_band, span, limit(band)), Refusal::Duty)?;
+    wants(
+        keeps_hours(&view.near_in_band, span, limit(band)),
+        Refusal::Duty,
+    )?;
     let booking = Booking {
         uplink,
         gateway: *gateway,
@@ -91,6 +95,16 @@ fn down_added(
         start,
     };
     Ok((Effect::AddsBooking { booking }, answer))
+}
+
+/// Whether every hour keeps the limit with the new span: by one sweep through the spans where they stand in order of start.
+fn keeps_hours(spans: &[Span], new: Span, most: u64) -> bool
+    ensures { result ≡ hours_within (spans.now ++ new ∷ []) most }
+{
+    if in_order(spans) {
+        return sweep_fits(spans, new, most);
+    }
+    fits(spans, new, most)
 }
 
 /// When a downlink is on the air, where the data rate carries so many octets. It has no payload CRC.

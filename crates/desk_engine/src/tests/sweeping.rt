@@ -1,0 +1,91 @@
+//! That a decision looks at hours by one sweep.
+use duty_core::Span;
+use radio_core::{Band, DataRate, Name, Octets, Rate};
+use registry_core::{
+    Answer, Kind, Message, Reception, Role, Uplink, UplinkView, View, Whole, Window, decide,
+};
+use std::alloc::Global;
+use std::test::Fail;
+
+/// When the uplink ended, in microseconds.
+const END: u64 = 1_706_745_600_000_000;
+
+/// A million spans of half a second, one for each twenty seconds.
+fn million(alloc: Global) -> Result<Vec<Span>, Fail> {
+    let mut spans = Vec::new(alloc);
+    for i in 0..1_000_000_u32 {
+        spans.push(Span::new(i64::from(i) * 20_000_000, 500_000).ok_or("out of range")?)?;
+    }
+    Ok(spans)
+}
+
+/// A data uplink that a gateway heard.
+fn uplink() -> Result<UplinkView, Fail> {
+    let rate = Rate {
+        freq: 868_100_000,
+        dr: DataRate::Dr5,
+    };
+    Ok(UplinkView {
+        number: 1,
+        uplink: Uplink {
+            session: 1,
+            kind: Kind::Data,
+            counter: 0,
+            octets: Octets::new(&[]).ok_or("too long")?,
+            start: Whole::new(END - 41_216).ok_or("too great")?,
+            airtime: 41_216,
+            band: Band::B3,
+        },
+        at_gateway: Some(Reception {
+            end: Whole::new(END).ok_or("too great")?,
+            rate,
+        }),
+    })
+}
+
+/// What no registry holds: a gateway with a million downlinks near a new one.
+fn view(alloc: Global) -> Result<View, Fail> {
+    Ok(View {
+        role: Role::Radio,
+        base: 0x01a0_0000,
+        addresses: 65_536,
+        sessions: 1,
+        uplinks: 1,
+        bookings: 1_000_000,
+        sender_known: false,
+        owner_known: false,
+        gateway_known: true,
+        device: None,
+        last_nonce: None,
+        session: None,
+        uplink: Some(uplink()?),
+        answered: false,
+        next_down: 0,
+        booking: None,
+        near: million(alloc)?,
+        near_in_band: million(alloc)?,
+    })
+}
+
+/// No contract speaks of time. Hour by hour a million downlinks would take 2,000,000,000,000 sums, and a test has a minute.
+#[test]
+fn a_million_downlinks_are_swept(rt: HostRuntime) -> Result<(), Fail> {
+    let octets = [
+        0x60, 0x00, 0x00, 0xa0, 0x01, 0x00, 0x00, 0x00, 0x55, 0x66, 0x77, 0x88,
+    ];
+    let message = Message::DownBook {
+        uplink: Whole::new(1).ok_or("too great")?,
+        gateway: Name::new(b"gw-a").ok_or("no name")?,
+        window: Window::Second,
+        octets: Octets::new(&octets).ok_or("too long")?,
+    };
+    let (_, answer) = decide(&message, &view(rt.alloc())?);
+    let wanted = Answer::DownSuccess {
+        airtime: 991_232,
+        band: Band::B5,
+        booking: 1_000_001,
+        start: END + 2_000_000,
+    };
+    assert!(rt; answer == wanted);
+    Ok(())
+}
