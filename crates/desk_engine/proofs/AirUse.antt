@@ -19,19 +19,19 @@ use Rattle.registry_core.specs.State.{State}
 use Rattle.desk_engine.specs.declared.uses.Use.{Use as CountedUse}
 use Rattle.desk_engine.specs.Reports.{band_columns, band_line, device_line, sixteen_digits}
 use Rattle.desk_engine.specs.Lines.{line_feed}
-use Rattle.desk_engine.specs.Uses.{HasColumns, device_told, use_shown, use_told}
+use Rattle.desk_engine.specs.steps.Uses.{HasColumns, line_of_device, use_shown, use_computed}
 
 -- ---- the use of intervals
 
 same_use : (a b : Use) → a.count ≡ b.count → a.airtime ≡ b.airtime → a.peak ≡ b.peak → a ≡ b
 same_use a b count airtime peak = λ i. record { count = count i; airtime = airtime i; peak = peak i }
 
-pub use_ignores_order : PeakIsUnique → PeakIsComputed → PeakIgnoresOrder → (l k : List Interval) → IsPermutation l k → use_told k ≡ use_told l
+pub use_ignores_order : PeakIsUnique → PeakIsComputed → PeakIgnoresOrder → (l k : List Interval) → IsPermutation l k → use_computed k ≡ use_computed l
 use_ignores_order unique computed order l k moved =
-    same_use (use_told k) (use_told l) (length_permutation l k moved) (sum_by-IsPermutation (λ a. a.len) l k moved)
+    same_use (use_computed k) (use_computed l) (length_permutation l k moved) (sum_by-IsPermutation (λ a. a.len) l k moved)
     (unique l (peak_of k) (peak_of l) ((order l k (peak_of k) moved).0 (computed k)) (computed l))
 
-pub is_use : PeakIsComputed → (l : List Interval) → IsUse l (use_told l)
+pub is_use : PeakIsComputed → (l : List Interval) → IsUse l (use_computed l)
 is_use computed l = record { count = refl; airtime = refl; peak = computed l }
 
 pub use_is_one : PeakIsUnique → (l : List Interval) (a b : Use) → IsUse l a → IsUse l b → a ≡ b
@@ -70,11 +70,11 @@ pub flat_push : {X : Type 0} (f : X → List ℕ) (xs : List X) (x : X) → flat
 flat_push f xs x = flat_map-append f xs (x ∷ []) ∙ ap (λ l. flat_map f xs ++ l) (append-nil (f x))
 
 more_columns : (sent : List Uplink) (done : List Band) (uplinks : ℕ) (columns pair : List ℕ) (band : Band) (used : CountedUse) → HasColumns sent done uplinks columns
-    → use_shown used ≡ use_told (in_band band sent) → pair ≡ band_columns (use_shown used) → HasColumns sent (done ++ band ∷ []) (uplinks + used.count) (columns ++ pair)
+    → use_shown used ≡ use_computed (in_band band sent) → pair ≡ band_columns (use_shown used) → HasColumns sent (done ++ band ∷ []) (uplinks + used.count) (columns ++ pair)
 more_columns sent done uplinks columns pair band used has told shown =
     let count : used.count ≡ length (in_band band sent) = ap (λ (u : Use). u.count) told in
-    let column : pair ≡ band_columns (use_told (in_band band sent)) = shown ∙ ap band_columns told in
-    let f : Band → List ℕ = λ band. band_columns (use_told (in_band band sent)) in
+    let column : pair ≡ band_columns (use_computed (in_band band sent)) = shown ∙ ap band_columns told in
+    let f : Band → List ℕ = λ band. band_columns (use_computed (in_band band sent)) in
     let n : Band → ℕ = λ band. length (in_band band sent) in
     record {
       count = ap (λ k. uplinks + k) count ∙ ap (λ k. k + n band) has.count ∙ sym (sum_by_push n done band);
@@ -87,25 +87,25 @@ pub more_bands : (header : List ℕ) (f : Band → List ℕ) (done : List Band) 
 more_bands header f done band text new line is added told =
     added ∙ ap (λ l. text ++ l) told ∙ ap (λ l. l ++ f band) is ∙ append_assoc header (flat_map f done) (f band) ∙ ap (λ l. header ++ l) (sym (flat_push f done band))
 
-pub line_told : (s : State) (from to : ℤ) (device : ℕ) (digits columns shown line : List ℕ) (uplinks : ℕ) → HasColumns (uplinks_from s.uplinks s.sessions device from to) bands uplinks columns
-    → digits ≡ sixteen_digits device → shown ≡ columns → line ≡ digits ++ (codes "," ++ (decimal uplinks ++ (shown ++ line_feed ∷ []))) → line ≡ device_told s from to device
-unfolding device_told device_line
-line_told s from to device digits columns shown line uplinks has digits_are shown_are is =
+pub device_line_is : (s : State) (from to : ℤ) (device : ℕ) (digits columns shown line : List ℕ) (uplinks : ℕ) → HasColumns (uplinks_from s.uplinks s.sessions device from to) bands uplinks columns
+    → digits ≡ sixteen_digits device → shown ≡ columns → line ≡ digits ++ (codes "," ++ (decimal uplinks ++ (shown ++ line_feed ∷ []))) → line ≡ line_of_device s from to device
+unfolding line_of_device device_line
+device_line_is s from to device digits columns shown line uplinks has digits_are shown_are is =
     let sent = uplinks_from s.uplinks s.sessions device from to in
     let f : List ℕ → ℕ → List ℕ → List ℕ = λ d n c. d ++ (codes "," ++ (decimal n ++ (c ++ line_feed ∷ []))) in
     is ∙ ap (λ d. f d uplinks shown) digits_are ∙ ap (λ n. f (sixteen_digits device) n shown) (has.count ∙ in_some_band sent)
     ∙ ap (λ c. f (sixteen_digits device) (length sent) c) (shown_are ∙ has.text)
 
-pub band_told : (band : Band) (used : CountedUse) (told : Use) (columns shown line : List ℕ) → use_shown used ≡ told → columns ≡ band_columns (use_shown used) → shown ≡ columns
+pub band_line_is : (band : Band) (used : CountedUse) (told : Use) (columns shown line : List ℕ) → use_shown used ≡ told → columns ≡ band_columns (use_shown used) → shown ≡ columns
     → line ≡ codes "B" ++ (decimal (band_number band) ++ (codes "," ++ (decimal (limit_of band) ++ (codes "," ++ (decimal used.count ++ (shown ++ line_feed ∷ []))))))
     → line ≡ band_line band (limit_of band) told
 unfolding band_line
-band_told band used told columns shown line is columns_are shown_are written =
+band_line_is band used told columns shown line is columns_are shown_are written =
     let f : ℕ → List ℕ → List ℕ = λ n c. codes "B" ++ (decimal (band_number band) ++ (codes "," ++ (decimal (limit_of band) ++ (codes "," ++ (decimal n ++ (c ++ line_feed ∷ [])))))) in
     written ∙ ap (λ n. f n shown) (ap (λ (u : Use). u.count) is) ∙ ap (λ c. f told.count c) (shown_are ∙ columns_are ∙ ap band_columns is)
 
 pub columns_on : (sent : List Uplink) (done all : List Band) (uplinks n : ℕ) (columns pair shown new : List ℕ) (band : Band) (used : CountedUse) → HasColumns sent done uplinks columns
-    → use_shown used ≡ use_told (in_band band sent) → pair ≡ band_columns (use_shown used) → shown ≡ pair → all ≡ done ++ band ∷ [] → n ≡ used.count → new ≡ columns ++ shown
+    → use_shown used ≡ use_computed (in_band band sent) → pair ≡ band_columns (use_shown used) → shown ≡ pair → all ≡ done ++ band ∷ [] → n ≡ used.count → new ≡ columns ++ shown
     → HasColumns sent all (uplinks + n) new
 columns_on sent done all uplinks n columns pair shown new band used has told pair_is shown_is all_is n_is new_is =
     rw (all_is, n_is, new_is, shown_is) (more_columns sent done uplinks columns pair band used has told pair_is)

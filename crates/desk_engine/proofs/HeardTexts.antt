@@ -11,7 +11,7 @@ use Rattle.desk_wire.specs.Laws.{ReadsInRange}
 use Rattle.desk_wire.specs.Reading.{reads}
 use Rattle.desk_engine.specs.Deliveries.{heard_read}
 use Rattle.desk_engine.specs.Laws.{DeliveriesLeaveHeardLists}
-use Rattle.desk_engine.specs.Told.{envelope_of_text, most_octets}
+use Rattle.desk_engine.specs.Told.{envelope_of_text, longest_message}
 
 read_in_range : (b : Bool) (c : Settings) (text : List ℕ) (e : Envelope) → ReadsInRange → cond b (Err Malformed) (reads c.receiver text) ≡ Ok e → IsEnvelope e
 read_in_range true c text e in_range is = absurd (let k : Err Malformed ≡ Ok e = is in cc)
@@ -19,7 +19,7 @@ read_in_range false c text e in_range is = in_range c.receiver text e is
 
 delivered_in_range : (c : Settings) (text : List ℕ) (e : Envelope) → ReadsInRange → envelope_of_text c text ≡ Ok e → IsEnvelope e
 unfolding envelope_of_text
-delivered_in_range c text e in_range is = read_in_range (nat_lt most_octets (length text)) c text e in_range is
+delivered_in_range c text e in_range is = read_in_range (nat_lt longest_message (length text)) c text e in_range is
 
 one_more : (u : Bool) (c : Settings) (heard : List Envelope) (wanted : Result Envelope WireFault) → HeardListsStay → IsHeard c heard → length heard < most_heard
     → ((e : Envelope) → wanted ≡ Ok e → IsEnvelope e) → IsHeard c (heard_read u c heard wanted)

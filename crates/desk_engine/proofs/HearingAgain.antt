@@ -19,9 +19,9 @@ use Rattle.registry_core.specs.State.{opening}
 use Rattle.registry_core.specs.Step.{step}
 use Rattle.desk_wire.specs.declared.faults.WireFault.{WireFault}
 use Rattle.desk_engine.specs.Deliveries.{heard_after, heard_all, heard_read}
-use Rattle.desk_engine.specs.Laws.{AddsNoSender, HeardAgain, KeptAnswersStay, completed, told_each}
+use Rattle.desk_engine.specs.Laws.{AddsNoSender, HeardAgain, KeptAnswersStay, delivered, told_each}
 use Rattle.desk_engine.specs.Told.{envelope_of_text, read_told, reply_told}
-use Rattle.desk_engine.proofs.Keeping.{answers_after-push, state_after-push}
+use Rattle.desk_engine.proofs.KeptAfter.{answers_after-push, state_after-push}
 use Rattle.desk_engine.proofs.Places.{cases_option, has_pair-place_of}
 use Rattle.desk_engine.proofs.Replies.{heard_with-new, reply-known, reply-stranger, unless-again, unless-stranger}
 
@@ -149,27 +149,27 @@ read_extends stay c heard (Ok e) none = with_one stay c heard e none
 AddNoSender : Settings → List (List ℕ) → Type 0
 AddNoSender c texts = AllByRecursion (AddsNoSender c) texts
 
-all_extend : (stay : SendersStay) (c : Settings) (heard : List Envelope) (texts : List (List ℕ)) → AddNoSender c texts → Extends c heard (heard_all c heard (map completed texts))
+all_extend : (stay : SendersStay) (c : Settings) (heard : List Envelope) (texts : List (List ℕ)) → AddNoSender c texts → Extends c heard (heard_all c heard (map delivered texts))
 unfolding AddNoSender
 all_extend stay c heard [] none = itself c heard
 all_extend stay c heard (text ∷ texts) none =
-    let next : List Envelope = heard_after c heard (completed text) in
-    further c heard next (heard_all c next (map completed texts)) (read_extends stay c heard (envelope_of_text c text) none.0) (all_extend stay c next texts none.1)
+    let next : List Envelope = heard_after c heard (delivered text) in
+    further c heard next (heard_all c next (map delivered texts)) (read_extends stay c heard (envelope_of_text c text) none.0) (all_extend stay c next texts none.1)
 
 -- from a list that extends what the texts leave, they are told the same, and it stays
 each_again : (same : SameMessageTells) (stay : SendersStay) (c : Settings) (before after : List Envelope) (texts : List (List ℕ)) → AddNoSender c texts
-    → Extends c (heard_all c before (map completed texts)) after → (told_each c after texts ≡ told_each c before texts) × (heard_all c after (map completed texts) ≡ after)
+    → Extends c (heard_all c before (map delivered texts)) after → (told_each c after texts ≡ told_each c before texts) × (heard_all c after (map delivered texts) ≡ after)
 unfolding AddNoSender
 each_again same stay c before after [] none extends = (refl, refl)
 each_again same stay c before after (text ∷ texts) none extends =
-    let next : List Envelope = heard_after c before (completed text) in
-    let from_next : Extends c next after = further c next (heard_all c next (map completed texts)) after (all_extend stay c next texts none.1) extends in
+    let next : List Envelope = heard_after c before (delivered text) in
+    let from_next : Extends c next after = further c next (heard_all c next (map delivered texts)) after (all_extend stay c next texts none.1) extends in
     let from_before : Extends c before after = further c before next after (read_extends stay c before (envelope_of_text c text) none.0) from_next in
     let one = text_again same c before after (envelope_of_text c text) from_before from_next in
     let rest = each_again same stay c next after texts none.1 extends in
-    (λ i. one.told i ∷ (ap (λ l. told_each c l texts) one.stays ∙ rest.0) i, ap (λ l. heard_all c l (map completed texts)) one.stays ∙ rest.1)
+    (λ i. one.told i ∷ (ap (λ l. told_each c l texts) one.stays ∙ rest.0) i, ap (λ l. heard_all c l (map delivered texts)) one.stays ∙ rest.1)
 
 pub heard_again : SameMessageTells → SendersStay → HeardAgain
 unfolding AddNoSender
 heard_again same stay c heard texts none =
-    each_again same stay c heard (heard_all c heard (map completed texts)) texts (recursion_from_All (AddsNoSender c) texts none) (itself c (heard_all c heard (map completed texts)))
+    each_again same stay c heard (heard_all c heard (map delivered texts)) texts (recursion_from_All (AddsNoSender c) texts none) (itself c (heard_all c heard (map delivered texts)))

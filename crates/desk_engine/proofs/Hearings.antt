@@ -10,7 +10,7 @@ use Rattle.desk_store.specs.Kept.{Kept}
 use Rattle.desk_store.specs.Meaning.{Meaning}
 use Rattle.desk_engine.specs.Hearing.{Hears}
 use Rattle.desk_engine.specs.InOrder.{IsInOrder, Survives, WasInOrder, doubt_after, kept_after}
-use Rattle.desk_engine.proofs.Keeping.{HoldsOne, holds_hours}
+use Rattle.desk_engine.proofs.KeptAfter.{HoldsOne, holds_hours}
 
 or_true : (b : Bool) → (b || true) ≡ true
 or_true true = refl

@@ -1,11 +1,11 @@
 pub mod AirUse
-pub mod Arms
 pub mod HeardTexts
 pub mod HearingAgain
+pub mod HearingCases
 pub mod Hearings
 pub mod Imports
 pub mod InputCuts
-pub mod Keeping
+pub mod KeptAfter
 pub mod LineCuts
 pub mod LineParts
 pub mod LineRuns

@@ -8,32 +8,32 @@ use Rattle.desk_engine.specs.declared.outcomes.Outcome.{Outcome}
 use Rattle.desk_engine.specs.Deliveries.{heard_read}
 use Rattle.desk_engine.specs.Lines.{line_feed, heard_line, answer_line}
 use Rattle.desk_engine.specs.Outcomes.{doubt_of_text, doubt_read}
-use Rattle.desk_engine.specs.Taking.{kept, part}
-use Rattle.desk_engine.specs.Told.{most_octets, envelope_of_text, read_told, text_of}
+use Rattle.desk_engine.specs.steps.Lines.{line_with, part}
+use Rattle.desk_engine.specs.Told.{longest_message, envelope_of_text, read_told, text_of}
 
 -- one octet more, while there is room
-pub kept-part : (line : List ℕ) (x : ℕ) → kept (part line) x ≡ part (line ++ x ∷ [])
-kept-part line x = elim (cases_lt most_octets (length line)) [
+pub line_with-part : (line : List ℕ) (x : ℕ) → line_with (part line) x ≡ part (line ++ x ∷ [])
+line_with-part line x = elim (cases_lt longest_message (length line)) [
   | inl long ↦
-      let size : length (part line) ≡ most_octets + 1 = length-take-le (most_octets + 1) line (omega arith) in
-      let full : nat_lt (length (part line)) (most_octets + 1) ≡ false = le-ltb (length (part line)) (most_octets + 1) (omega arith) in
-      rw full (sym (take-append-le (most_octets + 1) line (x ∷ []) (omega arith)))
+      let size : length (part line) ≡ longest_message + 1 = length-take-le (longest_message + 1) line (omega arith) in
+      let full : nat_lt (length (part line)) (longest_message + 1) ≡ false = le-ltb (length (part line)) (longest_message + 1) (omega arith) in
+      rw full (sym (take-append-le (longest_message + 1) line (x ∷ []) (omega arith)))
   | inr short ↦
-      let whole : part line ≡ line = take_all (most_octets + 1) line (omega arith) in
-      let room : nat_lt (length line) (most_octets + 1) ≡ true = lt-ltb (length line) (most_octets + 1) (omega arith) in
-      ap (λ l. kept l x) whole ∙ ap (λ b. cond b (line ++ x ∷ []) line) room
-      ∙ sym (take_all (most_octets + 1) (line ++ x ∷ []) (omega (arith, length-append line (x ∷ []))))
+      let whole : part line ≡ line = take_all (longest_message + 1) line (omega arith) in
+      let room : nat_lt (length line) (longest_message + 1) ≡ true = lt-ltb (length line) (longest_message + 1) (omega arith) in
+      ap (λ l. line_with l x) whole ∙ ap (λ b. cond b (line ++ x ∷ []) line) room
+      ∙ sym (take_all (longest_message + 1) (line ++ x ∷ []) (omega (arith, length-append line (x ∷ []))))
 ]
 
 envelope_of_text-part : (c : Settings) (line : List ℕ) → envelope_of_text c (part line) ≡ envelope_of_text c line
 unfolding envelope_of_text
-envelope_of_text-part c line = elim (cases_lt most_octets (length line)) [
+envelope_of_text-part c line = elim (cases_lt longest_message (length line)) [
   | inl long ↦
-      let size : length (part line) ≡ most_octets + 1 = length-take-le (most_octets + 1) line (omega arith) in
-      let over : nat_lt most_octets (length (part line)) ≡ true = lt-ltb most_octets (length (part line)) (omega arith) in
-      let same : nat_lt most_octets (length line) ≡ true = lt-ltb most_octets (length line) long in
+      let size : length (part line) ≡ longest_message + 1 = length-take-le (longest_message + 1) line (omega arith) in
+      let over : nat_lt longest_message (length (part line)) ≡ true = lt-ltb longest_message (length (part line)) (omega arith) in
+      let same : nat_lt longest_message (length line) ≡ true = lt-ltb longest_message (length line) long in
       rw (over, same) refl
-  | inr short ↦ ap (envelope_of_text c) (take_all (most_octets + 1) line (omega arith))
+  | inr short ↦ ap (envelope_of_text c) (take_all (longest_message + 1) line (omega arith))
 ]
 
 pub heard_line-part : (c : Settings) (heard : List Envelope) (line : List ℕ) → heard_line c heard (part line) ≡ heard_line c heard line

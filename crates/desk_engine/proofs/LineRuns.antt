@@ -18,9 +18,9 @@ use Rattle.desk_engine.specs.declared.outcomes.Outcome.{Outcome}
 use Rattle.desk_engine.specs.declared.outcomes.Outcome.TheVariants as outcome
 use Rattle.desk_engine.specs.Deliveries.{heard_after, heard_read}
 use Rattle.desk_engine.specs.InOrder.{HasNoRoom, IsInOrder, Survives, doubt_after}
-use Rattle.desk_engine.specs.Lines.{line_feed, delivery_of_line, whole_lines, last_line, all_lines, heard_line, answer_line, heard_lines, answer_lines, IsBeginning, HasHeard, HasAnswered, EndsBy}
+use Rattle.desk_engine.specs.Lines.{line_feed, delivery_of_line, whole_lines, last_line, all_lines, heard_line, answer_line, heard_lines, answer_lines, IsBeginning, HasHeard, HasAnswered, LinesEndBy}
 use Rattle.desk_engine.specs.Outcomes.{delivery_of, doubt_of_text, doubt_read, is_unavailable}
-use Rattle.desk_engine.specs.Taking.{kept, part, end_of, TakesLine, StandsAt}
+use Rattle.desk_engine.specs.steps.Lines.{line_with, part, lines_end_of, TakesLine, StandsAt}
 use Rattle.desk_engine.specs.Told.{text_of, text_told, envelope_of_text}
 use Rattle.desk_engine.proofs.LineCuts as cuts
 use Rattle.desk_engine.proofs.LineParts as parts
@@ -93,7 +93,7 @@ module _ {K : Type 0} (m : Meaning K) (c : Settings) where
     answers = subst (Appends w v) (sym (answer_lines-append c heard lines more)) (Appends-trans w u v _ _ first.answers second.answers);
   }
 
-  -- ---- the kept part of a line for the whole
+  -- ---- the line_with part of a line for the whole
 
   hears-whole : (heard : List Envelope) (old new : K) (line : List ℕ) (now : Option Envelope) → HasHeard m c heard old new (part line ∷ []) now
       → HasHeard m c heard old new (line ∷ []) now
@@ -179,7 +179,7 @@ module _ {K : Type 0} (m : Meaning K) (c : Settings) where
       → IsBeginning (all_lines input) (all_lines all)
       → StandsAt m c heard start mid w u input line → slice ≡ line
       → TakesLine m c (heard_lines c heard (whole_lines input)) mid new u v {T = T} slice (Err stop)
-      → EndsBy m c heard start new w v all (end_of stop)
+      → LinesEndBy m c heard start new w v all (lines_end_of stop)
   ends-stopped T Write heard start mid new w u v input all line slice beginning stands same took = record {
     lines = whole_lines input;
     line = last_line input;
@@ -224,26 +224,26 @@ module _ {K : Type 0} (m : Meaning K) (c : Settings) where
       → x ≡ line_feed
       → StandsAt m c heard start mid w u input line → slice ≡ line
       → TakesLine m c (heard_lines c heard (whole_lines input)) mid new u v {T = T} slice (Err stop)
-      → (more : List ℕ) → EndsBy m c heard start new w v ((input ++ x ∷ []) ++ more) (end_of stop)
+      → (more : List ℕ) → LinesEndBy m c heard start new w v ((input ++ x ∷ []) ++ more) (lines_end_of stop)
   goes-stopped T stop heard start mid new w u v input line slice x is stands same took more =
-      subst (λ y. EndsBy m c heard start new w v ((input ++ y ∷ []) ++ more) (end_of stop)) (sym is)
+      subst (λ y. LinesEndBy m c heard start new w v ((input ++ y ∷ []) ++ more) (lines_end_of stop)) (sym is)
       (ends-stopped T stop heard start mid new w u v input ((input ++ line_feed ∷ []) ++ more) line slice (cuts.beginning-ended input more) stands same took)
 
-  -- another octet was kept
+  -- another octet was line_with
   pub goes-on : (heard : List Envelope) (start mid : K) (w u : Option (List ℕ)) (input line : List ℕ) (x : ℕ) (next : List ℕ)
-      → (x == line_feed) ≡ false → next ≡ kept line x
+      → (x == line_feed) ≡ false → next ≡ line_with line x
       → StandsAt m c heard start mid w u input line
       → StandsAt m c heard start mid w u (input ++ x ∷ []) next
   goes-on heard start mid w u input line x next other grown stands = record {
     up = stands.up;
-    begun = grown ∙ ap (λ l. kept l x) stands.begun ∙ parts.kept-part (last_line input) x ∙ ap part (sym (cuts.last_line-octet input x other));
+    begun = grown ∙ ap (λ l. line_with l x) stands.begun ∙ parts.line_with-part (last_line input) x ∙ ap part (sym (cuts.last_line-octet input x other));
     answered = subst (λ lines. HasAnswered m c heard start mid w u lines None) (sym (cuts.whole_lines-octet input x other)) stands.answered;
   }
 
   -- there was no memory for it
   pub goes-without : (heard : List Envelope) (start mid : K) (w u : Option (List ℕ)) (input line : List ℕ) (x : ℕ) → (x == line_feed) ≡ false
       → StandsAt m c heard start mid w u input line
-      → (more : List ℕ) → EndsBy m c heard start mid w u ((input ++ x ∷ []) ++ more) (end_of (Unavailable Memory))
+      → (more : List ℕ) → LinesEndBy m c heard start mid w u ((input ++ x ∷ []) ++ more) (lines_end_of (Unavailable Memory))
   goes-without heard start mid w u input line x other stands more =
       let next = cuts.next_line (input ++ x ∷ []) more in
       let begun : last_line (input ++ x ∷ []) ≡ last_line input ++ x ∷ [] = cuts.last_line-octet input x other in
@@ -262,7 +262,7 @@ module _ {K : Type 0} (m : Meaning K) (c : Settings) where
   -- ---- however it ended
 
   -- the store is in order for some lines
-  pub ends_in_order : (heard : List Envelope) (old new : K) (w v : Option (List ℕ)) (input : List ℕ) (end : LinesEnd) → EndsBy m c heard old new w v input end
+  pub ends_in_order : (heard : List Envelope) (old new : K) (w v : Option (List ℕ)) (input : List ℕ) (end : LinesEnd) → LinesEndBy m c heard old new w v input end
       → (lines : List (List ℕ)) × IsInOrder m c new (heard_lines c heard lines)
   ends_in_order heard old new w v input lines_end.Done ends = (all_lines input, ends.hears.order)
   ends_in_order heard old new w v input lines_end.Read ends = (whole_lines input, ends.hears.order)

@@ -9,9 +9,10 @@ use Rattle.desk_wire.specs.Reading.{Gives}
 use Rattle.desk_engine.specs.declared.outcomes.Outcome.{Outcome}
 use Rattle.desk_engine.specs.declared.outcomes.Outcome.TheVariants.{Unavailable}
 use Rattle.desk_engine.specs.Deliveries.{heard_read}
-use Rattle.desk_engine.specs.Outcomes.{IfRefused, IsOutcome, IsUnheard, RefusesText, Says, is_unavailable}
+use Rattle.desk_engine.specs.Outcomes.{IfRefused, IsOutcome, IsUnheard, is_unavailable}
+use Rattle.desk_engine.specs.steps.Hearing.{RefusesText, Says}
 use Rattle.desk_engine.specs.Told.{fault_told, read_told}
-use Rattle.desk_engine.proofs.Arms.{IsQuiet, says_outcome, says_quiet, says_refused}
+use Rattle.desk_engine.proofs.HearingCases.{IsQuiet, says_outcome, says_quiet, says_refused}
 
 -- what follows from such an outcome
 pub record IsUnread (c : Settings) (heard : List Envelope) (wanted : Result Envelope WireFault) (o : Outcome) : Type 0 where

@@ -24,13 +24,13 @@ KeptAnswersStay = (c : Settings) (heard : List Envelope) (d : Delivery) (e : Env
 -- ---- the same texts again
 
 -- the text as a delivery that isn't answered Unavailable
-abbrev pub completed : List ℕ → Delivery
-completed text = record { text = text; unavailable = false }
+abbrev pub delivered : List ℕ → Delivery
+delivered text = record { text = text; unavailable = false }
 
 -- what each text is told, after the ones before it
 abbrev pub told_each : Settings → List Envelope → List (List ℕ) → List Told
 told_each c heard [] = []
-told_each c heard (text ∷ texts) = text_told c heard text ∷ told_each c (heard_after c heard (completed text)) texts
+told_each c heard (text ∷ texts) = text_told c heard text ∷ told_each c (heard_after c heard (delivered text)) texts
 
 -- the text adds no sender
 abbrev pub AddsNoSender : Settings → List ℕ → Type 0
@@ -39,5 +39,5 @@ AddsNoSender c text = IfOk (envelope_of_text c text) (λ e. adds_sender e.messag
 -- Texts of which none adds a sender, delivered again at once, and again none of them answered Unavailable, are told what they
 -- were told, and leave what is heard as it was.
 abbrev pub HeardAgain : Type 0
-HeardAgain = (c : Settings) (heard : List Envelope) (texts : List (List ℕ)) → All (AddsNoSender c) texts → let after : List Envelope = heard_all c heard (map completed texts) in
-    (told_each c after texts ≡ told_each c heard texts) × (heard_all c after (map completed texts) ≡ after)
+HeardAgain = (c : Settings) (heard : List Envelope) (texts : List (List ℕ)) → All (AddsNoSender c) texts → let after : List Envelope = heard_all c heard (map delivered texts) in
+    (told_each c after texts ≡ told_each c heard texts) × (heard_all c after (map delivered texts) ≡ after)

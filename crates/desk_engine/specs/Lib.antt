@@ -8,6 +8,5 @@ pub mod Months
 pub mod Outcomes
 pub mod Reporting
 pub mod Reports
-pub mod Taking
 pub mod Told
-pub mod Uses
+pub mod steps

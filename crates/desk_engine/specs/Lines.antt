@@ -126,8 +126,8 @@ module _ {K : Type 0} (m : Meaning K) (c : Settings) (heard : List Envelope) (ol
     pub size : fault ≡ Size → HasNoRoom m new (heard_lines c heard lines)
 
   -- what a run has heard and written, by how it ended, where this is what it read
-  abbrev pub EndsBy : Option (List ℕ) → Option (List ℕ) → List ℕ → LinesEnd → Type 0
-  EndsBy before after input Done = HasAnswered before after (all_lines input) None
-  EndsBy before after input Read = HasAnswered before after (whole_lines input) None
-  EndsBy before after input Write = FailsToWrite input
-  EndsBy before after input (Unavailable fault) = IsCutShort before after input fault
+  abbrev pub LinesEndBy : Option (List ℕ) → Option (List ℕ) → List ℕ → LinesEnd → Type 0
+  LinesEndBy before after input Done = HasAnswered before after (all_lines input) None
+  LinesEndBy before after input Read = HasAnswered before after (whole_lines input) None
+  LinesEndBy before after input Write = FailsToWrite input
+  LinesEndBy before after input (Unavailable fault) = IsCutShort before after input fault

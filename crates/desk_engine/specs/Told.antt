@@ -13,12 +13,12 @@ use Rattle.desk_wire.specs.Faults.{head_of_fault, refusal_of_fault}
 use Rattle.desk_wire.specs.Reading.{reads}
 
 -- a longer text is no message (this project's limit)
-abbrev pub most_octets : ℕ
-most_octets = 65536
+abbrev pub longest_message : ℕ
+longest_message = 65536
 
 -- the envelope that a delivered text is, or why it is none
 unfoldable pub envelope_of_text : Settings → List ℕ → Result Envelope WireFault
-envelope_of_text c text = if nat_lt most_octets (length text) then Err Malformed else reads c.receiver text
+envelope_of_text c text = if nat_lt longest_message (length text) then Err Malformed else reads c.receiver text
 
 -- what goes back: an answer's text, or a refusal and its text
 pub data Told : Type 0 where

@@ -3,6 +3,7 @@
 
 mod band_reports;
 mod delivering;
+mod from_nothing;
 mod hearing;
 mod importing;
 pub mod laws;
@@ -10,18 +11,17 @@ mod lines;
 mod months;
 mod outcomes;
 mod owner_reports;
-mod plain;
 mod report_faults;
 #[cfg(test)]
 mod tests;
 mod uses;
 
 pub use band_reports::band_report;
-pub use delivering::{deliver, run};
+pub use delivering::{LONGEST_MESSAGE, deliver, run};
+pub use from_nothing::run_from_nothing;
 pub use hearing::hear;
 pub use importing::{Imported, import};
 pub use lines::{LinesEnd, run_lines};
 pub use outcomes::Outcome;
 pub use owner_reports::owner_report;
-pub use plain::run_from_nothing;
 pub use report_faults::ReportFault;

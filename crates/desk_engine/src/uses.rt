@@ -3,7 +3,7 @@ ghost use Rattle.std.specs.Prelude.{◌≡◌, IfOk};
 ghost use Rattle.std.specs.String.{string_bytes};
 ghost use Rattle.duty_core.specs.Computed.{peak_of};
 ghost use Rattle.desk_engine.specs.Reports.{band_columns};
-ghost use Rattle.desk_engine.specs.Uses.{use_shown, use_told};
+ghost use Rattle.desk_engine.specs.steps.Uses.{use_shown, use_computed};
 
 use duty_core::{Span, in_order, peak, sweep_peak};
 use radio_core::Band;
@@ -23,7 +23,7 @@ pub(crate) struct Use {
 
 /// How long it was used in all, in microseconds.
 fn airtime_of(spans: &[Span]) -> u128
-    ensures { result ≡ (use_told spans.now).airtime }
+    ensures { result ≡ (use_computed spans.now).airtime }
 {
     let mut airtime: u128 = 0;
     for span in spans {
@@ -44,7 +44,7 @@ fn peak_of(spans: &[Span]) -> u128
 
 /// How much it was used by what was on the air then.
 pub(crate) fn use_of(spans: &[Span]) -> Use
-    ensures { use_shown result ≡ use_told spans.now }
+    ensures { use_shown result ≡ use_computed spans.now }
 {
     Use {
         count: spans.len() as u64,

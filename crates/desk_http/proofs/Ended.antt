@@ -14,11 +14,12 @@ use Rattle.desk_http.specs.declared.serving.ServeEnd.TheVariants.{Done, Closed, 
 use Rattle.desk_http.specs.Heads.{IsWithinLimits}
 use Rattle.desk_http.specs.Requests.{asked_of, asked_by_head}
 use Rattle.desk_http.specs.Responses.{Response}
-use Rattle.desk_http.specs.Serving.{EndsBy, Serves, ServesHead, Writes, head}
+use Rattle.desk_http.specs.Serving.{ServingEndsBy, Serves, ServesHead, head}
+use Rattle.desk_http.specs.steps.Answering.{Writes}
 
 -- what serves one way serves another
 pub ends-more : {K : Type 0} (old new : K) (P Q : Response → Type 0) (A B : Type 0) (before after : Option (List ℕ)) (end : ServeEnd)
-    → ((r : Response) → P r → Q r) → (A → B) → EndsBy old new P A before after end → EndsBy old new Q B before after end
+    → ((r : Response) → P r → Q r) → (A → B) → ServingEndsBy old new P A before after end → ServingEndsBy old new Q B before after end
 ends-more old new P Q A B before after (Done status) f a h = (h.0, h.1, f h.0 h.2, h.3)
 ends-more old new P Q A B before after Closed f a h = (a h.0, h.1)
 ends-more old new P Q A B before after Read f a h = h
@@ -27,7 +28,7 @@ ends-more old new P Q A B before after Memory f a h = h
 
 -- a response that was written, or a write of it failed
 pub ends-written : {K : Type 0} (old new : K) (response : Response) (P : Response → Type 0) (A : Type 0) (before after : Option (List ℕ)) (end : ServeEnd)
-    → P response → Writes response before after end → EndsBy old new P A before after end
+    → P response → Writes response before after end → ServingEndsBy old new P A before after end
 ends-written old new response P A before after (Done status) serves h = (response, h.0, serves, h.1)
 ends-written old new response P A before after Closed serves h = absurd h
 ends-written old new response P A before after Read serves h = absurd h
@@ -61,8 +62,8 @@ module _ {K : Type 0} (m : Meaning K) (old new : K) where
   pub served : (end : ServeEnd) (h : RequestHead) (octets : List ℕ) (headers : List HeaderSpan) (spans : RequestSpans) (asked : Asked) (target : List ℕ) (from mid rest before after : Option (List ℕ))
       → Consumes from mid octets → IsRequestAt octets headers spans h → spans.len ≡ length octets → IsWithinLimits h → target ≡ span_bytes octets spans.path
       → asked ≡ asked_of (span_bytes octets spans.method) (span_bytes octets spans.path) (map (header_bytes octets) (take spans.headers headers))
-      → EndsBy old new (λ r. (body : List ℕ) × Consumes mid rest body × ServesHead m old new asked target body rest r) ⊥ before after end
-      → EndsBy old new (λ r. (input : List ℕ) × Consumes from rest input × Serves m old new input rest r) (Consumes from rest [] × IsAtEnd rest) before after end
+      → ServingEndsBy old new (λ r. (body : List ℕ) × Consumes mid rest body × ServesHead m old new asked target body rest r) ⊥ before after end
+      → ServingEndsBy old new (λ r. (input : List ℕ) × Consumes from rest input × Serves m old new input rest r) (Consumes from rest [] × IsAtEnd rest) before after end
   served end h octets headers spans asked target from mid rest before after read at all fits target_is asked_are done =
       let octets_are = all_head octets headers spans h at all in
       let asks : asked ≡ asked_by_head h = asked_are ∙ asked_is octets headers spans h at in

@@ -6,3 +6,4 @@ pub mod Requests
 pub mod Responses
 pub mod Serving
 pub mod Targets
+pub mod steps

@@ -1,15 +1,10 @@
 -- What a report that was asked for is answered: its text, or why there is none.
-use Rattle.std.specs.Prelude.{ℕ, List, ℤ, Result, Ok, Err, IfOk, IfErr, OnOk, IsTrue}
+use Rattle.std.specs.Prelude.{ℕ, List, ℤ, Result, IfOk, IfErr, OnOk, IsTrue}
 use Rattle.registry_core.specs.State.{State}
 use Rattle.desk_engine.specs.declared.report_faults.ReportFault.{ReportFault}
 use Rattle.desk_engine.specs.Months.{IsMonth}
 use Rattle.desk_engine.specs.Reporting.{IsOwnerFault, IsGatewayFault}
 use Rattle.desk_engine.specs.Reports.{IsBandReport, IsOwnerReport, is_gateway, is_owner}
-
--- an answer as the engine gives it, with its octets alone
-abbrev pub answer_told : {T : Type 0} → (T → List ℕ) → Result T ReportFault → Result (List ℕ) ReportFault
-answer_told octets (Ok text) = Ok (octets text)
-answer_told octets (Err fault) = Err fault
 
 -- of what the registry holds: for what is a month, the report where the owner is known, and else why not
 pub record IsOwnerAnswer (s : State) (owner month : List ℕ) (answer : Result (List ℕ) ReportFault) : Type 0 where

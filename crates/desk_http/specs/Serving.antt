@@ -88,18 +88,10 @@ IsIdle old new before after = (new ≡ old) × Keeps before after
 
 -- How a connection was served, by how it ended: with `Done` the response was written whole. With `Write` the store is as with `Done`, and nothing is said
 -- of what was written. The store was old and is new, the writer had before and has after.
-abbrev pub EndsBy : {K : Type 0} → K → K → (Response → Type 0) → Type 0 → Option (List ℕ) → Option (List ℕ) → ServeEnd → Type 0
-EndsBy old new serves closed before after (Done status) =
+abbrev pub ServingEndsBy : {K : Type 0} → K → K → (Response → Type 0) → Type 0 → Option (List ℕ) → Option (List ℕ) → ServeEnd → Type 0
+ServingEndsBy old new serves closed before after (Done status) =
     (response : Response) × (status ≡ response.status) × serves response × Appends before after (response_text response)
-EndsBy old new serves closed before after Closed = closed × IsIdle old new before after
-EndsBy old new serves closed before after Read = IsIdle old new before after
-EndsBy old new serves closed before after Write = (response : Response) × serves response
-EndsBy old new serves closed before after Memory = IsIdle old new before after
-
--- ---- of private functions
-
--- the response was written whole, or a write failed
-abbrev pub Writes : Response → Option (List ℕ) → Option (List ℕ) → ServeEnd → Type 0
-Writes response before after (Done status) = (status ≡ response.status) × Appends before after (response_text response)
-Writes response before after Write = Unit {0}
-Writes response before after _ = ⊥
+ServingEndsBy old new serves closed before after Closed = closed × IsIdle old new before after
+ServingEndsBy old new serves closed before after Read = IsIdle old new before after
+ServingEndsBy old new serves closed before after Write = (response : Response) × serves response
+ServingEndsBy old new serves closed before after Memory = IsIdle old new before after

@@ -4,12 +4,10 @@ ghost use Rattle.std.specs.List.{All, list_all};
 ghost use Rattle.std.specs.Char.{is_ascii_digit, to_ascii_lowercase};
 ghost use Rattle.std.specs.Str.Parse.{digits_value};
 ghost use Rattle.httparse.specs.Spans.{IsHeaderWithin, header_bytes};
-ghost use Rattle.desk_http.specs.Fields.{is_name, is_number, length_of, length_with, length_after, body_length, has_transfer_encoding, names_encoding};
+ghost use Rattle.desk_http.specs.Fields.{has_name, is_number, length_of, length_with, length_after, body_length, has_transfer_encoding, names_encoding};
 
+use desk_engine::LONGEST_MESSAGE;
 use httparse::spans::HeaderSpan;
-
-/// The octets of a body, at most (this project's limit).
-const MOST_OCTETS: u32 = 65_536;
 
 /// The length of a body, by the fields of its head.
 #[derive(Clone, Copy)]
@@ -39,7 +37,7 @@ fn names_encoding(octets: &[u8], so_far: bool, header: HeaderSpan) -> bool
     requires { IsHeaderWithin (length octets.now) header }
     ensures { result ≡ names_encoding so_far (header_bytes octets.now header) }
 {
-    so_far || is_name(header.name.of(octets), b"transfer-encoding")
+    so_far || has_name(header.name.of(octets), b"transfer-encoding")
 }
 
 /// The length that the fields give.
@@ -59,7 +57,7 @@ fn length_after(octets: &[u8], so_far: BodyLength, header: HeaderSpan) -> BodyLe
     requires { IsHeaderWithin (length octets.now) header }
     ensures { result ≡ length_after so_far (header_bytes octets.now header) }
 {
-    if is_name(header.name.of(octets), b"content-length") {
+    if has_name(header.name.of(octets), b"content-length") {
         length_with(so_far, length_of(header.value.of(octets)))
     } else {
         so_far
@@ -76,9 +74,9 @@ fn length_with(so_far: BodyLength, new: BodyLength) -> BodyLength
 }
 
 /// Whether a text is this name in any case. The name is given in lower case.
-fn is_name(text: &[u8], name: &[u8]) -> bool
+fn has_name(text: &[u8], name: &[u8]) -> bool
     requires { map to_ascii_lowercase name.now ≡ name.now }
-    ensures { result ≡ is_name name.now text.now }
+    ensures { result ≡ has_name name.now text.now }
 {
     text.eq_ignore_ascii_case(name)
 }
@@ -92,7 +90,7 @@ fn length_of(text: &[u8]) -> BodyLength
         return BodyLength::Bad;
     }
     let length = capped(text);
-    if length > MOST_OCTETS {
+    if length as usize > LONGEST_MESSAGE {
         BodyLength::TooLong
     } else {
         BodyLength::Number(length)

@@ -175,9 +175,9 @@ module _ (bookings : List Booking) (gateway : List ℕ) where
   by_start_from : (xs spans : List Interval) → spans ≡ in_order (λ (a : Interval). a.start) xs → IsByStart xs spans
   by_start_from xs spans is = let P : List Interval → Type 0 = IsByStart xs in subst P (sym is) (by_start xs)
 
-  pub near_told : (band : Option Band) (start : ℕ) (spans : List Interval)
+  pub near_for : (band : Option Band) (start : ℕ) (spans : List Interval)
       → spans ≡ filter_map (span_told bookings band) (filter (is_near_place start) (places_of bookings gateway)) → IsByStart (downlinks_near bookings gateway band start) spans
-  near_told band start spans is =
+  near_for band start spans is =
       by_start_from (downlinks_near bookings gateway band start) spans
       (is ∙ told_in_order gateway band (λ s. int_lt (pos start -ℤ pos (hour + greatest_length)) s && int_lt s (pos start +ℤ pos (hour + greatest_length))) bookings)
 

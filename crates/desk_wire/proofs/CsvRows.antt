@@ -7,7 +7,8 @@ use Rattle.csv.specs.Reading.{Reached, ReadRecord, default_config, records_from,
 use Rattle.csv.specs.declared.parser.State.{State}
 use Rattle.csv.specs.declared.reader.Reader.{Reader}
 use Rattle.registry_core.specs.declared.messages.Envelope.{Envelope}
-use Rattle.desk_wire.specs.CsvReports.{IsReading, envelope_in, envelopes_from, next_records, octets_known, rows_left, with_first}
+use Rattle.desk_wire.specs.CsvReports.{envelope_in, envelopes_from, with_first}
+use Rattle.desk_wire.specs.steps.CsvReports.{IsReading, next_records, octets_known, rows_left}
 use Rattle.desk_wire.specs.declared.csv_faults.CsvFault.{CsvFault}
 use Rattle.desk_wire.specs.declared.csv_faults.CsvFault.TheVariants.{Size, Record}
 

@@ -6,10 +6,10 @@ use Rattle.registry_core.specs.declared.answers.Answer.TheVariants.{Success, Joi
 use Rattle.registry_core.specs.declared.messages.Message.{Message}
 use Rattle.registry_core.specs.declared.messages.Message.TheVariants.{SenderAdd, OwnerAdd, GatewayAdd, DeviceAdd, DeviceMove, JoinHeard, FrameHeard, DownBook, DownDone}
 use Rattle.desk_wire.specs.Answers.{result_value, answer_value}
-use Rattle.desk_wire.specs.Members.{with_envelope}
-use Rattle.desk_wire.specs.Outcomes.{with_outcome}
+use Rattle.desk_wire.specs.steps.Outcomes.{with_outcome}
 use Rattle.desk_wire.specs.TypeNames.{type_name_of}
-use Rattle.desk_wire.specs.Writing.{message_value, with_body}
+use Rattle.desk_wire.specs.Writing.{message_value}
+use Rattle.desk_wire.specs.steps.Putting.{with_body, with_envelope}
 use Rattle.desk_wire.specs.declared.heads.Head.{Head}
 
 pub put_message : (receiver sender : List ℕ) (transaction : ℕ) (m : Message)

@@ -24,14 +24,15 @@ use Rattle.registry_core.specs.Ranges.{IsName, IsReport, IsMessage}
 use Rattle.registry_core.specs.Wholes.{IsWhole}
 use Rattle.desk_wire.specs.Bodies.{sender_add_of, owner_add_of, gateway_add_of, device_add_of, device_move_of, join_heard_of, frame_heard_of, down_book_of, down_done_of}
 use Rattle.desk_wire.specs.Hexadecimal.{octet_digits, eui_digits}
-use Rattle.desk_wire.specs.Members.{whole_or_null_at, whole_or_null, with_envelope}
+use Rattle.desk_wire.specs.Members.{whole_or_null_at, whole_or_null}
 use Rattle.desk_wire.specs.Reading.{reads, reads_value, value_of, envelope_of, common_members_of, envelope_addressed, message_of}
-use Rattle.desk_wire.specs.Reports.{rate_of, report_of, with_report}
+use Rattle.desk_wire.specs.Reports.{rate_of, report_of}
 use Rattle.desk_wire.specs.Roles.{role_name, role_named}
 use Rattle.desk_wire.specs.TypeNames.{type_name_of}
 use Rattle.desk_wire.specs.Verdicts.{join_verdict_name, join_verdict_named}
 use Rattle.desk_wire.specs.Windows.{window_number, window_numbered}
-use Rattle.desk_wire.specs.Writing.{heard_value, message_value, message_text, with_body}
+use Rattle.desk_wire.specs.Writing.{heard_value, message_value, message_text}
+use Rattle.desk_wire.specs.steps.Putting.{with_body, with_report, with_envelope}
 use Rattle.desk_wire.specs.Laws.{MessageReadsBack}
 use Rattle.desk_wire.specs.declared.reading.CommonMembers.{CommonMembers}
 use Rattle.desk_wire.proofs.DataRateNumbers.{data_rate_numbered-dr_number, dr_number-fits}

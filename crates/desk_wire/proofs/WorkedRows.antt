@@ -89,9 +89,9 @@ abbrev by_type : List ℕ → Head
 by_type type_name = record { sender = codes "office"; transaction = 1; type_name = type_name }
 
 -- the first fault: no object, the version, the receiver, the type, a member of the type
-faults_told : reads desk (codes "{") ∷ reads desk (asked (codes "1.1") (codes "other") (codes "\"OwnerDrop\"}")) ∷ reads desk (asked (codes "1.0") (codes "other") (codes "\"OwnerDrop\"}"))
+first_faults : reads desk (codes "{") ∷ reads desk (asked (codes "1.1") (codes "other") (codes "\"OwnerDrop\"}")) ∷ reads desk (asked (codes "1.0") (codes "other") (codes "\"OwnerDrop\"}"))
     ∷ reads desk (asked (codes "1.0") desk (codes "\"OwnerDrop\"}")) ∷ reads desk (asked (codes "1.0") desk (codes "\"OwnerAdd\"}")) ∷ []
     ≡ Err Malformed ∷ Err (InvalidProtocolVersion (by_type (codes "OwnerDrop"))) ∷ Err (UnknownReceiver (by_type (codes "OwnerDrop")))
     ∷ Err (UnknownType (by_type (codes "OwnerDrop"))) ∷ Err (BadBody (by_type (codes "OwnerAdd"))) ∷ []
 unfolding common_members_of envelope_addressed message_of owner_add_of serde_json_on_literals is_utf8 chars
-faults_told = refl
+first_faults = refl

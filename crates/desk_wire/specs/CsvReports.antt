@@ -1,16 +1,13 @@
 -- Which envelopes a gateway's report in CSV (RFC 4180) is; its columns are this project's.
-use Rattle.std.specs.Prelude.{◌≡◌, ℕ, ◌+◌, ◌^◌, ◌-◌, ◌==◌, Bool, false, ◌&&◌, List, [], ◌∷◌, length, Option, Some, None, Result, Ok, Err, codes, nat_le, nat_lt, option_map, slice_get, if◌then◌else◌, ⊤}
-use Rattle.std.proofs.Common.{Bor}
+use Rattle.std.specs.Prelude.{◌≡◌, ℕ, ◌+◌, ◌^◌, ◌-◌, ◌==◌, Bool, false, ◌&&◌, List, [], ◌∷◌, length, Option, Some, None, Result, Ok, Err, codes, nat_le, nat_lt, option_map, slice_get, ⊤, if◌then◌else◌}
 use Rattle.std.specs.Char.{is_ascii_digit}
 use Rattle.std.specs.List.{list_all}
 use Rattle.std.specs.Option.{option_map_or}
 use Rattle.std.specs.Str.{bytes_eq}
 use Rattle.std.specs.Str.Parse.{digits_value}
-use Rattle.csv.specs.Reading.{Ready, default_config, reader_config, reader_state, reader_trim, records_from, source_of, strip_bom}
+use Rattle.csv.specs.Reading.{default_config, records_from, strip_bom}
 use Rattle.csv.specs.Records.{field_at}
-use Rattle.csv.specs.declared.parser.State.{State}
 use Rattle.csv.specs.declared.parser.State.TheVariants.{StartRecord}
-use Rattle.csv.specs.declared.reader.Reader.{Reader}
 use Rattle.csv.specs.declared.reader.Trim.TheVariants as trim
 use Rattle.radio_core.specs.Names.{is_name}
 use Rattle.registry_core.specs.declared.messages.Envelope.{Envelope}
@@ -23,6 +20,13 @@ use Rattle.desk_wire.specs.Optional.{◌>>=◌, only_if}
 use Rattle.desk_wire.specs.Verdicts.{join_verdict_named}
 use Rattle.desk_wire.specs.declared.csv_faults.CsvFault.{CsvFault}
 use Rattle.desk_wire.specs.declared.csv_faults.CsvFault.TheVariants.{Size, Unended, Header, Record, Memory}
+
+-- the octets of a report, and its records behind the header, at most (this project's limits)
+abbrev pub longest_report : ℕ
+longest_report = 16777216
+
+abbrev pub most_records : ℕ
+most_records = 100000
 
 -- ---- a field in its form
 
@@ -102,11 +106,11 @@ abbrev pub record_in : ℕ → Option Envelope → Result (List Envelope) CsvFau
 record_in n None rest = Err (Record n)
 record_in n (Some e) rest = with_first e rest
 
--- the envelopes of the records from number n on, or the first fault; a record with a number above 100,001 is one too many
+-- the envelopes of the records from number n on, or the first fault; the header is record 1, so a greater number is one too many
 unfoldable pub envelopes_from : List ℕ → ℕ → List (List (List ℕ)) → Result (List Envelope) CsvFault
 envelopes_from sender n [] = Ok []
 envelopes_from sender n (fields ∷ rest) =
-    if nat_lt 100001 n then Err Size else record_in n (envelope_in sender fields) (envelopes_from sender (n + 1) rest)
+    if nat_lt (most_records + 1) n then Err Size else record_in n (envelope_in sender fields) (envelopes_from sender (n + 1) rest)
 
 -- the header is record 1
 abbrev pub report_of_records : List ℕ → List (List (List ℕ)) → Result (List Envelope) CsvFault
@@ -114,9 +118,9 @@ report_of_records sender [] = Err Header
 report_of_records sender (fields ∷ rest) = if is_header fields then envelopes_from sender 2 rest else Err Header
 
 -- The records of a text as csv reads them: of fields that may be quoted, with empty lines between them, behind a byte order
--- mark. The header, 100,000 records, and the one that is too many are all that matter.
+-- mark. The header, as many records as there may be, and the one that is too many are all that matter.
 abbrev pub records_of : List ℕ → List (List (List ℕ))
-records_of text = records_from default_config 100002 StartRecord (strip_bom text)
+records_of text = records_from default_config (most_records + 2) StartRecord (strip_bom text)
 
 abbrev pub is_line_feed : Option ℕ → Bool
 is_line_feed None = false
@@ -129,7 +133,7 @@ is_ended text = is_line_feed (slice_get text (length text - 1))
 -- the envelopes that a text is, each with this sender, or its first fault
 abbrev pub reads_report : List ℕ → List ℕ → Result (List Envelope) CsvFault
 reads_report sender text =
-    if nat_lt 16777216 (length text) then Err Size
+    if nat_lt longest_report (length text) then Err Size
     else if is_ended text then report_of_records sender (records_of text)
     else Err Unended
 
@@ -138,24 +142,3 @@ reads_report sender text =
 abbrev pub IsReportUnlessMemory : CsvFault → Result (List Envelope) CsvFault → Type 0
 IsReportUnlessMemory Memory wanted = ⊤
 IsReportUnlessMemory fault wanted = wanted ≡ Err fault
-
--- ---- records that are still to be read
-
--- the octets of a slice are known
-abbrev pub octets_known : Bor (List ℕ) → Option (List ℕ)
-octets_known text = Some text.now
-
--- the next n records of these octets, or fewer
-abbrev pub next_records : ℕ → State → Option (List ℕ) → List (List (List ℕ))
-next_records n state None = []
-next_records n state (Some octets) = records_from default_config n state octets
-
-abbrev pub rows_left : ℕ → Reader (Bor (List ℕ)) → List (List (List ℕ))
-rows_left n rows = next_records n (reader_state rows) (source_of octets_known rows)
-
--- a reader at the start of a record, by csv's defaults, whose octets are known
-pub record IsReading (rows : Reader (Bor (List ℕ))) : Type 0 where
-  pub config : reader_config rows ≡ default_config
-  pub trim : reader_trim rows ≡ trim.None
-  pub ready : Ready rows
-  pub known : (octets : List ℕ) × (source_of octets_known rows ≡ Some octets)

@@ -8,7 +8,6 @@ pub mod Hexadecimal
 pub mod Laws
 pub mod Members
 pub mod Optional
-pub mod Outcomes
 pub mod Reading
 pub mod Reports
 pub mod Results
@@ -17,3 +16,4 @@ pub mod TypeNames
 pub mod Verdicts
 pub mod Windows
 pub mod Writing
+pub mod steps

@@ -1,7 +1,7 @@
 -- The members of a JSON object, each in its form, and the members that every message and every answer to one have.
-use Rattle.std.specs.Prelude.{ℕ, List, Bool, Option, Some, None, unwrap_or, option_map, codes, nat_lt, if◌then◌else◌}
+use Rattle.std.specs.Prelude.{ℕ, List, Bool, Option, Some, None, unwrap_or, option_map, nat_lt, if◌then◌else◌}
 use Rattle.std.specs.Option.{is_some}
-use Rattle.serde_json.specs.Data.{Data, null, string, number, unsigned, Members, put}
+use Rattle.serde_json.specs.Data.{Data, null, number, unsigned, put}
 use Rattle.serde_json.specs.Find.{get, as_null, as_bool, as_str, as_number, as_u64}
 use Rattle.radio_core.specs.Names.{is_name}
 use Rattle.radio_core.specs.declared.data_rates.DataRate.{DataRate}
@@ -78,12 +78,3 @@ boolean_at member value = get member value >>= as_bool
 abbrev pub whole_or_null : Option ℕ → Data
 whole_or_null (Some n) = number (unsigned n)
 whole_or_null None = null
-
--- those of the envelope (LoRaWAN Backend Interfaces 1.0)
-abbrev pub with_envelope : List ℕ → List ℕ → List ℕ → ℕ → Members → Members
-with_envelope type_name sender receiver transaction members =
-    put (codes "TransactionID") (number (unsigned transaction))
-    (put (codes "SenderID") (string sender)
-    (put (codes "ReceiverID") (string receiver)
-    (put (codes "ProtocolVersion") (string (codes "1.0"))
-    (put (codes "MessageType") (string type_name) members))))

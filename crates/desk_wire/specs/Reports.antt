@@ -1,10 +1,8 @@
 -- What a gateway reports of a frame: which report the members are, and how a report's are put beside others.
 use Rattle.std.specs.Prelude.{◌^◌, Option, Some, codes}
-use Rattle.serde_json.specs.Data.{Data, string, number, unsigned, Members, put}
-use Rattle.radio_core.specs.DataRates.{dr_number}
+use Rattle.serde_json.specs.Data.{Data, put}
 use Rattle.radio_core.specs.declared.data_rates.Rate.{Rate}
 use Rattle.registry_core.specs.declared.messages.Report.{Report}
-use Rattle.desk_wire.specs.Hexadecimal.{octet_digits}
 use Rattle.desk_wire.specs.Members.{name_at, whole_at, data_rate_at, octets_at}
 use Rattle.desk_wire.specs.Optional.{◌>>=◌}
 
@@ -25,13 +23,3 @@ report_of value = do
   rate ← rate_of value
   octets ← octets_at (codes "PHYPayload") value
   Some (record { gateway = gateway; time = time; rate = rate; octets = octets })
-
--- ---- put beside others
-
-abbrev pub with_report : Report → Members → Members
-with_report report members =
-    put (codes "Time") (number (unsigned report.time))
-    (put (codes "PHYPayload") (string (octet_digits report.octets))
-    (put (codes "Gateway") (string report.gateway)
-    (put (codes "Freq") (number (unsigned report.rate.freq))
-    (put (codes "DataRate") (number (unsigned (dr_number report.rate.dr))) members))))

@@ -1,13 +1,12 @@
 -- The texts of messages.
 use Rattle.std.specs.Prelude.{ℕ, List, codes}
-use Rattle.serde_json.specs.Data.{Data, string, number, unsigned, boolean, object, Members, no_members, member}
+use Rattle.serde_json.specs.Data.{Data, string, number, unsigned, boolean, object, no_members, member}
 use Rattle.serde_json.specs.Written.{compact_text}
 use Rattle.radio_core.specs.DataRates.{dr_number}
 use Rattle.registry_core.specs.declared.messages.Envelope.{Envelope}
 use Rattle.registry_core.specs.declared.messages.Message.{Message}
 use Rattle.registry_core.specs.declared.messages.Message.TheVariants.{SenderAdd, OwnerAdd, GatewayAdd, DeviceAdd, DeviceMove, JoinHeard, FrameHeard, DownBook, DownDone}
 use Rattle.registry_core.specs.declared.messages.Report.{Report}
-use Rattle.desk_wire.specs.Bodies.{with_sender_add, with_owner_add, with_gateway_add, with_device_add, with_device_move, with_join_heard, with_frame_heard, with_down_book, with_down_done}
 use Rattle.desk_wire.specs.Hexadecimal.{octet_digits, eui_digits}
 use Rattle.desk_wire.specs.Members.{whole_or_null}
 use Rattle.desk_wire.specs.Roles.{role_name}
@@ -104,15 +103,3 @@ message_value receiver sender transaction (DownDone booking sent) = object
 -- the one text of an envelope for a receiver
 unfoldable pub message_text : List ℕ → Envelope → List ℕ
 message_text receiver e = compact_text (message_value receiver e.sender e.transaction e.message)
-
--- the members of the message's type, put beside others
-abbrev pub with_body : Message → Members → Members
-with_body (SenderAdd sender role) members = with_sender_add sender role members
-with_body (OwnerAdd owner) members = with_owner_add owner members
-with_body (GatewayAdd gateway) members = with_gateway_add gateway members
-with_body (DeviceAdd dev_eui join_eui owner) members = with_device_add dev_eui join_eui owner members
-with_body (DeviceMove dev_eui owner) members = with_device_move dev_eui owner members
-with_body (JoinHeard report verdict) members = with_join_heard report verdict members
-with_body (FrameHeard report verdict) members = with_frame_heard report verdict members
-with_body (DownBook uplink gateway window octets) members = with_down_book uplink gateway window octets members
-with_body (DownDone booking sent) members = with_down_done booking sent members

@@ -1,7 +1,8 @@
 //! The members of each type: read as a message, and put beside those of the envelope.
 ghost use Rattle.std.specs.Prelude.{◌≡◌, OnOk};
 ghost use Rattle.serde_json.specs.View.{view, members_view};
-ghost use Rattle.desk_wire.specs.Bodies.{sender_add_of, owner_add_of, gateway_add_of, device_add_of, device_move_of, join_heard_of, frame_heard_of, down_book_of, down_done_of, with_sender_add, with_owner_add, with_gateway_add, with_device_add, with_device_move, with_join_heard, with_frame_heard, with_down_book, with_down_done};
+ghost use Rattle.desk_wire.specs.Bodies.{sender_add_of, owner_add_of, gateway_add_of, device_add_of, device_move_of, join_heard_of, frame_heard_of, down_book_of, down_done_of};
+ghost use Rattle.desk_wire.specs.steps.Putting.{with_sender_add, with_owner_add, with_gateway_add, with_device_add, with_device_move, with_join_heard, with_frame_heard, with_down_book, with_down_done};
 
 use crate::members::{
     boolean_at, eui_at, join_verdict_at, name_at, octets_at, put_eui, put_octets, put_text,

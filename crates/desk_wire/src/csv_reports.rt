@@ -3,23 +3,8 @@ ghost use Rattle.std.specs.Prelude.{◌≡◌, ◌∷◌, ◌++◌, ◌^◌, ℕ
 ghost use Rattle.std.specs.Char.{is_ascii_digit};
 ghost use Rattle.std.specs.List.{list_all};
 ghost use Rattle.csv.specs.Records.{fields_of};
-ghost use Rattle.desk_wire.specs.CsvReports.{
-  counter_or_none,
-  decimal_below,
-  decimal_in,
-  envelope_in,
-  envelopes_from,
-  has_field,
-  heard_in,
-  is_decimal,
-  is_header,
-  reads_report,
-  report_in,
-  report_of_records,
-  rows_left,
-  IsReading,
-  IsReportUnlessMemory,
-};
+ghost use Rattle.desk_wire.specs.CsvReports.{counter_or_none, decimal_below, decimal_in, envelope_in, envelopes_from, has_field, heard_in, is_decimal, is_header, reads_report, report_in, report_of_records, IsReportUnlessMemory};
+ghost use Rattle.desk_wire.specs.steps.CsvReports.{rows_left, IsReading};
 
 use crate::csv_faults::CsvFault;
 use crate::hexadecimal::octets_of;
@@ -29,6 +14,12 @@ use radio_core::{DataRate, Name, Rate};
 use registry_core::{Envelope, Message, Report, Whole};
 use std::alloc::Global;
 use std::str;
+
+/// The octets of a report, at most (this project's limit).
+const LONGEST_REPORT: usize = 16_777_216;
+
+/// The records behind the header, at most (this project's limit).
+const MOST_RECORDS: u32 = 100_000;
 
 fn are_digits(text: &[u8]) -> bool
     ensures { result ≡ list_all is_ascii_digit text.now }
@@ -191,7 +182,7 @@ fn envelopes_of(
         → IfErr result (λ fault. IsReportUnlessMemory fault (envelopes_from sender.now 2 (rows_left 100001 rows.old))) }
 {
     let mut envelopes = Vec::new(alloc);
-    for number in 2u32..100_002 {
+    for number in 2..MOST_RECORDS + 2 {
         if !next_row(rows, row)? {
             return Ok(envelopes);
         }
@@ -254,7 +245,7 @@ pub fn read_report(alloc: Global, text: &[u8], sender: &Name) -> Result<Vec<Enve
     ensures ok { IfOk result (λ envelopes. reads_report sender.now text.now ≡ Ok envelopes.items) }
     ensures err { IfErr result (λ fault. IsReportUnlessMemory fault (reads_report sender.now text.now)) }
 {
-    if text.len() > 16_777_216 {
+    if text.len() > LONGEST_REPORT {
         return Err(CsvFault::Size);
     }
     if text.last() != Some(&b'\n') {

@@ -3,7 +3,8 @@ ghost use Rattle.std.specs.Prelude.{◌≡◌, ◌^◌, OnOk, option_map};
 ghost use Rattle.serde_json.specs.Data.{string, put};
 ghost use Rattle.serde_json.specs.View.{view, members_view};
 ghost use Rattle.desk_wire.specs.Hexadecimal.{octet_digits, eui_digits, addr_digits};
-ghost use Rattle.desk_wire.specs.Members.{text_at, name_at, type_name_at, whole_at, is_null_at, whole_or_null_at, data_rate_at, octets_at, eui_at, role_at, join_verdict_at, window_at, boolean_at, whole_or_null, with_envelope};
+ghost use Rattle.desk_wire.specs.Members.{text_at, name_at, type_name_at, whole_at, is_null_at, whole_or_null_at, data_rate_at, octets_at, eui_at, role_at, join_verdict_at, window_at, boolean_at, whole_or_null};
+ghost use Rattle.desk_wire.specs.steps.Putting.{with_envelope};
 
 use crate::hexadecimal::{addr_digits, eui_digits, eui_of, octet_digits, octets_of};
 use crate::roles::role_named;

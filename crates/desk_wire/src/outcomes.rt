@@ -1,7 +1,7 @@
 //! The members that an answer's success adds: put beside others.
 ghost use Rattle.std.specs.Prelude.{◌≡◌, OnOk};
 ghost use Rattle.serde_json.specs.View.{members_view};
-ghost use Rattle.desk_wire.specs.Outcomes.{with_airtime, with_heard, with_join_success, with_frame_success, with_down_success, with_outcome};
+ghost use Rattle.desk_wire.specs.steps.Outcomes.{with_airtime, with_heard, with_join_success, with_frame_success, with_down_success, with_outcome};
 
 use crate::bands::band_name;
 use crate::members::{put_addr, put_eui, put_text};

@@ -1,7 +1,8 @@
 //! What a gateway reports of a frame: read from members, and put beside others.
 ghost use Rattle.std.specs.Prelude.{◌≡◌, OnOk};
 ghost use Rattle.serde_json.specs.View.{view, members_view};
-ghost use Rattle.desk_wire.specs.Reports.{rate_of, report_of, with_report};
+ghost use Rattle.desk_wire.specs.Reports.{rate_of, report_of};
+ghost use Rattle.desk_wire.specs.steps.Putting.{with_report};
 
 use crate::members::{data_rate_at, name_at, octets_at, put_octets, put_text, u32_at, whole_at};
 use radio_core::Rate;

@@ -1,7 +1,8 @@
 //! Envelopes written as texts.
 ghost use Rattle.std.specs.Prelude.{◌≡◌, IfOk, OnOk};
 ghost use Rattle.serde_json.specs.View.{view, members_view};
-ghost use Rattle.desk_wire.specs.Writing.{message_value, message_text, with_body};
+ghost use Rattle.desk_wire.specs.Writing.{message_value, message_text};
+ghost use Rattle.desk_wire.specs.steps.Putting.{with_body};
 
 use crate::bodies::{
     put_device_add, put_device_move, put_down_book, put_down_done, put_frame_heard,

@@ -9,7 +9,7 @@ use borrow.Author.Differences.{up, down}
 use Rattle.duty_core.specs.Use.{Interval, end_of, count_between, shared_count, hour, hour_from, use_of}
 use Rattle.duty_core.specs.declared.marks.Edge.{Edge}
 use Rattle.duty_core.specs.declared.marks.Edge.TheVariants.{Start, End}
-use Rattle.duty_core.specs.Marks.{edge_of, IsRising, first_place, place_of, height_of, IsMark, IsWhole}
+use Rattle.duty_core.specs.steps.Marks.{edge_of, IsRising, first_place, place_of, height_of, IsMark, IsWhole}
 use Rattle.duty_core.proofs.Counting.{lap_is, between_is}
 use Rattle.duty_core.proofs.Edges.{use_cons}
 

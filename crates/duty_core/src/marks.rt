@@ -9,7 +9,7 @@
 //! A mark for x is also one for what comes later, so it only moves forward.
 
 ghost use Rattle.std.specs.Prelude.{◌≡◌, ◌↔◌, ◌^◌, ◌<◌, IsTrue};
-ghost use Rattle.duty_core.specs.Marks.{edge_of, IsRising, place_of, height_of, IsMark, IsWhole};
+ghost use Rattle.duty_core.specs.steps.Marks.{edge_of, IsRising, place_of, height_of, IsMark, IsWhole};
 
 use crate::interval::Span;
 

@@ -17,8 +17,8 @@ ghost use Rattle.duty_core.specs.Use.{hour, use_of, IsPeak, EveryHourWithin};
 ghost use Rattle.duty_core.specs.Computed.{edge_hours, greatest_use, peak_of, hours_within};
 ghost use Rattle.duty_core.specs.InOrder.{StartsAscend};
 ghost use Rattle.duty_core.specs.declared.marks.Edge.TheVariants.{Start, End};
-ghost use Rattle.duty_core.specs.Marks.{IsRising};
-ghost use Rattle.duty_core.specs.Windows.{IsWindow};
+ghost use Rattle.duty_core.specs.steps.Marks.{IsRising};
+ghost use Rattle.duty_core.specs.steps.Windows.{IsWindow};
 
 use crate::hours::{HOUR, edges_fit, fits, peak, shared_count};
 use crate::interval::Span;

@@ -1,7 +1,7 @@
 -- A text in an array has its length, and the array is the text and noughts.
 use Rattle.std.proofs.Common.{◌≡◌, ℕ, ◌-◌, List, length, take, replicate, ap}
 use Rattle.std.proofs.Math.Seq.{take-append_seam}
-use Rattle.radio_core.specs.Padding.{padded, IsPadded}
+use Rattle.radio_core.specs.steps.Padding.{padded, IsPadded}
 
 -- the text that an array begins with
 pub take-padded : (n : ℕ) (xs : List ℕ) → take (length xs) (padded n xs) ≡ xs

@@ -3,5 +3,5 @@ pub mod Counters
 pub mod DataRates
 pub mod Frames
 pub mod Names
-pub mod Padding
 pub mod TimeOnAir
+pub mod steps

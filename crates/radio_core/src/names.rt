@@ -22,7 +22,7 @@ pub struct Name {
 impl Model for Name {
     ghost use Rattle.std.specs.Prelude.{ℕ, List, take, length, IsTrue};
     ghost use Rattle.radio_core.specs.Names.{is_name};
-    ghost use Rattle.radio_core.specs.Padding.{padded, IsPadded};
+    ghost use Rattle.radio_core.specs.steps.Padding.{padded, IsPadded};
 
     ghost Value = { List ℕ };
 

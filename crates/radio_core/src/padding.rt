@@ -1,6 +1,6 @@
 //! Texts in arrays of a fixed size, so that what holds one is Copy and takes no memory.
 ghost use Rattle.std.specs.Prelude.{◌≡◌, ◌≤◌, length};
-ghost use Rattle.radio_core.specs.Padding.{padded};
+ghost use Rattle.radio_core.specs.steps.Padding.{padded};
 
 /// The octets, with noughts behind them.
 pub(crate) fn spread<const N: usize>(octets: &[u8]) -> [u8; N]

@@ -15,7 +15,7 @@ pub struct Octets {
 
 impl Model for Octets {
     ghost use Rattle.std.specs.Prelude.{ℕ, List, take, length};
-    ghost use Rattle.radio_core.specs.Padding.{padded, IsPadded};
+    ghost use Rattle.radio_core.specs.steps.Padding.{padded, IsPadded};
 
     ghost Value = { List ℕ };
 

@@ -32,7 +32,7 @@ use Rattle.registry_core.specs.State.{State}
 use Rattle.registry_core.specs.Step.{checked_decision}
 use Rattle.registry_core.specs.UplinkLaws.{FramesBookedExactly, IsAcceptedFrame, IsAcceptedJoin, JoinedExactly, tells_frame, tells_join}
 use Rattle.registry_core.specs.Uplinks.{is_time, same_octets}
-use Rattle.registry_core.proofs.CopyLaws.{data_parts, data_told, join_parts, of_device}
+use Rattle.registry_core.proofs.CopyLaws.{data_parts, is_data_kind, join_parts, of_device}
 use Rattle.registry_core.proofs.SessionLaws.{sessions_are_found}
 use Rattle.registry_core.proofs.Decisions.{candidate_is, sound_of}
 use Rattle.registry_core.proofs.HeardStates.{IsSound}
@@ -94,9 +94,9 @@ above_greatest number test (x ∷ xs) n each =
 no_join : NoRefusal tells_join
 no_join r = refl
 
-good_told : (verdict : JoinVerdict) → is_good verdict ≡ true → verdict ≡ Good
-good_told Good h = refl
-good_told Bad h = cc
+good_verdict : (verdict : JoinVerdict) → is_good verdict ≡ true → verdict ≡ Good
+good_verdict Good h = refl
+good_verdict Bad h = cc
 
 joined_of : (c : Settings) (s : State) (report : Report) (verdict : JoinVerdict) → Tells tells_join (join_heard c s report verdict) → IsAcceptedJoin c s report verdict
 unfolding join_heard join_added
@@ -119,7 +119,7 @@ joined_of c s report verdict h =
       device = device.0;
       there = device.1;
       join_eui = eqb-true device.0.join_eui join.join_eui eui.0;
-      good = good_told verdict good.0;
+      good = good_verdict verdict good.0;
       nonce = λ n session there of_it. above_each (λ (z : Session). z.nonce) (is_session_of join.dev_eui) s.sessions join.nonce n session there (eq-eqb session.device join.dev_eui of_it) above.0;
       room = ltb-true (length s.sessions) c.addresses room.0;
     }
@@ -194,7 +194,7 @@ floor_of c s report verdict a = each_fails (ends_it s a.session.device a.number)
       let parts = and_parts _ _ passes in
       let front = and_parts _ _ parts.0 in
       let of_it = of_device s a.session.device u.session (item_at s.sessions u.session) refl parts.1 in
-      absurd (a.latest u.session m of_it.0 u of_it.1 of_it.2 (ltb-true a.number u.session front.1) at (data_told u.kind front.0) refl)
+      absurd (a.latest u.session m of_it.0 u of_it.1 of_it.2 (ltb-true a.number u.session front.1) at (is_data_kind u.kind front.0) refl)
 ])
 
 framed_of : (c : Settings) (s : State) (report : Report) (verdict : Option ℕ) → Tells tells_frame (frame_heard c s report verdict) → IsAcceptedFrame c s report verdict

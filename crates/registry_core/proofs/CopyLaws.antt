@@ -25,13 +25,13 @@ use Rattle.registry_core.proofs.HeardStates.{IsSound, NoncesRiseIn}
 use Rattle.registry_core.proofs.Items.{first_is, first_only, kept_with, with_octets}
 use Rattle.registry_core.proofs.UplinkLaws.{frames_are_booked_once}
 
-join_told : (k : Kind) → is_join k ≡ true → k ≡ Join
-join_told Join h = refl
-join_told Data h = cc
+is_join_kind : (k : Kind) → is_join k ≡ true → k ≡ Join
+is_join_kind Join h = refl
+is_join_kind Data h = cc
 
-pub data_told : (k : Kind) → is_data k ≡ true → k ≡ Data
-data_told Data h = refl
-data_told Join h = cc
+pub is_data_kind : (k : Kind) → is_data k ≡ true → k ≡ Data
+is_data_kind Data h = refl
+is_data_kind Join h = cc
 
 -- ---- joins
 
@@ -50,7 +50,7 @@ pub join_parts : (s : State) (device nonce : ℕ) (u : Uplink) → is_join_with 
 join_parts s device nonce u h =
     let front : (is_join u.kind && is_of_device s.sessions device u.session) ≡ true = (and_parts _ _ h).0 in
     record {
-      kind = join_told u.kind (and_parts _ _ front).0;
+      kind = is_join_kind u.kind (and_parts _ _ front).0;
       session = of_device s device u.session (item_at s.sessions u.session) refl (and_parts _ _ front).1;
       counter = eqb-true u.counter nonce (and_parts _ _ h).1;
     }
@@ -98,7 +98,7 @@ pub data_parts : (session counter : ℕ) (u : Uplink) → is_data_with session c
 data_parts session counter u h =
     let front : (is_data u.kind && u.session == session) ≡ true = (and_parts _ _ h).0 in
     record {
-      kind = data_told u.kind (and_parts _ _ front).0;
+      kind = is_data_kind u.kind (and_parts _ _ front).0;
       session = eqb-true u.session session (and_parts _ _ front).1;
       counter = eqb-true u.counter counter (and_parts _ _ h).1;
     }

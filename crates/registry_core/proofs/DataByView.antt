@@ -18,7 +18,7 @@ use Rattle.registry_core.specs.declared.messages.Message.TheVariants.{FrameHeard
 use Rattle.registry_core.specs.declared.messages.Report.{Report}
 use Rattle.registry_core.specs.declared.views.SessionView.{SessionView}
 use Rattle.registry_core.specs.declared.views.View.{View}
-use Rattle.registry_core.specs.ByView.{original_by, data_copied_by, data_added_by, frame_heard_by}
+use Rattle.registry_core.specs.steps.ByView.{original_by, data_copied_by, data_added_by, frame_heard_by}
 use Rattle.registry_core.specs.Checks.{Checked, ◌>>=◌, ◌>>◌, wants, needs, unless}
 use Rattle.registry_core.specs.DataFrames.{original_data, data_copied, data_added, frame_heard}
 use Rattle.registry_core.specs.Decision.{Decision}
@@ -27,7 +27,7 @@ use Rattle.registry_core.specs.Frames.{data_up}
 use Rattle.registry_core.specs.Settings.{Settings}
 use Rattle.registry_core.specs.State.{State}
 use Rattle.registry_core.specs.Uplinks.{is_time, reception_of, same_octets, time_up, uplink_of}
-use Rattle.registry_core.specs.Viewed.{IsView, data_told, gateway_known, session_told, uplink_told, view_of_session, view_of_uplink}
+use Rattle.registry_core.specs.Viewed.{IsView, data_for, gateway_known, session_for, uplink_for, view_of_session, view_of_uplink}
 
 absent_too : {X Y : Type 0} (f : X → Y) (x : Option X) → is_none (option_map f x) ≡ is_none x
 absent_too f None = refl
@@ -83,7 +83,7 @@ ended_same s v report frame session counter band n up =
 
 -- the checks from the session on
 last_same : (s : State) (v : View) (report : Report) (frame : DataFrame) (session : Option (ℕ × Session)) (verdict : Option ℕ) (band : Band) → v.uplinks ≡ length s.uplinks
-    → v.uplink ≡ option_map (view_of_uplink s report.gateway) (data_told s session verdict)
+    → v.uplink ≡ option_map (view_of_uplink s report.gateway) (data_for s session verdict)
     → (do
       found ← needs (option_map (view_of_session s) session) UnknownDevAddr
       counter ← needs verdict MicFailed
@@ -102,7 +102,7 @@ session_of c s told = option_and_then (λ (frame : DataFrame). session_with s.se
 
 -- the checks from the frame on
 tail : (c : Settings) (s : State) (v : View) (report : Report) (verdict : Option ℕ) (told : Option DataFrame) → v.uplinks ≡ length s.uplinks
-    → v.session ≡ option_map (view_of_session s) (session_of c s told) → v.uplink ≡ option_map (view_of_uplink s report.gateway) (data_told s (session_of c s told) verdict)
+    → v.session ≡ option_map (view_of_session s) (session_of c s told) → v.uplink ≡ option_map (view_of_uplink s report.gateway) (data_for s (session_of c s told) verdict)
     → (do
       frame ← needs told BadFrame
       band ← needs (band_at report.rate.freq report.rate.dr) OutOfBand
@@ -130,7 +130,7 @@ tail c s v report verdict (Some frame) n at up =
 -- where the data rate carries so many octets, the frame is the one that they are
 heard_same : (c : Settings) (s : State) (v : View) (report : Report) (verdict : Option ℕ) (carried : Bool) → nat_le (length report.octets) (max_length report.rate.dr) ≡ carried
     → v.uplinks ≡ length s.uplinks → v.gateway_known ≡ s.gateways report.gateway → v.session ≡ option_map (view_of_session s) (session_of c s (data_up (frame_of report.octets)))
-    → v.uplink ≡ option_map (view_of_uplink s report.gateway) (data_told s (session_of c s (data_up (frame_of report.octets))) verdict)
+    → v.uplink ≡ option_map (view_of_uplink s report.gateway) (data_for s (session_of c s (data_up (frame_of report.octets))) verdict)
     → frame_heard_by v report verdict ≡ frame_heard c s report verdict
 unfolding frame_heard_by frame_heard data_added_by
 heard_same c s v report verdict true is n known at up =
@@ -142,5 +142,5 @@ pub frame_heard_same : (c : Settings) (s : State) (e : Envelope) (v : View) (rep
 unfolding session_of
 frame_heard_same c s e v report verdict same sees = heard_same c s v report verdict _ refl sees.uplinks
     (sees.gateway ∙ ap (gateway_known s) same)
-    (sees.session ∙ ap (λ m. option_map (view_of_session s) (session_told c s m)) same)
-    (sees.uplink ∙ ap (uplink_told c s) same)
+    (sees.session ∙ ap (λ m. option_map (view_of_session s) (session_for c s m)) same)
+    (sees.uplink ∙ ap (uplink_for c s) same)

@@ -323,17 +323,17 @@ book_decides c s number gateway window octets =
     down_added_decides c s number gateway band (copy.end + delay uplink.kind window) (on_air (copy.end + delay uplink.kind window) (rate_in window copy.rate) octets) uplink copy known there heard
     ((rate_in window copy.rate).dr, length octets, carried_down uplink.kind (rate_in window copy.rate).dr octets down _ refl told, refl)))))))))
 
-is_booked_told : (standing : Standing) → is_booked standing ≡ true → standing ≡ Booked
-is_booked_told Booked h = refl
-is_booked_told Sent h = cc
-is_booked_told Dropped h = cc
+booked_standing : (standing : Standing) → is_booked standing ≡ true → standing ≡ Booked
+booked_standing Booked h = refl
+booked_standing Sent h = cc
+booked_standing Dropped h = cc
 
 done_decides : (c : Settings) (s : State) (number : ℕ) (sent : Bool) → Decides c s (down_done s number sent)
 unfolding down_done
 done_decides c s number sent =
     after_needs c s (item_at s.bookings number) NoBooking _ (λ booking there.
     after_wants c s (is_booked booking.standing) Done _ (λ booked.
-    succeeds c s (EndsBooking number sent) (record { booking = booking; there = there; standing = is_booked_told booking.standing booked })))
+    succeeds c s (EndsBooking number sent) (record { booking = booking; there = there; standing = booked_standing booking.standing booked })))
 
 -- ---- each message
 

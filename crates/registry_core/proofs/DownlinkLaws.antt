@@ -53,10 +53,10 @@ no_refusal : NoRefusal tells_booking
 no_refusal r = refl
 
 -- on the air it is clear, and every hour is within the limit
-added_told : (s : State) (number : ℕ) (gateway : List ℕ) (band : Band) (start : ℕ) (span : Interval) → Books (down_added s number gateway band start span)
+added_on_air : (s : State) (number : ℕ) (gateway : List ℕ) (band : Band) (start : ℕ) (span : Interval) → Books (down_added s number gateway band start span)
     → (is_clear (downlinks s.bookings gateway) span ≡ true) × (hours_within (downlinks_in s.bookings gateway band ++ span ∷ []) (limit_of band) ≡ true)
 unfolding down_added
-added_told s number gateway band start span h =
+added_on_air s number gateway band start span h =
     let first = from_wants tells_booking no_refusal (is_clear (downlinks s.bookings gateway) span) Collision _ h in
     (first.0, (from_wants tells_booking no_refusal (hours_within (downlinks_in s.bookings gateway band ++ span ∷ []) (limit_of band)) Duty _ first.1).0)
 
@@ -80,7 +80,7 @@ accepted_of clear hours c s number gateway window octets h =
     let unanswered = from_wants tells_booking no_refusal (not (is_answered s.bookings number)) Answered _ address.1 in
     let counter = from_wants tells_booking no_refusal (counts_as (next_down s.bookings s.uplinks uplink.session) frame.0) DownCounter _ unanswered.1 in
     let lies = from_needs tells_booking no_refusal (band_at rate.freq rate.dr) OutOfBand _ counter.1 in
-    let added = added_told s number gateway lies.0 (heard.0.end + delay uplink.kind window) span lies.2 in
+    let added = added_on_air s number gateway lies.0 (heard.0.end + delay uplink.kind window) span lies.2 in
     record {
       known = known.0;
       uplink = uplink;

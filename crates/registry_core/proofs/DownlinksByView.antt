@@ -24,17 +24,17 @@ use Rattle.registry_core.specs.declared.views.UplinkView.{UplinkView}
 use Rattle.registry_core.specs.declared.views.View.{View}
 use Rattle.registry_core.specs.declared.windows.Window.{Window}
 use Rattle.registry_core.specs.Bookings.{downlinks, downlinks_in, is_answered, is_booked, next_down, stands_at, stands_in}
-use Rattle.registry_core.specs.ByView.{address_by}
+use Rattle.registry_core.specs.steps.ByView.{address_by}
 use Rattle.registry_core.specs.Checks.{Checked, ◌>>=◌, ◌>>◌, wants, needs}
 use Rattle.registry_core.specs.Decision.{Decision}
 use Rattle.registry_core.specs.Derived.{address_of}
 use Rattle.registry_core.specs.Downlinks.{down_added, down_book, down_done, on_air}
-use Rattle.registry_core.specs.DownlinksByView.{down_added_by, down_book_by, down_done_by}
+use Rattle.registry_core.specs.steps.DownlinksByView.{down_added_by, down_book_by, down_done_by}
 use Rattle.registry_core.specs.Frames.{counts_as, downlink_to, frame_at, goes_to}
 use Rattle.registry_core.specs.Numbered.{item_at}
 use Rattle.registry_core.specs.Settings.{Settings}
 use Rattle.registry_core.specs.State.{State}
-use Rattle.registry_core.specs.Viewed.{IsView, answered_told, booking_told, gateway_known, near_in, near_in_band_told, near_told, next_down_told, uplink_told, view_of_uplink}
+use Rattle.registry_core.specs.Viewed.{IsView, answered_for, booking_for, gateway_known, near_in, near_in_band_for, near_for, next_down_for, uplink_for, view_of_uplink}
 use Rattle.registry_core.specs.Windows.{delay, rate_in, window_of}
 use Rattle.registry_core.proofs.BookedHours.{AreShort, IsKept}
 use Rattle.registry_core.proofs.Decisions.{carried_down}
@@ -175,12 +175,12 @@ pub down_book_same : (bounded : AirtimeIsBounded) (clear : IsClearByNearOnes) (h
 down_book_same bounded clear hours c s e v number gateway window octets kept same sees =
     book_same bounded clear hours c s v number gateway window octets (item_at s.uplinks number) refl kept
     (record {
-      seen = sees.uplink ∙ ap (uplink_told c s) same ∙ named_same s number gateway (item_at s.uplinks number);
-      next_down = sees.next_down ∙ ap (next_down_told s) same;
-      near = subst (λ m. IsPermutation (near_told s m) v.near.items) same sees.near;
-      near_in_band = subst (λ m. IsPermutation (near_in_band_told s m) v.near_in_band.items) same sees.near_in_band;
+      seen = sees.uplink ∙ ap (uplink_for c s) same ∙ named_same s number gateway (item_at s.uplinks number);
+      next_down = sees.next_down ∙ ap (next_down_for s) same;
+      near = subst (λ m. IsPermutation (near_for s m) v.near.items) same sees.near;
+      near_in_band = subst (λ m. IsPermutation (near_in_band_for s m) v.near_in_band.items) same sees.near_in_band;
     })
-    (sees.gateway ∙ ap (gateway_known s) same) sees.base (sees.answered ∙ ap (answered_told s) same) sees.bookings
+    (sees.gateway ∙ ap (gateway_known s) same) sees.base (sees.answered ∙ ap (answered_for s) same) sees.bookings
 
 -- ---- what became of it
 
@@ -199,4 +199,4 @@ ended_same last (Some booking) = refl
 pub down_done_same : (c : Settings) (s : State) (e : Envelope) (v : View) (number : ℕ) (sent : Bool) → e.message ≡ DownDone number sent → IsView c s e v
     → down_done_by v number sent ≡ down_done s number sent
 unfolding down_done_by down_done
-down_done_same c s e v number sent same sees = rw (sees.booking ∙ ap (booking_told s) same) (ended_same (Ok (EndsBooking number sent, Success)) (item_at s.bookings number))
+down_done_same c s e v number sent same sees = rw (sees.booking ∙ ap (booking_for s) same) (ended_same (Ok (EndsBooking number sent, Success)) (item_at s.bookings number))

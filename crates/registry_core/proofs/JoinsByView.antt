@@ -14,7 +14,7 @@ use Rattle.registry_core.specs.declared.messages.JoinVerdict.{JoinVerdict}
 use Rattle.registry_core.specs.declared.messages.Message.TheVariants.{JoinHeard}
 use Rattle.registry_core.specs.declared.messages.Report.{Report}
 use Rattle.registry_core.specs.declared.views.View.{View}
-use Rattle.registry_core.specs.ByView.{original_by, join_copied_by, join_added_by, join_heard_by}
+use Rattle.registry_core.specs.steps.ByView.{original_by, join_copied_by, join_added_by, join_heard_by}
 use Rattle.registry_core.specs.Checks.{Checked, ◌>>=◌, ◌>>◌, wants, needs, unless}
 use Rattle.registry_core.specs.Decision.{Decision}
 use Rattle.registry_core.specs.Derived.{last_nonce, join_with}
@@ -23,7 +23,7 @@ use Rattle.registry_core.specs.Joins.{is_good, original_join, join_copied, join_
 use Rattle.registry_core.specs.Settings.{Settings}
 use Rattle.registry_core.specs.State.{State}
 use Rattle.registry_core.specs.Uplinks.{is_time, same_octets}
-use Rattle.registry_core.specs.Viewed.{IsView, view_of_uplink, gateway_known, device_named, last_nonce_told, uplink_told}
+use Rattle.registry_core.specs.Viewed.{IsView, view_of_uplink, gateway_known, device_named, last_nonce_for, uplink_for}
 
 -- the numbers of the view are those of the state
 pub record Counts (c : Settings) (s : State) (v : View) : Type 0 where
@@ -113,6 +113,6 @@ join_heard_same c s e v report verdict same sees = heard_same c s v report verdi
     (sees.gateway ∙ ap (gateway_known s) same)
     (record {
       device = sees.device ∙ ap (device_named s) same;
-      last_nonce = sees.last_nonce ∙ ap (last_nonce_told s) same;
-      uplink = sees.uplink ∙ ap (uplink_told c s) same;
+      last_nonce = sees.last_nonce ∙ ap (last_nonce_for s) same;
+      uplink = sees.uplink ∙ ap (uplink_for c s) same;
     })

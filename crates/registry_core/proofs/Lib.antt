@@ -23,11 +23,11 @@ pub mod ReceivedUplinks
 pub mod Register
 pub mod Replies
 pub mod ReportOrder
-pub mod Rooms
 pub mod Sameness
 pub mod SessionJoins
 pub mod SessionLaws
 pub mod StepRefusals
 pub mod Telling
 pub mod UplinkLaws
+pub mod ViewBounds
 pub mod WorkedRows

@@ -1,7 +1,6 @@
 pub mod Administration
 pub mod AirtimeLaws
 pub mod Bookings
-pub mod ByView
 pub mod Checks
 pub mod CopyLaws
 pub mod Counts
@@ -10,7 +9,6 @@ pub mod Decision
 pub mod Derived
 pub mod DownlinkLaws
 pub mod Downlinks
-pub mod DownlinksByView
 pub mod Fits
 pub mod Frames
 pub mod Heard
@@ -31,3 +29,4 @@ pub mod Uplinks
 pub mod Viewed
 pub mod Wholes
 pub mod Windows
+pub mod steps

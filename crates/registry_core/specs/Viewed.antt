@@ -19,7 +19,6 @@ use Rattle.registry_core.specs.declared.views.SessionView.{SessionView}
 use Rattle.registry_core.specs.declared.views.UplinkView.{UplinkView}
 use Rattle.registry_core.specs.declared.views.View.{View}
 use Rattle.registry_core.specs.Bookings.{downlinks, downlinks_in, is_answered, next_down}
-use Rattle.registry_core.specs.Checks.{Checked}
 use Rattle.registry_core.specs.Decision.{Decision}
 use Rattle.registry_core.specs.Derived.{last_nonce, join_with, session_with, data_with, last_counter, is_below_floor}
 use Rattle.registry_core.specs.Frames.{data_up, join_request}
@@ -27,7 +26,7 @@ use Rattle.registry_core.specs.Heard.{IsHeard, state_of}
 use Rattle.registry_core.specs.Numbered.{item_at}
 use Rattle.registry_core.specs.Settings.{Settings, IsBlock}
 use Rattle.registry_core.specs.State.{State}
-use Rattle.registry_core.specs.Step.{checked_decision, decision_of}
+use Rattle.registry_core.specs.Step.{decision_of}
 use Rattle.registry_core.specs.Windows.{window_of}
 
 -- ---- what the message names
@@ -53,25 +52,25 @@ gateway_known s (DownBook uplink gateway window octets) = s.gateways gateway
 gateway_known s _ = false
 
 -- the join request that it tells of
-abbrev pub join_told : Message → Option JoinRequest
-join_told (JoinHeard report verdict) = join_request (frame_of report.octets)
-join_told _ = None
+abbrev pub join_for : Message → Option JoinRequest
+join_for (JoinHeard report verdict) = join_request (frame_of report.octets)
+join_for _ = None
 
 -- the device, or that of the join request, if it is there
 abbrev pub device_named : State → Message → Option Device
 device_named s (DeviceAdd dev_eui join_eui owner) = s.devices dev_eui
 device_named s (DeviceMove dev_eui owner) = s.devices dev_eui
-device_named s m = option_and_then (λ join. s.devices join.dev_eui) (join_told m)
+device_named s m = option_and_then (λ join. s.devices join.dev_eui) (join_for m)
 
 -- the last nonce of the join request's device
-abbrev pub last_nonce_told : State → Message → Option ℕ
-last_nonce_told s m = option_and_then (λ join. last_nonce s.sessions join.dev_eui) (join_told m)
+abbrev pub last_nonce_for : State → Message → Option ℕ
+last_nonce_for s m = option_and_then (λ join. last_nonce s.sessions join.dev_eui) (join_for m)
 
 -- ---- the session whose data frame it tells of
 
-abbrev pub session_told : Settings → State → Message → Option (ℕ × Session)
-session_told c s (FrameHeard report verdict) = option_and_then (λ frame. session_with s.sessions c.base frame.addr) (data_up (frame_of report.octets))
-session_told c s _ = None
+abbrev pub session_for : Settings → State → Message → Option (ℕ × Session)
+session_for c s (FrameHeard report verdict) = option_and_then (λ frame. session_with s.sessions c.base frame.addr) (data_up (frame_of report.octets))
+session_for c s _ = None
 
 abbrev pub view_of_session : State → ℕ × Session → SessionView
 view_of_session s found = record {
@@ -88,56 +87,56 @@ abbrev pub uplink_numbered : State → ℕ → Option (ℕ × Uplink)
 uplink_numbered s number = option_map (λ uplink. (number, uplink)) (item_at s.uplinks number)
 
 -- the session's data uplink with the verdict's counter
-abbrev pub data_told : State → Option (ℕ × Session) → Option ℕ → Option (ℕ × Uplink)
-data_told s session verdict = option_and_then (λ found. option_and_then (data_with s.uplinks found.0) verdict) session
+abbrev pub data_for : State → Option (ℕ × Session) → Option ℕ → Option (ℕ × Uplink)
+data_for s session verdict = option_and_then (λ found. option_and_then (data_with s.uplinks found.0) verdict) session
 
 abbrev pub view_of_uplink : State → List ℕ → ℕ × Uplink → UplinkView
 view_of_uplink s gateway found = record { number = found.0; uplink = found.1; at_gateway = s.copies found.0 gateway }
 
-abbrev pub uplink_told : Settings → State → Message → Option UplinkView
-uplink_told c s (JoinHeard report verdict) = option_map (view_of_uplink s report.gateway) (option_and_then (λ join. join_with s.uplinks s.sessions join.dev_eui join.nonce) (join_request (frame_of report.octets)))
-uplink_told c s (FrameHeard report verdict) = option_map (view_of_uplink s report.gateway) (data_told s (session_told c s (FrameHeard report verdict)) verdict)
-uplink_told c s (DownBook uplink gateway window octets) = option_map (view_of_uplink s gateway) (uplink_numbered s uplink)
-uplink_told c s _ = None
+abbrev pub uplink_for : Settings → State → Message → Option UplinkView
+uplink_for c s (JoinHeard report verdict) = option_map (view_of_uplink s report.gateway) (option_and_then (λ join. join_with s.uplinks s.sessions join.dev_eui join.nonce) (join_request (frame_of report.octets)))
+uplink_for c s (FrameHeard report verdict) = option_map (view_of_uplink s report.gateway) (data_for s (session_for c s (FrameHeard report verdict)) verdict)
+uplink_for c s (DownBook uplink gateway window octets) = option_map (view_of_uplink s gateway) (uplink_numbered s uplink)
+uplink_for c s _ = None
 
 -- ---- the downlink
 
 -- a booking that isn't dropped answers the uplink
-abbrev pub answered_told : State → Message → Bool
-answered_told s (DownBook uplink gateway window octets) = is_answered s.bookings uplink
-answered_told s _ = false
+abbrev pub answered_for : State → Message → Bool
+answered_for s (DownBook uplink gateway window octets) = is_answered s.bookings uplink
+answered_for s _ = false
 
 -- the next downlink counter of the uplink's session
-abbrev pub next_down_told : State → Message → ℕ
-next_down_told s (DownBook uplink gateway window octets) = option_map_or (λ (found : Uplink). next_down s.bookings s.uplinks found.session) (item_at s.uplinks uplink) 0
-next_down_told s _ = 0
+abbrev pub next_down_for : State → Message → ℕ
+next_down_for s (DownBook uplink gateway window octets) = option_map_or (λ (found : Uplink). next_down s.bookings s.uplinks found.session) (item_at s.uplinks uplink) 0
+next_down_for s _ = 0
 
 -- how the booking that it names stands
-abbrev pub booking_told : State → Message → Option Standing
-booking_told s (DownDone booking sent) = option_map (λ found. found.standing) (item_at s.bookings booking)
-booking_told s _ = None
+abbrev pub booking_for : State → Message → Option Standing
+booking_for s (DownDone booking sent) = option_map (λ found. found.standing) (item_at s.bookings booking)
+booking_for s _ = None
 
 -- where its receive window opens, and how it is sent
-abbrev pub window_told : State → Message → Option (ℕ × Rate)
-window_told s (DownBook uplink gateway window octets) =
+abbrev pub window_for : State → Message → Option (ℕ × Rate)
+window_for s (DownBook uplink gateway window octets) =
     option_and_then (λ (found : Uplink). option_map (λ (copy : Reception). window_of found.kind copy.end copy.rate window) (s.copies uplink gateway)) (item_at s.uplinks uplink)
-window_told s _ = None
+window_for s _ = None
 
 -- the gateway that is to send it
-abbrev pub gateway_told : Message → List ℕ
-gateway_told (DownBook uplink gateway window octets) = gateway
-gateway_told _ = []
+abbrev pub gateway_for : Message → List ℕ
+gateway_for (DownBook uplink gateway window octets) = gateway
+gateway_for _ = []
 
 -- the downlinks of its gateway that aren't dropped and begin near it, in all bands
-abbrev pub near_told : State → Message → List Interval
-near_told s m = option_map_or (λ (opens : ℕ × Rate). near_ones (pos opens.0) (downlinks s.bookings (gateway_told m))) (window_told s m) []
+abbrev pub near_for : State → Message → List Interval
+near_for s m = option_map_or (λ (opens : ℕ × Rate). near_ones (pos opens.0) (downlinks s.bookings (gateway_for m))) (window_for s m) []
 
 -- and in its band
 abbrev pub near_in : State → List ℕ → ℕ × Rate → List Interval
 near_in s gateway opens = option_map_or (λ band. near_ones (pos opens.0) (downlinks_in s.bookings gateway band)) (band_at opens.1.freq opens.1.dr) []
 
-abbrev pub near_in_band_told : State → Message → List Interval
-near_in_band_told s m = option_map_or (near_in s (gateway_told m)) (window_told s m) []
+abbrev pub near_in_band_for : State → Message → List Interval
+near_in_band_for s m = option_map_or (near_in s (gateway_for m)) (window_for s m) []
 
 -- ---- the view
 
@@ -152,23 +151,16 @@ pub record IsView (c : Settings) (s : State) (e : Envelope) (v : View) : Type 0 
   pub owner : v.owner_known ≡ owner_known s e.message
   pub gateway : v.gateway_known ≡ gateway_known s e.message
   pub device : v.device ≡ device_named s e.message
-  pub last_nonce : v.last_nonce ≡ last_nonce_told s e.message
-  pub session : v.session ≡ option_map (view_of_session s) (session_told c s e.message)
-  pub uplink : v.uplink ≡ uplink_told c s e.message
+  pub last_nonce : v.last_nonce ≡ last_nonce_for s e.message
+  pub session : v.session ≡ option_map (view_of_session s) (session_for c s e.message)
+  pub uplink : v.uplink ≡ uplink_for c s e.message
   pub bookings : v.bookings ≡ length s.bookings
-  pub answered : v.answered ≡ answered_told s e.message
-  pub next_down : v.next_down ≡ next_down_told s e.message
-  pub booking : v.booking ≡ booking_told s e.message
+  pub answered : v.answered ≡ answered_for s e.message
+  pub next_down : v.next_down ≡ next_down_for s e.message
+  pub booking : v.booking ≡ booking_for s e.message
   -- in any order
-  pub near : IsPermutation (near_told s e.message) v.near.items
-  pub near_in_band : IsPermutation (near_in_band_told s e.message) v.near_in_band.items
-
--- With the view that the registry after some heard list holds for the message, this is what the message's checks let
--- through, or the refusal of the first that fails.
-unfoldable pub IsChecked : Message → View → Checked Decision → Type 0
-IsChecked message view checked = (c : Settings) (heard : List Envelope) (e : Envelope)
-    → IsBlock c.base c.addresses → IsHeard c heard → e.message ≡ message → IsView c (state_of c heard) e view
-    → checked ≡ checked_decision c (state_of c heard) e message
+  pub near : IsPermutation (near_for s e.message) v.near.items
+  pub near_in_band : IsPermutation (near_in_band_for s e.message) v.near_in_band.items
 
 -- And this is one step of the registry.
 abbrev pub IsStep : Message → View → Decision → Type 0

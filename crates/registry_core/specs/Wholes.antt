@@ -1,5 +1,9 @@
 -- Whole numbers as messages have them (this project's range).
 use Rattle.std.specs.Prelude.{ℕ, ◌≤◌}
 
+-- 2^53 - 1
+abbrev pub greatest_whole : ℕ
+greatest_whole = 9007199254740991
+
 abbrev pub IsWhole : ℕ → Type 0
-IsWhole n = n ≤ 9007199254740991
+IsWhole n = n ≤ greatest_whole

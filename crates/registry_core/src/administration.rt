@@ -1,6 +1,6 @@
 //! What the messages of an operator change and how they are answered: one function for each, its checks in their order.
 ghost use Rattle.registry_core.specs.declared.messages.Message.TheVariants.{SenderAdd, OwnerAdd, GatewayAdd, DeviceAdd, DeviceMove};
-ghost use Rattle.registry_core.specs.Viewed.{IsChecked};
+ghost use Rattle.registry_core.specs.steps.Checked.{IsChecked};
 
 use crate::answers::{Answer, Refusal};
 use crate::checks::wants;
@@ -11,7 +11,7 @@ use crate::views::View;
 use radio_core::{Eui, Name};
 
 /// An operator adds a sender with its role.
-#[tactic(auto, unfolding(crate::specs::Viewed::IsChecked, crate::specs::Administration::sender_add))]
+#[tactic(auto, unfolding(crate::specs::steps::Checked::IsChecked, crate::specs::Administration::sender_add))]
 pub(crate) fn sender_add(sender: Name, role: Role, view: &View) -> Result<(Effect, Answer), Refusal>
     ensures { IsChecked (SenderAdd sender role) view.now result }
 {
@@ -21,7 +21,7 @@ pub(crate) fn sender_add(sender: Name, role: Role, view: &View) -> Result<(Effec
 }
 
 /// An operator adds an owner.
-#[tactic(auto, unfolding(crate::specs::Viewed::IsChecked, crate::specs::Administration::owner_add))]
+#[tactic(auto, unfolding(crate::specs::steps::Checked::IsChecked, crate::specs::Administration::owner_add))]
 pub(crate) fn owner_add(owner: Name, view: &View) -> Result<(Effect, Answer), Refusal>
     ensures { IsChecked (OwnerAdd owner) view.now result }
 {
@@ -31,7 +31,7 @@ pub(crate) fn owner_add(owner: Name, view: &View) -> Result<(Effect, Answer), Re
 }
 
 /// An operator adds a gateway.
-#[tactic(auto, unfolding(crate::specs::Viewed::IsChecked, crate::specs::Administration::gateway_add))]
+#[tactic(auto, unfolding(crate::specs::steps::Checked::IsChecked, crate::specs::Administration::gateway_add))]
 pub(crate) fn gateway_add(gateway: Name, view: &View) -> Result<(Effect, Answer), Refusal>
     ensures { IsChecked (GatewayAdd gateway) view.now result }
 {
@@ -41,7 +41,7 @@ pub(crate) fn gateway_add(gateway: Name, view: &View) -> Result<(Effect, Answer)
 }
 
 /// An operator adds a device of an owner.
-#[tactic(auto, unfolding(crate::specs::Viewed::IsChecked, crate::specs::Administration::device_add))]
+#[tactic(auto, unfolding(crate::specs::steps::Checked::IsChecked, crate::specs::Administration::device_add))]
 pub(crate) fn device_add(
     dev_eui: Eui,
     join_eui: Eui,
@@ -58,7 +58,7 @@ pub(crate) fn device_add(
 }
 
 /// An operator gives a device to an owner, which may be the one that it has.
-#[tactic(auto, unfolding(crate::specs::Viewed::IsChecked, crate::specs::Administration::device_move))]
+#[tactic(auto, unfolding(crate::specs::steps::Checked::IsChecked, crate::specs::Administration::device_move))]
 pub(crate) fn device_move(
     dev_eui: Eui,
     owner: Name,

@@ -2,7 +2,7 @@
 ghost use Rattle.std.specs.Prelude.{◌≡◌, ◌≤◌, Ok, length};
 ghost use Rattle.radio_core.specs.Counters.{is_candidate};
 ghost use Rattle.radio_core.specs.DataRates.{max_length};
-ghost use Rattle.registry_core.specs.ByView.{HasRoom, data_copied_by, data_added_by, frame_heard_by};
+ghost use Rattle.registry_core.specs.steps.ByView.{HasRoom, data_copied_by, data_added_by, frame_heard_by};
 ghost use Rattle.registry_core.specs.Derived.{is_below};
 
 use crate::answers::{Answer, Refusal};
@@ -16,7 +16,7 @@ use crate::views::{SessionView, UplinkView, View};
 use radio_core::{Band, band_of, rebuild};
 
 /// A gateway heard a data frame.
-#[tactic(auto, unfolding(crate::specs::ByView::frame_heard_by))]
+#[tactic(auto, unfolding(crate::specs::steps::ByView::frame_heard_by))]
 pub(crate) fn frame_heard(
     report: &Report,
     verdict: Option<u32>,
@@ -57,7 +57,7 @@ fn data_copied(
 }
 
 /// A data frame that is no copy has the counter that follows.
-#[tactic(auto, unfolding(crate::specs::ByView::data_added_by))]
+#[tactic(auto, unfolding(crate::specs::steps::ByView::data_added_by))]
 fn data_added(
     report: &Report,
     frame: &DataFrame,

@@ -1,7 +1,8 @@
 //! What a message changes and how it is answered.
 ghost use Rattle.std.specs.Prelude.{◌≡◌};
 ghost use Rattle.registry_core.specs.Decision.{decision_or_refusal};
-ghost use Rattle.registry_core.specs.Viewed.{IsChecked, IsStep};
+ghost use Rattle.registry_core.specs.Viewed.{IsStep};
+ghost use Rattle.registry_core.specs.steps.Checked.{IsChecked};
 
 use crate::administration::{device_add, device_move, gateway_add, owner_add, sender_add};
 use crate::answers::{Answer, Refusal};

@@ -2,10 +2,10 @@
 ghost use Rattle.std.specs.Prelude.{◌≡◌, ◌^◌, ◌<◌, ◌≤◌, [], ◌∷◌, ◌++◌, length};
 ghost use Rattle.radio_core.specs.DataRates.{max_length};
 ghost use Rattle.duty_core.specs.Computed.{hours_within};
-ghost use Rattle.registry_core.specs.ByView.{HasRoom};
+ghost use Rattle.registry_core.specs.steps.ByView.{HasRoom};
 ghost use Rattle.registry_core.specs.Downlinks.{on_air};
-ghost use Rattle.registry_core.specs.DownlinksByView.{down_added_by, down_book_by, down_done_by};
-ghost use Rattle.registry_core.specs.Viewed.{IsChecked};
+ghost use Rattle.registry_core.specs.steps.DownlinksByView.{down_added_by, down_book_by, down_done_by};
+ghost use Rattle.registry_core.specs.steps.Checked.{IsChecked};
 ghost use Rattle.registry_core.specs.declared.messages.Message.TheVariants.{DownBook};
 
 use crate::addresses::address_of;
@@ -40,7 +40,7 @@ pub(crate) fn down_book(
 }
 
 /// The checks of a downlink, on the downlinks near it.
-#[tactic(auto, unfolding(crate::specs::DownlinksByView::down_book_by))]
+#[tactic(auto, unfolding(crate::specs::steps::DownlinksByView::down_book_by))]
 fn down_booked(
     gateway: &Name,
     window: Window,
@@ -65,7 +65,7 @@ fn down_booked(
 }
 
 /// The downlink is clear of the gateway's others, and every hour of its band keeps the limit with it.
-#[tactic(auto, unfolding(crate::specs::DownlinksByView::down_added_by))]
+#[tactic(auto, unfolding(crate::specs::steps::DownlinksByView::down_added_by))]
 fn down_added(
     uplink: u64,
     gateway: &Name,
@@ -117,7 +117,7 @@ fn on_air(start: u64, rate: Rate, octets: &Octets) -> Span
 }
 
 /// The downlink of a booking was sent, or else the booking is dropped.
-#[tactic(auto, unfolding(crate::specs::DownlinksByView::down_done_by))]
+#[tactic(auto, unfolding(crate::specs::steps::DownlinksByView::down_done_by))]
 pub(crate) fn down_done(
     booking: Whole,
     sent: bool,

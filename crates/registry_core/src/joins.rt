@@ -1,7 +1,7 @@
 //! What a join request changes and how it is answered (LoRaWAN L2 1.0.4, section 6.2).
 ghost use Rattle.std.specs.Prelude.{◌≡◌, ◌+◌, ◌-◌, ◌^◌, ◌<◌, ◌≤◌, length, Ok};
 ghost use Rattle.radio_core.specs.DataRates.{max_length};
-ghost use Rattle.registry_core.specs.ByView.{HasRoom, join_copied_by, join_added_by, join_heard_by};
+ghost use Rattle.registry_core.specs.steps.ByView.{HasRoom, join_copied_by, join_added_by, join_heard_by};
 
 use crate::addresses::address_of;
 use crate::answers::{Answer, Refusal};
@@ -15,7 +15,7 @@ use crate::views::{UplinkView, View};
 use radio_core::{Band, band_of};
 
 /// A gateway heard a join request.
-#[tactic(auto, unfolding(crate::specs::ByView::join_heard_by))]
+#[tactic(auto, unfolding(crate::specs::steps::ByView::join_heard_by))]
 pub(crate) fn join_heard(
     report: &Report,
     verdict: JoinVerdict,
@@ -52,7 +52,7 @@ fn join_copied(report: &Report, seen: &UplinkView, view: &View) -> (Effect, Answ
 }
 
 /// A join that is no copy makes a session with the next address.
-#[tactic(auto, unfolding(crate::specs::ByView::join_added_by))]
+#[tactic(auto, unfolding(crate::specs::steps::ByView::join_added_by))]
 fn join_added(
     report: &Report,
     join: &JoinRequest,

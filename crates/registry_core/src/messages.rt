@@ -72,6 +72,9 @@ pub enum Message {
     },
 }
 
+/// So many messages are ever heard (this project's limit).
+pub const MOST_HEARD: usize = 9_007_199_254_740_991;
+
 /// A message with its sender and the sender's transaction number.
 #[derive(Clone, Copy, Debug, PartialEq, Eq)]
 pub struct Envelope {

@@ -1,7 +1,7 @@
 //! What a gateway's report books: an uplink, or a copy of one.
 ghost use Rattle.std.specs.Prelude.{◌≡◌, ◌≤◌, length};
 ghost use Rattle.radio_core.specs.DataRates.{max_length};
-ghost use Rattle.registry_core.specs.ByView.{original_by};
+ghost use Rattle.registry_core.specs.steps.ByView.{original_by};
 ghost use Rattle.registry_core.specs.Uplinks.{is_time, reception_of, time_up, uplink_of, copy_added};
 
 use crate::effects::Effect;

@@ -1,7 +1,10 @@
 //! Whole numbers as messages have them.
 use std::marker::Model;
 
-/// A whole number from 0 to 9,007,199,254,740,991. Contracts see the number.
+/// 2^53 - 1, the greatest whole number that a message has (this project's range).
+pub const GREATEST_WHOLE: u64 = 9_007_199_254_740_991;
+
+/// A whole number from 0 to `GREATEST_WHOLE`. Contracts see the number.
 #[derive(Clone, Copy, Debug, PartialEq, Eq)]
 pub struct Whole {
     number: u64,
@@ -28,7 +31,7 @@ impl Whole {
     pub fn new(number: u64) -> Option<Self>
         ensures { SomeIff result (IsWhole number) number }
     {
-        if number > 9_007_199_254_740_991 {
+        if number > GREATEST_WHOLE {
             return None;
         }
         Some(Whole { number })

@@ -1,8 +1,8 @@
 use Rattle.std.proofs.Common.{◌∙◌}
-use Rattle.desk_engine.proofs.AirUse.{line_told}
+use Rattle.desk_engine.proofs.AirUse.{device_line_is}
 use Rattle.desk_engine.proofs.owner_reports.device_line.Goals as goal
 
 pub returns-clause-told : goal.returns-clause-told
 returns-clause-told g c = λ kept sound held.
-    line_told kept.facts c.args.month.from c.args.month.to c.args.device c.as_str.result.now _ c.as_str-2.result.now _ c.in_ok-uplinks.uplinks
+    device_line_is kept.facts c.args.month.from c.args.month.to c.args.device c.as_str.result.now _ c.as_str-2.result.now _ c.in_ok-uplinks.uplinks
     (c.in_ok-uplinks.ensures.told kept sound held) (c.as_str.ensures.value ∙ c.in_ok-digits.ensures) c.as_str-2.ensures.value c.in_ok-line_of.ensures

@@ -1,6 +1,7 @@
 use Rattle.std.proofs.Common.{ℕ, ◌≡◌, ◌≤◌, ◌∙◌, sym, arith}
 use Rattle.csv.specs.Records.{fields_of}
-use Rattle.desk_wire.specs.CsvReports.{envelopes_from, rows_left}
+use Rattle.desk_wire.specs.CsvReports.{envelopes_from}
+use Rattle.desk_wire.specs.steps.CsvReports.{rows_left}
 use Rattle.desk_wire.proofs.CsvRows.{loop_ends, loop_ends_full, loop_goes_on, loop_overflows, loop_refuses}
 use Rattle.desk_wire.proofs.csv_reports.envelopes_of.Goals as goal
 

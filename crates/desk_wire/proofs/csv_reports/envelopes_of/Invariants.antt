@@ -1,5 +1,6 @@
 use Rattle.std.proofs.Common.{◌≡◌, ◌≤◌, ◌-◌}
-use Rattle.desk_wire.specs.CsvReports.{IsReading, envelopes_from, rows_left}
+use Rattle.desk_wire.specs.CsvReports.{envelopes_from}
+use Rattle.desk_wire.specs.steps.CsvReports.{IsReading, rows_left}
 use Rattle.desk_wire.proofs.CsvRows.{after}
 use Rattle.desk_wire.proofs.csv_reports.envelopes_of.Given as goal
 

@@ -3,7 +3,7 @@ use mir.Syntax.{w64}
 use mir.Val.{SFits}
 use Rattle.std.specs.Prelude.{pos, ◌<ℤ◌, ◌≤ℤ◌}
 use Rattle.std.proofs.lemmas.Int.{ints, to_z-of_z}
-use Rattle.duty_core.specs.Marks.{first_place}
+use Rattle.duty_core.specs.steps.Marks.{first_place}
 use Rattle.duty_core.proofs.Heights.{mark_more, mark_room, place_lt}
 use Rattle.duty_core.proofs.marks.forward.Goals as goal
 

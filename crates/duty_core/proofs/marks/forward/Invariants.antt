@@ -1,5 +1,5 @@
 use Rattle.std.proofs.Common.{length, ◌-◌}
-use Rattle.duty_core.specs.Marks.{IsMark}
+use Rattle.duty_core.specs.steps.Marks.{IsMark}
 use Rattle.duty_core.proofs.marks.forward.Given as goal
 
 abbrev pub invariant-loop-passed : goal.invariant-loop-passed

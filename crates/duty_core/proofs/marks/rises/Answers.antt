@@ -6,7 +6,7 @@ use Rattle.std.proofs.lemmas.Int.{ints}
 use Rattle.std.proofs.lemmas.List.{get_or_read}
 use Rattle.duty_core.specs.Use.{Interval}
 use Rattle.duty_core.specs.declared.marks.Edge.{Edge}
-use Rattle.duty_core.specs.Marks.{edge_of}
+use Rattle.duty_core.specs.steps.Marks.{edge_of}
 use Rattle.duty_core.proofs.marks.rises.Goals as goal
 
 -- below i, and from the one before i to it, so below i + 1

@@ -1,7 +1,7 @@
 use Rattle.std.proofs.Common.{ℕ, ◌+◌, ◌<◌, get_or}
 use Rattle.std.specs.Prelude.{◌≤ℤ◌}
 use Rattle.duty_core.specs.Use.{Interval}
-use Rattle.duty_core.specs.Marks.{edge_of}
+use Rattle.duty_core.specs.steps.Marks.{edge_of}
 use Rattle.duty_core.proofs.marks.rises.Given as goal
 
 abbrev pub invariant-loop-i : goal.invariant-loop-i

@@ -3,7 +3,7 @@ use mir.Syntax.{w64}
 use Rattle.std.proofs.lemmas.Int.{ints}
 use Rattle.duty_core.specs.Use.{hour}
 use Rattle.duty_core.specs.declared.marks.Edge.TheVariants.{Start, End}
-use Rattle.duty_core.specs.Marks.{IsMark}
+use Rattle.duty_core.specs.steps.Marks.{IsMark}
 use Rattle.duty_core.proofs.Sliding.{used_from_heights}
 use Rattle.duty_core.proofs.sweep.slide.Goals as goal
 

@@ -1,8 +1,8 @@
 use Rattle.std.proofs.Common.{◌∙◌}
 use Rattle.registry_core.specs.Heard.{state_of}
-use Rattle.registry_core.specs.Viewed.{IsChecked}
+use Rattle.registry_core.specs.steps.Checked.{IsChecked}
 use Rattle.registry_core.proofs.DownlinksByView.{down_done_same}
-use Rattle.registry_core.proofs.Rooms.{frame_checked, join_checked}
+use Rattle.registry_core.proofs.ViewBounds.{frame_checked, join_checked}
 use Rattle.registry_core.proofs.deciding.checked_decision.Goals as goal
 
 pub returns-in-JoinHeard : goal.returns-in-JoinHeard

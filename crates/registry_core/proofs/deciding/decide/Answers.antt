@@ -1,6 +1,6 @@
 use Rattle.std.proofs.Common.{◌∙◌}
 use Rattle.registry_core.specs.Heard.{state_of}
-use Rattle.registry_core.specs.Viewed.{IsChecked}
+use Rattle.registry_core.specs.steps.Checked.{IsChecked}
 use Rattle.registry_core.proofs.Decisions.{checked_decides}
 use Rattle.registry_core.proofs.deciding.decide.Goals as goal
 

@@ -1,5 +1,5 @@
-use Rattle.registry_core.specs.Viewed.{IsChecked}
-use Rattle.registry_core.proofs.Rooms.{book_checked}
+use Rattle.registry_core.specs.steps.Checked.{IsChecked}
+use Rattle.registry_core.proofs.ViewBounds.{book_checked}
 use Rattle.registry_core.proofs.downlinks.down_book.Goals as goal
 
 pub returns : goal.returns

@@ -9,7 +9,7 @@ use Rattle.desk_store.specs.BookingIndex.{is_near_place, places_of, span_told}
 use Rattle.desk_store.specs.ByKey.{Rises}
 use Rattle.desk_store.specs.Lookups.{downlinks_near}
 use Rattle.desk_store.proofs.Placed.{places_rise}
-use Rattle.desk_store.proofs.ToldInOrder.{near_told}
+use Rattle.desk_store.proofs.ToldInOrder.{near_for}
 use Rattle.desk_store.proofs.bookings.Bookings.near.Goals as goal
 
 pub returns : goal.returns
@@ -22,5 +22,5 @@ returns c =
     c.places_near.ensures (subst R (sym places) (places_rise items gateway)) ∙ ap (filter (is_near_place c.args.start)) places in
     IfOk-weaker c.spans_at.result _ _
     (λ spans is. let P : List Booking → Type 0 = λ bookings. IsByStart (downlinks_near bookings gateway c.args.band c.args.start) spans.items in
-    subst P c.self.view_is (near_told items gateway c.args.band c.args.start spans.items (is ∙ (λ i. filter_map (span_told (c.deref.ensures.value i) c.args.band) (near i)))))
+    subst P c.self.view_is (near_for items gateway c.args.band c.args.start spans.items (is ∙ (λ i. filter_map (span_told (c.deref.ensures.value i) c.args.band) (near i)))))
     c.spans_at.ensures

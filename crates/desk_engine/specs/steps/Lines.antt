@@ -12,26 +12,26 @@ use Rattle.desk_engine.specs.declared.lines.Stop.{Stop}
 use Rattle.desk_engine.specs.declared.lines.Stop.TheVariants.{Write, Unavailable}
 use Rattle.desk_engine.specs.declared.outcomes.Outcome.TheVariants as outcome
 use Rattle.desk_engine.specs.InOrder.{HasNoRoom}
-use Rattle.desk_engine.specs.Lines.{whole_lines, last_line, fault_of_end, HasHeard, HasAnswered, EndsBy}
+use Rattle.desk_engine.specs.Lines.{whole_lines, last_line, fault_of_end, HasHeard, HasAnswered, LinesEndBy}
 use Rattle.desk_engine.specs.Outcomes.{doubt_of_text}
-use Rattle.desk_engine.specs.Told.{most_octets}
+use Rattle.desk_engine.specs.Told.{longest_message}
 
--- What is kept of a line. With one octet more than a message may have, it is told what the whole line is told.
+-- What is line_with of a line. With one octet more than a message may have, it is told what the whole line is told.
 abbrev pub part : List ℕ → List ℕ
-part line = take (most_octets + 1) line
+part line = take (longest_message + 1) line
 
 -- one octet more, while there is room
-abbrev pub kept : List ℕ → ℕ → List ℕ
-kept line x = if nat_lt (length line) (most_octets + 1) then line ++ x ∷ [] else line
+abbrev pub line_with : List ℕ → ℕ → List ℕ
+line_with line x = if nat_lt (length line) (longest_message + 1) then line ++ x ∷ [] else line
 
-abbrev pub end_of : Stop → LinesEnd
-end_of Write = lines_end.Write
-end_of (Unavailable fault) = lines_end.Unavailable fault
+abbrev pub lines_end_of : Stop → LinesEnd
+lines_end_of Write = lines_end.Write
+lines_end_of (Unavailable fault) = lines_end.Unavailable fault
 
 -- why the store was unavailable, if that is why it stopped
 abbrev pub fault_of_stop : {T : Type 0} → Result T Stop → Option StoreFault
 fault_of_stop (Ok done) = None
-fault_of_stop (Err stop) = fault_of_end (end_of stop)
+fault_of_stop (Err stop) = fault_of_end (lines_end_of stop)
 
 module _ {K : Type 0} (m : Meaning K) (c : Settings) (heard : List Envelope) (old new : K) (before after : Option (List ℕ)) where
   -- What one line does. It is answered; or, where it has an octet, heard without an answer, or the store is unavailable.
@@ -42,7 +42,7 @@ module _ {K : Type 0} (m : Meaning K) (c : Settings) (heard : List Envelope) (ol
       (line ≢ []) × HasAnswered m c heard old new before after [] (doubt_of_text c line (outcome.Unavailable fault)) × IsUnavailability fault
       × (fault ≡ Size → HasNoRoom m new heard)
 
-  -- The lines of this input are answered, and this is kept of the line that stands after them.
+  -- The lines of this input are answered, and this is line_with of the line that stands after them.
   pub record StandsAt (input line : List ℕ) : Type 0 where
     pub up : m.down new ≡ m.down old
     pub begun : line ≡ part (last_line input)
@@ -51,4 +51,4 @@ module _ {K : Type 0} (m : Meaning K) (c : Settings) (heard : List Envelope) (ol
   -- it stands at the end of this input, or has stopped in it, whatever follows
   abbrev pub GoesTo : {T : Type 0} → List ℕ → List ℕ → Result T Stop → Type 0
   GoesTo input line (Ok done) = StandsAt input line
-  GoesTo input line (Err stop) = (more : List ℕ) → EndsBy m c heard old new before after (input ++ more) (end_of stop)
+  GoesTo input line (Err stop) = (more : List ℕ) → LinesEndBy m c heard old new before after (input ++ more) (lines_end_of stop)

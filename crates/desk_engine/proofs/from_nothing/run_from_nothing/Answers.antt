@@ -1,7 +1,7 @@
 use Rattle.std.proofs.Common.{[], sym}
 use Rattle.desk_engine.specs.InOrder.{kept_after}
-use Rattle.desk_engine.proofs.Keeping.{hours_of}
-use Rattle.desk_engine.proofs.plain.run_from_nothing.Goals as goal
+use Rattle.desk_engine.proofs.KeptAfter.{hours_of}
+use Rattle.desk_engine.proofs.from_nothing.run_from_nothing.Goals as goal
 
 pub returns-clause-outcomes : goal.returns-clause-outcomes
 unfolding kept_after

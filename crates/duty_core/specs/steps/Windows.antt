@@ -1,7 +1,7 @@
 -- The marks of an hour as it slides through a list in order.
 use Rattle.std.specs.Prelude.{ℤ, pos, ◌+ℤ◌, List}
 use Rattle.duty_core.specs.Use.{Interval, hour}
-use Rattle.duty_core.specs.Marks.{IsMark}
+use Rattle.duty_core.specs.steps.Marks.{IsMark}
 use Rattle.duty_core.specs.declared.marks.Edge.TheVariants.{Start, End}
 use Rattle.duty_core.specs.declared.sweep.Window.{Window}
 

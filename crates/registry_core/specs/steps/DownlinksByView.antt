@@ -12,7 +12,7 @@ use Rattle.registry_core.specs.declared.facts.Standing.TheVariants.{Booked}
 use Rattle.registry_core.specs.declared.views.View.{View}
 use Rattle.registry_core.specs.declared.windows.Window.{Window}
 use Rattle.registry_core.specs.Bookings.{is_booked}
-use Rattle.registry_core.specs.ByView.{address_by}
+use Rattle.registry_core.specs.steps.ByView.{address_by}
 use Rattle.registry_core.specs.Checks.{Checked, ◌>>=◌, ◌>>◌, wants, needs}
 use Rattle.registry_core.specs.Decision.{Decision}
 use Rattle.registry_core.specs.Downlinks.{on_air}

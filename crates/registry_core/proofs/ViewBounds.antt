@@ -17,13 +17,13 @@ use Rattle.registry_core.specs.declared.messages.Message.TheVariants.{JoinHeard,
 use Rattle.registry_core.specs.declared.messages.Report.{Report}
 use Rattle.registry_core.specs.declared.views.View.{View}
 use Rattle.registry_core.specs.declared.windows.Window.{Window}
-use Rattle.registry_core.specs.ByView.{HasRoom, frame_heard_by, join_heard_by}
+use Rattle.registry_core.specs.steps.ByView.{HasRoom, frame_heard_by, join_heard_by}
 use Rattle.registry_core.specs.Checks.{Checked}
 use Rattle.registry_core.specs.Decision.{Decision}
 use Rattle.registry_core.specs.Derived.{is_data_with, is_join_with, join_with}
 use Rattle.registry_core.specs.DataFrames.{frame_heard}
 use Rattle.registry_core.specs.Downlinks.{down_book}
-use Rattle.registry_core.specs.DownlinksByView.{down_book_by}
+use Rattle.registry_core.specs.steps.DownlinksByView.{down_book_by}
 use Rattle.registry_core.specs.Frames.{join_request}
 use Rattle.registry_core.specs.Heard.{IsHeard, state_after, state_of}
 use Rattle.registry_core.specs.Joins.{join_heard}
@@ -31,7 +31,7 @@ use Rattle.registry_core.specs.Numbered.{item_at}
 use Rattle.registry_core.specs.Settings.{Settings, IsBlock}
 use Rattle.registry_core.specs.State.{State, ended, opening, state_with}
 use Rattle.registry_core.specs.Step.{decision_of, step}
-use Rattle.registry_core.specs.Viewed.{IsView, data_told, session_told, view_of_uplink, uplink_told}
+use Rattle.registry_core.specs.Viewed.{IsView, data_for, session_for, view_of_uplink, uplink_for}
 use Rattle.registry_core.proofs.BookedHours.{kept_of}
 use Rattle.registry_core.proofs.DataByView.{frame_heard_same}
 use Rattle.registry_core.proofs.Decisions.{sound_of}
@@ -85,7 +85,7 @@ join_within c s None h p e = cc
 join_within c s (Some join) h p e =
     in_block c s p.0 p.1 h (first_is (is_join_with s.sessions join.dev_eui join.nonce) s.uplinks p e).0
 
-data_within : (c : Settings) (s : State) (session : Option (ℕ × Session)) (verdict : Option ℕ) → IsSound c s → (p : ℕ × Uplink) → data_told s session verdict ≡ Some p
+data_within : (c : Settings) (s : State) (session : Option (ℕ × Session)) (verdict : Option ℕ) → IsSound c s → (p : ℕ × Uplink) → data_for s session verdict ≡ Some p
     → (1 ≤ p.1.session) × (p.1.session ≤ c.addresses)
 data_within c s None verdict h p e = cc
 data_within c s (Some found) None h p e = cc
@@ -114,7 +114,7 @@ pub join_checked : (c : Settings) (heard : List Envelope) (e : Envelope) (v : Vi
     → e.message ≡ JoinHeard report verdict → IsView c (state_of c heard) e v → (HasRoom v → checked ≡ join_heard_by v report verdict)
     → checked ≡ join_heard c (state_of c heard) report verdict
 join_checked c heard e v report verdict checked block list same sees decided =
-    decided (has_room c heard e v report.gateway _ block list sees (sees.uplink ∙ ap (uplink_told c (state_of c heard)) same)
+    decided (has_room c heard e v report.gateway _ block list sees (sees.uplink ∙ ap (uplink_for c (state_of c heard)) same)
     (join_within c (state_of c heard) (join_request (frame_of report.octets)) (sound_of c heard)))
     ∙ join_heard_same c (state_of c heard) e v report verdict same sees
 
@@ -122,14 +122,14 @@ pub frame_checked : (c : Settings) (heard : List Envelope) (e : Envelope) (v : V
     → e.message ≡ FrameHeard report verdict → IsView c (state_of c heard) e v → (HasRoom v → checked ≡ frame_heard_by v report verdict)
     → checked ≡ frame_heard c (state_of c heard) report verdict
 frame_checked c heard e v report verdict checked block list same sees decided =
-    decided (has_room c heard e v report.gateway _ block list sees (sees.uplink ∙ ap (uplink_told c (state_of c heard)) same)
-    (data_within c (state_of c heard) (session_told c (state_of c heard) (FrameHeard report verdict)) verdict (sound_of c heard)))
+    decided (has_room c heard e v report.gateway _ block list sees (sees.uplink ∙ ap (uplink_for c (state_of c heard)) same)
+    (data_within c (state_of c heard) (session_for c (state_of c heard) (FrameHeard report verdict)) verdict (sound_of c heard)))
     ∙ frame_heard_same c (state_of c heard) e v report verdict same sees
 
 pub book_checked : (bounded : AirtimeIsBounded) (tells : HoursWithinTells) (clear : IsClearByNearOnes) (hours : HoursWithinByNearOnes) (c : Settings) (heard : List Envelope) (e : Envelope) (v : View) (number : ℕ) (gateway : List ℕ) (window : Window) (octets : List ℕ)
     (checked : Checked Decision) → IsBlock c.base c.addresses → IsHeard c heard → e.message ≡ DownBook number gateway window octets → IsView c (state_of c heard) e v
     → (HasRoom v → checked ≡ down_book_by v gateway window octets) → checked ≡ down_book c (state_of c heard) number gateway window octets
 book_checked bounded tells clear hours c heard e v number gateway window octets checked block list same sees decided =
-    decided (has_room c heard e v gateway _ block list sees (sees.uplink ∙ ap (uplink_told c (state_of c heard)) same)
+    decided (has_room c heard e v gateway _ block list sees (sees.uplink ∙ ap (uplink_for c (state_of c heard)) same)
     (named_within c (state_of c heard) number (item_at (state_of c heard).uplinks number) (sound_of c heard) refl))
     ∙ down_book_same bounded clear hours c (state_of c heard) e v number gateway window octets (kept_of bounded tells c heard) same sees

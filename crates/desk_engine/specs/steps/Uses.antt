@@ -15,20 +15,20 @@ use Rattle.desk_engine.specs.Reports.{band_columns, device_line, owner_header}
 abbrev pub use_shown : CountedUse → Use
 use_shown used = record { count = used.count; airtime = used.airtime; peak = used.peak }
 
-abbrev pub use_told : List Interval → Use
-use_told intervals = record { count = length intervals; airtime = sum_by (λ a. a.len) intervals; peak = peak_of intervals }
+abbrev pub use_computed : List Interval → Use
+use_computed intervals = record { count = length intervals; airtime = sum_by (λ a. a.len) intervals; peak = peak_of intervals }
 
 -- ---- a device's line
 
 -- for these bands, how many of the uplinks are booked in them, and the columns of each
 pub record HasColumns (sent : List Uplink) (done : List Band) (uplinks : ℕ) (columns : List ℕ) : Type 0 where
   pub count : uplinks ≡ sum_by (λ band. length (in_band band sent)) done
-  pub text : columns ≡ flat_map (λ band. band_columns (use_told (in_band band sent))) done
+  pub text : columns ≡ flat_map (λ band. band_columns (use_computed (in_band band sent))) done
 
 -- the line of a device, by its uplinks that start from the one time on and before the other
-unfoldable pub device_told : State → ℤ → ℤ → ℕ → List ℕ
-device_told s from to dev_eui = let sent = uplinks_from s.uplinks s.sessions dev_eui from to in
-    device_line dev_eui (length sent) (λ band. use_told (in_band band sent))
+unfoldable pub line_of_device : State → ℤ → ℤ → ℕ → List ℕ
+line_of_device s from to dev_eui = let sent = uplinks_from s.uplinks s.sessions dev_eui from to in
+    device_line dev_eui (length sent) (λ band. use_computed (in_band band sent))
 
 -- ---- an owner's devices
 
@@ -37,4 +37,4 @@ pub record HasLines (s : State) (owner : List ℕ) (from to : ℤ) (last : Optio
   pub devices : List ℕ
   pub rising : IsStrictlyIncreasing devices
   pub owned : (dev_eui : ℕ) → list_any (λ other. other == dev_eui) devices ≡ (is_owned s owner dev_eui && not (is_after last dev_eui))
-  pub text_is : text ≡ owner_header ++ flat_map (device_told s from to) devices
+  pub text_is : text ≡ owner_header ++ flat_map (line_of_device s from to) devices

@@ -28,9 +28,10 @@ use Rattle.desk_engine.specs.declared.outcomes.Outcome.{Outcome}
 use Rattle.desk_engine.specs.declared.outcomes.Outcome.TheVariants.{Answered, Refused, Unavailable}
 use Rattle.desk_engine.specs.Deliveries.{heard_unless}
 use Rattle.desk_engine.specs.InOrder.{HasNoRoom, IsInOrder, Survives, entries_of, entry_at, kept_after}
-use Rattle.desk_engine.specs.Outcomes.{HearsNew, IfRefused, IsOutcome, IsUnheardEnvelope, Repeats, Says, doubt_of, fault_of, is_unavailable}
+use Rattle.desk_engine.specs.Outcomes.{IfRefused, IsOutcome, IsUnheardEnvelope, doubt_of, fault_of, is_unavailable}
+use Rattle.desk_engine.specs.steps.Hearing.{HearsNew, Repeats, Says}
 use Rattle.desk_engine.specs.Told.{AnswerText, RefusalText, Told, envelope_told, refusal_told, reply_told}
-use Rattle.desk_engine.proofs.Keeping.{length-kept_after}
+use Rattle.desk_engine.proofs.KeptAfter.{length-kept_after}
 use Rattle.desk_engine.proofs.Places.{cases_option, entry_of-entries_of, has_pair-place_of, no_place, same_envelope, stands_for}
 use Rattle.desk_engine.proofs.Replies.{heard_with-new, reply-known, reply-stranger}
 

@@ -1,0 +1,4 @@
+-- What the clauses of private functions say.
+pub mod Hearing
+pub mod Lines
+pub mod Uses

@@ -1,0 +1,46 @@
+-- What one message makes of the store, and what it is told.
+use Rattle.std.specs.Prelude.{◌≡◌, ◌≢◌, ℕ, List, [], ◌∷◌, ◌++◌, Some, MatchOption}
+use Rattle.registry_core.specs.declared.answers.Refusal.TheVariants.{TransactionReused}
+use Rattle.registry_core.specs.declared.messages.Envelope.{Envelope}
+use Rattle.registry_core.specs.Heard.{state_of}
+use Rattle.registry_core.specs.Settings.{Settings}
+use Rattle.registry_core.specs.Step.{step}
+use Rattle.desk_store.specs.declared.faults.StoreFault.TheVariants.{Memory}
+use Rattle.desk_store.specs.Calls.{IsUnavailability}
+use Rattle.desk_store.specs.Meaning.{Meaning}
+use Rattle.desk_wire.specs.Answers.{answer_text, head_of_envelope}
+use Rattle.desk_wire.specs.Writing.{message_text}
+use Rattle.desk_wire.specs.declared.faults.WireFault.{WireFault}
+use Rattle.desk_wire.specs.Faults.{head_of_fault, refusal_of_fault}
+use Rattle.desk_engine.specs.Outcomes.{doubt_of}
+use Rattle.desk_engine.specs.declared.outcomes.Outcome.{Outcome}
+use Rattle.desk_engine.specs.declared.outcomes.Outcome.TheVariants.{Answered, Refused, Unavailable}
+use Rattle.desk_engine.specs.Told.{Told, AnswerText, RefusalText, refusal_told}
+use Rattle.desk_engine.specs.InOrder.{IsInOrder, Survives, kept_after}
+
+-- the outcome is what is told, or memory ran out
+abbrev pub Says : Told → Outcome → Type 0
+Says told (Answered text) = told ≡ AnswerText text.items
+Says told (Refused refusal text) = told ≡ RefusalText refusal text.items
+Says told (Unavailable fault) = fault ≡ Memory
+
+-- the outcome is why the text is no envelope; where memory ran out before that was known, it is Unavailable
+abbrev pub RefusesText : Settings → WireFault → Outcome → Type 0
+RefusesText c fault outcome = MatchOption (refusal_of_fault fault) (outcome ≡ Unavailable Memory) (λ refusal. Says (refusal_told c refusal (head_of_fault fault)) outcome)
+
+-- a repeat of the message with that text gets that answer, and another message is refused
+abbrev pub Repeats : Settings → Envelope → List ℕ → List ℕ → Outcome → Type 0
+Repeats c e message answer (Answered text) = (message_text c.receiver e ≡ message) × (text.items ≡ answer)
+Repeats c e message answer (Refused refusal text) =
+    (message_text c.receiver e ≢ message) × (refusal_told c TransactionReused (Some (head_of_envelope e)) ≡ RefusalText refusal text.items)
+Repeats c e message answer (Unavailable fault) = fault ≡ Memory
+
+-- A message whose pair is new is heard and answered, or the store is unavailable and has not heard it.
+abbrev pub HearsNew : {K : Type 0} → Meaning K → Settings → List Envelope → Envelope → K → Outcome → Type 0
+HearsNew m c heard e new (Answered text) =
+    (text.items ≡ answer_text c.receiver (head_of_envelope e) (step c (state_of c heard) e).1)
+    × IsInOrder m c new (heard ++ e ∷ [])
+    × m.leaves new (kept_after c (heard ++ e ∷ []) ∷ [])
+HearsNew m c heard e new (Refused refusal text) = ⊥
+HearsNew m c heard e new (Unavailable fault) =
+    IsUnavailability fault × IsInOrder m c new heard × Survives m c new heard (doubt_of e (Unavailable fault))

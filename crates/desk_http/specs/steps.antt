@@ -1,0 +1,3 @@
+-- What the clauses of private functions say.
+pub mod Answering
+pub mod Heads

@@ -1,0 +1,18 @@
+-- What is written of a response, and a report as it is answered.
+use Rattle.std.specs.Prelude.{◌≡◌, ℕ, List, Option, Result, Ok, Err}
+use Rattle.std.specs.Io.KnownBytes.{Appends}
+use Rattle.desk_http.specs.declared.serving.ServeEnd.{ServeEnd}
+use Rattle.desk_http.specs.declared.serving.ServeEnd.TheVariants.{Done, Write}
+use Rattle.desk_http.specs.Responses.{Response, response_text}
+use Rattle.desk_engine.specs.declared.report_faults.ReportFault.{ReportFault}
+
+-- the response was written whole, or a write failed
+abbrev pub Writes : Response → Option (List ℕ) → Option (List ℕ) → ServeEnd → Type 0
+Writes response before after (Done status) = (status ≡ response.status) × Appends before after (response_text response)
+Writes response before after Write = Unit {0}
+Writes response before after _ = ⊥
+
+-- an answer as the engine gives it, with its octets alone
+abbrev pub answer_shown : {T : Type 0} → (T → List ℕ) → Result T ReportFault → Result (List ℕ) ReportFault
+answer_shown octets (Ok text) = Ok (octets text)
+answer_shown octets (Err fault) = Err fault

@@ -1,0 +1,4 @@
+-- What the clauses of private functions say.
+pub mod CsvReports
+pub mod Outcomes
+pub mod Putting

@@ -1,0 +1,4 @@
+-- What the clauses of private functions say.
+pub mod ByView
+pub mod Checked
+pub mod DownlinksByView
