@@ -7,7 +7,8 @@ use Rattle.clap.specs.Values.{kind_of}
 use Rattle.clap.specs.Walk.{Row, Text}
 use Rattle.clap.specs.declared.error.Error.{Error}
 use Rattle.clap.specs.declared.parser.matches.ArgMatches.{ArgMatches}
-use Rattle.desk_cli.specs.Named.{desk_app, command_named, named_by, named_unless, IsUsageOf, Tells}
+use Rattle.desk_cli.specs.CommandLine.{command_named, desk_app, named_by, named_unless}
+use Rattle.desk_cli.specs.Named.{IsUsageOf, Tells}
 use Rattle.desk_cli.specs.declared.commands.Command.{Command}
 use Rattle.desk_cli.specs.declared.usage.Usage.{Usage}
 use Rattle.desk_cli.specs.declared.usage.Usage.TheVariants.{Words, Value, NotText, Memory}

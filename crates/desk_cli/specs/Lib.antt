@@ -1,5 +1,7 @@
+pub mod CommandLine
 pub mod Endings
 pub mod Named
 pub mod Numbers
 pub mod Options
 pub mod Runs
+pub mod commands

@@ -1,11 +1,29 @@
--- The configuration that the options of a command give.
-use Rattle.std.specs.Prelude.{ℕ, ◌+◌, ◌^◌, Bool, ◌&&◌, List, Option, Some, None, Result, Ok, Err, codes, nat_le, option_and_then, if◌then◌else◌}
-use Rattle.clap.specs.Walk.{Row, Text, first_of}
+-- The options of a desk's configuration: their words, and the configuration that they give.
+use Rattle.std.specs.Prelude.{ℕ, ◌+◌, ◌^◌, Bool, ◌&&◌, List, [], ◌∷◌, Option, Some, None, Result, Ok, Err, codes, nat_le, option_and_then, if◌then◌else◌}
+use Rattle.clap.specs.Simple.{App, new_rule, with_rule}
+use Rattle.clap.specs.Walk.{Row, Rule, Text, first_of}
 use Rattle.radio_core.specs.Names.{is_name}
 use Rattle.registry_core.specs.Settings.{Settings}
 use Rattle.desk_cli.specs.Numbers.{base_of, count_of}
 use Rattle.desk_cli.specs.declared.usage.BadValue.{BadValue}
 use Rattle.desk_cli.specs.declared.usage.BadValue.TheVariants.{Receiver, Operator, Base, Addresses, Block}
+
+-- ---- their words
+
+-- an option of one value, with its default
+abbrev pub option_rule : Text → Text → Rule
+option_rule name default = record (new_rule name) { long = Some name; value_names = 1; defaults = default ∷ [] }
+
+-- a command with the four options
+abbrev pub with_settings : App → App
+with_settings app =
+    with_rule (with_rule (with_rule (with_rule app
+    (option_rule (codes "receiver") (codes "desk")))
+    (option_rule (codes "operator") (codes "office")))
+    (option_rule (codes "base") (codes "01a00000")))
+    (option_rule (codes "addresses") (codes "65536"))
+
+-- ---- what they give
 
 -- a value, or which value is bad
 abbrev pub Checked : Type 0 → Type 0

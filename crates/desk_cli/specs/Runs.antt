@@ -1,6 +1,5 @@
--- What the program is asked, and what it has done where it ends well.
-use Rattle.std.specs.Prelude.{◌≡◌, ◌≢◌, ℕ, List, [], Option, Result, Ok, Err, String, map, string_bytes}
-use Rattle.std.specs.Io.KnownBytes.{Appends, Consumes, IsAtEnd}
+-- What the program is asked, and how it ends where that can't be had.
+use Rattle.std.specs.Prelude.{◌≡◌, ◌≢◌, List, Result, Ok, Err, String, map, string_bytes}
 use Rattle.std.specs.IoError.{error_kind}
 use Rattle.std.specs.Vec.Iter.{into_iter_items}
 use Rattle.std.specs.declared.io.Error.{Error}
@@ -8,17 +7,13 @@ use Rattle.std.specs.declared.io.ErrorKind.{ErrorKind}
 use Rattle.std.specs.declared.io.ErrorKind.TheVariants.{OutOfMemory}
 use Rattle.std.specs.declared.vec.IntoIter.{IntoIter}
 use Rattle.clap.specs.Walk.{Text}
-use Rattle.registry_core.specs.Settings.{Settings}
-use Rattle.desk_engine.specs.Lines.{all_lines, answer_lines}
-use Rattle.desk_cli.specs.Named.{names, named_by, Tells}
+use Rattle.desk_cli.specs.CommandLine.{named_by}
+use Rattle.desk_cli.specs.Named.{names, Tells}
 use Rattle.desk_cli.specs.declared.commands.Command.{Command}
-use Rattle.desk_cli.specs.declared.commands.Command.TheVariants.{Lines}
 use Rattle.desk_cli.specs.declared.endings.Ending.{Ending}
 use Rattle.desk_cli.specs.declared.endings.Ending.TheVariants.{Failed, Misused}
 use Rattle.desk_cli.specs.declared.usage.Usage.{Usage}
 use Rattle.desk_cli.specs.declared.usage.Usage.TheVariants.{NotText, Memory}
-
--- ---- what is asked
 
 -- the words of the program, its own name first, or why they can't be had
 abbrev pub Given : Type 0
@@ -55,16 +50,3 @@ abbrev pub EndsUnread : ErrorKind → Ending → Type 0
 EndsUnread kind Failed = kind ≡ OutOfMemory
 EndsUnread kind Misused = kind ≢ OutOfMemory
 EndsUnread kind _ = ⊥
-
--- ---- what was done
-
--- what a reader has left before and after, and what a writer holds before and after
-module _ (left rest before after : Option (List ℕ)) where
-  -- the input was read to its end, and exactly the answers of its lines were written, from the opening state on
-  abbrev pub AnswersLines : Settings → Type 0
-  AnswersLines config = (input : List ℕ) × Consumes left rest input × IsAtEnd rest
-      × Appends before after (answer_lines config [] (all_lines input))
-
-  -- what the command asks was done
-  abbrev pub IsDone : Command → Type 0
-  IsDone (Lines config) = AnswersLines config

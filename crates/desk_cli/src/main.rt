@@ -3,12 +3,9 @@
 
 mod commands;
 mod endings;
-mod lines;
 mod numbers;
 mod options;
 mod program;
-#[cfg(test)]
-mod tests;
 mod usage;
 mod words;
 

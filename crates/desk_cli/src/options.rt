@@ -1,15 +1,76 @@
-//! The options of a command.
-ghost use Rattle.std.specs.Prelude.{◌≡◌, option_map};
+//! The options of a desk's configuration: their words, and the configuration that they give.
+ghost use Rattle.std.specs.Prelude.{◌≡◌, false, option_map, IfOk};
 ghost use Rattle.clap.specs.Matches.{found_of};
-ghost use Rattle.clap.specs.Walk.{first_of, rows_of};
+ghost use Rattle.clap.specs.Simple.{app_of, new_app};
+ghost use Rattle.clap.specs.Walk.{first_of, rows_of, rule_of};
+ghost use Rattle.clap.specs.declared.builder.command.Command.TheViews.{out-Command as fields_of};
 ghost use Rattle.desk_cli.specs.Numbers.{base_of, count_of};
-ghost use Rattle.desk_cli.specs.Options.{config_of, name_of, settings_of, value_at};
+ghost use Rattle.desk_cli.specs.Options.{config_of, name_of, option_rule, settings_of, value_at, with_settings};
 
 use crate::numbers::{base_of, count_of};
 use crate::usage::BadValue;
-use clap::ArgMatches;
+use clap::{Arg, ArgMatches};
 use radio_core::Name;
 use registry_core::Config;
+use std::alloc::{AllocError, Global};
+
+/// A command without options.
+pub(crate) fn command<'a>(alloc: Global, name: &'a str, about: &'a str) -> clap::Command<'a>
+    ensures app { app_of result ≡ new_app name.entry.now }
+    ensures local { (fields_of result).has_globals ≡ false }
+{
+    clap::Command::new(alloc, name).about(about)
+}
+
+/// An option of one value.
+fn option<'a>(
+    alloc: Global,
+    name: &'a str,
+    form: &'a str,
+    default: &'a str,
+    help: &'a str,
+) -> Arg<'a>
+    ensures rule { rule_of result ≡ option_rule name.entry.now default.entry.now }
+    ensures local { result.global ≡ false }
+{
+    Arg::new(alloc, name)
+        .long(name)
+        .value_name(form)
+        .default_value(default)
+        .help(help)
+}
+
+/// A command with the four options of a desk's configuration.
+pub(crate) fn command_with_settings<'a>(
+    alloc: Global,
+    name: &'a str,
+    about: &'a str,
+) -> Result<clap::Command<'a>, AllocError>
+    ensures app { IfOk result (λ c. app_of c ≡ with_settings (new_app name.entry.now)) }
+    ensures local { IfOk result (λ c. (fields_of c).has_globals ≡ false) }
+{
+    let receiver = option(alloc, "receiver", "NAME", "desk", "The desk's own name");
+    let operator = option(alloc, "operator", "NAME", "office", "The first operator");
+    let base = option(
+        alloc,
+        "base",
+        "HEX8",
+        "01a00000",
+        "The first device address",
+    );
+    let addresses = option(
+        alloc,
+        "addresses",
+        "COUNT",
+        "65536",
+        "How many device addresses",
+    );
+    command(alloc, name, about)
+        .arg(receiver)?
+        .arg(operator)?
+        .arg(base)?
+        .arg(addresses)
+}
 
 /// The configuration of the four options.
 #[tactic(auto, unfolding(crate::specs::Options::config_of))]

@@ -3,14 +3,14 @@ ghost use Rattle.std.specs.Prelude.{◌≡◌, ◌≢◌, map, string_bytes, IfO
 ghost use Rattle.std.specs.IoError.{error_kind};
 ghost use Rattle.std.specs.Vec.Iter.{into_iter_items};
 ghost use Rattle.clap.specs.Walk.{texts};
-ghost use Rattle.desk_cli.specs.Named.{named_by, Tells};
-ghost use Rattle.desk_cli.specs.Endings.{ending_of, IsDoneOrFailed};
-ghost use Rattle.desk_cli.specs.Runs.{Asks, AsksFor, EndsUnread, given, IsDone, IsNamed, IsUnread};
+ghost use Rattle.desk_cli.specs.CommandLine.{IsDone, named_by};
+ghost use Rattle.desk_cli.specs.Endings.{ending_of};
+ghost use Rattle.desk_cli.specs.Named.{Tells};
+ghost use Rattle.desk_cli.specs.Runs.{Asks, AsksFor, EndsUnread, given, IsNamed, IsUnread};
 ghost use Rattle.desk_cli.specs.declared.commands.Command.{Command};
 
-use crate::commands::Command;
+use crate::commands::{Command, perform};
 use crate::endings::{Ending, ending_of};
-use crate::lines::lines_command;
 use crate::usage::Usage;
 use crate::words::read_words;
 use std::alloc::{AllocError, Global};
@@ -61,24 +61,6 @@ pub fn run_given<R: Read, W: Write, F: Write>(
     match asked(alloc, arguments) {
         Ok(command) => perform(alloc, &command, reader, answers, faults),
         Err(usage) => tell(&usage, faults),
-    }
-}
-
-// Behind a reference: where a pattern moves `config` out of its command, the toolchain finds no proof.
-fn perform<R: Read, W: Write, F: Write>(
-    alloc: Global,
-    command: &Command,
-    reader: &mut R,
-    answers: &mut W,
-    faults: &mut F,
-) -> Ending
-    ensures done { result ≡ Ending.Done → IsDone (R.remaining reader.old) (R.remaining reader.new)
-        (W.contents answers.old) (W.contents answers.new) command.now }
-    ensures quiet { result ≡ Ending.Done → faults.new ≡ faults.old }
-    ensures ends { IsDoneOrFailed result }
-{
-    match command {
-        Command::Lines { config } => lines_command(alloc, config, reader, answers, faults),
     }
 }
 

@@ -1,5 +1,9 @@
 //! Why words name no command.
-use clap::Error;
+ghost use Rattle.std.specs.Prelude.{[], ◌∷◌, Err};
+ghost use Rattle.clap.specs.declared.error.kind.ErrorKind.TheVariants.{MissingSubcommand};
+ghost use Rattle.desk_cli.specs.Named.{refused, IsUsageOf, Tells};
+
+use clap::error::{Error, ErrorKind};
 use std::fmt::{self, Display, Formatter};
 
 /// A value that isn't in its form, or values that don't go together.
@@ -56,5 +60,26 @@ impl Display for Usage {
             Usage::NotText => f.write_str("error: a word isn't UTF-8\n"),
             Usage::Memory => f.write_str("desk: unavailable\n"),
         }
+    }
+}
+
+/// No command where one is needed.
+pub(crate) fn no_command(desk: &mut clap::Command<'_>) -> Usage
+    ensures { Tells (refused (MissingSubcommand ∷ [])) (Err result) }
+{
+    match desk.error(ErrorKind::MissingSubcommand, "a command is needed") {
+        Ok(error) => usage_of(error),
+        Err(_) => Usage::Memory,
+    }
+}
+
+/// clap's error, the want of memory told apart.
+pub(crate) fn usage_of(error: Error) -> Usage
+    ensures { IsUsageOf error result }
+{
+    if error.kind() == ErrorKind::OutOfMemory {
+        Usage::Memory
+    } else {
+        Usage::Words(error)
     }
 }

@@ -11,6 +11,7 @@ mod lines;
 mod months;
 mod outcomes;
 mod owner_reports;
+mod reads;
 mod report_faults;
 #[cfg(test)]
 mod tests;
@@ -24,4 +25,5 @@ pub use importing::{Imported, import};
 pub use lines::{LinesEnd, run_lines};
 pub use outcomes::Outcome;
 pub use owner_reports::owner_report;
+pub use reads::read_some;
 pub use report_faults::ReportFault;

@@ -2,7 +2,8 @@
 ghost use Rattle.std.specs.Prelude.{◌≡◌, ◌<◌, [], length, IfOk, OnOk, MatchBool};
 ghost use Rattle.std.specs.Io.KnownBytes.{Consumes, IsAtEnd};
 
-use crate::heads::{ReadFault, read_some};
+use crate::heads::ReadFault;
+use desk_engine::read_some;
 use std::io::Read;
 
 /// Reads so many octets, and nothing after them. False where the input ends before.

@@ -1,7 +1,7 @@
 //! Whole runs of the program, over words of the tests.
 use super::{run, run_given};
 use crate::endings::Ending;
-use crate::tests::LINES_HELP;
+use crate::words::tests::LINES_HELP;
 use std::env::FillError;
 use std::io::ErrorKind;
 use std::rt::Env;

@@ -1,17 +1,46 @@
 //! `desk lines`: messages from a reader, answers to a writer, over lists in memory.
-ghost use Rattle.std.specs.Prelude.{◌≡◌, [], IfOk};
+ghost use Rattle.std.specs.Prelude.{◌≡◌, false, [], IfOk};
+ghost use Rattle.clap.specs.Matches.{found_of};
+ghost use Rattle.clap.specs.Simple.{app_of};
+ghost use Rattle.clap.specs.Walk.{rows_of};
+ghost use Rattle.clap.specs.declared.builder.command.Command.TheViews.{out-Command as fields_of};
 ghost use Rattle.registry_core.specs.State.{opening};
 ghost use Rattle.desk_store.specs.Lists.{kept_of, settings_of};
+ghost use Rattle.desk_cli.specs.commands.Lines.{AnswersLines, lines_app, lines_named};
 ghost use Rattle.desk_cli.specs.Endings.{IsDoneOrFailed};
-ghost use Rattle.desk_cli.specs.Runs.{AnswersLines};
+ghost use Rattle.desk_cli.specs.Named.{Tells};
+ghost use Rattle.desk_cli.specs.Options.{config_of};
 
+use super::Command;
 use crate::endings::Ending;
+use crate::options::{command_with_settings, config_of};
+use crate::usage::Usage;
+use clap::ArgMatches;
 use desk_engine::{LinesEnd, run_lines};
 use desk_store::Lists;
 use registry_core::Config;
 use registry_core::laws::nothing_is_heard;
 use std::alloc::{AllocError, Global};
 use std::io::{Read, Write};
+
+/// Its words: its name, what it does, and the options of a desk's configuration.
+pub(crate) fn lines_app<'a>(alloc: Global) -> Result<clap::Command<'a>, AllocError>
+    ensures app { IfOk result (λ c. app_of c ≡ lines_app) }
+    ensures local { IfOk result (λ c. (fields_of c).has_globals ≡ false) }
+{
+    let about = "Answers the messages of standard input, one a line";
+    command_with_settings(alloc, "lines", about)
+}
+
+/// The command that its options give.
+pub(crate) fn lines_of(options: &ArgMatches<'_>) -> Result<Command, Usage>
+    ensures { Tells (lines_named (config_of (rows_of (found_of options.now)))) result }
+{
+    match config_of(options) {
+        Ok(config) => Ok(Command::Lines { config }),
+        Err(value) => Err(Usage::Value(value)),
+    }
+}
 
 /// Answers the messages of the reader, one a line, over lists made for it: exit status 0 where the input ended.
 ///

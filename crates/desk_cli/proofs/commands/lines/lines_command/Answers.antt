@@ -2,7 +2,7 @@ use Rattle.std.proofs.Common.{[], sym, refl, ◌≡◌}
 use Rattle.std.proofs.KnownBytes.{Appends-kept}
 use Rattle.desk_store.specs.Lists.{lists_meaning}
 use Rattle.desk_engine.specs.InOrder.{IsInOrder, kept_after}
-use Rattle.desk_cli.proofs.lines.lines_command.Goals as goal
+use Rattle.desk_cli.proofs.commands.lines.lines_command.Goals as goal
 
 pub returns-in-Ok-flush-clause-answered : goal.returns-in-Ok-flush-clause-answered
 unfolding kept_after

@@ -1,4 +1,6 @@
 //! Whole runs of `desk lines`, over readers and writers of the tests.
+mod words;
+
 use super::lines_command;
 use crate::endings::Ending;
 use radio_core::Name;

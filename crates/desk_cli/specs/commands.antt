@@ -1,0 +1,2 @@
+-- A file for each command.
+pub mod Lines

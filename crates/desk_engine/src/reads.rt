@@ -1,0 +1,24 @@
+//! Reads that an interruption doesn't end.
+ghost use Rattle.std.specs.Prelude.{◌≡◌, ◌<◌, ◌≤◌, length, take, IfOk, OnErr};
+ghost use Rattle.std.specs.Io.KnownBytes.{Consumes, IsAtEnd, Keeps};
+
+use std::io;
+use std::io::{ErrorKind, Read};
+
+/// Reads some octets, none at the end of the input, and answers how many. A read that was interrupted is made again; after
+/// 2^64 - 1 of them it fails.
+pub fn read_some<R: Read>(reader: &mut R, chunk: &mut [u8]) -> io::Result<usize>
+    ensures bound { IfOk result (λ n. n ≤ length chunk.new) }
+    ensures some { IfOk result (λ n. Consumes (R.remaining reader.old) (R.remaining reader.new) (take n chunk.new)) }
+    ensures end { IfOk result (λ n. n ≡ 0 → 0 < length chunk.old → IsAtEnd (R.remaining reader.new)) }
+    ensures failed { OnErr result (Keeps (R.remaining reader.old) (R.remaining reader.new)) }
+{
+    for _ in 0..u64::MAX {
+        match reader.read(chunk) {
+            Ok(count) => return Ok(count),
+            Err(e) if e.kind() == ErrorKind::Interrupted => {}
+            Err(e) => return Err(e),
+        }
+    }
+    Err(ErrorKind::TimedOut.into())
+}
