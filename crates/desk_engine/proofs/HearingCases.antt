@@ -1,5 +1,5 @@
 -- What each arm of hearing makes of the clauses, over plain variables.
-use Rattle.std.proofs.Common.{◌≡◌, ℕ, ◌<◌, ◌≤◌, Bool, true, false, List, [], ◌∷◌, ◌++◌, length, Option, Some, None, Result, Ok, Err, is_ok, refl, ap, sym, ◌∙◌, subst, inl, inr, arith}
+use Rattle.std.proofs.Common.{◌≡◌, ℕ, ◌<◌, ◌≤◌, true, false, List, [], ◌∷◌, ◌++◌, length, Option, Some, None, Result, Ok, is_ok, refl, ap, sym, ◌∙◌, subst, inl, inr, arith}
 use Rattle.std.specs.Prelude.{◌⊎◌, option_map, is_some}
 use Rattle.std.proofs.lemmas.Bool.{cases_Bool, cases_lt}
 use Rattle.registry_core.specs.declared.answers.Answer.{Answer}
@@ -18,7 +18,7 @@ use Rattle.registry_core.specs.Viewed.{IsView}
 use Rattle.desk_store.specs.declared.faults.StoreFault.{StoreFault}
 use Rattle.desk_store.specs.declared.faults.StoreFault.TheVariants.{Memory, Disk, Size}
 use Rattle.desk_store.specs.Calls.{IsOfCalls, IsUnavailability, TellsDown, is_disk, is_foreign}
-use Rattle.desk_store.specs.Kept.{CanAdd, Kept, entry_of, texts_of}
+use Rattle.desk_store.specs.Kept.{CanAdd, entry_of, texts_of}
 use Rattle.desk_store.specs.Meaning.{Meaning}
 use Rattle.desk_wire.specs.Answers.{answer_text, head_of_envelope}
 use Rattle.desk_wire.specs.Laws.{MessageReadsBack}

@@ -1,6 +1,7 @@
 -- How the cut of an input goes on.
 use Rattle.std.proofs.Common.{◌≡◌, ◌==◌, ℕ, List, [], ◌∷◌, ◌++◌, Bool, true, false, cond, refl, sym, ap, ◌∙◌, subst, append_assoc, append-nil}
-use Rattle.desk_engine.specs.Lines.{line_feed, with_octet, cut, whole_lines, last_line, all_lines, IsBeginning}
+use Rattle.desk_engine.specs.Lines.{line_feed, has_line_feed, with_octet, cut, whole_lines, last_line, all_lines, IsBeginning}
+use Rattle.desk_engine.proofs.InputCuts.{cut-rest}
 
 -- ---- one input after another
 
@@ -35,7 +36,7 @@ cut-append : (xs ys : List ℕ) → cut (xs ++ ys) ≡ followed (cut xs) (cut ys
 cut-append [] ys = sym (begun_by-nil (cut ys).0 (cut ys).1)
 cut-append (x ∷ xs) ys = append_step (x == line_feed) x xs ys (cut-append xs ys)
 
--- ---- one octet more
+-- ---- some octets more
 
 -- an LF ends the last line
 cut-line_feed : (input : List ℕ) → cut (input ++ line_feed ∷ []) ≡ (whole_lines input ++ last_line input ∷ [], [])
@@ -47,20 +48,16 @@ whole_lines-line_feed input = ap (λ c. c.0) (cut-line_feed input)
 pub last_line-line_feed : (input : List ℕ) → last_line (input ++ line_feed ∷ []) ≡ []
 last_line-line_feed input = ap (λ c. c.1) (cut-line_feed input)
 
-octet_step : (b : Bool) (x : ℕ) (input : List ℕ) → b ≡ false
-    → followed (cut input) (cond b ([] ∷ [], []) ([], x ∷ [])) ≡ (whole_lines input, last_line input ++ x ∷ [])
-octet_step true x input e = cc
-octet_step false x input e = ap (λ lines. (lines, last_line input ++ x ∷ [])) (append-nil (whole_lines input))
+-- other octets go on with it
+cut-octets : (input octets : List ℕ) → has_line_feed octets ≡ false → cut (input ++ octets) ≡ (whole_lines input, last_line input ++ octets)
+cut-octets input octets none =
+    cut-append input octets ∙ ap (followed (cut input)) (cut-rest octets none) ∙ ap (λ lines. (lines, last_line input ++ octets)) (append-nil (whole_lines input))
 
--- any other octet goes on with it
-cut-octet : (input : List ℕ) (x : ℕ) → (x == line_feed) ≡ false → cut (input ++ x ∷ []) ≡ (whole_lines input, last_line input ++ x ∷ [])
-cut-octet input x e = cut-append input (x ∷ []) ∙ octet_step (x == line_feed) x input e
+pub whole_lines-octets : (input octets : List ℕ) → has_line_feed octets ≡ false → whole_lines (input ++ octets) ≡ whole_lines input
+whole_lines-octets input octets none = ap (λ c. c.0) (cut-octets input octets none)
 
-pub whole_lines-octet : (input : List ℕ) (x : ℕ) → (x == line_feed) ≡ false → whole_lines (input ++ x ∷ []) ≡ whole_lines input
-whole_lines-octet input x e = ap (λ c. c.0) (cut-octet input x e)
-
-pub last_line-octet : (input : List ℕ) (x : ℕ) → (x == line_feed) ≡ false → last_line (input ++ x ∷ []) ≡ last_line input ++ x ∷ []
-last_line-octet input x e = ap (λ c. c.1) (cut-octet input x e)
+pub last_line-octets : (input octets : List ℕ) → has_line_feed octets ≡ false → last_line (input ++ octets) ≡ last_line input ++ octets
+last_line-octets input octets none = ap (λ c. c.1) (cut-octets input octets none)
 
 -- ---- what follows changes no whole line
 

@@ -1,7 +1,8 @@
 -- A line so long that it is no message is told the same where it is cut.
-use Rattle.std.proofs.Common.{◌≡◌, ◌+◌, ℕ, List, [], ◌∷◌, ◌++◌, true, false, cond, nat_lt, length, refl, sym, ap, ◌∙◌, inl, inr, arith}
-use Rattle.std.proofs.lemmas.Bool.{lt-ltb, le-ltb, cases_lt}
-use Rattle.std.proofs.lemmas.List.{length-take-le, take-append-le, take_all, length-append}
+use Rattle.std.proofs.Common.{◌≡◌, ◌+◌, ◌-◌, ℕ, List, [], ◌∷◌, ◌++◌, true, false, nat_lt, length, take, append-nil, refl, sym, ap, ◌∙◌, inl, inr, arith}
+use Rattle.std.proofs.lemmas.Bool.{lt-ltb, cases_lt}
+use Rattle.std.proofs.Math.Seq.{take-append-add}
+use Rattle.std.proofs.lemmas.List.{length-take-le, take-append-le, take_all}
 use Rattle.registry_core.specs.declared.messages.Envelope.{Envelope}
 use Rattle.registry_core.specs.Settings.{Settings}
 use Rattle.desk_engine.specs.declared.outcomes.Outcome.{Outcome}
@@ -11,18 +12,18 @@ use Rattle.desk_engine.specs.Outcomes.{doubt_of_text, doubt_read}
 use Rattle.desk_engine.specs.steps.Lines.{line_with, part}
 use Rattle.desk_engine.specs.Told.{longest_message, envelope_of_text, read_told, text_of}
 
--- one octet more, while there is room
-pub line_with-part : (line : List ℕ) (x : ℕ) → line_with (part line) x ≡ part (line ++ x ∷ [])
-line_with-part line x = elim (cases_lt longest_message (length line)) [
+-- what is kept with some octets more is what is kept of them all
+pub line_with-part : (line octets : List ℕ) → line_with (part line) octets ≡ part (line ++ octets)
+line_with-part line octets = elim (cases_lt longest_message (length line)) [
   | inl long ↦
       let size : length (part line) ≡ longest_message + 1 = length-take-le (longest_message + 1) line (omega arith) in
-      let full : nat_lt (length (part line)) (longest_message + 1) ≡ false = le-ltb (length (part line)) (longest_message + 1) (omega arith) in
-      rw full (sym (take-append-le (longest_message + 1) line (x ∷ []) (omega arith)))
+      let full : longest_message + 1 - length (part line) ≡ 0 = omega (arith, size) in
+      ap (λ n. part line ++ take n octets) full ∙ append-nil (part line) ∙ sym (take-append-le (longest_message + 1) line octets (omega arith))
   | inr short ↦
       let whole : part line ≡ line = take_all (longest_message + 1) line (omega arith) in
-      let room : nat_lt (length line) (longest_message + 1) ≡ true = lt-ltb (length line) (longest_message + 1) (omega arith) in
-      ap (λ l. line_with l x) whole ∙ ap (λ b. cond b (line ++ x ∷ []) line) room
-      ∙ sym (take_all (longest_message + 1) (line ++ x ∷ []) (omega (arith, length-append line (x ∷ []))))
+      let room : longest_message + 1 ≡ length line + (longest_message + 1 - length line) = omega arith in
+      ap (λ l. line_with l octets) whole
+      ∙ sym (ap (λ n. take n (line ++ octets)) room ∙ take-append-add line octets (longest_message + 1 - length line))
 ]
 
 envelope_of_text-part : (c : Settings) (line : List ℕ) → envelope_of_text c (part line) ≡ envelope_of_text c line

@@ -1,6 +1,5 @@
--- What a run has heard and written, one line or one octet further.
-use Rattle.std.proofs.Common.{◌≡◌, ◌≢◌, ◌==◌, ◌+◌, ◌<◌, ℕ, List, [], ◌∷◌, ◌++◌, Bool, true, false, Option, None, Result, Ok, Err, IfErr, OnOk, length, take, drop, get_or, refl, sym, ap, ◌∙◌, subst, append_assoc, append-nil, take-append-drop}
-use Rattle.std.proofs.lemmas.List.{take_more}
+-- What a run has heard and written, one line or some octets further.
+use Rattle.std.proofs.Common.{◌≡◌, ◌≢◌, ◌==◌, ℕ, List, [], ◌∷◌, ◌++◌, Bool, true, false, Option, None, Result, Ok, Err, IfErr, OnOk, length, take, refl, sym, ap, ◌∙◌, subst, append_assoc, append-nil}
 use Rattle.std.proofs.KnownBytes.{Appends-nil, Appends-trans, Consumes-trans}
 use Rattle.std.specs.Io.KnownBytes.{Appends, Consumes}
 use Rattle.registry_core.specs.declared.messages.Envelope.{Envelope}
@@ -18,7 +17,7 @@ use Rattle.desk_engine.specs.declared.outcomes.Outcome.{Outcome}
 use Rattle.desk_engine.specs.declared.outcomes.Outcome.TheVariants as outcome
 use Rattle.desk_engine.specs.Deliveries.{heard_after, heard_read}
 use Rattle.desk_engine.specs.InOrder.{HasNoRoom, IsInOrder, Survives, doubt_after}
-use Rattle.desk_engine.specs.Lines.{line_feed, delivery_of_line, whole_lines, last_line, all_lines, heard_line, answer_line, heard_lines, answer_lines, IsBeginning, HasHeard, HasAnswered, LinesEndBy}
+use Rattle.desk_engine.specs.Lines.{line_feed, has_line_feed, delivery_of_line, whole_lines, last_line, all_lines, heard_line, answer_line, heard_lines, answer_lines, IsBeginning, HasHeard, HasAnswered, LinesEndBy}
 use Rattle.desk_engine.specs.Outcomes.{delivery_of, doubt_of_text, doubt_read, is_unavailable}
 use Rattle.desk_engine.specs.steps.Lines.{line_with, part, lines_end_of, TakesLine, StandsAt}
 use Rattle.desk_engine.specs.Told.{text_of, text_told, envelope_of_text}
@@ -59,10 +58,11 @@ no_doubt_memory (Err fault) = refl
 has_octet : (line : List ℕ) → (length line == 0) ≡ false → line ≢ []
 has_octet line some none = let empty : length line ≡ 0 = ap length none in absurd (cc (ap (λ n. n == 0) empty, some))
 
--- a line with this octet has an octet
-has_that_octet : (xs : List ℕ) (x : ℕ) (ys : List ℕ) → (xs ++ x ∷ []) ++ ys ≢ []
-has_that_octet [] x ys none = cc
-has_that_octet (y ∷ xs) x ys none = cc
+-- a line with some octets has an octet
+has_octets : (xs octets ys : List ℕ) → octets ≢ [] → (xs ++ octets) ++ ys ≢ []
+has_octets [] [] ys some none = some refl
+has_octets [] (x ∷ octets) ys some none = cc
+has_octets (y ∷ xs) octets ys some none = cc
 
 -- what is answered Unavailable isn't heard
 heard_read-unavailable : (c : Settings) (heard : List Envelope) (r : Result Envelope WireFault) → heard_read true c heard r ≡ heard
@@ -93,7 +93,7 @@ module _ {K : Type 0} (m : Meaning K) (c : Settings) where
     answers = subst (Appends w v) (sym (answer_lines-append c heard lines more)) (Appends-trans w u v _ _ first.answers second.answers);
   }
 
-  -- ---- the line_with part of a line for the whole
+  -- ---- the kept part of a line for the whole
 
   hears-whole : (heard : List Envelope) (old new : K) (line : List ℕ) (now : Option Envelope) → HasHeard m c heard old new (part line ∷ []) now
       → HasHeard m c heard old new (line ∷ []) now
@@ -206,55 +206,53 @@ module _ {K : Type 0} (m : Meaning K) (c : Settings) where
   }
 
   -- an LF was met
-  pub goes-ended : (heard : List Envelope) (start mid new : K) (w u v : Option (List ℕ)) (input line slice : List ℕ) (x : ℕ) (next : List ℕ)
-      → x ≡ line_feed → next ≡ [] → m.down new ≡ m.down mid
+  pub goes-ended : (heard : List Envelope) (start mid new : K) (w u v : Option (List ℕ)) (input line slice next : List ℕ)
+      → next ≡ [] → m.down new ≡ m.down mid
       → StandsAt m c heard start mid w u input line → slice ≡ line
       → HasAnswered m c (heard_lines c heard (whole_lines input)) mid new u v (slice ∷ []) None
-      → StandsAt m c heard start new w v (input ++ x ∷ []) next
-  goes-ended heard start mid new w u v input line slice x next is none up stands same took =
-      subst (λ y. StandsAt m c heard start new w v (input ++ y ∷ []) next) (sym is)
-      (record {
-        up = up ∙ stands.up;
-        begun = none ∙ ap part (sym (cuts.last_line-line_feed input));
-        answered = subst (λ lines. HasAnswered m c heard start new w v lines None) (sym (cuts.whole_lines-line_feed input))
-            (ends-done heard start mid new w u v input line slice stands same took);
-      })
-
-  pub goes-stopped : (T : Type 0) (stop : Stop) (heard : List Envelope) (start mid new : K) (w u v : Option (List ℕ)) (input line slice : List ℕ) (x : ℕ)
-      → x ≡ line_feed
-      → StandsAt m c heard start mid w u input line → slice ≡ line
-      → TakesLine m c (heard_lines c heard (whole_lines input)) mid new u v {T = T} slice (Err stop)
-      → (more : List ℕ) → LinesEndBy m c heard start new w v ((input ++ x ∷ []) ++ more) (lines_end_of stop)
-  goes-stopped T stop heard start mid new w u v input line slice x is stands same took more =
-      subst (λ y. LinesEndBy m c heard start new w v ((input ++ y ∷ []) ++ more) (lines_end_of stop)) (sym is)
-      (ends-stopped T stop heard start mid new w u v input ((input ++ line_feed ∷ []) ++ more) line slice (cuts.beginning-ended input more) stands same took)
-
-  -- another octet was line_with
-  pub goes-on : (heard : List Envelope) (start mid : K) (w u : Option (List ℕ)) (input line : List ℕ) (x : ℕ) (next : List ℕ)
-      → (x == line_feed) ≡ false → next ≡ line_with line x
-      → StandsAt m c heard start mid w u input line
-      → StandsAt m c heard start mid w u (input ++ x ∷ []) next
-  goes-on heard start mid w u input line x next other grown stands = record {
-    up = stands.up;
-    begun = grown ∙ ap (λ l. line_with l x) stands.begun ∙ parts.line_with-part (last_line input) x ∙ ap part (sym (cuts.last_line-octet input x other));
-    answered = subst (λ lines. HasAnswered m c heard start mid w u lines None) (sym (cuts.whole_lines-octet input x other)) stands.answered;
+      → StandsAt m c heard start new w v (input ++ line_feed ∷ []) next
+  goes-ended heard start mid new w u v input line slice next none up stands same took = record {
+    up = up ∙ stands.up;
+    begun = none ∙ ap part (sym (cuts.last_line-line_feed input));
+    answered = subst (λ lines. HasAnswered m c heard start new w v lines None) (sym (cuts.whole_lines-line_feed input))
+        (ends-done heard start mid new w u v input line slice stands same took);
   }
 
-  -- there was no memory for it
-  pub goes-without : (heard : List Envelope) (start mid : K) (w u : Option (List ℕ)) (input line : List ℕ) (x : ℕ) → (x == line_feed) ≡ false
+  pub goes-stopped : (T : Type 0) (stop : Stop) (heard : List Envelope) (start mid new : K) (w u v : Option (List ℕ)) (input line slice : List ℕ)
+      → StandsAt m c heard start mid w u input line → slice ≡ line
+      → TakesLine m c (heard_lines c heard (whole_lines input)) mid new u v {T = T} slice (Err stop)
+      → (more : List ℕ) → LinesEndBy m c heard start new w v ((input ++ line_feed ∷ []) ++ more) (lines_end_of stop)
+  goes-stopped T stop heard start mid new w u v input line slice stands same took more =
+      ends-stopped T stop heard start mid new w u v input ((input ++ line_feed ∷ []) ++ more) line slice (cuts.beginning-ended input more) stands same took
+
+  -- other octets were kept
+  pub goes-on : (heard : List Envelope) (start mid : K) (w u : Option (List ℕ)) (input line octets next : List ℕ)
+      → has_line_feed octets ≡ false → next ≡ line_with line octets
       → StandsAt m c heard start mid w u input line
-      → (more : List ℕ) → LinesEndBy m c heard start mid w u ((input ++ x ∷ []) ++ more) (lines_end_of (Unavailable Memory))
-  goes-without heard start mid w u input line x other stands more =
-      let next = cuts.next_line (input ++ x ∷ []) more in
-      let begun : last_line (input ++ x ∷ []) ≡ last_line input ++ x ∷ [] = cuts.last_line-octet input x other in
+      → StandsAt m c heard start mid w u (input ++ octets) next
+  goes-on heard start mid w u input line octets next other grown stands = record {
+    up = stands.up;
+    begun = grown ∙ ap (λ l. line_with l octets) stands.begun ∙ parts.line_with-part (last_line input) octets
+        ∙ ap part (sym (cuts.last_line-octets input octets other));
+    answered = subst (λ lines. HasAnswered m c heard start mid w u lines None) (sym (cuts.whole_lines-octets input octets other)) stands.answered;
+  }
+
+  -- there was no memory for them
+  pub goes-without : (heard : List Envelope) (start mid : K) (w u : Option (List ℕ)) (input line octets : List ℕ)
+      → has_line_feed octets ≡ false → octets ≢ []
+      → StandsAt m c heard start mid w u input line
+      → (more : List ℕ) → LinesEndBy m c heard start mid w u ((input ++ octets) ++ more) (lines_end_of (Unavailable Memory))
+  goes-without heard start mid w u input line octets other some stands more =
+      let next = cuts.next_line (input ++ octets) more in
+      let begun : last_line (input ++ octets) ≡ last_line input ++ octets = cuts.last_line-octets input octets other in
       record {
-        lines = whole_lines (input ++ x ∷ []);
-        line = last_line (input ++ x ∷ []) ++ next.0;
-        some = λ none. has_that_octet (last_line input) x next.0 (ap (λ l. l ++ next.0) (sym begun) ∙ none);
+        lines = whole_lines (input ++ octets);
+        line = last_line (input ++ octets) ++ next.0;
+        some = λ none. has_octets (last_line input) octets next.0 some (ap (λ l. l ++ next.0) (sym begun) ∙ none);
         beginning = next.1;
-        answered = subst (λ d. HasAnswered m c heard start mid w u (whole_lines (input ++ x ∷ [])) d)
-            (sym (no_doubt_memory (envelope_of_text c (last_line (input ++ x ∷ []) ++ next.0))))
-            (subst (λ lines. HasAnswered m c heard start mid w u lines None) (sym (cuts.whole_lines-octet input x other)) stands.answered);
+        answered = subst (λ d. HasAnswered m c heard start mid w u (whole_lines (input ++ octets)) d)
+            (sym (no_doubt_memory (envelope_of_text c (last_line (input ++ octets) ++ next.0))))
+            (subst (λ lines. HasAnswered m c heard start mid w u lines None) (sym (cuts.whole_lines-octets input octets other)) stands.answered);
         unavailability = tt;
         size = λ is. cc;
       }
@@ -269,19 +267,31 @@ module _ {K : Type 0} (m : Meaning K) (c : Settings) where
   ends_in_order heard old new w v input lines_end.Write ends = (ends.lines ++ ends.line ∷ [], ends.hears.order)
   ends_in_order heard old new w v input (lines_end.Unavailable fault) ends = (ends.lines, ends.answered.hears.order)
 
--- ---- octet after octet
+-- ---- octets after octets
 
--- the first i octets and one more, after the input
-pub octets-more : (input octets : List ℕ) (i : ℕ) → i < length octets → (input ++ take i octets) ++ get_or octets i 0 ∷ [] ≡ input ++ take (i + 1) octets
-octets-more input octets i within = append_assoc input (take i octets) _ ∙ ap (λ s. input ++ s) (sym (take_more octets i 0 within))
+-- a line that ends in some octets, and more
+pub ended-more : (input octets more : List ℕ) → (input ++ octets) ++ (line_feed ∷ more) ≡ ((input ++ octets) ++ line_feed ∷ []) ++ more
+ended-more input octets more = sym (append_assoc (input ++ octets) (line_feed ∷ []) more)
 
--- and what follows them
-pub octets-rest : (input octets more : List ℕ) (i : ℕ) → i < length octets
-    → ((input ++ take i octets) ++ get_or octets i 0 ∷ []) ++ (drop (i + 1) octets ++ more) ≡ (input ++ octets) ++ more
-octets-rest input octets more i within =
-    ap (λ s. s ++ (drop (i + 1) octets ++ more)) (octets-more input octets i within)
-    ∙ sym (append_assoc (input ++ take (i + 1) octets) (drop (i + 1) octets) more)
-    ∙ ap (λ s. s ++ more) (append_assoc input (take (i + 1) octets) (drop (i + 1) octets) ∙ ap (λ s. input ++ s) (take-append-drop (i + 1) octets))
+-- one line more is done
+pub line-done : (input done front : List ℕ) → ((input ++ done) ++ front) ++ line_feed ∷ [] ≡ input ++ (done ++ (front ++ line_feed ∷ []))
+line-done input done front = append_assoc (input ++ done) front (line_feed ∷ []) ∙ append_assoc input done (front ++ line_feed ∷ [])
+
+pub parts-on : (octets done front rest left : List ℕ) → octets ≡ done ++ rest → rest ≡ front ++ line_feed ∷ left
+    → octets ≡ (done ++ (front ++ line_feed ∷ [])) ++ left
+parts-on octets done front rest left is cut =
+    is ∙ ap (λ l. done ++ l) (cut ∙ sym (append_assoc front (line_feed ∷ []) left)) ∙ sym (append_assoc done (front ++ line_feed ∷ []) left)
+
+pub line-rest : (input octets done front rest left more : List ℕ) → octets ≡ done ++ rest → rest ≡ front ++ line_feed ∷ left
+    → (((input ++ done) ++ front) ++ line_feed ∷ []) ++ (left ++ more) ≡ (input ++ octets) ++ more
+line-rest input octets done front rest left more is cut =
+    ap (λ l. l ++ (left ++ more)) (line-done input done front)
+    ∙ sym (append_assoc (input ++ (done ++ (front ++ line_feed ∷ []))) left more)
+    ∙ ap (λ l. l ++ more) (append_assoc input (done ++ (front ++ line_feed ∷ [])) left ∙ ap (λ l. input ++ l) (sym (parts-on octets done front rest left is cut)))
+
+-- and all that is left
+pub octets-done : (input octets done rest : List ℕ) → octets ≡ done ++ rest → (input ++ done) ++ rest ≡ input ++ octets
+octets-done input octets done rest is = append_assoc input done rest ∙ ap (λ l. input ++ l) (sym is)
 
 -- a read that gave no octet
 pub consumes-none : (a b c : Option (List ℕ)) (input chunk : List ℕ) (n : ℕ) → Consumes a b input → Consumes b c (take n chunk) → n ≡ 0 → Consumes a c input

@@ -1,5 +1,5 @@
 -- A run goes on by one text.
-use Rattle.std.proofs.Common.{◌≡◌, ℕ, Bool, true, false, cond, List, [], ◌∷◌, ◌++◌, Option, Some, None, refl, ap, sym, subst, ◌∙◌, ◌<◌, ◌≤◌, ◌+◌, map, take, length, get_or, Bor}
+use Rattle.std.proofs.Common.{◌≡◌, ℕ, true, false, cond, List, [], ◌∷◌, ◌++◌, Option, Some, None, refl, ap, ◌∙◌, ◌<◌, ◌≤◌, ◌+◌, map, take, length, get_or, Bor}
 use Rattle.std.specs.Prelude.{◌||◌, Result, Ok, Err}
 use Rattle.std.proofs.lemmas.List.{take_more, map-append, take_all}
 use Rattle.registry_core.specs.declared.messages.Envelope.{Envelope}

@@ -1,5 +1,5 @@
 -- Where a run stands in its input, and what one line does. For private clauses.
-use Rattle.std.specs.Prelude.{◌≡◌, ◌≢◌, ◌+◌, ℕ, List, [], ◌∷◌, ◌++◌, Option, None, Result, Ok, Err, length, nat_lt, take, if◌then◌else◌}
+use Rattle.std.specs.Prelude.{◌≡◌, ◌≢◌, ◌+◌, ◌-◌, ℕ, List, [], ◌∷◌, ◌++◌, Option, None, Result, Ok, Err, length, take}
 use Rattle.registry_core.specs.declared.messages.Envelope.{Envelope}
 use Rattle.registry_core.specs.Settings.{Settings}
 use Rattle.desk_store.specs.declared.faults.StoreFault.{StoreFault}
@@ -16,13 +16,13 @@ use Rattle.desk_engine.specs.Lines.{whole_lines, last_line, fault_of_end, HasHea
 use Rattle.desk_engine.specs.Outcomes.{doubt_of_text}
 use Rattle.desk_engine.specs.Told.{longest_message}
 
--- What is line_with of a line. With one octet more than a message may have, it is told what the whole line is told.
+-- What is kept of a line. With one octet more than a message may have, it is told what the whole line is told.
 abbrev pub part : List ℕ → List ℕ
 part line = take (longest_message + 1) line
 
--- one octet more, while there is room
-abbrev pub line_with : List ℕ → ℕ → List ℕ
-line_with line x = if nat_lt (length line) (longest_message + 1) then line ++ x ∷ [] else line
+-- with so many of these octets more as there is room for
+abbrev pub line_with : List ℕ → List ℕ → List ℕ
+line_with line octets = line ++ take (longest_message + 1 - length line) octets
 
 abbrev pub lines_end_of : Stop → LinesEnd
 lines_end_of Write = lines_end.Write
@@ -42,7 +42,7 @@ module _ {K : Type 0} (m : Meaning K) (c : Settings) (heard : List Envelope) (ol
       (line ≢ []) × HasAnswered m c heard old new before after [] (doubt_of_text c line (outcome.Unavailable fault)) × IsUnavailability fault
       × (fault ≡ Size → HasNoRoom m new heard)
 
-  -- The lines of this input are answered, and this is line_with of the line that stands after them.
+  -- The lines of this input are answered, and this is kept of the line that stands after them.
   pub record StandsAt (input line : List ℕ) : Type 0 where
     pub up : m.down new ≡ m.down old
     pub begun : line ≡ part (last_line input)
