@@ -1,8 +1,9 @@
 -- One more uplink that is noted is one more that the index tells.
-use Rattle.std.proofs.Common.{◌≡◌, ℕ, ◌+◌, Bool, false, cond, List, [], ◌∷◌, ◌++◌, length, Option, Some, refl, sym, ◌∙◌, ap, if◌then◌else◌}
+use Rattle.std.proofs.Common.{◌≡◌, ℕ, ◌+◌, Bool, false, cond, List, [], ◌∷◌, ◌++◌, length, Option, Some, refl, sym, ◌∙◌, ap, rules, if◌then◌else◌}
 use Rattle.std.specs.Prelude.{max, nat_eq}
 use Rattle.std.specs.Option.{option_map_or, unwrap_or}
-use Rattle.indexmap.specs.IndexMap.{get}
+use Rattle.std.proofs.lemmas.Grind.{common_steps}
+use Rattle.indexmap.specs.IndexMap.{get, IsUnchanged}
 use Rattle.registry_core.specs.declared.facts.Kind.TheVariants.{Join, Data}
 use Rattle.registry_core.specs.declared.facts.Uplink.{Uplink}
 use Rattle.registry_core.specs.Derived.{is_data_with, is_data_of}
@@ -46,3 +47,8 @@ module _ (uplinks : List Uplink) (uplink : Uplink) (number : ℕ) (last : number
       counters = λ n. counters n ∙ ap (λ found. cond (nat_eq uplink.session n) (Some (option_map_or (max uplink.counter) found uplink.counter)) found) (was.counters n)
           ∙ sym (greatest-append (λ (u : Uplink). u.counter) (is_data_of n) uplinks uplink ∙ rw kind refl);
     }
+
+-- what tells the same is the same index
+pub index_unchanged : (uplinks : List Uplink) (old new : UplinkIndex) → IsIndexOf uplinks old → IsUnchanged old.joins new.joins → IsUnchanged old.frames new.frames
+    → IsUnchanged old.counters new.counters → IsIndexOf uplinks new
+index_unchanged uplinks old new was joins frames counters = search (rules, common_steps)

@@ -1,6 +1,6 @@
 -- A list that rises is parted by a test of its keys, and what a partition point tells of it.
-use Rattle.std.proofs.Common.{◌≡◌, ℕ, zero, suc, ◌<◌, ◌≤◌, Bool, true, false, cond, List, [], ◌∷◌, length, take, drop, refl, sym, ◌∙◌, ap, arith}
-use Rattle.std.specs.Prelude.{ℤ, int_lt, int_le, slice_index_or, filter, insert, not, ◌&&◌}
+use Rattle.std.proofs.Common.{◌≡◌, ℕ, zero, suc, ◌<◌, ◌≤◌, Bool, true, false, cond, List, [], ◌∷◌, length, take, drop, refl, ◌∙◌, ap, arith}
+use Rattle.std.specs.Prelude.{ℤ, pos, ◌+ℤ◌, int_lt, int_le, slice_index_or, filter, insert, not, ◌&&◌}
 use Rattle.std.specs.List.{AllWithin}
 use Rattle.std.specs.List.Sorted.{IsPartitionedBy, IsPartitionPoint}
 use Rattle.std.proofs.lemmas.Int.{ints}
@@ -16,6 +16,16 @@ lt_trans a b t ab bt = grind (arith, ints)
 
 pub above_is : (a b : ℤ) → int_lt a b ≡ not (int_le b a)
 above_is a b = grind (arith, ints)
+
+pub from_is : (a b : ℤ) → int_le a b ≡ not (int_lt b a)
+from_is a b = grind (arith, ints)
+
+-- what comes after a moment comes from the next microsecond on
+pub after_is : (low high start : ℤ) → (int_le (low +ℤ pos 1) start && int_lt start high) ≡ (int_lt low start && int_lt start high)
+after_is low high start = ap (λ b. b && int_lt start high) from_next
+  where
+    from_next : int_le (low +ℤ pos 1) start ≡ int_lt low start
+    from_next = grind (arith, ints)
 
 -- ---- a list that rises
 

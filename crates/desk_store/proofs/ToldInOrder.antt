@@ -1,31 +1,25 @@
--- What is told of the bookings at a gateway's places is what looking through all bookings tells, in order of start.
-use Rattle.std.proofs.Common.{◌≡◌, ℕ, zero, suc, ◌+◌, Bool, true, false, cond, List, [], ◌∷◌, Option, Some, None, map, slice_get, refl, subst, sym, ◌∙◌, ap, arith}
-use Rattle.std.specs.Prelude.{ℤ, pos, ◌+ℤ◌, ◌-ℤ◌, int_lt, ◌==◌, ◌&&◌, not, bytes_eq, filter, option_and_then}
+-- What is told of the items at their places is what looking through all of them tells, in order of start.
+use Rattle.std.proofs.Common.{◌≡◌, ℕ, suc, ◌+◌, Bool, true, false, cond, List, [], ◌∷◌, Option, Some, None, slice_get, refl, subst, sym, ◌∙◌, ap, arith}
+use Rattle.std.specs.Prelude.{ℤ, filter, option_and_then}
 use Rattle.std.specs.List.{AllByRecursion, cons_option, filter_map}
 use Rattle.std.proofs.lemmas.List.Elements.{recursion_from_All, All-from_recursion}
 use Rattle.std.proofs.lemmas.List.Sorted.{All-permutation}
-use Rattle.radio_core.specs.declared.bands.Band.{Band}
-use Rattle.radio_core.specs.Bands.{band_number}
 use Rattle.duty_core.specs.InOrder.{IsByStart}
-use Rattle.duty_core.specs.Near.{greatest_length}
-use Rattle.duty_core.specs.Use.{Interval, hour}
-use Rattle.registry_core.specs.declared.facts.Booking.{Booking}
-use Rattle.registry_core.specs.Bookings.{is_dropped, downlinks_in}
+use Rattle.duty_core.specs.Use.{Interval}
 use Rattle.registry_core.specs.Numbered.{item_at}
-use Rattle.desk_store.specs.declared.booking_index.Place.{Place}
-use Rattle.desk_store.specs.BookingIndex.{numbered_from, place_at, places_of, is_near_place, is_on_air, span_told}
+use Rattle.desk_store.specs.declared.start_index.Place.{Place}
 use Rattle.desk_store.specs.ByKey.{in_order}
-use Rattle.desk_store.specs.Lookups.{downlinks_near, stands_within}
+use Rattle.desk_store.specs.StartIndex.{numbered_from, place_of, places_that}
 use Rattle.desk_store.proofs.ByKey.{in_order_permutation, in_order_shown}
 use Rattle.desk_store.proofs.ByStart.{by_start}
 
 -- ---- some of a list, each shown as another
 
 -- x, if it passes
-abbrev kept : {X : Type 0} → (X → Bool) → X → Option X
+abbrev pub kept : {X : Type 0} → (X → Bool) → X → Option X
 kept test x = cond (test x) (Some x) None
 
-filter_kept : {X : Type 0} (test : X → Bool) (xs : List X) → filter test xs ≡ filter_map (kept test) xs
+pub filter_kept : {X : Type 0} (test : X → Bool) (xs : List X) → filter test xs ≡ filter_map (kept test) xs
 filter_kept test [] = refl
 filter_kept {X} test (x ∷ xs) = by (test x) (filter_kept test xs)
   where
@@ -33,7 +27,7 @@ filter_kept {X} test (x ∷ xs) = by (test x) (filter_kept test xs)
     by true rest = ap (λ ys. x ∷ ys) rest
     by false rest = rest
 
-shown_twice : {X Y Z : Type 0} (f : X → Option Y) (g : Y → Option Z) (xs : List X) → filter_map g (filter_map f xs) ≡ filter_map (λ x. option_and_then g (f x)) xs
+pub shown_twice : {X Y Z : Type 0} (f : X → Option Y) (g : Y → Option Z) (xs : List X) → filter_map g (filter_map f xs) ≡ filter_map (λ x. option_and_then g (f x)) xs
 shown_twice f g [] = refl
 shown_twice {X} {Y} {Z} f g (x ∷ xs) = by (f x) (shown_twice f g xs)
   where
@@ -65,129 +59,79 @@ numbered_found : {X : Type 0} (xs : List X) → AllByRecursion (λ (n : ℕ × X
 numbered_found {X} xs = all_weaker _ (λ (n : ℕ × X). item_at xs n.0 ≡ Some n.1)
     (λ n at. let number : n.0 ≡ suc at.0 = omega (arith, at.1) in rw number at.2) (numbered_from 1 xs) (numbered_past 1 xs)
 
-shown_of_numbered : {X Y : Type 0} (f : X → Option Y) (first : ℕ) (xs : List X) → filter_map (λ (n : ℕ × X). f n.1) (numbered_from first xs) ≡ filter_map f xs
+pub shown_of_numbered : {X Y : Type 0} (f : X → Option Y) (first : ℕ) (xs : List X) → filter_map (λ (n : ℕ × X). f n.1) (numbered_from first xs) ≡ filter_map f xs
 shown_of_numbered f first [] = refl
 shown_of_numbered f first (x ∷ xs) = ap (cons_option (f x)) (shown_of_numbered f (first + 1) xs)
 
--- ---- bookings
+-- ---- items that pass a test, each shown as when it is on the air
 
-abbrev start_of : ℕ × Booking → ℤ
-start_of n = n.1.span.start
+module _ {X : Type 0} (start : X → ℤ) where
+  abbrev pub start_of : ℕ × X → ℤ
+  start_of n = start n.1
 
-place_start : (gateway : List ℕ) (n : ℕ × Booking) (place : Place) → place_at gateway n ≡ Some place → place.start ≡ start_of n
-place_start gateway n place is = by (bytes_eq n.1.gateway gateway) is
-  where
-    by : (b : Bool) → cond b (Some (record { start = n.1.span.start; number = n.0 })) None ≡ Some place → place.start ≡ start_of n
-    by true told = let same : record { start = n.1.span.start; number = n.0 } ≡ place = cc in sym (ap (λ (p : Place). p.start) same)
-    by false told = let no : ⊥ = cc in absurd no
-
-places_are : (bookings : List Booking) (gateway : List ℕ) → places_of bookings gateway ≡ filter_map (place_at gateway) (in_order start_of (numbered_from 1 bookings))
-places_are bookings gateway = sym (in_order_shown start_of (λ (p : Place). p.start) (place_at gateway) (place_start gateway) (numbered_from 1 bookings))
-
-module _ (gateway : List ℕ) (band : Option Band) (test : ℤ → Bool) where
-  -- when the booking is on the air, if it is the gateway's, passes by its start, and stands in the band
-  abbrev span_shown : Booking → Option Interval
-  span_shown booking = cond (bytes_eq booking.gateway gateway) (cond (test booking.span.start) (cond (is_on_air band booking) (Some booking.span) None) None) None
-
-  within_is : (b : Option Band) (booking : Booking) → stands_within gateway b booking ≡ (bytes_eq booking.gateway gateway && is_on_air b booking)
-  within_is None booking = refl
-  within_is (Some b) booking = by (bytes_eq booking.gateway gateway) (is_dropped booking.standing)
+  place_start : (owns : X → Bool) (n : ℕ × X) (place : Place) → place_of start owns n ≡ Some place → place.start ≡ start_of n
+  place_start owns n place is = by (owns n.1) is
     where
-      by : (at dropped : Bool) → ((at && not dropped) && band_number booking.band == band_number b) ≡ (at && (not dropped && band_number booking.band == band_number b))
-      by true dropped = refl
-      by false dropped = refl
+      by : (b : Bool) → cond b (Some (record { start = start n.1; number = n.0 })) None ≡ Some place → place.start ≡ start_of n
+      by true told = let same : record { start = start n.1; number = n.0 } ≡ place = cc in sym (ap (λ (p : Place). p.start) same)
+      by false told = let no : ⊥ = cc in absurd no
 
-  shown_step : (booking : Booking) (rest : List Booking) (at passes on : Bool)
-      → cons_option (cond at (cond passes (cond on (Some booking.span) None) None) None) (filter (λ (a : Interval). test a.start) (map (λ (b : Booking). b.span) rest))
-      ≡ cond (at && on) (cond passes (booking.span ∷ filter (λ (a : Interval). test a.start) (map (λ (b : Booking). b.span) rest)) (filter (λ (a : Interval). test a.start) (map (λ (b : Booking). b.span) rest)))
-      (filter (λ (a : Interval). test a.start) (map (λ (b : Booking). b.span) rest))
-  shown_step booking rest true true true = refl
-  shown_step booking rest true true false = refl
-  shown_step booking rest true false true = refl
-  shown_step booking rest true false false = refl
-  shown_step booking rest false passes on = refl
+  pub places_are : (owns : X → Bool) (xs : List X) → places_that start owns xs ≡ filter_map (place_of start owns) (in_order start_of (numbered_from 1 xs))
+  places_are owns xs = sym (in_order_shown start_of (λ (p : Place). p.start) (place_of start owns) (place_start owns) (numbered_from 1 xs))
 
-  filter_by : (booking : Booking) (rest : List Booking) (b : Bool)
-      → filter (λ (a : Interval). test a.start) (map (λ (b : Booking). b.span) (cond b (booking ∷ rest) rest))
-      ≡ cond b (cond (test booking.span.start) (booking.span ∷ filter (λ (a : Interval). test a.start) (map (λ (b : Booking). b.span) rest)) (filter (λ (a : Interval). test a.start) (map (λ (b : Booking). b.span) rest)))
-      (filter (λ (a : Interval). test a.start) (map (λ (b : Booking). b.span) rest))
-  filter_by booking rest true = refl
-  filter_by booking rest false = refl
+  module _ (owns : X → Bool) (shown : X → Option Interval) (starts : (x : X) (a : Interval) → shown x ≡ Some a → a.start ≡ start x) (test : ℤ → Bool) where
+    -- when the item is on the air, if it is one of those and passes by its start
+    abbrev pub span_if : X → Option Interval
+    span_if x = cond (owns x) (cond (test (start x)) (shown x) None) None
 
-  -- looking through all of them
-  abbrev spans_through : List Booking → List Interval
-  spans_through bookings = filter (λ (a : Interval). test a.start) (map (λ (b : Booking). b.span) (filter (stands_within gateway band) bookings))
-
-  shown_through : (bookings : List Booking) → filter_map span_shown bookings ≡ spans_through bookings
-  shown_through [] = refl
-  shown_through (booking ∷ rest) =
-      ap (cons_option (span_shown booking)) (shown_through rest)
-      ∙ shown_step booking (filter (stands_within gateway band) rest) (bytes_eq booking.gateway gateway) (test booking.span.start) (is_on_air band booking)
-      ∙ ap (λ b. cond b (cond (test booking.span.start) (booking.span ∷ spans_through rest) (spans_through rest)) (spans_through rest)) (sym (within_is band booking))
-      ∙ sym (filter_by booking (filter (stands_within gateway band) rest) (stands_within gateway band booking))
-
-  span_start : (n : ℕ × Booking) (a : Interval) → span_shown n.1 ≡ Some a → a.start ≡ start_of n
-  span_start n a is = by (bytes_eq n.1.gateway gateway) (test n.1.span.start) (is_on_air band n.1) is
-    where
-      by : (at passes on : Bool) → cond at (cond passes (cond on (Some n.1.span) None) None) None ≡ Some a → a.start ≡ start_of n
-      by true true true told = let same : n.1.span ≡ a = cc in sym (ap (λ (i : Interval). i.start) same)
-      by true true false told = let no : ⊥ = cc in absurd no
-      by true false on told = let no : ⊥ = cc in absurd no
-      by false passes on told = let no : ⊥ = cc in absurd no
-
-  module _ (bookings : List Booking) where
-    -- what is told at the places that pass
-    abbrev span_at : Place → Option Interval
-    span_at place = option_and_then (span_told bookings band) (kept (λ (p : Place). test p.start) place)
-
-    told_by : (n : ℕ × Booking) (at passes : Bool) → item_at bookings n.0 ≡ Some n.1
-        → option_and_then (λ (p : Place). option_and_then (span_told bookings band) (cond passes (Some p) None)) (cond at (Some (record { start = n.1.span.start; number = n.0 })) None)
-        ≡ cond at (cond passes (cond (is_on_air band n.1) (Some n.1.span) None) None) None
-    told_by n true true found = ap (option_and_then (λ (booking : Booking). cond (is_on_air band booking) (Some booking.span) None)) found
-    told_by n true false found = refl
-    told_by n false passes found = refl
-
-    told_is : (n : ℕ × Booking) → item_at bookings n.0 ≡ Some n.1 → option_and_then span_at (place_at gateway n) ≡ span_shown n.1
-    told_is n found = by (bytes_eq n.1.gateway gateway)
+    span_start : (n : ℕ × X) (a : Interval) → span_if n.1 ≡ Some a → a.start ≡ start_of n
+    span_start n a is = by (owns n.1) (test (start n.1)) is
       where
-        by : (at : Bool) → option_and_then span_at (cond at (Some (record { start = n.1.span.start; number = n.0 })) None) ≡ cond at (cond (test n.1.span.start) (cond (is_on_air band n.1) (Some n.1.span) None) None) None
-        by true = told_by n true (test n.1.span.start) found
-        by false = refl
+        by : (own passes : Bool) → cond own (cond passes (shown n.1) None) None ≡ Some a → a.start ≡ start_of n
+        by true true told = starts n.1 a told
+        by true false told = let no : ⊥ = cc in absurd no
+        by false passes told = let no : ⊥ = cc in absurd no
 
-    all_told : AllByRecursion (λ (n : ℕ × Booking). option_and_then span_at (place_at gateway n) ≡ span_shown n.1) (in_order start_of (numbered_from 1 bookings))
-    all_told = all_weaker (λ (n : ℕ × Booking). item_at bookings n.0 ≡ Some n.1) _ told_is (in_order start_of (numbered_from 1 bookings))
-        (recursion_from_All _ _ (All-permutation (λ (n : ℕ × Booking). item_at bookings n.0 ≡ Some n.1) (numbered_from 1 bookings) (in_order start_of (numbered_from 1 bookings))
-        (in_order_permutation start_of (numbered_from 1 bookings)) (All-from_recursion _ _ (numbered_found bookings))))
+    module _ (xs : List X) where
+      abbrev told : Place → Option Interval
+      told place = option_and_then shown (item_at xs place.number)
 
-    pub told_in_order : filter_map (span_told bookings band) (filter (λ (p : Place). test p.start) (places_of bookings gateway)) ≡ in_order (λ (a : Interval). a.start) (spans_through bookings)
-    told_in_order =
-        ap (λ places. filter_map (span_told bookings band) (filter (λ (p : Place). test p.start) places)) (places_are bookings gateway)
-        ∙ ap (filter_map (span_told bookings band)) (filter_kept (λ (p : Place). test p.start) (filter_map (place_at gateway) (in_order start_of (numbered_from 1 bookings))))
-        ∙ shown_twice (kept (λ (p : Place). test p.start)) (span_told bookings band) (filter_map (place_at gateway) (in_order start_of (numbered_from 1 bookings)))
-        ∙ shown_twice (place_at gateway) span_at (in_order start_of (numbered_from 1 bookings))
-        ∙ shown_same _ (λ (n : ℕ × Booking). span_shown n.1) (in_order start_of (numbered_from 1 bookings)) all_told
-        ∙ in_order_shown start_of (λ (a : Interval). a.start) (λ (n : ℕ × Booking). span_shown n.1) span_start (numbered_from 1 bookings)
-        ∙ ap (in_order (λ (a : Interval). a.start)) (shown_of_numbered span_shown 1 bookings ∙ shown_through bookings)
+      -- what is told at the places that pass
+      abbrev told_at : Place → Option Interval
+      told_at place = option_and_then told (kept (λ (p : Place). test p.start) place)
 
--- ---- what is told
+      told_by : (n : ℕ × X) (own passes : Bool) → item_at xs n.0 ≡ Some n.1
+          → option_and_then (λ (p : Place). option_and_then told (cond passes (Some p) None)) (cond own (Some (record { start = start n.1; number = n.0 })) None)
+          ≡ cond own (cond passes (shown n.1) None) None
+      told_by n true true found = ap (option_and_then shown) found
+      told_by n true false found = refl
+      told_by n false passes found = refl
 
-module _ (bookings : List Booking) (gateway : List ℕ) where
-  by_start_from : (xs spans : List Interval) → spans ≡ in_order (λ (a : Interval). a.start) xs → IsByStart xs spans
-  by_start_from xs spans is = let P : List Interval → Type 0 = IsByStart xs in subst P (sym is) (by_start xs)
+      told_is : (n : ℕ × X) → item_at xs n.0 ≡ Some n.1 → option_and_then told_at (place_of start owns n) ≡ span_if n.1
+      told_is n found = by (owns n.1)
+        where
+          by : (own : Bool) → option_and_then told_at (cond own (Some (record { start = start n.1; number = n.0 })) None) ≡ cond own (cond (test (start n.1)) (shown n.1) None) None
+          by true = told_by n true (test (start n.1)) found
+          by false = refl
 
-  pub near_for : (band : Option Band) (start : ℕ) (spans : List Interval)
-      → spans ≡ filter_map (span_told bookings band) (filter (is_near_place start) (places_of bookings gateway)) → IsByStart (downlinks_near bookings gateway band start) spans
-  near_for band start spans is =
-      by_start_from (downlinks_near bookings gateway band start) spans
-      (is ∙ told_in_order gateway band (λ s. int_lt (pos start -ℤ pos (hour + greatest_length)) s && int_lt s (pos start +ℤ pos (hour + greatest_length))) bookings)
+      all_told : AllByRecursion (λ (n : ℕ × X). option_and_then told_at (place_of start owns n) ≡ span_if n.1) (in_order start_of (numbered_from 1 xs))
+      all_told = all_weaker (λ (n : ℕ × X). item_at xs n.0 ≡ Some n.1) _ told_is (in_order start_of (numbered_from 1 xs))
+          (recursion_from_All _ _ (All-permutation (λ (n : ℕ × X). item_at xs n.0 ≡ Some n.1) (numbered_from 1 xs) (in_order start_of (numbered_from 1 xs))
+          (in_order_permutation start_of (numbered_from 1 xs)) (All-from_recursion _ _ (numbered_found xs))))
 
-  all_kept : {X : Type 0} (xs : List X) → filter (λ x. true) xs ≡ xs
-  all_kept [] = refl
-  all_kept (x ∷ xs) = ap (λ ys. x ∷ ys) (all_kept xs)
+      pub told_in_order : filter_map told (filter (λ (p : Place). test p.start) (places_that start owns xs)) ≡ in_order (λ (a : Interval). a.start) (filter_map span_if xs)
+      told_in_order =
+          ap (λ places. filter_map told (filter (λ (p : Place). test p.start) places)) (places_are owns xs)
+          ∙ ap (filter_map told) (filter_kept (λ (p : Place). test p.start) (filter_map (place_of start owns) (in_order start_of (numbered_from 1 xs))))
+          ∙ shown_twice (kept (λ (p : Place). test p.start)) told (filter_map (place_of start owns) (in_order start_of (numbered_from 1 xs)))
+          ∙ shown_twice (place_of start owns) told_at (in_order start_of (numbered_from 1 xs))
+          ∙ shown_same _ (λ (n : ℕ × X). span_if n.1) (in_order start_of (numbered_from 1 xs)) all_told
+          ∙ in_order_shown start_of (λ (a : Interval). a.start) (λ (n : ℕ × X). span_if n.1) span_start (numbered_from 1 xs)
+          ∙ ap (in_order (λ (a : Interval). a.start)) (shown_of_numbered span_if 1 xs)
 
-  pub band_told : (band : Band) (spans : List Interval) → spans ≡ filter_map (span_told bookings (Some band)) (places_of bookings gateway)
-      → IsByStart (downlinks_in bookings gateway band) spans
-  band_told band spans is =
-      by_start_from (downlinks_in bookings gateway band) spans
-      (is ∙ ap (filter_map (span_told bookings (Some band))) (sym (all_kept (places_of bookings gateway)))
-      ∙ told_in_order gateway (Some band) (λ s. true) bookings ∙ ap (in_order (λ (a : Interval). a.start)) (all_kept (downlinks_in bookings gateway band)))
+pub by_start_from : (xs spans : List Interval) → spans ≡ in_order (λ (a : Interval). a.start) xs → IsByStart xs spans
+by_start_from xs spans is = let P : List Interval → Type 0 = IsByStart xs in subst P (sym is) (by_start xs)
+
+pub all_kept : {X : Type 0} (xs : List X) → filter (λ x. true) xs ≡ xs
+all_kept [] = refl
+all_kept (x ∷ xs) = ap (λ ys. x ∷ ys) (all_kept xs)

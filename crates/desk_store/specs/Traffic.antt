@@ -6,12 +6,10 @@ use Rattle.registry_core.specs.Bookings.{next_down}
 use Rattle.desk_store.specs.declared.tally.Tally.{Tally}
 use Rattle.desk_store.specs.Tally.{count_in}
 
--- what contracts see: the uplinks and the bookings in order, and so many uplinks more at least go in without more
--- memory
+-- what contracts see: the uplinks and the bookings in order
 pub record TrafficSeen : Type 0 where
   pub uplinks : List Uplink
   pub bookings : List Booking
-  pub room : ℕ
 
 -- the count of each session is its next downlink counter
 pub record AreDowns (uplinks : List Uplink) (bookings : List Booking) (downs : Tally) : Type 0 where

@@ -6,12 +6,12 @@ ghost use Rattle.registry_core.specs.Bookings.{downlinks_in, is_answered};
 ghost use Rattle.registry_core.specs.Numbered.{item_at, item_changed};
 ghost use Rattle.registry_core.specs.State.{ended};
 ghost use Rattle.desk_store.specs.Answers.{is_naming};
-ghost use Rattle.desk_store.specs.BookingIndex.{is_on_air, span_told};
+ghost use Rattle.desk_store.specs.BookingPlaces.{is_on_air, span_told};
 ghost use Rattle.desk_store.specs.Lookups.{downlinks_near};
 
 use crate::answers::Answers;
-use crate::booking_index::{BookingIndex, Place, places_near};
 use crate::lookups::item_at;
+use crate::start_index::{Place, StartIndex, places_near};
 use duty_core::Span;
 use radio_core::{Band, Name};
 use registry_core::{Booking, Standing};
@@ -22,7 +22,7 @@ use std::marker::Model;
 #[derive(Debug, Drop)]
 pub(crate) struct Bookings {
     items: Vec<Booking>,
-    index: BookingIndex,
+    starts: StartIndex<Name>,
     answers: Answers,
 }
 
@@ -33,11 +33,11 @@ impl Model for Bookings {
     ghost Value = { List BookingValue };
 
     ghost use Rattle.desk_store.specs.Answers.{AreCounted};
-    ghost use Rattle.desk_store.specs.BookingIndex.{IsBookingIndex};
+    ghost use Rattle.desk_store.specs.BookingPlaces.{IsBookingIndex};
 
     ghost view = { λ b. b.items.items };
 
-    ghost invariant = { λ b. IsBookingIndex b.items.items b.index × AreCounted b.items.items b.answers };
+    ghost invariant = { λ b. IsBookingIndex b.items.items b.starts × AreCounted b.items.items b.answers };
 }
 
 impl Bookings {
@@ -46,7 +46,7 @@ impl Bookings {
     {
         Bookings {
             items: Vec::new(alloc),
-            index: BookingIndex::new(alloc),
+            starts: StartIndex::new(alloc),
             answers: Answers::new(alloc),
         }
     }
@@ -74,7 +74,8 @@ impl Bookings {
         self.items.reserve(1)?;
         self.answers.make_room()?;
         let number = self.items.len() as u64 + 1;
-        self.index.note(&booking, number)?;
+        self.starts
+            .note(booking.gateway, place_of(&booking, number))?;
         self.answers.note(&booking)?;
         self.items.push(booking)?;
         Ok(())
@@ -121,7 +122,7 @@ impl Bookings {
         spans_at(
             alloc,
             &self.items,
-            places_near(self.index.places(gateway), start),
+            places_near(self.starts.places(gateway), start),
             band,
         )
     }
@@ -135,7 +136,17 @@ impl Bookings {
     ) -> Result<Vec<Span>, AllocError>
         ensures { IfOk result (λ spans. IsByStart (downlinks_in self.now gateway.now band) spans.items) }
     {
-        spans_at(alloc, &self.items, self.index.places(gateway), Some(band))
+        spans_at(alloc, &self.items, self.starts.places(gateway), Some(band))
+    }
+}
+
+/// Where a booking with this number stands.
+fn place_of(booking: &Booking, number: u64) -> Place
+    ensures { result ≡ record { start = booking.now.span.start; number = number } }
+{
+    Place {
+        start: booking.span.start(),
+        number,
     }
 }
 

@@ -118,9 +118,9 @@ fn add_uplink(
     ensures bookings { traffic.new.bookings ≡ traffic.old.bookings }
 {
     let number = traffic.uplinks().len() as u64 + 1;
-    traffic.make_room()?;
-    copies.insert((number, gateway), reception)?;
+    copies.reserve(1)?;
     traffic.push_uplink(uplink)?;
+    copies.insert((number, gateway), reception)?;
     Ok(())
 }
 

@@ -1,17 +1,17 @@
 //! What reports ask of the facts: an owner's devices in order, and when a device's uplinks were on the air.
-ghost use Rattle.std.specs.Prelude.{◌≡◌, IfOk, Some, min};
+ghost use Rattle.std.specs.Prelude.{◌≡◌, IfOk, IsPermutation, Some, min};
 ghost use Rattle.std.specs.Option.{option_map_or};
 ghost use Rattle.duty_core.specs.InOrder.{IsByStart};
-ghost use Rattle.registry_core.specs.Derived.{is_of_device};
-ghost use Rattle.registry_core.specs.Reports.{in_band, interval_of, is_after, is_owned, is_uplink_from, uplinks_from, IsNextDevice};
+ghost use Rattle.registry_core.specs.Reports.{in_band, is_after, is_owned, uplinks_from, IsNextDevice};
 ghost use Rattle.desk_store.specs.Facts.{facts_of};
+ghost use Rattle.desk_store.specs.UplinkPlaces.{places_from};
 
 use crate::facts::Facts;
 use crate::sessions::Sessions;
+use crate::start_index::Place;
 use crate::uplinks::Uplinks;
 use duty_core::Span;
 use radio_core::{Band, Eui, Name};
-use registry_core::Uplink;
 use std::alloc::{AllocError, Global};
 
 impl Facts {
@@ -69,31 +69,6 @@ pub(crate) struct Period {
     pub(crate) to: i64,
 }
 
-/// The session with this number is one of the device.
-fn is_of_device(sessions: &Sessions, device: Eui, number: u64) -> bool
-    ensures { result ≡ is_of_device sessions.now.items device number }
-{
-    match sessions.at(number) {
-        Some(session) => session.device == device,
-        None => false,
-    }
-}
-
-/// The uplink is the device's and starts in the period.
-fn is_uplink_from(uplink: &Uplink, sessions: &Sessions, device: Eui, period: &Period) -> bool
-    ensures { result ≡ is_uplink_from sessions.now.items device period.now.from period.now.to uplink.now }
-{
-    let start = uplink.start.get() as i64;
-    is_of_device(sessions, device, uplink.session) && period.from <= start && start < period.to
-}
-
-/// When the uplink was on the air.
-fn span_of(uplink: &Uplink) -> Span
-    ensures { result ≡ interval_of uplink.now }
-{
-    Span::new(uplink.start.get() as i64, uplink.airtime).unwrap()
-}
-
 /// When the device's uplinks in the band were on the air that start in the period, in order of start.
 pub(crate) fn uplinks_in(
     alloc: Global,
@@ -104,14 +79,30 @@ pub(crate) fn uplinks_in(
     period: &Period,
 ) -> Result<Vec<Span>, AllocError>
     ensures { IfOk result (λ spans. IsByStart (in_band band
-        (uplinks_from uplinks.now.items sessions.now.items device period.now.from period.now.to)) spans.items) }
+        (uplinks_from uplinks.now sessions.now.items device period.now.from period.now.to)) spans.items) }
 {
-    let mut spans = Vec::new(alloc);
-    for uplink in uplinks.all() {
-        if is_uplink_from(uplink, sessions, device, period) && uplink.band == band {
-            spans.push(span_of(uplink))?;
-        }
+    let mut places = places_in(alloc, uplinks, sessions, device, band, period)?;
+    places.sort_unstable();
+    uplinks.spans_at(alloc, &places)
+}
+
+/// Where those uplinks stand, session by session.
+fn places_in(
+    alloc: Global,
+    uplinks: &Uplinks,
+    sessions: &Sessions,
+    device: Eui,
+    band: Band,
+    period: &Period,
+) -> Result<Vec<Place>, AllocError>
+    ensures { IfOk result (λ places. IsPermutation
+        (places_from uplinks.now sessions.now.items device band period.now.from period.now.to) places.items) }
+{
+    let mut places = Vec::new(alloc);
+    let mut number = sessions.latest(device);
+    while number > 0 {
+        places.extend_from_slice(uplinks.places(number, band, period))?;
+        number = sessions.before(number);
     }
-    spans.sort_by_key(|span| span.start())?;
-    Ok(spans)
+    Ok(places)
 }

@@ -33,7 +33,6 @@ impl Tally {
     pub(crate) fn make_room(&mut self) -> Result<(), AllocError>
         ensures same { (number : ℕ) → count_in self.new number ≡ count_in self.old number }
         ensures room { OnOk result (1 ≤ spare self.new.counts) }
-        ensures succeeds { 1 ≤ spare self.old.counts → IsOk result }
     {
         self.counts.reserve(1)
     }

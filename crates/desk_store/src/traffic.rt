@@ -16,7 +16,7 @@ use std::alloc::{AllocError, Global};
 use std::marker::Model;
 
 /// The uplinks, the bookings, and by a session how many bookings answer its data uplinks, dropped ones too. Contracts
-/// see the lists, and how many more uplinks go in without more memory.
+/// see the lists.
 #[derive(Debug, Drop)]
 pub(crate) struct Traffic {
     uplinks: Uplinks,
@@ -29,16 +29,9 @@ impl Model for Traffic {
 
     ghost Value = { TrafficSeen };
 
-    ghost use Rattle.std.specs.Prelude.{min};
-    ghost use Rattle.indexmap.specs.IndexMap.{spare};
+    ghost view = { λ t. record { uplinks = t.uplinks; bookings = t.bookings } };
 
-    ghost view = { λ t. record {
-      uplinks = t.uplinks.items;
-      bookings = t.bookings;
-      room = min t.uplinks.room (spare t.downs.counts);
-    } };
-
-    ghost invariant = { λ t. AreDowns t.uplinks.items t.bookings t.downs };
+    ghost invariant = { λ t. AreDowns t.uplinks t.bookings t.downs };
 }
 
 impl Traffic {
@@ -54,7 +47,7 @@ impl Traffic {
     }
 
     pub(crate) fn uplinks(&self) -> &Uplinks
-        ensures { result.now.items ≡ self.now.uplinks }
+        ensures { result.now ≡ self.now.uplinks }
     {
         &self.uplinks
     }
@@ -72,22 +65,11 @@ impl Traffic {
         self.downs.at(session)
     }
 
-    /// Makes room for one uplink more.
-    pub(crate) fn make_room(&mut self) -> Result<(), AllocError>
-        ensures uplinks { self.new.uplinks ≡ self.old.uplinks }
-        ensures bookings { self.new.bookings ≡ self.old.bookings }
-        ensures room { OnOk result (1 ≤ self.new.room) }
-    {
-        self.uplinks.make_room()?;
-        self.downs.make_room()
-    }
-
     /// The uplink goes to the end, or nowhere. Bookings may name its number before it is there.
     pub(crate) fn push_uplink(&mut self, uplink: Uplink) -> Result<(), AllocError>
         ensures ok { OnOk result (self.new.uplinks ≡ self.old.uplinks ++ uplink ∷ []) }
         ensures err { OnErr result (self.new.uplinks ≡ self.old.uplinks) }
         ensures bookings { self.new.bookings ≡ self.old.bookings }
-        ensures succeeds { 1 ≤ self.old.room → IsOk result }
     {
         self.downs.make_room()?;
         let number = self.uplinks.len() as u64 + 1;

@@ -36,7 +36,6 @@ impl UplinkIndex {
         ensures frames { IsUnchanged self.old.frames self.new.frames }
         ensures counters { IsUnchanged self.old.counters self.new.counters }
         ensures room { OnOk result (1 ≤ index_room self.new) }
-        ensures succeeds { 1 ≤ index_room self.old → IsOk result }
     {
         self.joins.reserve(1)?;
         self.frames.reserve(1)?;

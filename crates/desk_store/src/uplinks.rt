@@ -1,34 +1,44 @@
-//! The uplinks in order, found by session and counter in a time that doesn't grow with how many there are.
-ghost use Rattle.std.specs.Prelude.{◌≡◌, ◌^◌, ◌<◌, ◌≤◌, [], ◌∷◌, ◌++◌, length, option_and_then, option_map, IsOk, OnOk, OnErr};
+//! The uplinks in order, found by session and counter, and by session and band in order of start, without looking
+//! through the others.
+ghost use Rattle.std.specs.Prelude.{◌≡◌, ◌^◌, ◌<◌, [], ◌∷◌, ◌++◌, length, filter, option_and_then, option_map, pos, IfOk, OnOk, OnErr};
+ghost use Rattle.std.specs.List.{filter_map};
 ghost use Rattle.registry_core.specs.Derived.{data_with, last_counter};
 ghost use Rattle.registry_core.specs.Numbered.{item_at};
+ghost use Rattle.registry_core.specs.Reports.{interval_of};
+ghost use Rattle.desk_store.specs.StartIndex.{is_place_in};
+ghost use Rattle.desk_store.specs.UplinkPlaces.{places_of, span_told};
 
 use crate::lookups::item_at;
+use crate::reports::Period;
+use crate::start_index::{Place, StartIndex, places_between};
 use crate::uplink_index::UplinkIndex;
+use duty_core::Span;
+use radio_core::Band;
 use registry_core::Uplink;
 use std::alloc::{AllocError, Global};
 use std::marker::Model;
 
-/// The uplinks in order, with their index. Contracts see the list, and how many more go in without more memory.
+/// The uplinks in order, with their indexes. Contracts see the list.
 #[derive(Debug, Drop)]
 pub(crate) struct Uplinks {
     items: Vec<Uplink>,
     index: UplinkIndex,
+    /// By the session and the number of the band.
+    starts: StartIndex<(u64, u8)>,
 }
 
 impl Model for Uplinks {
+    ghost use Rattle.std.specs.Prelude.{List};
     ghost use Rattle.registry_core.specs.declared.facts.Uplink.{Uplink as UplinkValue};
-    ghost use Rattle.desk_store.specs.Growing.{Growing};
 
-    ghost Value = { Growing UplinkValue };
+    ghost Value = { List UplinkValue };
 
-    ghost use Rattle.std.specs.Prelude.{◌-◌, min};
-    ghost use Rattle.std.specs.Vec.{vec_len, vec_capacity};
-    ghost use Rattle.desk_store.specs.Uplinks.{index_room, IsIndexOf};
+    ghost use Rattle.desk_store.specs.UplinkPlaces.{AreStarts};
+    ghost use Rattle.desk_store.specs.Uplinks.{IsIndexOf};
 
-    ghost view = { λ u. record { items = u.items.items; room = min (vec_capacity u.items - vec_len u.items) (index_room u.index) } };
+    ghost view = { λ u. u.items.items };
 
-    ghost invariant = { λ u. IsIndexOf u.items.items u.index };
+    ghost invariant = { λ u. IsIndexOf u.items.items u.index × AreStarts u.items.items u.starts };
 }
 
 impl Uplinks {
@@ -36,53 +46,41 @@ impl Uplinks {
     ghost use Rattle.desk_store.specs.Uplinks.{join_of};
 
     pub(crate) fn new(alloc: Global) -> Uplinks
-        ensures { result.items ≡ [] }
+        ensures { result ≡ [] }
     {
         Uplinks {
             items: Vec::new(alloc),
             index: UplinkIndex::new(alloc),
+            starts: StartIndex::new(alloc),
         }
     }
 
     pub(crate) fn len(&self) -> usize
-        ensures count { result ≡ length self.now.items }
+        ensures count { result ≡ length self.now }
         ensures small { result < 2 ^ 63 }
     {
         self.items.len()
     }
 
-    /// The uplinks in order.
-    pub(crate) fn all(&self) -> &[Uplink]
-        ensures { result.now ≡ self.now.items }
-    {
-        &self.items
-    }
-
     /// The uplink with this number, from 1.
     pub(crate) fn at(&self, number: u64) -> Option<Uplink>
-        ensures { result ≡ item_at self.now.items number }
+        ensures { result ≡ item_at self.now number }
     {
         item_at(&self.items, number)
     }
 
-    /// Makes room for one uplink more.
-    pub(crate) fn make_room(&mut self) -> Result<(), AllocError>
-        ensures same { self.new.items ≡ self.old.items }
-        ensures room { OnOk result (1 ≤ self.new.room) }
-        ensures succeeds { 1 ≤ self.old.room → IsOk result }
-    {
-        self.items.reserve(1)?;
-        self.index.make_room()
-    }
-
     /// The uplink goes to the end, or nowhere.
     pub(crate) fn push(&mut self, uplink: Uplink) -> Result<(), AllocError>
-        ensures ok { OnOk result (self.new.items ≡ self.old.items ++ uplink ∷ []) }
-        ensures err { OnErr result (self.new.items ≡ self.old.items) }
-        ensures succeeds { 1 ≤ self.old.room → IsOk result }
+        ensures ok { OnOk result (self.new ≡ self.old ++ uplink ∷ []) }
+        ensures err { OnErr result (self.new ≡ self.old) }
     {
-        self.make_room()?;
+        self.items.reserve(1)?;
+        self.index.make_room()?;
         let number = self.items.len() as u64 + 1;
+        self.starts.note(
+            (uplink.session, uplink.band.get()),
+            place_of(&uplink, number),
+        )?;
         self.index.note(&uplink, number)?;
         self.items.push(uplink)?;
         Ok(())
@@ -90,30 +88,71 @@ impl Uplinks {
 
     /// The last counter of the session's data uplinks.
     pub(crate) fn last_counter(&self, session: u64) -> Option<u32>
-        ensures { result ≡ last_counter self.now.items session }
+        ensures { result ≡ last_counter self.now session }
     {
         self.index.counters.get(&session).copied()
     }
 
     /// The session's first data uplink with this counter, with its number from 1.
     pub(crate) fn data_with(&self, session: u64, counter: u32) -> Option<(u64, Uplink)>
-        ensures { result ≡ data_with self.now.items session counter }
+        ensures { result ≡ data_with self.now session counter }
     {
         self.numbered(self.index.frames.get(&(session, counter)).copied())
     }
 
     /// The session's first join uplink with this counter, with its number from 1.
     pub(crate) fn join_of(&self, session: u64, counter: u32) -> Option<(u64, Uplink)>
-        ensures { result ≡ join_of self.now.items session counter }
+        ensures { result ≡ join_of self.now session counter }
     {
         self.numbered(self.index.joins.get(&(session, counter)).copied())
     }
 
     fn numbered(&self, number: Option<u64>) -> Option<(u64, Uplink)>
         ensures { result ≡ option_and_then
-            (λ (n : ℕ). option_map (λ uplink. (n, uplink)) (item_at self.now.items n)) number }
+            (λ (n : ℕ). option_map (λ uplink. (n, uplink)) (item_at self.now n)) number }
     {
         let number = number?;
         Some((number, self.at(number)?))
     }
+
+    /// Where the session's uplinks in the band stand that start in the period.
+    pub(crate) fn places(&self, session: u64, band: Band, period: &Period) -> &[Place]
+        ensures { result.now ≡ filter (is_place_in period.now.from period.now.to) (places_of self.now session band) }
+    {
+        places_between(
+            self.starts.places(&(session, band.get())),
+            i128::from(period.from),
+            i128::from(period.to),
+        )
+    }
+
+    /// When the uplinks that stand there were on the air, in the places' order.
+    pub(crate) fn spans_at(&self, alloc: Global, places: &[Place]) -> Result<Vec<Span>, AllocError>
+        ensures { IfOk result (λ spans. spans.items ≡ filter_map (span_told self.now) places.now) }
+    {
+        let mut spans = Vec::new(alloc);
+        for place in places {
+            if let Some(uplink) = self.at(place.number) {
+                spans.push(span_of(&uplink))?;
+            }
+        }
+        Ok(spans)
+    }
+}
+
+/// Where an uplink with this number stands.
+fn place_of(uplink: &Uplink, number: u64) -> Place
+    ensures { result ≡ record { start = pos uplink.now.start; number = number } }
+{
+    Place {
+        start: uplink.start.get() as i64,
+        number,
+    }
+}
+
+/// When the uplink was on the air.
+fn span_of(uplink: &Uplink) -> Span
+    ensures { result ≡ interval_of uplink.now }
+{
+    Span::new(uplink.start.get() as i64, uplink.airtime).unwrap()
 }

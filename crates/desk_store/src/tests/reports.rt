@@ -14,15 +14,17 @@ const FIRST: i64 = 1_706_745_700_000_000;
 /// The DevEUIs in the order in which the devices are added, and their owners.
 static DEVICES: [(u64, &str); 4] = [(5, "town"), (3, "port"), (9, "town"), (7, "town")];
 
-/// The sessions' devices.
-static SESSIONS: [u64; 2] = [5, 9];
+/// The sessions' devices: the first one joins again.
+static SESSIONS: [u64; 3] = [5, 9, 5];
 
 /// Data uplinks: the session, the counter, the band, and when it starts after the first.
-static UPLINKS: [(u64, u32, Band, u64); 4] = [
+static UPLINKS: [(u64, u32, Band, u64); 6] = [
     (1, 3, Band::B3, 30),
     (1, 1, Band::B3, 10),
     (1, 2, Band::B1, 20),
     (2, 1, Band::B3, 10),
+    (3, 1, Band::B3, 20),
+    (3, 2, Band::B3, 5),
 ];
 
 /// An owner, the device that is asked after, and the one that follows.
@@ -39,11 +41,11 @@ static NEXT: [(&str, Option<u64>, Option<u64>); 8] = [
 
 /// A device, a band, a period, and when the uplinks that are told of start, each after the first.
 static TOLD: [(u64, Band, i64, i64, &[i64]); 8] = [
-    (5, Band::B3, 0, 31, &[0, 10, 30]),
-    (5, Band::B3, 0, 11, &[0, 10]),
-    (5, Band::B3, 0, 10, &[0]),
-    (5, Band::B3, 1, 10, &[]),
-    (5, Band::B3, 1, 11, &[10]),
+    (5, Band::B3, 0, 31, &[0, 0, 5, 10, 20, 30]),
+    (5, Band::B3, 0, 11, &[0, 0, 5, 10]),
+    (5, Band::B3, 0, 10, &[0, 0, 5]),
+    (5, Band::B3, 1, 5, &[]),
+    (5, Band::B3, 5, 11, &[5, 10]),
     (5, Band::B1, -1_000, 1_000, &[20]),
     (9, Band::B3, 0, 11, &[0, 10]),
     (7, Band::B3, 0, 11, &[]),

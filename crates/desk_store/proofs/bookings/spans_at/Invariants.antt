@@ -1,6 +1,6 @@
 use Rattle.std.proofs.Common.{◌≡◌, ◌++◌, drop}
 use Rattle.std.specs.List.{filter_map}
-use Rattle.desk_store.specs.BookingIndex.{span_told}
+use Rattle.desk_store.specs.BookingPlaces.{span_told}
 use Rattle.desk_store.proofs.bookings.spans_at.Given as goal
 
 -- what was told and what is told at the places still to come

@@ -6,7 +6,7 @@ use Rattle.desk_store.proofs.lookups.is_below_floor.Given as goal
 abbrev pub invariant-loop-number : goal.invariant-loop-number
 invariant-loop-number l = record {
   own : 0 < l.number → is_of_device l.sessions.items l.fn.device l.number ≡ true;
-  none : is_below_floor l.uplinks.items l.sessions.items l.fn.device l.number ≡ false;
+  none : is_below_floor l.uplinks l.sessions.items l.fn.device l.number ≡ false;
 }
 
 abbrev pub decreases-loop-number : goal.decreases-loop-number

@@ -8,7 +8,7 @@ use Rattle.desk_store.proofs.lookups.join_in.Goals as goal
 pub loop-number-init : goal.loop-number-init
 loop-number-init c = rw c.latest-number.ensures (record {
   own = latest_is_own c.args.sessions.now.items c.args.device;
-  first = sym (join_none c.args.uplinks.now.items c.args.sessions.now.items c.args.device c.args.nonce);
+  first = sym (join_none c.args.uplinks.now c.args.sessions.now.items c.args.device c.args.nonce);
 })
 
 pub loop-number-smaller : goal.loop-number-smaller
@@ -17,16 +17,16 @@ loop-number-smaller c = rw c.before-number.ensures (before_less c.args.sessions.
 pub loop-number-preserved : goal.loop-number-preserved
 loop-number-preserved c =
     let own = c.loop-number.invariant.own c.loop-number-test.true in
-    let here = c.join_of.ensures ∙ ap (join_of c.args.uplinks.now.items c.loop-number.number) c.from.ensures in
+    let here = c.join_of.ensures ∙ ap (join_of c.args.uplinks.now c.loop-number.number) c.from.ensures in
     rw c.before-number.ensures (record {
       own = before_is_own c.args.sessions.now.items c.args.device c.loop-number.number own;
       first = c.earlier_of-found.ensures ∙ (λ i. earlier_of (c.loop-number.invariant.first i) (here i))
-          ∙ sym (join_step c.args.uplinks.now.items c.args.sessions.now.items c.args.device c.args.nonce c.loop-number.number own);
+          ∙ sym (join_step c.args.uplinks.now c.args.sessions.now.items c.args.device c.args.nonce c.loop-number.number own);
     })
 
 pub returns : goal.returns
 returns c =
     let last : c.loop-number.number ≡ 0 = omega arith in
     c.loop-number.invariant.first
-    ∙ ap (λ n. first_that (is_later_join c.args.sessions.now.items c.args.device c.args.nonce n) c.args.uplinks.now.items) last
-    ∙ join_all c.args.uplinks.now.items c.args.sessions.now.items c.args.device c.args.nonce
+    ∙ ap (λ n. first_that (is_later_join c.args.sessions.now.items c.args.device c.args.nonce n) c.args.uplinks.now) last
+    ∙ join_all c.args.uplinks.now c.args.sessions.now.items c.args.device c.args.nonce

@@ -8,7 +8,7 @@ use Rattle.desk_store.proofs.lookups.join_in.Given as goal
 abbrev pub invariant-loop-number : goal.invariant-loop-number
 invariant-loop-number l = record {
   own : 0 < l.number → is_of_device l.sessions.items l.fn.device l.number ≡ true;
-  first : l.found ≡ first_that (is_later_join l.sessions.items l.fn.device l.nonce l.number) l.uplinks.items;
+  first : l.found ≡ first_that (is_later_join l.sessions.items l.fn.device l.nonce l.number) l.uplinks;
 }
 
 abbrev pub decreases-loop-number : goal.decreases-loop-number

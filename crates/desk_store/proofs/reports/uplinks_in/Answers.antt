@@ -1,17 +1,24 @@
-use Rattle.std.proofs.Common.{◌≡◌, ◌∙◌, sym, subst, List, arith, rules}
-use Rattle.std.proofs.lemmas.Grind.{common_steps}
-use Rattle.std.proofs.lemmas.List.Sorted.{answers_always}
-use Rattle.duty_core.specs.InOrder.{IsByStart}
-use Rattle.duty_core.specs.Use.{Interval}
-use Rattle.registry_core.specs.Reports.{in_band, uplinks_from}
-use Rattle.desk_store.proofs.ByStart.{by_start_sorted}
+use Rattle.std.proofs.Common.{◌≡◌, ◌∙◌, ap}
+use Rattle.std.specs.Prelude.{pos}
+use Rattle.std.specs.List.{filter_map}
+use Rattle.std.proofs.lemmas.List.Sorted.{IsPermutation-trans}
+use Rattle.std.proofs.lemmas.Result.{IfOk-weaker}
+use Rattle.registry_core.specs.declared.facts.Uplink.{Uplink}
+use Rattle.desk_store.specs.UplinkPlaces.{is_sent_from, places_from, span_told}
+use Rattle.desk_store.proofs.PlaceOrder.{places_sorted}
+use Rattle.desk_store.proofs.UplinksTold.{uplinks_told}
 use Rattle.desk_store.proofs.reports.uplinks_in.Goals as goal
 
 pub returns : goal.returns
 returns c =
-    let start = λ (a : Interval). a.start in
-    let told : c.loop-uplink.spans.items ≡ in_band c.args.band (uplinks_from c.args.uplinks.now.items c.args.sessions.now.items c.args.device c.args.period.now.from c.args.period.now.to) = grind (arith, common_steps) in
-    let P : List Interval → Type 0 = λ spans. IsByStart spans c.sort_by_key.new.self.items in
-    subst P told (by_start_sorted c.loop-uplink.spans.items c.sort_by_key.new.self.items c.in_ok-sort_by_key.ensures.permutation
-    (c.in_ok-sort_by_key.ensures.sorted start (answers_always _ _ _ (λ f a r g h. search rules)))
-    (c.in_ok-sort_by_key.ensures.stable start (answers_always _ _ _ (λ f a r g h. search rules))))
+    let uplinks = c.args.uplinks.now in
+    let sessions = c.args.sessions.now.items in
+    let from = c.args.period.now.from in
+    let to = c.args.period.now.to in
+    let places : c.sort_unstable.new.self.items ≡ places_from uplinks sessions c.args.device c.args.band from to =
+    places_sorted (λ (u : Uplink). pos u.start) (is_sent_from sessions c.args.device c.args.band from to) uplinks c.sort_unstable.new.self.items c.sort_unstable.ensures.sorted
+    (IsPermutation-trans (places_from uplinks sessions c.args.device c.args.band from to) c.in_ok-places.places.items c.sort_unstable.new.self.items
+    c.in_ok-places.ensures c.sort_unstable.ensures.permutation) in
+    IfOk-weaker c.spans_at.result _ _
+    (λ spans is. uplinks_told uplinks sessions c.args.device c.args.band from to spans.items (is ∙ ap (filter_map (span_told uplinks)) (c.deref.ensures.value ∙ places)))
+    c.spans_at.ensures

@@ -4,8 +4,8 @@ use Rattle.std.proofs.lemmas.Result.{IfOk-weaker}
 use Rattle.duty_core.specs.InOrder.{IsByStart}
 use Rattle.registry_core.specs.declared.facts.Booking.{Booking}
 use Rattle.registry_core.specs.Bookings.{downlinks_in}
-use Rattle.desk_store.specs.BookingIndex.{places_of, span_told}
-use Rattle.desk_store.proofs.ToldInOrder.{band_told}
+use Rattle.desk_store.specs.BookingPlaces.{places_of, span_told}
+use Rattle.desk_store.proofs.BookingsTold.{band_told}
 use Rattle.desk_store.proofs.bookings.Bookings.of_band.Goals as goal
 
 pub returns : goal.returns

@@ -7,12 +7,12 @@ use Rattle.desk_store.proofs.traffic.Traffic.push_uplink.Goals as goal
 
 pub invariant_of-self-in_err-push : goal.invariant_of-self-in_err-push
 invariant_of-self-in_err-push c =
-    downs_same c.self.inside.uplinks.items c.push.new.self.items c.self.inside.bookings c.self.inside.downs c.make_room.new.self
+    downs_same c.self.inside.uplinks c.push.new.self c.self.inside.bookings c.self.inside.downs c.make_room.new.self
     c.in_err-push.ensures.err c.make_room.ensures.same c.self.invariant
 
 pub invariant_of-self-2 : goal.invariant_of-self-2
 invariant_of-self-2 c =
-    let uplinks = c.self.inside.uplinks.items in
+    let uplinks = c.self.inside.uplinks in
     let bookings = c.self.inside.bookings in
     let were : AreDowns uplinks bookings c.make_room.new.self =
     downs_same uplinks uplinks bookings c.self.inside.downs c.make_room.new.self refl c.make_room.ensures.same c.self.invariant in

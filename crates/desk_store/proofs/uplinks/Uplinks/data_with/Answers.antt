@@ -6,6 +6,6 @@ use Rattle.desk_store.proofs.uplinks.Uplinks.data_with.Goals as goal
 
 pub returns : goal.returns
 returns c =
-    let told = c.copied.ensures ∙ c.get.ensures.value ∙ c.self.invariant.frames c.args.session c.args.counter
-    ∙ ap (λ uplinks. number_of (data_with uplinks.items c.args.session c.args.counter)) c.self.view_is in
-    c.numbered.ensures ∙ numbered_first (is_data_with c.args.session c.args.counter) c.args.self.now.items c.copied.result told
+    let told = c.copied.ensures ∙ c.get.ensures.value ∙ c.self.invariant.0.frames c.args.session c.args.counter
+    ∙ ap (λ uplinks. number_of (data_with uplinks c.args.session c.args.counter)) c.self.view_is in
+    c.numbered.ensures ∙ numbered_first (is_data_with c.args.session c.args.counter) c.args.self.now c.copied.result told

@@ -5,6 +5,6 @@ use Rattle.desk_store.proofs.uplinks.Uplinks.join_of.Goals as goal
 
 pub returns : goal.returns
 returns c =
-    let told = c.copied.ensures ∙ c.get.ensures.value ∙ c.self.invariant.joins c.args.session c.args.counter
-    ∙ ap (λ uplinks. number_of (join_of uplinks.items c.args.session c.args.counter)) c.self.view_is in
-    c.numbered.ensures ∙ numbered_first (is_join_of c.args.session c.args.counter) c.args.self.now.items c.copied.result told
+    let told = c.copied.ensures ∙ c.get.ensures.value ∙ c.self.invariant.0.joins c.args.session c.args.counter
+    ∙ ap (λ uplinks. number_of (join_of uplinks c.args.session c.args.counter)) c.self.view_is in
+    c.numbered.ensures ∙ numbered_first (is_join_of c.args.session c.args.counter) c.args.self.now c.copied.result told

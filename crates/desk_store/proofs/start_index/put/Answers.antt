@@ -1,9 +1,9 @@
 use Rattle.std.proofs.Common.{◌≡◌, ◌≤◌, ◌∙◌, ap, length, rules, arith}
 use Rattle.std.specs.Prelude.{int_le}
 use Rattle.std.proofs.lemmas.List.Sorted.{IsPartitionPoint-from_clause}
-use Rattle.desk_store.specs.declared.booking_index.Place.{Place}
+use Rattle.desk_store.specs.declared.start_index.Place.{Place}
 use Rattle.desk_store.proofs.Parted.{parted_to, put_at}
-use Rattle.desk_store.proofs.booking_index.put.Goals as goal
+use Rattle.desk_store.proofs.start_index.put.Goals as goal
 
 pub returns-clause-put : goal.returns-clause-put
 returns-clause-put c = λ rises.

@@ -1,9 +1,9 @@
 use Rattle.std.proofs.Common.{sym, rules}
 use Rattle.std.specs.Prelude.{int_lt}
 use Rattle.std.proofs.lemmas.List.Sorted.{IsPartitionPoint-from_clause}
-use Rattle.desk_store.specs.declared.booking_index.Place.{Place}
+use Rattle.desk_store.specs.declared.start_index.Place.{Place}
 use Rattle.desk_store.proofs.Parted.{parted_before, front_passes}
-use Rattle.desk_store.proofs.booking_index.places_before.Goals as goal
+use Rattle.desk_store.proofs.start_index.places_before.Goals as goal
 
 pub returns : goal.returns
 returns c = λ rises.

@@ -1,0 +1,27 @@
+use Rattle.std.proofs.Common.{◌≡◌, ◌<◌, ◌^◌, ◌+◌, ◌∙◌, length, refl, subst, sym, List, [], ◌∷◌, ◌++◌, arith, rules}
+use Rattle.std.specs.Prelude.{bytes_eq}
+use Rattle.std.proofs.lemmas.Slice.Eq.{bytes_eq-Decides}
+use Rattle.registry_core.specs.declared.facts.Booking.{Booking}
+use Rattle.desk_store.specs.declared.start_index.Place.{Place}
+use Rattle.desk_store.specs.Answers.{AreCounted}
+use Rattle.desk_store.specs.BookingPlaces.{IsBookingIndex}
+use Rattle.desk_store.specs.ByKey.{Rises}
+use Rattle.desk_store.specs.StartIndex.{places_in}
+use Rattle.desk_store.proofs.Placed.{index_noted, places_rise}
+use Rattle.desk_store.proofs.bookings.Bookings.push.Goals as goal
+
+pub invariant_of-self-2 : goal.invariant_of-self-2
+invariant_of-self-2 c =
+    let items = c.self.inside.items.items in
+    let booking = c.args.booking in
+    let start = λ (b : Booking). b.span.start in
+    let few : length items < 2 ^ 63 = omega (arith, c.self.inside.items.small, c.self.inside.items.ok.0) in
+    let count : c.len.result ≡ length items = omega arith in
+    let R : List Place → Type 0 = Rises (λ place. place.start) in
+    let rise = subst R (sym (c.self.invariant.0.places booking.gateway)) (places_rise start (λ b. bytes_eq b.gateway booking.gateway) items) in
+    let noted = index_noted start bytes_eq (λ b. b.gateway) (λ a b. (bytes_eq-Decides a b).0) items booking booking.gateway c.place_of.result
+    (places_in bytes_eq c.self.inside.starts) (places_in bytes_eq c.note.new.self) refl
+    (c.place_of.ensures ∙ (λ i. record { start = booking.span.start; number = count i + 1 })) c.self.invariant.0 (c.in_ok-note.ensures.noted rise) in
+    let all : c.push.new.self.items ≡ items ++ booking ∷ [] = search rules in
+    let P : List Booking → Type 0 = λ bookings. IsBookingIndex bookings c.note.new.self × AreCounted bookings c.note-2.new.self in
+    subst P (sym all) (noted, c.in_ok-note-2.ensures.noted items few (c.make_room.ensures.same items c.self.invariant.1))

@@ -1,0 +1,31 @@
+-- Bookings by their gateway, in order of start, and what is told of them.
+use Rattle.std.specs.Prelude.{ℕ, ◌==◌, ◌&&◌, Bool, not, List, Option, Some, None, option_and_then, bytes_eq, if◌then◌else◌}
+use Rattle.radio_core.specs.declared.bands.Band.{Band}
+use Rattle.radio_core.specs.Bands.{band_number}
+use Rattle.duty_core.specs.Use.{Interval}
+use Rattle.registry_core.specs.declared.facts.Booking.{Booking}
+use Rattle.registry_core.specs.Bookings.{is_dropped}
+use Rattle.registry_core.specs.Numbered.{item_at}
+use Rattle.desk_store.specs.declared.start_index.Place.{Place}
+use Rattle.desk_store.specs.declared.start_index.StartIndex.{StartIndex}
+use Rattle.desk_store.specs.StartIndex.{places_in, places_that, IsStartIndex}
+
+-- where the gateway's bookings stand
+abbrev pub places_of : List Booking → List ℕ → List Place
+places_of bookings gateway = places_that (λ booking. booking.span.start) (λ booking. bytes_eq booking.gateway gateway) bookings
+
+-- the index is that of these bookings
+abbrev pub IsBookingIndex : List Booking → StartIndex (List ℕ) → Type 0
+IsBookingIndex bookings index = IsStartIndex (λ booking. booking.span.start) bytes_eq (λ booking. booking.gateway) bookings (places_in bytes_eq index)
+
+-- when the booking is on the air, if it isn't dropped, and is in the band if there is one
+abbrev pub is_on_air : Option Band → Booking → Bool
+is_on_air None booking = not (is_dropped booking.standing)
+is_on_air (Some band) booking = not (is_dropped booking.standing) && band_number booking.band == band_number band
+
+abbrev pub span_shown : Option Band → Booking → Option Interval
+span_shown band booking = if is_on_air band booking then Some booking.span else None
+
+-- and that of the booking that stands there
+abbrev pub span_told : List Booking → Option Band → Place → Option Interval
+span_told bookings band place = option_and_then (span_shown band) (item_at bookings place.number)

@@ -1,0 +1,111 @@
+//! Where the items of one key stand in order of time, found without looking through the others.
+ghost use Rattle.std.specs.Prelude.{◌≡◌, ◌+◌, [], ◌∷◌, int_le, int_lt, OnOk, OnErr, filter, if◌then◌else◌};
+ghost use Rattle.desk_store.specs.ByKey.{Rises, put_after};
+ghost use Rattle.desk_store.specs.StartIndex.{is_near_place, is_place_in, places_in};
+
+use duty_core::NEAR_REACH;
+use indexmap::IndexMap;
+use std::alloc::{AllocError, Global};
+use std::hash::Hash;
+
+/// When an item begins, in microseconds, and its number, from 1.
+#[derive(Clone, Copy, Debug, PartialEq, Eq, PartialOrd, Ord)]
+pub(crate) struct Place {
+    pub(crate) start: i64,
+    pub(crate) number: u64,
+}
+
+/// Of each key that has items, where they stand: in order of start, and those that start together in order of number.
+#[derive(Debug, Drop)]
+pub(crate) struct StartIndex<K: Eq + Hash> {
+    pub(crate) keys: IndexMap<K, Vec<Place>>,
+}
+
+impl<K: Copy + Eq + Hash + Drop> StartIndex<K> {
+    /// The index of no items.
+    pub(crate) fn new(alloc: Global) -> StartIndex<K>
+        ensures { (other : K) → places_in K.eq result other ≡ [] }
+    {
+        StartIndex {
+            keys: IndexMap::new(alloc),
+        }
+    }
+
+    /// Notes where an item of this key stands that goes to the end of the others, or nothing.
+    pub(crate) fn note(&mut self, key: K, place: Place) -> Result<(), AllocError>
+        ensures noted { Rises (λ place. place.start) (places_in K.eq self.old key)
+            → OnOk result ((other : K) → places_in K.eq self.new other
+            ≡ (if K.eq key other then put_after (λ place. place.start) place (places_in K.eq self.old key)
+            else places_in K.eq self.old other)) }
+        ensures err { OnErr result ((other : K) → places_in K.eq self.new other ≡ places_in K.eq self.old other) }
+    {
+        match self.keys.get_mut(&key) {
+            Some(places) => put(places, place),
+            None => self.note_first(key, place),
+        }
+    }
+
+    /// Notes where the first item of a key stands, or nothing.
+    fn note_first(&mut self, key: K, place: Place) -> Result<(), AllocError>
+        ensures noted { OnOk result ((other : K) → places_in K.eq self.new other
+            ≡ (if K.eq key other then place ∷ [] else places_in K.eq self.old other)) }
+        ensures err { OnErr result ((other : K) → places_in K.eq self.new other ≡ places_in K.eq self.old other) }
+    {
+        let mut places = Vec::new(*self.keys.allocator());
+        places.push(place)?;
+        self.keys.insert(key, places)?;
+        Ok(())
+    }
+
+    /// Where the items of the key stand.
+    pub(crate) fn places(&self, key: &K) -> &[Place]
+        ensures { result.now ≡ places_in K.eq self.now key.now }
+    {
+        match self.keys.get(key) {
+            Some(places) => places,
+            None => &[],
+        }
+    }
+}
+
+/// The place goes in after all that don't begin later, or nowhere.
+fn put(places: &mut Vec<Place>, place: Place) -> Result<(), AllocError>
+    ensures put { Rises (λ place. place.start) places.old.items
+        → OnOk result (places.new.items ≡ put_after (λ place. place.start) place places.old.items) }
+    ensures err { OnErr result (places.new.items ≡ places.old.items) }
+{
+    let at = places.partition_point(|other| other.start <= place.start);
+    places.insert(at, place)?;
+    Ok(())
+}
+
+/// The places that begin near the start.
+pub(crate) fn places_near(places: &[Place], start: u64) -> &[Place]
+    ensures { Rises (λ place. place.start) places.now → result.now ≡ filter (is_near_place start) places.now }
+{
+    let (start, reach) = (i128::from(start), i128::from(NEAR_REACH));
+    places_between(places, start - reach + 1, start + reach)
+}
+
+/// The places that begin from the one moment on and before the other.
+pub(crate) fn places_between(places: &[Place], from: i128, to: i128) -> &[Place]
+    ensures { Rises (λ place. place.start) places.now → result.now ≡ filter (is_place_in from to) places.now }
+{
+    places_before(places_from(places, from), to)
+}
+
+/// The places that begin from this moment on.
+fn places_from(places: &[Place], moment: i128) -> &[Place]
+    ensures { Rises (λ place. place.start) places.now → result.now ≡ filter (λ place. int_le moment place.start) places.now }
+{
+    let at = places.partition_point(|place| i128::from(place.start) < moment);
+    &places[at..]
+}
+
+/// The places that begin before this moment.
+fn places_before(places: &[Place], moment: i128) -> &[Place]
+    ensures { Rises (λ place. place.start) places.now → result.now ≡ filter (λ place. int_lt place.start moment) places.now }
+{
+    let at = places.partition_point(|place| i128::from(place.start) < moment);
+    &places[..at]
+}
