@@ -10,8 +10,8 @@ use Rattle.registry_core.specs.Bookings.{is_answer_to, is_dropped}
 use Rattle.registry_core.specs.Numbered.{item_at, item_changed}
 use Rattle.registry_core.specs.State.{ended}
 use Rattle.desk_store.specs.declared.answers.Answers.{Answers}
-use Rattle.desk_store.specs.Answers.{is_naming, AreCounted}
-use Rattle.desk_store.specs.Tally.{count_in}
+use Rattle.desk_store.specs.steps.Answers.{is_naming, AreCounted}
+use Rattle.desk_store.specs.steps.Tally.{count_in}
 use Rattle.desk_store.proofs.Counted.{count_changed, count_has, set_is}
 
 byte_is : (b : Bool) → bool_byte b ≡ cond b 1 0

@@ -7,7 +7,7 @@ use Rattle.std.specs.Option.{option_map_or}
 use Rattle.std.proofs.lemmas.Int.{ints}
 use Rattle.std.proofs.lemmas.Bool.{both_ways}
 use Rattle.std.proofs.lemmas.List.Sorted.{IsPermutation-refl, IsPermutation-cons, IsPermutation-middle, IsPermutation-sym, IsPermutation-trans}
-use Rattle.desk_store.specs.ByKey.{put_before, put_after, in_order, NoneBelow, Rises}
+use Rattle.desk_store.specs.steps.ByKey.{put_before, put_after, in_order, NoneBelow, Rises}
 
 -- ---- of three numbers
 

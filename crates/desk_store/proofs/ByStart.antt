@@ -8,7 +8,7 @@ use Rattle.std.proofs.lemmas.Int.{ints}
 use Rattle.std.proofs.lemmas.List.Elements.{filter_agree}
 use Rattle.duty_core.specs.InOrder.{IsByStart}
 use Rattle.duty_core.specs.Use.{Interval}
-use Rattle.desk_store.specs.ByKey.{in_order}
+use Rattle.desk_store.specs.steps.ByKey.{in_order}
 use Rattle.desk_store.proofs.ByKey.{in_order_permutation, in_order_ascends, in_order_together}
 
 pub by_start : (xs : List Interval) → IsByStart xs (in_order (λ (a : Interval). a.start) xs)

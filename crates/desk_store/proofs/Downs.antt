@@ -11,9 +11,9 @@ use Rattle.registry_core.specs.Derived.{is_data_of}
 use Rattle.registry_core.specs.Numbered.{item_at, item_changed}
 use Rattle.registry_core.specs.State.{ended}
 use Rattle.desk_store.specs.declared.tally.Tally.{Tally}
-use Rattle.desk_store.specs.Answers.{is_naming}
-use Rattle.desk_store.specs.Tally.{count_in}
-use Rattle.desk_store.specs.Traffic.{AreDowns}
+use Rattle.desk_store.specs.steps.Answers.{is_naming}
+use Rattle.desk_store.specs.steps.Tally.{count_in}
+use Rattle.desk_store.specs.steps.Traffic.{AreDowns}
 use Rattle.desk_store.proofs.Counted.{count_cons, count_same}
 use Rattle.desk_store.proofs.Linked.{item_at-append, item_at_last, item_at_past}
 

@@ -2,7 +2,7 @@
 use Rattle.std.proofs.Common.{◌≡◌, ℕ, suc, ◌+◌, Bool, true, false, cond, List, [], ◌∷◌, ◌++◌, length, slice_get, Option, Some, None, option_map, option_and_then, refl, sym, ◌∙◌, ap, arith, add-zero}
 use Rattle.std.specs.Option.{option_or, unwrap_or}
 use Rattle.registry_core.specs.Numbered.{first_from, first_that, item_at}
-use Rattle.desk_store.specs.Uplinks.{number_of}
+use Rattle.desk_store.specs.steps.Uplinks.{number_of}
 
 -- ---- of one item more
 

@@ -7,8 +7,8 @@ use Rattle.registry_core.specs.declared.facts.Session.{Session}
 use Rattle.registry_core.specs.declared.facts.Uplink.{Uplink}
 use Rattle.registry_core.specs.Derived.{is_data, is_data_of, is_of_device, is_below_floor, last_counter}
 use Rattle.registry_core.specs.Numbered.{greatest}
-use Rattle.desk_store.specs.Sessions.{latest_of, same_before, is_later}
-use Rattle.desk_store.proofs.Walk.{later_step, later_none}
+use Rattle.desk_store.specs.steps.Sessions.{latest_of, same_before, is_later}
+use Rattle.desk_store.proofs.DeviceSessions.{later_step, later_none}
 
 -- ---- whether any passes
 

@@ -9,7 +9,7 @@ use Rattle.registry_core.specs.declared.facts.Uplink.{Uplink}
 use Rattle.registry_core.specs.Derived.{is_data_with, is_data_of}
 use Rattle.registry_core.specs.Numbered.{first_that}
 use Rattle.desk_store.specs.declared.uplink_index.UplinkIndex.{UplinkIndex}
-use Rattle.desk_store.specs.Uplinks.{is_join_of, number_of, same_pair, IsIndexOf}
+use Rattle.desk_store.specs.steps.Uplinks.{is_join_of, number_of, same_numbers, IsIndexOf}
 use Rattle.desk_store.proofs.FirstThat.{number_of-append}
 use Rattle.desk_store.proofs.Greatest.{greatest-append}
 
@@ -27,7 +27,7 @@ module _ (uplinks : List Uplink) (uplink : Uplink) (number : ℕ) (last : number
 
   module _ (old new : UplinkIndex) (was : IsIndexOf uplinks old) where
     pub join_noted : uplink.kind ≡ Join
-        → ((pair : ℕ × ℕ) → get same_pair new.joins pair ≡ (if same_pair (uplink.session, uplink.counter) pair then Some (unwrap_or (get same_pair old.joins pair) number) else get same_pair old.joins pair))
+        → ((pair : ℕ × ℕ) → get same_numbers new.joins pair ≡ (if same_numbers (uplink.session, uplink.counter) pair then Some (unwrap_or (get same_numbers old.joins pair) number) else get same_numbers old.joins pair))
         → new.frames ≡ old.frames → new.counters ≡ old.counters
         → IsIndexOf (uplinks ++ uplink ∷ []) new
     join_noted kind joins frames counters = record {
@@ -38,7 +38,7 @@ module _ (uplinks : List Uplink) (uplink : Uplink) (number : ℕ) (last : number
 
     pub data_noted : uplink.kind ≡ Data
         → new.joins ≡ old.joins
-        → ((pair : ℕ × ℕ) → get same_pair new.frames pair ≡ (if same_pair (uplink.session, uplink.counter) pair then Some (unwrap_or (get same_pair old.frames pair) number) else get same_pair old.frames pair))
+        → ((pair : ℕ × ℕ) → get same_numbers new.frames pair ≡ (if same_numbers (uplink.session, uplink.counter) pair then Some (unwrap_or (get same_numbers old.frames pair) number) else get same_numbers old.frames pair))
         → ((n : ℕ) → get nat_eq new.counters n ≡ (if nat_eq uplink.session n then Some (option_map_or (max uplink.counter) (get nat_eq old.counters n) uplink.counter) else get nat_eq old.counters n))
         → IsIndexOf (uplinks ++ uplink ∷ []) new
     data_noted kind joins frames counters = record {

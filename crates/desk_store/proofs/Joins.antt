@@ -6,10 +6,10 @@ use Rattle.registry_core.specs.declared.facts.Session.{Session}
 use Rattle.registry_core.specs.declared.facts.Uplink.{Uplink}
 use Rattle.registry_core.specs.Derived.{is_join, is_of_device, is_join_with, join_with}
 use Rattle.registry_core.specs.Numbered.{first_from, first_that}
-use Rattle.desk_store.specs.Sessions.{latest_of, same_before, is_later}
-use Rattle.desk_store.specs.Uplinks.{is_join_of, join_of, earlier_of}
+use Rattle.desk_store.specs.steps.Sessions.{latest_of, same_before, is_later}
+use Rattle.desk_store.specs.steps.Uplinks.{is_join_of, join_of, earlier_of}
 use Rattle.desk_store.proofs.FirstThat.{found_at}
-use Rattle.desk_store.proofs.Walk.{later_step, later_none, later_all}
+use Rattle.desk_store.proofs.DeviceSessions.{later_step, later_none, later_all}
 
 -- ---- the first that passes one test or another
 

@@ -9,7 +9,8 @@ use Rattle.registry_core.specs.declared.facts.Session.{Session}
 use Rattle.registry_core.specs.Derived.{is_of_device, is_session_of, last_nonce}
 use Rattle.registry_core.specs.Numbered.{item_at}
 use Rattle.desk_store.specs.declared.sessions.Link.{Link}
-use Rattle.desk_store.specs.Sessions.{greatest_below, latest_before, latest_of, same_before, sessions_of, AreLinked}
+use Rattle.desk_store.specs.Sessions.{sessions_of}
+use Rattle.desk_store.specs.steps.Sessions.{greatest_below, latest_before, latest_of, same_before, AreLinked}
 use Rattle.desk_store.proofs.Greatest.{greatest-append}
 
 -- ---- items of a list with one item more

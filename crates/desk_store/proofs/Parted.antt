@@ -4,7 +4,7 @@ use Rattle.std.specs.Prelude.{ℤ, pos, ◌+ℤ◌, int_lt, int_le, slice_index_
 use Rattle.std.specs.List.{AllWithin}
 use Rattle.std.specs.List.Sorted.{IsPartitionedBy, IsPartitionPoint}
 use Rattle.std.proofs.lemmas.Int.{ints}
-use Rattle.desk_store.specs.ByKey.{NoneBelow, Rises, put_after}
+use Rattle.desk_store.specs.steps.ByKey.{NoneBelow, Rises, put_after}
 
 -- ---- of three numbers
 

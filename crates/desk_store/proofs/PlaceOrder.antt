@@ -12,8 +12,8 @@ use Rattle.std.proofs.lemmas.List.Elements.{recursion_from_All, All-from_recursi
 use Rattle.std.proofs.lemmas.List.Sorted.{All-permutation, ranks_by, sorted_far, sum_by-IsPermutation}
 use Rattle.std.proofs.lemmas.List.Sums.{sum_by-cons}
 use Rattle.desk_store.specs.declared.start_index.Place.{Place}
-use Rattle.desk_store.specs.ByKey.{in_order, put_before}
-use Rattle.desk_store.specs.StartIndex.{numbered_from, place_of, places_that}
+use Rattle.desk_store.specs.steps.ByKey.{in_order, put_before}
+use Rattle.desk_store.specs.steps.StartIndex.{numbered_from, place_of, places_that}
 use Rattle.desk_store.proofs.ByKey.{in_order_permutation}
 
 -- ---- the order

@@ -10,8 +10,8 @@ use Rattle.std.proofs.lemmas.List.Elements.{filter_map-append}
 use Rattle.registry_core.specs.Numbered.{item_changed, place_changed}
 use Rattle.desk_store.specs.declared.start_index.Place.{Place}
 use Rattle.desk_store.specs.declared.start_index.StartIndex.{StartIndex}
-use Rattle.desk_store.specs.ByKey.{in_order, put_after, Rises}
-use Rattle.desk_store.specs.StartIndex.{numbered_from, place_of, places_in, places_that, IsStartIndex}
+use Rattle.desk_store.specs.steps.ByKey.{in_order, put_after, Rises}
+use Rattle.desk_store.specs.steps.StartIndex.{numbered_from, place_of, places_in, places_that, IsStartIndex}
 use Rattle.desk_store.proofs.ByKey.{in_order_more, in_order_rises}
 
 pub numbered_more : {X : Type 0} (first : ℕ) (xs : List X) (x : X) → numbered_from first (xs ++ x ∷ []) ≡ numbered_from first xs ++ (first + length xs, x) ∷ []

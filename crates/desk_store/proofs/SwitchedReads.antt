@@ -8,17 +8,17 @@ use Rattle.desk_store.specs.Calls.{IsRead, is_disk, is_foreign}
 use Rattle.desk_store.specs.Lists.{kept_of, lists_meaning}
 use Rattle.desk_store.specs.Switched.{switched_meaning}
 
-none_told : (b c : Bool) → false ≡ (b || false) → c ≡ (b || c)
-none_told true c h = cc
-none_told false c h = refl
+no_fault : (b c : Bool) → false ≡ (b || false) → c ≡ (b || c)
+no_fault true c h = cc
+no_fault false c h = refl
 
 pub read_through : (old k : Switched) (l : Lists) (fault : Option StoreFault) → IsRead switched_meaning old k None → IsRead lists_meaning k.lists l fault
     → IsRead switched_meaning old (record k { lists = l }) fault
 read_through old k l fault first second = record {
   same = second.same ∙ first.same;
   was_sound = λ sound. tt;
-  shut = none_told (is_disk fault) k.is_down second.shut ∙ ap (λ b. is_disk fault || b) first.shut;
-  strange = none_told (is_foreign fault) k.is_foreign second.strange ∙ ap (λ b. is_foreign fault || b) first.strange;
+  shut = no_fault (is_disk fault) k.is_down second.shut ∙ ap (λ b. is_disk fault || b) first.shut;
+  strange = no_fault (is_foreign fault) k.is_foreign second.strange ∙ ap (λ b. is_foreign fault || b) first.strange;
   reading = second.reading;
   held = λ kept sound held. let h = first.held kept tt held in (h.0, λ up. second.held kept tt (h.1 up));
   left = λ kept all sound held left. second.left (kept_of k.lists) all tt refl (first.left kept all tt held left);

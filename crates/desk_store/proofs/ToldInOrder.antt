@@ -8,22 +8,22 @@ use Rattle.duty_core.specs.InOrder.{IsByStart}
 use Rattle.duty_core.specs.Use.{Interval}
 use Rattle.registry_core.specs.Numbered.{item_at}
 use Rattle.desk_store.specs.declared.start_index.Place.{Place}
-use Rattle.desk_store.specs.ByKey.{in_order}
-use Rattle.desk_store.specs.StartIndex.{numbered_from, place_of, places_that}
+use Rattle.desk_store.specs.steps.ByKey.{in_order}
+use Rattle.desk_store.specs.steps.StartIndex.{numbered_from, place_of, places_that}
 use Rattle.desk_store.proofs.ByKey.{in_order_permutation, in_order_shown}
 use Rattle.desk_store.proofs.ByStart.{by_start}
 
 -- ---- some of a list, each shown as another
 
 -- x, if it passes
-abbrev pub kept : {X : Type 0} → (X → Bool) → X → Option X
-kept test x = cond (test x) (Some x) None
+abbrev pub passing : {X : Type 0} → (X → Bool) → X → Option X
+passing test x = cond (test x) (Some x) None
 
-pub filter_kept : {X : Type 0} (test : X → Bool) (xs : List X) → filter test xs ≡ filter_map (kept test) xs
+pub filter_kept : {X : Type 0} (test : X → Bool) (xs : List X) → filter test xs ≡ filter_map (passing test) xs
 filter_kept test [] = refl
 filter_kept {X} test (x ∷ xs) = by (test x) (filter_kept test xs)
   where
-    by : (b : Bool) → filter test xs ≡ filter_map (kept test) xs → cond b (x ∷ filter test xs) (filter test xs) ≡ cons_option (cond b (Some x) None) (filter_map (kept test) xs)
+    by : (b : Bool) → filter test xs ≡ filter_map (passing test) xs → cond b (x ∷ filter test xs) (filter test xs) ≡ cons_option (cond b (Some x) None) (filter_map (passing test) xs)
     by true rest = ap (λ ys. x ∷ ys) rest
     by false rest = rest
 
@@ -98,7 +98,7 @@ module _ {X : Type 0} (start : X → ℤ) where
 
       -- what is told at the places that pass
       abbrev told_at : Place → Option Interval
-      told_at place = option_and_then told (kept (λ (p : Place). test p.start) place)
+      told_at place = option_and_then told (passing (λ (p : Place). test p.start) place)
 
       told_by : (n : ℕ × X) (own passes : Bool) → item_at xs n.0 ≡ Some n.1
           → option_and_then (λ (p : Place). option_and_then told (cond passes (Some p) None)) (cond own (Some (record { start = start n.1; number = n.0 })) None)
@@ -123,7 +123,7 @@ module _ {X : Type 0} (start : X → ℤ) where
       told_in_order =
           ap (λ places. filter_map told (filter (λ (p : Place). test p.start) places)) (places_are owns xs)
           ∙ ap (filter_map told) (filter_kept (λ (p : Place). test p.start) (filter_map (place_of start owns) (in_order start_of (numbered_from 1 xs))))
-          ∙ shown_twice (kept (λ (p : Place). test p.start)) told (filter_map (place_of start owns) (in_order start_of (numbered_from 1 xs)))
+          ∙ shown_twice (passing (λ (p : Place). test p.start)) told (filter_map (place_of start owns) (in_order start_of (numbered_from 1 xs)))
           ∙ shown_twice (place_of start owns) told_at (in_order start_of (numbered_from 1 xs))
           ∙ shown_same _ (λ (n : ℕ × X). span_if n.1) (in_order start_of (numbered_from 1 xs)) all_told
           ∙ in_order_shown start_of (λ (a : Interval). a.start) (λ (n : ℕ × X). span_if n.1) span_start (numbered_from 1 xs)

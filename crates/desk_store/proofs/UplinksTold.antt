@@ -14,17 +14,17 @@ use Rattle.registry_core.specs.declared.facts.Uplink.{Uplink}
 use Rattle.registry_core.specs.Derived.{is_of_device}
 use Rattle.registry_core.specs.Reports.{in_band, interval_of, is_in_band, is_uplink_from, uplinks_from}
 use Rattle.desk_store.specs.declared.start_index.Place.{Place}
-use Rattle.desk_store.specs.ByKey.{in_order}
-use Rattle.desk_store.specs.Sessions.{is_later, latest_of, same_before}
-use Rattle.desk_store.specs.StartIndex.{is_place_in, numbered_from, place_of, places_that}
-use Rattle.desk_store.specs.UplinkPlaces.{is_sent_from, key_of, places_from, places_of, span_told}
-use Rattle.desk_store.specs.Uplinks.{same_pair}
+use Rattle.desk_store.specs.steps.ByKey.{in_order}
+use Rattle.desk_store.specs.steps.Sessions.{is_later, latest_of, same_before}
+use Rattle.desk_store.specs.steps.StartIndex.{is_place_in, numbered_from, place_of, places_that}
+use Rattle.desk_store.specs.steps.UplinkPlaces.{is_sent_from, key_of, places_from, uplink_places, uplink_span_at}
+use Rattle.desk_store.specs.steps.Uplinks.{same_numbers}
 use Rattle.desk_store.proofs.ByKey.{in_order_permutation, in_order_shown}
-use Rattle.desk_store.proofs.ToldInOrder.{all_kept, by_start_from, filter_kept, kept, shown_twice, span_if, told_in_order}
-use Rattle.desk_store.proofs.Walk.{later_all, later_none, later_step}
+use Rattle.desk_store.proofs.ToldInOrder.{all_kept, by_start_from, filter_kept, passing, shown_twice, span_if, told_in_order}
+use Rattle.desk_store.proofs.DeviceSessions.{later_all, later_none, later_step}
 
 -- pairs that are equal are one
-pub pair_told : (a b : ℕ × ℕ) → same_pair a b ≡ true → a ≡ b
+pub pair_told : (a b : ℕ × ℕ) → same_numbers a b ≡ true → a ≡ b
 pair_told a b same =
     let first : a.0 ≡ b.0 = eqb-true a.0 b.0 (first_so (a.0 == b.0) (a.1 == b.1) same) in
     let second : a.1 ≡ b.1 = eqb-true a.1 b.1 (second_so (a.0 == b.0) (a.1 == b.1) same) in
@@ -71,7 +71,7 @@ module _ {X : Type 0} (start : X → ℤ) where
       (IsPermutation-append (found q ns) (in_order key (found q ns)) (found p ns) (in_order key (found p ns))
       (in_order_permutation key (found q ns)) (in_order_permutation key (found p ns))))
 
-  kept_start : (test : ℤ → Bool) (p q : Place) → kept (λ (r : Place). test r.start) p ≡ Some q → q.start ≡ p.start
+  kept_start : (test : ℤ → Bool) (p q : Place) → passing (λ (r : Place). test r.start) p ≡ Some q → q.start ≡ p.start
   kept_start test p q is = by (test p.start) is
     where
       by : (b : Bool) → cond b (Some p) None ≡ Some q → q.start ≡ p.start
@@ -79,10 +79,10 @@ module _ {X : Type 0} (start : X → ℤ) where
       by false told = let no : ⊥ = cc in absurd no
 
   kept_place : (test : X → Bool) (passes : ℤ → Bool) (n : ℕ × X)
-      → option_and_then (kept (λ (p : Place). passes p.start)) (place_of start test n) ≡ place_of start (λ x. test x && passes (start x)) n
+      → option_and_then (passing (λ (p : Place). passes p.start)) (place_of start test n) ≡ place_of start (λ x. test x && passes (start x)) n
   kept_place test passes n = by (test n.1)
     where
-      by : (b : Bool) → option_and_then (kept (λ (p : Place). passes p.start)) (cond b (Some (record { start = start n.1; number = n.0 })) None)
+      by : (b : Bool) → option_and_then (passing (λ (p : Place). passes p.start)) (cond b (Some (record { start = start n.1; number = n.0 })) None)
           ≡ cond (b && passes (start n.1)) (Some (record { start = start n.1; number = n.0 })) None
       by true = refl
       by false = refl
@@ -92,7 +92,7 @@ module _ {X : Type 0} (start : X → ℤ) where
       → filter (λ (p : Place). passes p.start) (places_that start test xs) ≡ places_that start (λ x. test x && passes (start x)) xs
   places_kept test passes xs =
       let key = λ (p : Place). p.start in
-      let keep : Place → Option Place = kept (λ (p : Place). passes p.start) in
+      let keep : Place → Option Place = passing (λ (p : Place). passes p.start) in
       filter_kept (λ (p : Place). passes p.start) (places_that start test xs)
       ∙ in_order_shown key key keep (kept_start passes) (found test (numbered_from 1 xs))
       ∙ ap (in_order key) (shown_twice (place_of start test) keep (numbered_from 1 xs)
@@ -110,7 +110,7 @@ module _ (uplinks : List Uplink) (sessions : List Session) (dev_eui : ℕ) (band
 
   -- and one of session n
   abbrev is_sent_in : ℕ → Uplink → Bool
-  is_sent_in n uplink = same_pair (key_of uplink) (n, band_number band) && (int_le from (pos uplink.start) && int_lt (pos uplink.start) to)
+  is_sent_in n uplink = same_numbers (key_of uplink) (n, band_number band) && (int_le from (pos uplink.start) && int_lt (pos uplink.start) to)
 
   -- where those stand that come after session n
   abbrev pub places_later : ℕ → List Place
@@ -150,11 +150,11 @@ module _ (uplinks : List Uplink) (sessions : List Session) (dev_eui : ℕ) (band
         (here_apart n u.session (u.session == n) refl)
 
     -- those that come after the session before it are those after it, and its own
-    pub places_step : (ps own_ps : List Place) → IsPermutation (places_later n) ps → own_ps ≡ filter (is_place_in from to) (places_of uplinks n band)
+    pub places_step : (ps own_ps : List Place) → IsPermutation (places_later n) ps → own_ps ≡ filter (is_place_in from to) (uplink_places uplinks n band)
         → IsPermutation (places_later (same_before sessions n)) (ps ++ own_ps)
     places_step ps own_ps same told =
         let own_are : own_ps ≡ places_that started (is_sent_in n) uplinks =
-        told ∙ places_kept started (λ u. same_pair (key_of u) (n, band_number band)) (λ s. int_le from s && int_lt s to) uplinks in
+        told ∙ places_kept started (λ u. same_numbers (key_of u) (n, band_number band)) (λ s. int_le from s && int_lt s to) uplinks in
         let P : List Place → Type 0 = λ all. IsPermutation all (ps ++ own_ps) in
         let Q : List Place → Type 0 = λ here. IsPermutation (places_that started (λ u. is_sent_in n u || is_sent_later n u) uplinks) (ps ++ here) in
         subst P (sym (λ i. places_that started (λ u. sent_step u i) uplinks))
@@ -195,10 +195,10 @@ module _ (uplinks : List Uplink) (sessions : List Session) (dev_eui : ℕ) (band
   spans_sent [] = refl
   spans_sent (u ∷ us) = ap (cons_option (span_sent u)) (spans_sent us) ∙ sent_by u us (is_uplink_from sessions dev_eui from to u) (is_in_band band u) refl
 
-  pub uplinks_told : (spans : List Interval) → spans ≡ filter_map (span_told uplinks) (places_from uplinks sessions dev_eui band from to)
+  pub uplinks_told : (spans : List Interval) → spans ≡ filter_map (uplink_span_at uplinks) (places_from uplinks sessions dev_eui band from to)
       → IsByStart (in_band band (uplinks_from uplinks sessions dev_eui from to)) spans
   uplinks_told spans is =
       by_start_from (in_band band (uplinks_from uplinks sessions dev_eui from to)) spans
-      (is ∙ ap (filter_map (span_told uplinks)) (sym (all_kept (places_from uplinks sessions dev_eui band from to)))
+      (is ∙ ap (filter_map (uplink_span_at uplinks)) (sym (all_kept (places_from uplinks sessions dev_eui band from to)))
       ∙ told_in_order started (is_sent_from sessions dev_eui band from to) own_span own_start (λ s. true) uplinks
       ∙ ap (in_order (λ (a : Interval). a.start)) (spans_sent uplinks))

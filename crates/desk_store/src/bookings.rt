@@ -5,8 +5,8 @@ ghost use Rattle.duty_core.specs.InOrder.{IsByStart};
 ghost use Rattle.registry_core.specs.Bookings.{downlinks_in, is_answered};
 ghost use Rattle.registry_core.specs.Numbered.{item_at, item_changed};
 ghost use Rattle.registry_core.specs.State.{ended};
-ghost use Rattle.desk_store.specs.Answers.{is_naming};
-ghost use Rattle.desk_store.specs.BookingPlaces.{is_on_air, span_told};
+ghost use Rattle.desk_store.specs.steps.Answers.{is_naming};
+ghost use Rattle.desk_store.specs.steps.BookingPlaces.{is_on_air, booking_span_at};
 ghost use Rattle.desk_store.specs.Lookups.{downlinks_near};
 
 use crate::answers::Answers;
@@ -32,8 +32,8 @@ impl Model for Bookings {
 
     ghost Value = { List BookingValue };
 
-    ghost use Rattle.desk_store.specs.Answers.{AreCounted};
-    ghost use Rattle.desk_store.specs.BookingPlaces.{IsBookingIndex};
+    ghost use Rattle.desk_store.specs.steps.Answers.{AreCounted};
+    ghost use Rattle.desk_store.specs.steps.BookingPlaces.{IsBookingIndex};
 
     ghost view = { λ b. b.items.items };
 
@@ -171,8 +171,8 @@ fn is_on_air(booking: &Booking, band: Option<Band>) -> bool
 }
 
 /// When the booking that stands there is on the air, if it isn't dropped, and is in the band if one is given.
-fn span_told(bookings: &[Booking], place: &Place, band: Option<Band>) -> Option<Span>
-    ensures { result ≡ span_told bookings.now band place.now }
+fn booking_span_at(bookings: &[Booking], place: &Place, band: Option<Band>) -> Option<Span>
+    ensures { result ≡ booking_span_at bookings.now band place.now }
 {
     let booking = item_at(bookings, place.number)?;
     is_on_air(&booking, band).then_some(booking.span)
@@ -186,11 +186,11 @@ fn spans_at(
     places: &[Place],
     band: Option<Band>,
 ) -> Result<Vec<Span>, AllocError>
-    ensures { IfOk result (λ spans. spans.items ≡ filter_map (span_told bookings.now band) places.now) }
+    ensures { IfOk result (λ spans. spans.items ≡ filter_map (booking_span_at bookings.now band) places.now) }
 {
     let mut spans = Vec::new(alloc);
     for place in places {
-        if let Some(span) = span_told(bookings, place, band) {
+        if let Some(span) = booking_span_at(bookings, place, band) {
             spans.push(span)?;
         }
     }

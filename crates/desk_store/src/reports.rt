@@ -4,7 +4,7 @@ ghost use Rattle.std.specs.Option.{option_map_or};
 ghost use Rattle.duty_core.specs.InOrder.{IsByStart};
 ghost use Rattle.registry_core.specs.Reports.{in_band, is_after, is_owned, uplinks_from, IsNextDevice};
 ghost use Rattle.desk_store.specs.Facts.{facts_of};
-ghost use Rattle.desk_store.specs.UplinkPlaces.{places_from};
+ghost use Rattle.desk_store.specs.steps.UplinkPlaces.{places_from};
 
 use crate::facts::Facts;
 use crate::sessions::Sessions;

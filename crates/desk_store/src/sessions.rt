@@ -36,7 +36,8 @@ impl Model for Sessions {
     ghost use Rattle.std.specs.Prelude.{◌-◌, min, nat_eq};
     ghost use Rattle.std.specs.Vec.{vec_len, vec_capacity};
     ghost use Rattle.indexmap.specs.IndexMap.{get, spare};
-    ghost use Rattle.desk_store.specs.Sessions.{sessions_of, AreLinked};
+    ghost use Rattle.desk_store.specs.Sessions.{sessions_of};
+    ghost use Rattle.desk_store.specs.steps.Sessions.{AreLinked};
 
     ghost view = { λ s. record { items = sessions_of s.links.items; room = min (vec_capacity s.links - vec_len s.links) (min (spare s.latest) (spare s.nonces)) } };
 
@@ -44,7 +45,7 @@ impl Model for Sessions {
 }
 
 impl Sessions {
-    ghost use Rattle.desk_store.specs.Sessions.{latest_of, same_before};
+    ghost use Rattle.desk_store.specs.steps.Sessions.{latest_of, same_before};
 
     pub(crate) fn new(alloc: Global) -> Sessions
         ensures { result.items ≡ [] }

@@ -1,7 +1,7 @@
 //! Where the items of one key stand in order of time, found without looking through the others.
 ghost use Rattle.std.specs.Prelude.{◌≡◌, ◌+◌, [], ◌∷◌, int_le, int_lt, OnOk, OnErr, filter, if◌then◌else◌};
-ghost use Rattle.desk_store.specs.ByKey.{Rises, put_after};
-ghost use Rattle.desk_store.specs.StartIndex.{is_near_place, is_place_in, places_in};
+ghost use Rattle.desk_store.specs.steps.ByKey.{Rises, put_after};
+ghost use Rattle.desk_store.specs.steps.StartIndex.{is_near_place, is_place_in, places_in};
 
 use duty_core::NEAR_REACH;
 use indexmap::IndexMap;

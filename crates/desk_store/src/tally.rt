@@ -1,7 +1,7 @@
 //! Counts by number.
 ghost use Rattle.std.specs.Prelude.{◌≡◌, ◌≤◌, ◌==◌, ℕ, IsOk, OnOk, OnErr, if◌then◌else◌};
 ghost use Rattle.indexmap.specs.IndexMap.{spare};
-ghost use Rattle.desk_store.specs.Tally.{count_in};
+ghost use Rattle.desk_store.specs.steps.Tally.{count_in};
 
 use indexmap::IndexMap;
 use std::alloc::{AllocError, Global};

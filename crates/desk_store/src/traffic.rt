@@ -6,7 +6,7 @@ ghost use Rattle.registry_core.specs.Bookings.{next_down};
 ghost use Rattle.registry_core.specs.Derived.{is_data_of};
 ghost use Rattle.registry_core.specs.Numbered.{item_changed};
 ghost use Rattle.registry_core.specs.State.{ended};
-ghost use Rattle.desk_store.specs.Tally.{count_in};
+ghost use Rattle.desk_store.specs.steps.Tally.{count_in};
 
 use crate::bookings::Bookings;
 use crate::tally::Tally;
@@ -25,7 +25,8 @@ pub(crate) struct Traffic {
 }
 
 impl Model for Traffic {
-    ghost use Rattle.desk_store.specs.Traffic.{TrafficSeen, AreDowns};
+    ghost use Rattle.desk_store.specs.Traffic.{TrafficSeen};
+    ghost use Rattle.desk_store.specs.steps.Traffic.{AreDowns};
 
     ghost Value = { TrafficSeen };
 

@@ -3,7 +3,7 @@ ghost use Rattle.std.specs.Prelude.{◌≡◌, ◌+◌, ◌≤◌, [], ◌∷◌
 ghost use Rattle.std.specs.Option.{option_map_or, unwrap_or};
 ghost use Rattle.indexmap.specs.IndexMap.{get, spare, IsUnchanged};
 ghost use Rattle.registry_core.specs.declared.facts.Uplink.{Uplink};
-ghost use Rattle.desk_store.specs.Uplinks.{same_pair, index_room, IsIndexOf};
+ghost use Rattle.desk_store.specs.steps.Uplinks.{same_numbers, index_room, IsIndexOf};
 
 use indexmap::IndexMap;
 use registry_core::{Kind, Uplink};
@@ -65,8 +65,8 @@ fn note_first(
     counter: u32,
     number: u64,
 ) -> Result<(), AllocError>
-    ensures noted { OnOk result ((pair : ℕ × ℕ) → get same_pair numbers.new pair
-        ≡ (if same_pair (session, counter) pair then Some (unwrap_or (get same_pair numbers.old pair) number) else get same_pair numbers.old pair)) }
+    ensures noted { OnOk result ((pair : ℕ × ℕ) → get same_numbers numbers.new pair
+        ≡ (if same_numbers (session, counter) pair then Some (unwrap_or (get same_numbers numbers.old pair) number) else get same_numbers numbers.old pair)) }
     ensures succeeds { 1 ≤ spare numbers.old → IsOk result }
 {
     let first = numbers.get(&(session, counter)).copied().unwrap_or(number);

@@ -5,8 +5,8 @@ ghost use Rattle.std.specs.List.{filter_map};
 ghost use Rattle.registry_core.specs.Derived.{data_with, last_counter};
 ghost use Rattle.registry_core.specs.Numbered.{item_at};
 ghost use Rattle.registry_core.specs.Reports.{interval_of};
-ghost use Rattle.desk_store.specs.StartIndex.{is_place_in};
-ghost use Rattle.desk_store.specs.UplinkPlaces.{places_of, span_told};
+ghost use Rattle.desk_store.specs.steps.StartIndex.{is_place_in};
+ghost use Rattle.desk_store.specs.steps.UplinkPlaces.{uplink_places, uplink_span_at};
 
 use crate::lookups::item_at;
 use crate::reports::Period;
@@ -33,8 +33,8 @@ impl Model for Uplinks {
 
     ghost Value = { List UplinkValue };
 
-    ghost use Rattle.desk_store.specs.UplinkPlaces.{AreStarts};
-    ghost use Rattle.desk_store.specs.Uplinks.{IsIndexOf};
+    ghost use Rattle.desk_store.specs.steps.UplinkPlaces.{AreStarts};
+    ghost use Rattle.desk_store.specs.steps.Uplinks.{IsIndexOf};
 
     ghost view = { λ u. u.items.items };
 
@@ -43,7 +43,7 @@ impl Model for Uplinks {
 
 impl Uplinks {
     ghost use Rattle.std.specs.Prelude.{ℕ, Some};
-    ghost use Rattle.desk_store.specs.Uplinks.{join_of};
+    ghost use Rattle.desk_store.specs.steps.Uplinks.{join_of};
 
     pub(crate) fn new(alloc: Global) -> Uplinks
         ensures { result ≡ [] }
@@ -117,7 +117,7 @@ impl Uplinks {
 
     /// Where the session's uplinks in the band stand that start in the period.
     pub(crate) fn places(&self, session: u64, band: Band, period: &Period) -> &[Place]
-        ensures { result.now ≡ filter (is_place_in period.now.from period.now.to) (places_of self.now session band) }
+        ensures { result.now ≡ filter (is_place_in period.now.from period.now.to) (uplink_places self.now session band) }
     {
         places_between(
             self.starts.places(&(session, band.get())),
@@ -128,7 +128,7 @@ impl Uplinks {
 
     /// When the uplinks that stand there were on the air, in the places' order.
     pub(crate) fn spans_at(&self, alloc: Global, places: &[Place]) -> Result<Vec<Span>, AllocError>
-        ensures { IfOk result (λ spans. spans.items ≡ filter_map (span_told self.now) places.now) }
+        ensures { IfOk result (λ spans. spans.items ≡ filter_map (uplink_span_at self.now) places.now) }
     {
         let mut spans = Vec::new(alloc);
         for place in places {

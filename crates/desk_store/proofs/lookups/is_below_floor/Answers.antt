@@ -3,7 +3,7 @@ use Rattle.std.specs.List.{list_any}
 use Rattle.std.proofs.lemmas.Bool.{or_from}
 use Rattle.registry_core.specs.Derived.{is_data_of}
 use Rattle.desk_store.proofs.Floor.{some_counter, floor_none, floor_step, floor_found, floor_lower}
-use Rattle.desk_store.proofs.Walk.{latest_is_own, before_less, before_is_own}
+use Rattle.desk_store.proofs.DeviceSessions.{latest_is_own, before_less, before_is_own}
 use Rattle.desk_store.proofs.lookups.is_below_floor.Goals as goal
 
 pub loop-number-init : goal.loop-number-init

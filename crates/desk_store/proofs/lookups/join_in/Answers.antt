@@ -1,8 +1,8 @@
 use Rattle.std.proofs.Common.{◌≡◌, ◌∙◌, sym, ap, arith}
 use Rattle.registry_core.specs.Numbered.{first_that}
-use Rattle.desk_store.specs.Uplinks.{join_of, earlier_of}
+use Rattle.desk_store.specs.steps.Uplinks.{join_of, earlier_of}
 use Rattle.desk_store.proofs.Joins.{is_later_join, join_none, join_step, join_all}
-use Rattle.desk_store.proofs.Walk.{latest_is_own, before_less, before_is_own}
+use Rattle.desk_store.proofs.DeviceSessions.{latest_is_own, before_less, before_is_own}
 use Rattle.desk_store.proofs.lookups.join_in.Goals as goal
 
 pub loop-number-init : goal.loop-number-init

@@ -3,7 +3,7 @@ use Rattle.std.specs.Prelude.{int_le, int_lt, filter}
 use Rattle.std.specs.Int.{w128}
 use Rattle.std.proofs.lemmas.Int.{to_z-of_z}
 use Rattle.desk_store.specs.declared.start_index.Place.{Place}
-use Rattle.desk_store.specs.ByKey.{Rises}
+use Rattle.desk_store.specs.steps.ByKey.{Rises}
 use Rattle.desk_store.proofs.Parted.{filter_twice, rises_filter}
 use Rattle.desk_store.proofs.start_index.places_between.Goals as goal
 

@@ -5,7 +5,7 @@ use Rattle.std.proofs.lemmas.List.Elements.{filter_agree}
 use Rattle.duty_core.specs.Near.{greatest_length}
 use Rattle.duty_core.specs.Use.{hour}
 use Rattle.desk_store.specs.declared.start_index.Place.{Place}
-use Rattle.desk_store.specs.StartIndex.{is_near_place, is_place_in}
+use Rattle.desk_store.specs.steps.StartIndex.{is_near_place, is_place_in}
 use Rattle.desk_store.proofs.Parted.{after_is}
 use Rattle.desk_store.proofs.start_index.places_near.Goals as goal
 

@@ -5,8 +5,8 @@ use mir.Val.{bool_byte}
 use Rattle.registry_core.specs.Numbered.{item_changed}
 use Rattle.registry_core.specs.State.{ended}
 use Rattle.desk_store.specs.declared.answers.Answers.{Answers}
-use Rattle.desk_store.specs.Answers.{AreCounted}
-use Rattle.desk_store.specs.Tally.{count_in}
+use Rattle.desk_store.specs.steps.Answers.{AreCounted}
+use Rattle.desk_store.specs.steps.Tally.{count_in}
 use Rattle.desk_store.proofs.Answered.{ended_counted}
 use Rattle.desk_store.proofs.answers.Answers.end.Goals as goal
 

@@ -4,9 +4,9 @@ use Rattle.std.proofs.lemmas.List.{take_at}
 use Rattle.registry_core.specs.declared.facts.Booking.{Booking}
 use Rattle.registry_core.specs.Numbered.{item_at, item_changed}
 use Rattle.registry_core.specs.State.{ended}
-use Rattle.desk_store.specs.Answers.{AreCounted}
-use Rattle.desk_store.specs.BookingPlaces.{IsBookingIndex}
-use Rattle.desk_store.specs.StartIndex.{places_in}
+use Rattle.desk_store.specs.steps.Answers.{AreCounted}
+use Rattle.desk_store.specs.steps.BookingPlaces.{IsBookingIndex}
+use Rattle.desk_store.specs.steps.StartIndex.{places_in}
 use Rattle.desk_store.proofs.ItemChanged.{item_changed_absent}
 use Rattle.desk_store.proofs.Placed.{index_changed}
 use Rattle.desk_store.proofs.bookings.Bookings.end.Goals as goal

@@ -5,9 +5,9 @@ use Rattle.std.proofs.lemmas.Result.{IfOk-weaker}
 use Rattle.duty_core.specs.InOrder.{IsByStart}
 use Rattle.registry_core.specs.declared.facts.Booking.{Booking}
 use Rattle.desk_store.specs.declared.start_index.Place.{Place}
-use Rattle.desk_store.specs.BookingPlaces.{places_of, span_told}
-use Rattle.desk_store.specs.StartIndex.{is_near_place}
-use Rattle.desk_store.specs.ByKey.{Rises}
+use Rattle.desk_store.specs.steps.BookingPlaces.{booking_places, booking_span_at}
+use Rattle.desk_store.specs.steps.StartIndex.{is_near_place}
+use Rattle.desk_store.specs.steps.ByKey.{Rises}
 use Rattle.desk_store.specs.Lookups.{downlinks_near}
 use Rattle.desk_store.proofs.Placed.{places_rise}
 use Rattle.desk_store.proofs.BookingsTold.{near_told}
@@ -17,11 +17,11 @@ pub returns : goal.returns
 returns c =
     let items = c.self.inside.items.items in
     let gateway = c.args.gateway.now in
-    let places : c.places.result.now ≡ places_of items gateway = c.places.ensures ∙ c.self.invariant.0.places gateway in
+    let places : c.places.result.now ≡ booking_places items gateway = c.places.ensures ∙ c.self.invariant.0.places gateway in
     let R : List Place → Type 0 = Rises (λ place. place.start) in
-    let near : c.places_near.result.now ≡ filter (is_near_place c.args.start) (places_of items gateway) =
+    let near : c.places_near.result.now ≡ filter (is_near_place c.args.start) (booking_places items gateway) =
     c.places_near.ensures (subst R (sym places) (places_rise (λ (b : Booking). b.span.start) (λ b. bytes_eq b.gateway gateway) items)) ∙ ap (filter (is_near_place c.args.start)) places in
     IfOk-weaker c.spans_at.result _ _
     (λ spans is. let P : List Booking → Type 0 = λ bookings. IsByStart (downlinks_near bookings gateway c.args.band c.args.start) spans.items in
-    subst P c.self.view_is (near_told items gateway c.args.band c.args.start spans.items (is ∙ (λ i. filter_map (span_told (c.deref.ensures.value i) c.args.band) (near i)))))
+    subst P c.self.view_is (near_told items gateway c.args.band c.args.start spans.items (is ∙ (λ i. filter_map (booking_span_at (c.deref.ensures.value i) c.args.band) (near i)))))
     c.spans_at.ensures

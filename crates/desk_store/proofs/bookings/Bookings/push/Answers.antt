@@ -3,10 +3,10 @@ use Rattle.std.specs.Prelude.{bytes_eq}
 use Rattle.std.proofs.lemmas.Slice.Eq.{bytes_eq-Decides}
 use Rattle.registry_core.specs.declared.facts.Booking.{Booking}
 use Rattle.desk_store.specs.declared.start_index.Place.{Place}
-use Rattle.desk_store.specs.Answers.{AreCounted}
-use Rattle.desk_store.specs.BookingPlaces.{IsBookingIndex}
-use Rattle.desk_store.specs.ByKey.{Rises}
-use Rattle.desk_store.specs.StartIndex.{places_in}
+use Rattle.desk_store.specs.steps.Answers.{AreCounted}
+use Rattle.desk_store.specs.steps.BookingPlaces.{IsBookingIndex}
+use Rattle.desk_store.specs.steps.ByKey.{Rises}
+use Rattle.desk_store.specs.steps.StartIndex.{places_in}
 use Rattle.desk_store.proofs.Placed.{index_noted, places_rise}
 use Rattle.desk_store.proofs.bookings.Bookings.push.Goals as goal
 

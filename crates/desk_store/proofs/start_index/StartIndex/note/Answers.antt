@@ -3,8 +3,8 @@ use Rattle.std.specs.Option.{option_map_or}
 use Rattle.std.proofs.lemmas.Result.{on_ok_weaker, on_err_weaker}
 use Rattle.indexmap.specs.IndexMap.{get}
 use Rattle.desk_store.specs.declared.start_index.Place.{Place}
-use Rattle.desk_store.specs.StartIndex.{places_in}
-use Rattle.desk_store.specs.ByKey.{Rises, put_after}
+use Rattle.desk_store.specs.steps.StartIndex.{places_in}
+use Rattle.desk_store.specs.steps.ByKey.{Rises, put_after}
 use Rattle.desk_store.proofs.Placed.{shown_written, told_same}
 use Rattle.desk_store.proofs.start_index.StartIndex.note.Goals as goal
 

@@ -1,7 +1,7 @@
 use Rattle.std.proofs.Common.{◌∙◌, ◌+◌, ap, refl}
 use Rattle.std.specs.Prelude.{count_by}
-use Rattle.desk_store.specs.Answers.{is_naming}
-use Rattle.desk_store.specs.Traffic.{AreDowns}
+use Rattle.desk_store.specs.steps.Answers.{is_naming}
+use Rattle.desk_store.specs.steps.Traffic.{AreDowns}
 use Rattle.desk_store.proofs.Downs.{downs_same, uplink_counted}
 use Rattle.desk_store.proofs.traffic.Traffic.push_uplink.Goals as goal
 

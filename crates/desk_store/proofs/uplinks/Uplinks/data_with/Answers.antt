@@ -1,6 +1,6 @@
 use Rattle.std.proofs.Common.{◌∙◌, ap}
 use Rattle.registry_core.specs.Derived.{is_data_with, data_with}
-use Rattle.desk_store.specs.Uplinks.{number_of}
+use Rattle.desk_store.specs.steps.Uplinks.{number_of}
 use Rattle.desk_store.proofs.FirstThat.{numbered_first}
 use Rattle.desk_store.proofs.uplinks.Uplinks.data_with.Goals as goal
 

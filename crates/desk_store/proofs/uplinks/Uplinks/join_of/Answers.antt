@@ -1,5 +1,5 @@
 use Rattle.std.proofs.Common.{◌∙◌, ap}
-use Rattle.desk_store.specs.Uplinks.{is_join_of, join_of, number_of}
+use Rattle.desk_store.specs.steps.Uplinks.{is_join_of, join_of, number_of}
 use Rattle.desk_store.proofs.FirstThat.{numbered_first}
 use Rattle.desk_store.proofs.uplinks.Uplinks.join_of.Goals as goal
 

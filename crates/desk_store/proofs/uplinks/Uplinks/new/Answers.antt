@@ -1,7 +1,7 @@
 use Rattle.std.proofs.Common.{◌≡◌, List, [], subst, sym, rules}
 use Rattle.registry_core.specs.declared.facts.Uplink.{Uplink}
-use Rattle.desk_store.specs.UplinkPlaces.{AreStarts}
-use Rattle.desk_store.specs.Uplinks.{IsIndexOf}
+use Rattle.desk_store.specs.steps.UplinkPlaces.{AreStarts}
+use Rattle.desk_store.specs.steps.Uplinks.{IsIndexOf}
 use Rattle.desk_store.proofs.uplinks.Uplinks.new.Goals as goal
 
 pub invariant_of-result : goal.invariant_of-result

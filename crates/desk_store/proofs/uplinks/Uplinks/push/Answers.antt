@@ -2,10 +2,10 @@ use Rattle.std.proofs.Common.{◌≡◌, ◌+◌, ◌∙◌, length, subst, sym,
 use Rattle.std.specs.Prelude.{pos}
 use Rattle.registry_core.specs.declared.facts.Uplink.{Uplink}
 use Rattle.desk_store.specs.declared.start_index.Place.{Place}
-use Rattle.desk_store.specs.ByKey.{Rises}
-use Rattle.desk_store.specs.StartIndex.{places_in}
-use Rattle.desk_store.specs.UplinkPlaces.{AreStarts, key_of}
-use Rattle.desk_store.specs.Uplinks.{same_pair, IsIndexOf}
+use Rattle.desk_store.specs.steps.ByKey.{Rises}
+use Rattle.desk_store.specs.steps.StartIndex.{places_in}
+use Rattle.desk_store.specs.steps.UplinkPlaces.{AreStarts, key_of}
+use Rattle.desk_store.specs.steps.Uplinks.{same_numbers, IsIndexOf}
 use Rattle.desk_store.proofs.Indexed.{index_unchanged}
 use Rattle.desk_store.proofs.Placed.{index_noted, index_same, places_rise}
 use Rattle.desk_store.proofs.UplinksTold.{pair_told}
@@ -16,7 +16,7 @@ invariant_of-self-in_err-note c =
     let items = c.self.inside.items.items in
     let room = index_unchanged items c.self.inside.index c.make_room.new.self c.self.invariant.0 c.make_room.ensures.joins c.make_room.ensures.frames c.make_room.ensures.counters in
     let starts : AreStarts items c.note.new.self =
-    index_same (λ (u : Uplink). pos u.start) same_pair key_of items (places_in same_pair c.self.inside.starts) (places_in same_pair c.note.new.self) c.self.invariant.1 c.in_err-note.ensures.err in
+    index_same (λ (u : Uplink). pos u.start) same_numbers key_of items (places_in same_numbers c.self.inside.starts) (places_in same_numbers c.note.new.self) c.self.invariant.1 c.in_err-note.ensures.err in
     let P : List Uplink → Type 0 = λ uplinks. IsIndexOf uplinks c.make_room.new.self × AreStarts uplinks c.note.new.self in
     subst P (sym c.reserve.ensures.items) (room, starts)
 
@@ -28,12 +28,12 @@ invariant_of-self-2 c =
     let count : c.len.result ≡ length items = omega arith in
     let last : c.len.result + 1 ≡ length items + 1 = omega arith in
     let R : List Place → Type 0 = Rises (λ place. place.start) in
-    let rise = subst R (sym (c.self.invariant.1.places (key_of uplink))) (places_rise start (λ u. same_pair (key_of u) (key_of uplink)) items) in
+    let rise = subst R (sym (c.self.invariant.1.places (key_of uplink))) (places_rise start (λ u. same_numbers (key_of u) (key_of uplink)) items) in
     let room = index_unchanged items c.self.inside.index c.make_room.new.self c.self.invariant.0 c.make_room.ensures.joins c.make_room.ensures.frames c.make_room.ensures.counters in
     let key_is : (uplink.session, c.get.result) ≡ key_of uplink = (λ i. (uplink.session, c.get.ensures i)) in
     let starts : AreStarts (items ++ uplink ∷ []) c.note.new.self =
-    index_noted start same_pair key_of pair_told items uplink (uplink.session, c.get.result) c.place_of.result
-    (places_in same_pair c.self.inside.starts) (places_in same_pair c.note.new.self) key_is
+    index_noted start same_numbers key_of pair_told items uplink (uplink.session, c.get.result) c.place_of.result
+    (places_in same_numbers c.self.inside.starts) (places_in same_numbers c.note.new.self) key_is
     (c.place_of.ensures ∙ (λ i. record { start = pos uplink.start; number = count i + 1 })) c.self.invariant.1
     (c.in_ok-note.ensures.noted (rw key_is rise)) in
     let all : c.push.new.self.items ≡ items ++ uplink ∷ [] = search rules in

@@ -1,8 +1,8 @@
 use Rattle.std.proofs.Common.{◌≡◌, ◌++◌, drop}
 use Rattle.std.specs.List.{filter_map}
-use Rattle.desk_store.specs.UplinkPlaces.{span_told}
+use Rattle.desk_store.specs.steps.UplinkPlaces.{uplink_span_at}
 use Rattle.desk_store.proofs.uplinks.Uplinks.spans_at.Given as goal
 
 -- what was told and what is told at the places still to come
 abbrev pub invariant-loop-place : goal.invariant-loop-place
-invariant-loop-place l = l.spans.items ++ filter_map (span_told l.self) (drop l.place-index l.places) ≡ filter_map (span_told l.self) l.places
+invariant-loop-place l = l.spans.items ++ filter_map (uplink_span_at l.self) (drop l.place-index l.places) ≡ filter_map (uplink_span_at l.self) l.places

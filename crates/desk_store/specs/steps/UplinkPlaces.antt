@@ -9,24 +9,24 @@ use Rattle.registry_core.specs.Numbered.{item_at}
 use Rattle.registry_core.specs.Reports.{interval_of, is_in_band, is_uplink_from}
 use Rattle.desk_store.specs.declared.start_index.Place.{Place}
 use Rattle.desk_store.specs.declared.start_index.StartIndex.{StartIndex}
-use Rattle.desk_store.specs.StartIndex.{places_in, places_that, IsStartIndex}
-use Rattle.desk_store.specs.Uplinks.{same_pair}
+use Rattle.desk_store.specs.steps.StartIndex.{places_in, places_that, IsStartIndex}
+use Rattle.desk_store.specs.steps.Uplinks.{same_numbers}
 
 -- the session and the number of the band by which an uplink is found
 abbrev pub key_of : Uplink → ℕ × ℕ
 key_of uplink = (uplink.session, band_number uplink.band)
 
 -- where the session's uplinks in the band stand
-abbrev pub places_of : List Uplink → ℕ → Band → List Place
-places_of uplinks session band = places_that (λ uplink. pos uplink.start) (λ uplink. same_pair (key_of uplink) (session, band_number band)) uplinks
+abbrev pub uplink_places : List Uplink → ℕ → Band → List Place
+uplink_places uplinks session band = places_that (λ uplink. pos uplink.start) (λ uplink. same_numbers (key_of uplink) (session, band_number band)) uplinks
 
 -- the index is that of these uplinks
 abbrev pub AreStarts : List Uplink → StartIndex (ℕ × ℕ) → Type 0
-AreStarts uplinks index = IsStartIndex (λ uplink. pos uplink.start) same_pair key_of uplinks (places_in same_pair index)
+AreStarts uplinks index = IsStartIndex (λ uplink. pos uplink.start) same_numbers key_of uplinks (places_in same_numbers index)
 
 -- when the uplink that stands there was on the air
-abbrev pub span_told : List Uplink → Place → Option Interval
-span_told uplinks place = option_and_then (λ (uplink : Uplink). Some (interval_of uplink)) (item_at uplinks place.number)
+abbrev pub uplink_span_at : List Uplink → Place → Option Interval
+uplink_span_at uplinks place = option_and_then (λ (uplink : Uplink). Some (interval_of uplink)) (item_at uplinks place.number)
 
 -- an uplink of the device in the band that starts from the one time on and before the other
 abbrev pub is_sent_from : List Session → ℕ → Band → ℤ → ℤ → Uplink → Bool

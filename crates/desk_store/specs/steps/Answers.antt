@@ -3,7 +3,7 @@ use Rattle.std.specs.Prelude.{◌≡◌, ℕ, ◌==◌, Bool, List, count_by}
 use Rattle.registry_core.specs.declared.facts.Booking.{Booking}
 use Rattle.registry_core.specs.Bookings.{is_answer_to}
 use Rattle.desk_store.specs.declared.answers.Answers.{Answers}
-use Rattle.desk_store.specs.Tally.{count_in}
+use Rattle.desk_store.specs.steps.Tally.{count_in}
 
 -- the booking names the uplink with this number, dropped or not
 abbrev pub is_naming : ℕ → Booking → Bool

@@ -8,11 +8,11 @@ use Rattle.registry_core.specs.Bookings.{is_dropped}
 use Rattle.registry_core.specs.Numbered.{item_at}
 use Rattle.desk_store.specs.declared.start_index.Place.{Place}
 use Rattle.desk_store.specs.declared.start_index.StartIndex.{StartIndex}
-use Rattle.desk_store.specs.StartIndex.{places_in, places_that, IsStartIndex}
+use Rattle.desk_store.specs.steps.StartIndex.{places_in, places_that, IsStartIndex}
 
 -- where the gateway's bookings stand
-abbrev pub places_of : List Booking → List ℕ → List Place
-places_of bookings gateway = places_that (λ booking. booking.span.start) (λ booking. bytes_eq booking.gateway gateway) bookings
+abbrev pub booking_places : List Booking → List ℕ → List Place
+booking_places bookings gateway = places_that (λ booking. booking.span.start) (λ booking. bytes_eq booking.gateway gateway) bookings
 
 -- the index is that of these bookings
 abbrev pub IsBookingIndex : List Booking → StartIndex (List ℕ) → Type 0
@@ -27,5 +27,5 @@ abbrev pub span_shown : Option Band → Booking → Option Interval
 span_shown band booking = if is_on_air band booking then Some booking.span else None
 
 -- and that of the booking that stands there
-abbrev pub span_told : List Booking → Option Band → Place → Option Interval
-span_told bookings band place = option_and_then (span_shown band) (item_at bookings place.number)
+abbrev pub booking_span_at : List Booking → Option Band → Place → Option Interval
+booking_span_at bookings band place = option_and_then (span_shown band) (item_at bookings place.number)

@@ -6,7 +6,7 @@ use Rattle.std.proofs.lemmas.Bool.{both_ways, cases_lt, cases_order, and_left, a
 use Rattle.registry_core.specs.declared.facts.Session.{Session}
 use Rattle.registry_core.specs.Derived.{is_of_device, is_session_of}
 use Rattle.registry_core.specs.Numbered.{item_at}
-use Rattle.desk_store.specs.Sessions.{greatest_below, latest_before, latest_of, same_before, is_later}
+use Rattle.desk_store.specs.steps.Sessions.{greatest_below, latest_before, latest_of, same_before, is_later}
 use Rattle.desk_store.proofs.Linked.{item_at_past}
 
 -- ---- the greatest number below one

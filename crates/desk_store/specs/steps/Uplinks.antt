@@ -19,13 +19,13 @@ abbrev pub number_of : {X : Type 0} → Option (ℕ × X) → Option ℕ
 number_of found = option_map (λ numbered. numbered.0) found
 
 -- a session and a counter are the same as others
-abbrev pub same_pair : ℕ × ℕ → ℕ × ℕ → Bool
-same_pair a b = a.0 == b.0 && a.1 == b.1
+abbrev pub same_numbers : ℕ × ℕ → ℕ × ℕ → Bool
+same_numbers a b = a.0 == b.0 && a.1 == b.1
 
 -- the index is that of these uplinks
 pub record IsIndexOf (uplinks : List Uplink) (index : UplinkIndex) : Type 0 where
-  pub joins : (n counter : ℕ) → get same_pair index.joins (n, counter) ≡ number_of (join_of uplinks n counter)
-  pub frames : (n counter : ℕ) → get same_pair index.frames (n, counter) ≡ number_of (data_with uplinks n counter)
+  pub joins : (n counter : ℕ) → get same_numbers index.joins (n, counter) ≡ number_of (join_of uplinks n counter)
+  pub frames : (n counter : ℕ) → get same_numbers index.frames (n, counter) ≡ number_of (data_with uplinks n counter)
   pub counters : (n : ℕ) → get nat_eq index.counters n ≡ last_counter uplinks n
 
 -- so many uplinks at least go into the index without more memory

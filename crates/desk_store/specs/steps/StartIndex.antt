@@ -7,7 +7,7 @@ use Rattle.duty_core.specs.Near.{greatest_length}
 use Rattle.duty_core.specs.Use.{hour}
 use Rattle.desk_store.specs.declared.start_index.Place.{Place}
 use Rattle.desk_store.specs.declared.start_index.StartIndex.{StartIndex}
-use Rattle.desk_store.specs.ByKey.{in_order}
+use Rattle.desk_store.specs.steps.ByKey.{in_order}
 
 -- the items, each with its number, from this one on
 abbrev pub numbered_from : {X : Type 0} → ℕ → List X → List (ℕ × X)

@@ -1,0 +1,12 @@
+-- What the clauses of private functions say.
+pub mod Answers
+pub mod BookingPlaces
+pub mod ByKey
+pub mod Downlinks
+pub mod Parts
+pub mod Sessions
+pub mod StartIndex
+pub mod Tally
+pub mod Traffic
+pub mod UplinkPlaces
+pub mod Uplinks
