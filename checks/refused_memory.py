@@ -3,7 +3,7 @@
 
     checks/refused_memory.py [--built]
 
-Each test of `crates/desk_engine/src/tests/refused_memory.rt` first gets what it needs itself, and then makes deliveries. It is run
+Each test of `crates/desk_cli/src/tests/refused_memory.rt` first gets what it needs itself, and then makes deliveries. It is run
 for N = 1, 2, 3 .. with its Nth request for memory refused, until it makes fewer than N. A run in which one of the test's own
 requests is refused ends in an error, and isn't counted. Every other run has to pass: each delivery has its outcome, or is
 Unavailable for want of memory, has changed nothing, and has that outcome when it is delivered again.
@@ -21,8 +21,8 @@ import sys
 import tempfile
 from pathlib import Path
 
-CRATE = Path(__file__).resolve().parent.parent / "crates" / "desk_engine"
-PROGRAM = CRATE / "out" / "desk_engine_tests"
+CRATE = Path(__file__).resolve().parent.parent / "crates" / "desk_cli"
+PROGRAM = CRATE / "out" / "desk_cli_tests"
 TESTS = "tests::refused_memory::"
 
 HEAP = """

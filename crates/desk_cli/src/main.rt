@@ -6,6 +6,8 @@ mod endings;
 mod numbers;
 mod options;
 mod program;
+#[cfg(test)]
+mod tests;
 mod usage;
 mod words;
 

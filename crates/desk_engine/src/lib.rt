@@ -13,8 +13,6 @@ mod outcomes;
 mod owner_reports;
 mod reads;
 mod report_faults;
-#[cfg(test)]
-mod tests;
 mod uses;
 
 pub use band_reports::band_report;

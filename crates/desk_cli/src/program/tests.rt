@@ -58,7 +58,7 @@ const NO_TEXT: &str = "error: a word isn't UTF-8\n";
 /// Words, how the program ends, its answers, and what is on its fault line.
 type Row = (&'static [&'static [u8]], Ending, &'static str, &'static str);
 
-const ROWS: [Row; 11] = [
+static ROWS: [Row; 11] = [
     (&[], Ending::Misused, "", NO_COMMAND),
     (&[b"desk"], Ending::Misused, "", NO_COMMAND),
     (&[b"lines"], Ending::Misused, "", NO_COMMAND_OF_LINES),

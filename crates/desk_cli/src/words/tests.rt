@@ -5,34 +5,35 @@ use crate::usage::Usage;
 use clap::error::ErrorKind;
 use std::test::Fail;
 
+static NAMELESS: [(&[&str], ErrorKind); 14] = [
+    (&[], ErrorKind::MissingSubcommand),
+    (&["desk"], ErrorKind::MissingSubcommand),
+    (&["lines"], ErrorKind::MissingSubcommand),
+    (&["desk", "line"], ErrorKind::InvalidSubcommand),
+    (&["desk", "Lines"], ErrorKind::InvalidSubcommand),
+    (&["desk", "--help"], ErrorKind::DisplayHelp),
+    (&["desk", "-h"], ErrorKind::DisplayHelp),
+    (&["desk", "help"], ErrorKind::DisplayHelp),
+    (&["desk", "lines", "--help"], ErrorKind::DisplayHelp),
+    (
+        &["desk", "lines", "--port", "1"],
+        ErrorKind::UnknownArgument,
+    ),
+    (&["desk", "lines", "lines"], ErrorKind::UnknownArgument),
+    (&["desk", "lines", "--base"], ErrorKind::InvalidValue),
+    (
+        &["desk", "--base", "01a00000", "lines"],
+        ErrorKind::UnknownArgument,
+    ),
+    (
+        &["desk", "lines", "--base", "01a00000", "--base", "01a00000"],
+        ErrorKind::ArgumentConflict,
+    ),
+];
+
 #[test]
 fn words_that_name_nothing(rt: HostRuntime) -> Result<(), Fail> {
-    let rows: [(&[&str], ErrorKind); 14] = [
-        (&[], ErrorKind::MissingSubcommand),
-        (&["desk"], ErrorKind::MissingSubcommand),
-        (&["lines"], ErrorKind::MissingSubcommand),
-        (&["desk", "line"], ErrorKind::InvalidSubcommand),
-        (&["desk", "Lines"], ErrorKind::InvalidSubcommand),
-        (&["desk", "--help"], ErrorKind::DisplayHelp),
-        (&["desk", "-h"], ErrorKind::DisplayHelp),
-        (&["desk", "help"], ErrorKind::DisplayHelp),
-        (&["desk", "lines", "--help"], ErrorKind::DisplayHelp),
-        (
-            &["desk", "lines", "--port", "1"],
-            ErrorKind::UnknownArgument,
-        ),
-        (&["desk", "lines", "lines"], ErrorKind::UnknownArgument),
-        (&["desk", "lines", "--base"], ErrorKind::InvalidValue),
-        (
-            &["desk", "--base", "01a00000", "lines"],
-            ErrorKind::UnknownArgument,
-        ),
-        (
-            &["desk", "lines", "--base", "01a00000", "--base", "01a00000"],
-            ErrorKind::ArgumentConflict,
-        ),
-    ];
-    for (words, want) in &rows {
+    for (words, want) in &NAMELESS {
         match read_words(rt.alloc(), words) {
             Err(Usage::Words(error)) => assert_eq!(rt; error.kind(), *want, "at {words:?}"),
             Err(usage) => assert!(rt; false, "{words:?}: {usage}"),
@@ -55,24 +56,25 @@ Options:
   -h, --help               Print help
 ";
 
+static PRINTED: [(&[&str], &str); 4] = [
+    (
+        &["desk"],
+        "error: a command is needed\n\nUsage: desk [COMMAND]\n\nFor more information, try '--help'.\n",
+    ),
+    (&["desk", "lines", "--help"], LINES_HELP),
+    (
+        &["desk", "lines", "--base", "0"],
+        "error: --base takes eight hexadecimal digits\n\nFor more information, try '--help'.\n",
+    ),
+    (
+        &["desk", "lines", "--file", "x"],
+        "error: unexpected argument '--file' found\n\nUsage: desk lines [OPTIONS]\n\nFor more information, try '--help'.\n",
+    ),
+];
+
 #[test]
 fn usage_is_printed(rt: HostRuntime) -> Result<(), Fail> {
-    let rows: [(&[&str], &str); 4] = [
-        (
-            &["desk"],
-            "error: a command is needed\n\nUsage: desk [COMMAND]\n\nFor more information, try '--help'.\n",
-        ),
-        (&["desk", "lines", "--help"], LINES_HELP),
-        (
-            &["desk", "lines", "--base", "0"],
-            "error: --base takes eight hexadecimal digits\n\nFor more information, try '--help'.\n",
-        ),
-        (
-            &["desk", "lines", "--file", "x"],
-            "error: unexpected argument '--file' found\n\nUsage: desk lines [OPTIONS]\n\nFor more information, try '--help'.\n",
-        ),
-    ];
-    for (words, want) in &rows {
+    for (words, want) in &PRINTED {
         match read_words(rt.alloc(), words) {
             Err(usage) => {
                 assert_eq!(rt;

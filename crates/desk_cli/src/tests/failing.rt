@@ -1,13 +1,12 @@
 //! A store that fails at one call: what is told until then and from then on, and what a crash leaves.
 use super::importing::{WORKED, WORKED_ANSWERS};
 use super::rows::{DEVICE_ADDED, Delivery, SETUP, deliveries_of};
-use super::{config, deliver_each, expect, expect_told};
-use crate::{Outcome, ReportFault, band_report, deliver, import, owner_report};
+use super::{deliver_each, expect, expect_told, opening, with_device};
+use desk_engine::{Outcome, ReportFault, band_report, deliver, import, owner_report};
 use desk_store::{Failure, Keeper, StoreFault, Switched};
 use desk_wire::read_report;
 use radio_core::Name;
 use registry_core::Envelope;
-use std::alloc::Global;
 use std::process::Abort;
 use std::test::Fail;
 
@@ -21,20 +20,6 @@ const FAILURES: [(Failure, StoreFault); 4] = [
 
 /// More calls than any of these tests makes.
 const MANY: u64 = 200;
-
-/// A desk that has heard nothing.
-fn opening(alloc: Global) -> Result<Box<Switched>, Fail> {
-    let config = config(65_536).ok_or("no configuration")?;
-    Ok(Box::new(alloc, Switched::new(alloc, config)?)?)
-}
-
-/// A desk with a device.
-fn set_up<R: Abort + AllocGlobal>(rt: &R) -> Result<Box<Switched>, Fail> {
-    let mut store = opening(rt.alloc())?;
-    deliver_each(rt, &mut *store, &SETUP)?;
-    deliver_each(rt, &mut *store, &DEVICE_ADDED)?;
-    Ok(store)
-}
 
 /// Delivers in order. The first that the store fails is told its fault, those before it are told what they are, and those
 /// after it too, unless the disk failed. Answers whether one failed.
@@ -69,7 +54,7 @@ fn deliveries(rt: HostRuntime) -> Result<(), Fail> {
     let setup = deliveries_of(rt.alloc(), &SETUP)?;
     for (failure, fault) in FAILURES {
         for calls in 0..MANY {
-            let mut store = opening(rt.alloc())?;
+            let mut store = opening::<Switched>(rt.alloc(), 65_536)?;
             store.fail_after(calls, failure);
             if !deliver_with_failure(&rt, &mut *store, &setup, fault) {
                 break;
@@ -105,7 +90,7 @@ fn imports(rt: HostRuntime) -> Result<(), Fail> {
     };
     for (failure, fault) in FAILURES {
         for calls in 0..MANY {
-            let mut store = set_up(&rt)?;
+            let mut store = with_device::<HostRuntime, Switched>(&rt)?;
             store.fail_after(calls, failure);
             let stopped = import_worked(&rt, &mut *store, &envelopes);
             if stopped.is_none() {
@@ -124,7 +109,7 @@ fn imports(rt: HostRuntime) -> Result<(), Fail> {
 fn reports(rt: HostRuntime) -> Result<(), Fail> {
     for (failure, fault) in FAILURES {
         for calls in 0..MANY {
-            let mut store = set_up(&rt)?;
+            let mut store = with_device::<HostRuntime, Switched>(&rt)?;
             store.fail_after(calls, failure);
             let owned = owner_report(rt.alloc(), &mut *store, "town", "2024-02");
             let booked = band_report(rt.alloc(), &mut *store, "gw-a");

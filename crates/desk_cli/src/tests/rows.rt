@@ -6,7 +6,7 @@ use std::alloc::{AllocError, Global};
 
 /// What a request is told.
 #[derive(Clone, Copy)]
-pub(super) enum Told {
+pub(crate) enum Told {
     /// The number of its refusal (0: this is the answer of what is heard), the Description and the ResultCode.
     Plain(u8, &'static str, &'static str),
     /// A join's success: Airtime, Band, Copy, DevAddr and Uplink.
@@ -17,49 +17,49 @@ pub(super) enum Told {
     Booked(u32, &'static str, u64, u64),
 }
 
-pub(super) const SUCCESS: Told = Plain(0, "", "Success");
+pub(crate) const SUCCESS: Told = Plain(0, "", "Success");
 
 const ROLE: Told = Plain(0, "role", "Other");
 
-pub(super) const EXISTS: Told = Plain(0, "exists", "Other");
+pub(crate) const EXISTS: Told = Plain(0, "exists", "Other");
 
 const UNKNOWN_OWNER: Told = Plain(0, "owner", "Other");
 
-pub(super) const UNKNOWN_DEVICE: Told = Plain(0, "", "UnknownDevEUI");
+pub(crate) const UNKNOWN_DEVICE: Told = Plain(0, "", "UnknownDevEUI");
 
-pub(super) const UNKNOWN_SENDER: Told = Plain(4, "", "UnknownSender");
+pub(crate) const UNKNOWN_SENDER: Told = Plain(4, "", "UnknownSender");
 
-pub(super) const REUSED: Told = Plain(5, "transaction", "Other");
+pub(crate) const REUSED: Told = Plain(5, "transaction", "Other");
 
-pub(super) const BODY: Told = Plain(7, "body", "Other");
+pub(crate) const BODY: Told = Plain(7, "body", "Other");
 
 const TYPE: Told = Plain(8, "type", "Other");
 
 /// A frame that a gateway heard: when its last symbol ended, its frequency, its data rate, its octets as hexadecimal
 /// digits, and the verdict.
 #[derive(Clone, Copy)]
-pub(super) struct Heard {
-    pub(super) gateway: &'static str,
-    pub(super) time: u64,
-    pub(super) freq: u32,
-    pub(super) rate: u8,
-    pub(super) octets: &'static str,
-    pub(super) verdict: &'static str,
+pub(crate) struct Heard {
+    pub(crate) gateway: &'static str,
+    pub(crate) time: u64,
+    pub(crate) freq: u32,
+    pub(crate) rate: u8,
+    pub(crate) octets: &'static str,
+    pub(crate) verdict: &'static str,
 }
 
 /// A downlink: the uplink that it answers, the gateway that is to send it, its receive window, and its octets as
 /// hexadecimal digits.
 #[derive(Clone, Copy)]
-pub(super) struct Down {
-    pub(super) uplink: u64,
-    pub(super) gateway: &'static str,
-    pub(super) window: u8,
-    pub(super) octets: &'static str,
+pub(crate) struct Down {
+    pub(crate) uplink: u64,
+    pub(crate) gateway: &'static str,
+    pub(crate) window: u8,
+    pub(crate) octets: &'static str,
 }
 
 /// What is delivered, and what it is told.
 #[derive(Clone, Copy)]
-pub(super) enum Row {
+pub(crate) enum Row {
     /// A request of a sender: its transaction number, its type, and the members of the type.
     Asks(&'static str, u32, &'static str, &'static str, Told),
     /// A JoinHeard of a sender: its transaction number, and the join request.
@@ -74,14 +74,14 @@ pub(super) enum Row {
 
 /// A text, the number of its refusal (0: it is heard), and the text that goes back.
 #[derive(Drop)]
-pub(super) struct Delivery {
-    pub(super) text: String,
-    pub(super) number: u8,
-    pub(super) wanted: String,
+pub(crate) struct Delivery {
+    pub(crate) text: String,
+    pub(crate) number: u8,
+    pub(crate) wanted: String,
 }
 
 /// The deliveries of the rows. Each row is delivered twice: whatever it is told, it is told again.
-pub(super) fn deliveries_of(alloc: Global, rows: &[Row]) -> Result<Vec<Delivery>, AllocError> {
+pub(crate) fn deliveries_of(alloc: Global, rows: &[Row]) -> Result<Vec<Delivery>, AllocError> {
     let mut deliveries = Vec::new(alloc);
     for row in rows {
         for _ in 0..2 {
@@ -91,7 +91,7 @@ pub(super) fn deliveries_of(alloc: Global, rows: &[Row]) -> Result<Vec<Delivery>
     Ok(deliveries)
 }
 
-pub(super) fn delivery_of(alloc: Global, row: &Row) -> Result<Delivery, AllocError> {
+pub(crate) fn delivery_of(alloc: Global, row: &Row) -> Result<Delivery, AllocError> {
     match *row {
         Asks(sender, transaction, type_name, members, told) => {
             asked(alloc, sender, transaction, type_name, members, told)
@@ -222,26 +222,26 @@ fn number_of(told: Told) -> u8 {
 }
 
 /// The worked request, letter for letter.
-pub(super) const REQUEST: &str =
+pub(crate) const REQUEST: &str =
     r#"{"ProtocolVersion":"1.0","SenderID":"office","ReceiverID":"desk","TransactionID":1,"MessageType":"OwnerAdd","Owner":"town"}"#;
 
 /// The answer of the worked request.
-pub(super) const ADDED: &str =
+pub(crate) const ADDED: &str =
     r#"{"MessageType":"OwnerAddAns","ProtocolVersion":"1.0","ReceiverID":"office","Result":{"Description":"","ResultCode":"Success"},"SenderID":"desk","TransactionID":1}"#;
 
-pub(super) const MALFORMED: &str =
+pub(crate) const MALFORMED: &str =
     r#"{"ProtocolVersion":"1.0","Result":{"Description":"malformed","ResultCode":"Other"},"SenderID":"desk"}"#;
 
-pub(super) const TOWN: &str = r#""Owner":"town""#;
+pub(crate) const TOWN: &str = r#""Owner":"town""#;
 
-pub(super) const CITY: &str = r#""Owner":"city""#;
+pub(crate) const CITY: &str = r#""Owner":"city""#;
 
-pub(super) const LONG_OWNER: &str = r#""Owner":"abcdefghijklmnopqrstuvwxyzabcdefg""#;
+pub(crate) const LONG_OWNER: &str = r#""Owner":"abcdefghijklmnopqrstuvwxyzabcdefg""#;
 
 // The tables are statics: a proof goes through all rows of a constant where it is used, which takes minutes.
 
 /// Owners, and each fault of a text.
-pub(super) static OWNERS: [Row; 12] = [
+pub(crate) static OWNERS: [Row; 12] = [
     Letters(REQUEST, 0, ADDED),
     Asks("office", 1, "OwnerAdd", TOWN, SUCCESS),
     Asks("office", 2, "OwnerAdd", TOWN, EXISTS),
@@ -269,19 +269,19 @@ pub(super) static OWNERS: [Row; 12] = [
     Asks("office", 3, "OwnerAdd", CITY, SUCCESS),
 ];
 
-pub(super) const BRIDGE: &str = r#""Sender":"bridge","Role":"radio""#;
+pub(crate) const BRIDGE: &str = r#""Sender":"bridge","Role":"radio""#;
 
-pub(super) const OFFICE: &str = r#""Sender":"office","Role":"operator""#;
+pub(crate) const OFFICE: &str = r#""Sender":"office","Role":"operator""#;
 
 const STRANGER: &str = r#""Sender":"stranger","Role":"operator""#;
 
-pub(super) const GATEWAY_A: &str = r#""Gateway":"gw-a""#;
+pub(crate) const GATEWAY_A: &str = r#""Gateway":"gw-a""#;
 
-pub(super) const GATEWAY_B: &str = r#""Gateway":"gw-b""#;
+pub(crate) const GATEWAY_B: &str = r#""Gateway":"gw-b""#;
 
 const GATEWAY_C: &str = r#""Gateway":"gw-c""#;
 
-pub(super) const DEVICE: &str =
+pub(crate) const DEVICE: &str =
     r#""DevEUI":"0004a30b001a2b3c","JoinEUI":"70b3d57ed0000001","Owner":"town""#;
 
 const DEVICE_IN_CAPITALS: &str =
@@ -290,30 +290,30 @@ const DEVICE_IN_CAPITALS: &str =
 const DEVICE_OF_CITY: &str =
     r#""DevEUI":"0004a30b001a2b3c","JoinEUI":"70b3d57ed0000001","Owner":"city""#;
 
-pub(super) const OTHER: &str =
+pub(crate) const OTHER: &str =
     r#""DevEUI":"0004a30b001a2b3d","JoinEUI":"70b3d57ed0000001","Owner":"town""#;
 
 const OTHER_OF_CITY: &str =
     r#""DevEUI":"0004a30b001a2b3d","JoinEUI":"70b3d57ed0000001","Owner":"city""#;
 
-pub(super) const DEVICE_TO_TOWN: &str = r#""DevEUI":"0004a30b001a2b3c","Owner":"town""#;
+pub(crate) const DEVICE_TO_TOWN: &str = r#""DevEUI":"0004a30b001a2b3c","Owner":"town""#;
 
-pub(super) const DEVICE_TO_CITY: &str = r#""DevEUI":"0004a30b001a2b3c","Owner":"city""#;
+pub(crate) const DEVICE_TO_CITY: &str = r#""DevEUI":"0004a30b001a2b3c","Owner":"city""#;
 
 const OTHER_TO_TOWN: &str = r#""DevEUI":"0004a30b001a2b3d","Owner":"town""#;
 
-pub(super) const OTHER_TO_CITY: &str = r#""DevEUI":"0004a30b001a2b3d","Owner":"city""#;
+pub(crate) const OTHER_TO_CITY: &str = r#""DevEUI":"0004a30b001a2b3d","Owner":"city""#;
 
-pub(super) const AS_ADMIN: &str = r#""Sender":"third","Role":"admin""#;
+pub(crate) const AS_ADMIN: &str = r#""Sender":"third","Role":"admin""#;
 
 const WITHOUT_ROLE: &str = r#""Sender":"third""#;
 
 const AS_RADIO: &str = r#""Sender":"third","Role":"radio""#;
 
-pub(super) const TWO_WORDS: &str = r#""Gateway":"gw d""#;
+pub(crate) const TWO_WORDS: &str = r#""Gateway":"gw d""#;
 
 /// A DevEUI of 15 digits.
-pub(super) const SHORT_DEVICE: &str =
+pub(crate) const SHORT_DEVICE: &str =
     r#""DevEUI":"0004a30b001a2b3","JoinEUI":"70b3d57ed0000001","Owner":"town""#;
 
 /// A JoinEUI behind `0X`.
@@ -321,13 +321,13 @@ const PREFIX_IN_CAPITALS: &str =
     r#""DevEUI":"0004a30b001a2b3e","JoinEUI":"0X70b3d57ed0000001","Owner":"town""#;
 
 /// A DevEUI of 15 digits.
-pub(super) const SHORT_TO_TOWN: &str = r#""DevEUI":"0004a30b001a2b3","Owner":"town""#;
+pub(crate) const SHORT_TO_TOWN: &str = r#""DevEUI":"0004a30b001a2b3","Owner":"town""#;
 
 /// A DevEUI of 18 digits.
 const LONG_TO_TOWN: &str = r#""DevEUI":"0004a30b001a2b3c00","Owner":"town""#;
 
 /// A sender, an owner and two gateways.
-pub(super) static SETUP: [Row; 4] = [
+pub(crate) static SETUP: [Row; 4] = [
     Asks("office", 900_000, "SenderAdd", BRIDGE, SUCCESS),
     Asks("office", 900_001, "OwnerAdd", TOWN, SUCCESS),
     Asks("office", 900_002, "GatewayAdd", GATEWAY_A, SUCCESS),
@@ -335,10 +335,10 @@ pub(super) static SETUP: [Row; 4] = [
 ];
 
 /// After the setup: the worked device.
-pub(super) static DEVICE_ADDED: [Row; 1] = [Asks("office", 900_004, "DeviceAdd", DEVICE, SUCCESS)];
+pub(crate) static DEVICE_ADDED: [Row; 1] = [Asks("office", 900_004, "DeviceAdd", DEVICE, SUCCESS)];
 
 /// After the setup: senders, owners, gateways and devices, with each refusal that their messages may have.
-pub(super) static REGISTRY: [Row; 45] = [
+pub(crate) static REGISTRY: [Row; 45] = [
     Asks("office", 2, "DeviceAdd", DEVICE, SUCCESS),
     Asks("office", 3, "DeviceAdd", DEVICE, EXISTS),
     Asks("office", 2, "DeviceAdd", OTHER, REUSED),

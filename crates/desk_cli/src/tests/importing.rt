@@ -1,8 +1,7 @@
 //! Gateway reports: the worked one twice, one that goes on after refusals, and one of a sender that nobody added.
-use super::rows::{DEVICE_ADDED, SETUP};
-use super::{deliver_each, expect, opening};
-use crate::{Imported, import};
-use desk_store::Lists;
+use super::{Opened, expect, with_device};
+use desk_engine::{Imported, import};
+use desk_store::Keeper;
 use desk_wire::read_report;
 use radio_core::Name;
 use std::alloc::Global;
@@ -67,28 +66,28 @@ static STRANGERS_ANSWERS: [Told; 3] = [
     ),
 ];
 
-fn imported(
+fn imported<K: Keeper>(
     alloc: Global,
-    lists: &mut Lists,
+    keeper: &mut K,
     text: &[u8],
     sender: &[u8],
 ) -> Result<Imported, Fail> {
     let sender = Name::new(sender).ok_or("no name")?;
     match read_report(alloc, text, &sender) {
-        Ok(envelopes) => Ok(import(alloc, lists, &envelopes)),
+        Ok(envelopes) => Ok(import(alloc, keeper, &envelopes)),
         Err(_) => Err("no report".into()),
     }
 }
 
 /// The report is imported whole, and each answer is the one that is told.
-pub(super) fn expect_imported<R: Abort + AllocGlobal>(
+pub(super) fn expect_imported<R: Abort + AllocGlobal, K: Keeper>(
     rt: &R,
-    lists: &mut Lists,
+    keeper: &mut K,
     text: &[u8],
     sender: &[u8],
     wanted: &[Told],
 ) -> Result<(), Fail> {
-    let imported = imported(rt.alloc(), lists, text, sender)?;
+    let imported = imported(rt.alloc(), keeper, text, sender)?;
     assert!(rt; imported.stopped.is_none());
     assert_eq!(rt; imported.answers.len(), wanted.len());
     for (outcome, (number, text)) in imported.answers.iter().zip(wanted) {
@@ -97,14 +96,13 @@ pub(super) fn expect_imported<R: Abort + AllocGlobal>(
     Ok(())
 }
 
-#[test]
-fn reports_are_heard_in_order(rt: HostRuntime) -> Result<(), Fail> {
-    let mut lists = opening(rt.alloc(), 65_536)?;
-    deliver_each(&rt, &mut *lists, &SETUP)?;
-    deliver_each(&rt, &mut *lists, &DEVICE_ADDED)?;
-    expect_imported(&rt, &mut *lists, WORKED, b"bridge", &WORKED_ANSWERS)?;
-    expect_imported(&rt, &mut *lists, WORKED, b"bridge", &WORKED_ANSWERS)?;
-    expect_imported(&rt, &mut *lists, MIXED, b"bridge", &MIXED_ANSWERS)?;
-    expect_imported(&rt, &mut *lists, MIXED, b"bridge", &MIXED_ANSWERS)?;
-    expect_imported(&rt, &mut *lists, WORKED, b"stranger", &STRANGERS_ANSWERS)
+pub(super) fn reports_are_heard_in_order<R: Abort + AllocGlobal, K: Opened>(
+    rt: &R,
+) -> Result<(), Fail> {
+    let mut keeper = with_device::<R, K>(rt)?;
+    expect_imported(rt, &mut *keeper, WORKED, b"bridge", &WORKED_ANSWERS)?;
+    expect_imported(rt, &mut *keeper, WORKED, b"bridge", &WORKED_ANSWERS)?;
+    expect_imported(rt, &mut *keeper, MIXED, b"bridge", &MIXED_ANSWERS)?;
+    expect_imported(rt, &mut *keeper, MIXED, b"bridge", &MIXED_ANSWERS)?;
+    expect_imported(rt, &mut *keeper, WORKED, b"stranger", &STRANGERS_ANSWERS)
 }

@@ -12,8 +12,8 @@ use super::rows::{
     UNKNOWN_SENDER, deliveries_of, delivery_of,
 };
 use super::{expect_told, opening};
-use crate::{Outcome, deliver};
-use desk_store::StoreFault;
+use desk_engine::{Outcome, deliver};
+use desk_store::{Lists, StoreFault};
 use std::alloc::Global;
 use std::fmt::Write;
 use std::process::Abort;
@@ -36,7 +36,7 @@ fn kept_after<R: Abort + AllocGlobal>(
     deliveries: &[Delivery],
     count: usize,
 ) -> Result<String, Fail> {
-    let mut lists = opening(rt.alloc(), 65_536)?;
+    let mut lists = opening::<Lists>(rt.alloc(), 65_536)?;
     for delivery in deliveries.iter().take(count) {
         let outcome = deliver(rt.alloc(), &mut *lists, delivery.text.as_bytes());
         if let Outcome::Unavailable(_) = &outcome {
@@ -54,7 +54,7 @@ fn deliver_or_again<R: Abort + AllocGlobal>(rt: &R, rows: &[Row]) -> Result<(), 
     let deliveries = with_a_cut_text(rt.alloc(), rows)?;
     let wanted = kept_after(rt, &deliveries, deliveries.len())?;
     let mut kept = String::with_capacity(rt.alloc(), wanted.len())?;
-    let mut lists = opening(rt.alloc(), 65_536)?;
+    let mut lists = opening::<Lists>(rt.alloc(), 65_536)?;
     let mut refused = false;
     for (place, delivery) in deliveries.iter().enumerate() {
         let mut outcome = deliver(rt.alloc(), &mut *lists, delivery.text.as_bytes());

@@ -4,10 +4,10 @@ use super::importing::{WORKED, WORKED_ANSWERS, expect_imported};
 use super::joins::{FIRST, FIRST_ADDED};
 use super::rows::Row::{Asks, Books, Frames, Joins};
 use super::rows::Told::{Booked, Framed};
-use super::rows::{DEVICE_ADDED, Down, Heard, OTHER, Row, SETUP, SUCCESS};
-use super::{deliver_each, opening};
-use crate::{ReportFault, band_report, owner_report};
-use desk_store::Lists;
+use super::rows::{Down, Heard, OTHER, Row, SUCCESS};
+use super::{Opened, deliver_each, with_device};
+use desk_engine::{ReportFault, band_report, owner_report};
+use desk_store::Keeper;
 use std::alloc::Global;
 use std::process::Abort;
 use std::test::Fail;
@@ -165,91 +165,87 @@ static NO_MONTHS: [&str; 10] = [
     "2024-011",
 ];
 
-/// A desk with the owner and its device.
-fn desk(rt: &(impl Abort + AllocGlobal)) -> Result<Box<Lists>, Fail> {
-    let mut lists = opening(rt.alloc(), 65_536)?;
-    deliver_each(rt, &mut *lists, &SETUP)?;
-    deliver_each(rt, &mut *lists, &DEVICE_ADDED)?;
-    Ok(lists)
-}
-
 /// The owner's report of the month is the header and these lines.
-fn reports(
+fn reports<K: Keeper>(
     alloc: Global,
-    lists: &mut Lists,
+    keeper: &mut K,
     owner: &str,
     month: &str,
     lines: &str,
 ) -> Result<bool, Fail> {
     let wanted = format!(in alloc; "{OWNER_HEADER}{lines}")?;
-    match &owner_report(alloc, lists, owner, month) {
+    match &owner_report(alloc, keeper, owner, month) {
         Ok(text) => Ok(text.as_slice() == wanted.as_bytes()),
         Err(_) => Ok(false),
     }
 }
 
 /// There is no report of the month on the owner, for this reason.
-fn refuses(alloc: Global, lists: &mut Lists, owner: &str, month: &str, fault: ReportFault) -> bool {
-    match &owner_report(alloc, lists, owner, month) {
+fn refuses<K: Keeper>(
+    alloc: Global,
+    keeper: &mut K,
+    owner: &str,
+    month: &str,
+    fault: ReportFault,
+) -> bool {
+    match &owner_report(alloc, keeper, owner, month) {
         Ok(_) => false,
         Err(told) => *told == fault,
     }
 }
 
 /// The gateway's report is this text.
-fn reports_bands(alloc: Global, lists: &mut Lists, gateway: &str, wanted: &str) -> bool {
-    match &band_report(alloc, lists, gateway) {
+fn reports_bands<K: Keeper>(alloc: Global, keeper: &mut K, gateway: &str, wanted: &str) -> bool {
+    match &band_report(alloc, keeper, gateway) {
         Ok(text) => text.as_slice() == wanted.as_bytes(),
         Err(_) => false,
     }
 }
 
-fn refuses_gateway(alloc: Global, lists: &mut Lists, gateway: &str) -> bool {
-    match &band_report(alloc, lists, gateway) {
+fn refuses_gateway<K: Keeper>(alloc: Global, keeper: &mut K, gateway: &str) -> bool {
+    match &band_report(alloc, keeper, gateway) {
         Ok(_) => false,
         Err(told) => *told == ReportFault::Gateway,
     }
 }
 
-#[test]
-fn the_worked_report(rt: HostRuntime) -> Result<(), Fail> {
-    let mut lists = desk(&rt)?;
+pub(super) fn the_worked_report<R: Abort + AllocGlobal, K: Opened>(rt: &R) -> Result<(), Fail> {
+    let mut keeper = with_device::<R, K>(rt)?;
     for _ in 0..2 {
-        expect_imported(&rt, &mut *lists, WORKED, b"bridge", &WORKED_ANSWERS)?;
-        assert!(rt; reports(rt.alloc(), &mut *lists, "town", "2024-02", WORKED_LINE)?);
+        expect_imported(rt, &mut *keeper, WORKED, b"bridge", &WORKED_ANSWERS)?;
+        assert!(rt; reports(rt.alloc(), &mut *keeper, "town", "2024-02", WORKED_LINE)?);
     }
-    assert!(rt; reports_bands(rt.alloc(), &mut *lists, "gw-a", BANDS_UNUSED));
-    deliver_each(&rt, &mut *lists, &ACCEPT_BOOKED)?;
-    assert!(rt; reports_bands(rt.alloc(), &mut *lists, "gw-a", BANDS_BOOKED));
-    assert!(rt; reports_bands(rt.alloc(), &mut *lists, "gw-b", BANDS_UNUSED));
-    deliver_each(&rt, &mut *lists, &DATA_BOOKED)?;
-    assert!(rt; reports_bands(rt.alloc(), &mut *lists, "gw-a", BANDS_BOOKED_TWICE));
-    deliver_each(&rt, &mut *lists, &ACCEPT_DROPPED)?;
-    assert!(rt; reports_bands(rt.alloc(), &mut *lists, "gw-a", BANDS_DROPPED));
-    assert!(rt; reports(rt.alloc(), &mut *lists, "town", "2024-02", WORKED_LINE)?);
+    assert!(rt; reports_bands(rt.alloc(), &mut *keeper, "gw-a", BANDS_UNUSED));
+    deliver_each(rt, &mut *keeper, &ACCEPT_BOOKED)?;
+    assert!(rt; reports_bands(rt.alloc(), &mut *keeper, "gw-a", BANDS_BOOKED));
+    assert!(rt; reports_bands(rt.alloc(), &mut *keeper, "gw-b", BANDS_UNUSED));
+    deliver_each(rt, &mut *keeper, &DATA_BOOKED)?;
+    assert!(rt; reports_bands(rt.alloc(), &mut *keeper, "gw-a", BANDS_BOOKED_TWICE));
+    deliver_each(rt, &mut *keeper, &ACCEPT_DROPPED)?;
+    assert!(rt; reports_bands(rt.alloc(), &mut *keeper, "gw-a", BANDS_DROPPED));
+    assert!(rt; reports(rt.alloc(), &mut *keeper, "town", "2024-02", WORKED_LINE)?);
     for gateway in ["gw-z", "", "gw a", "town"] {
         assert!(rt;
-            refuses_gateway(rt.alloc(), &mut *lists, gateway),
+            refuses_gateway(rt.alloc(), &mut *keeper, gateway),
             "{gateway}"
         );
     }
     Ok(())
 }
 
-#[test]
-fn months_have_edges(rt: HostRuntime) -> Result<(), Fail> {
-    let mut lists = desk(&rt)?;
-    deliver_each(&rt, &mut *lists, &MONTHS)?;
+pub(super) fn months_have_edges<R: Abort + AllocGlobal, K: Opened>(rt: &R) -> Result<(), Fail> {
+    let mut keeper = with_device::<R, K>(rt)?;
+    deliver_each(rt, &mut *keeper, &MONTHS)?;
     for (month, line) in &LINES {
         assert!(rt;
-            reports(rt.alloc(), &mut *lists, "town", month, line)?,
+            reports(rt.alloc(), &mut *keeper, "town", month, line)?,
             "{month}"
         );
     }
     for month in &NO_MONTHS {
         for owner in ["town", "nobody", "no name"] {
             assert!(rt;
-                refuses(rt.alloc(), &mut *lists, owner, month, ReportFault::Time),
+                refuses(rt.alloc(), &mut *keeper, owner, month, ReportFault::Time),
                 "{month}"
             );
         }
@@ -258,7 +254,7 @@ fn months_have_edges(rt: HostRuntime) -> Result<(), Fail> {
         assert!(rt;
             refuses(
                 rt.alloc(),
-                &mut *lists,
+                &mut *keeper,
                 owner,
                 "2024-02",
                 ReportFault::Owner
@@ -266,29 +262,30 @@ fn months_have_edges(rt: HostRuntime) -> Result<(), Fail> {
             "{owner}"
         );
     }
-    deliver_each(&rt, &mut *lists, &MOVED)?;
+    deliver_each(rt, &mut *keeper, &MOVED)?;
     for (month, line) in &LINES {
         assert!(rt;
-            reports(rt.alloc(), &mut *lists, "town", month, "")?,
+            reports(rt.alloc(), &mut *keeper, "town", month, "")?,
             "{month}"
         );
         assert!(rt;
-            reports(rt.alloc(), &mut *lists, "port", month, line)?,
+            reports(rt.alloc(), &mut *keeper, "port", month, line)?,
             "{month}"
         );
     }
     Ok(())
 }
 
-#[test]
-fn devices_stand_in_order(rt: HostRuntime) -> Result<(), Fail> {
-    let mut lists = desk(&rt)?;
-    deliver_each(&rt, &mut *lists, &MORE_DEVICES)?;
-    deliver_each(&rt, &mut *lists, &MONTHS)?;
+pub(super) fn devices_stand_in_order<R: Abort + AllocGlobal, K: Opened>(
+    rt: &R,
+) -> Result<(), Fail> {
+    let mut keeper = with_device::<R, K>(rt)?;
+    deliver_each(rt, &mut *keeper, &MORE_DEVICES)?;
+    deliver_each(rt, &mut *keeper, &MONTHS)?;
     assert!(rt;
         reports(
             rt.alloc(),
-            &mut *lists,
+            &mut *keeper,
             "town",
             "2023-12",
             "0000000000000001,0,0,0,0,0,0,0,0,0,0,0,0,0\n0004a30b001a2b3c,1,0,0,0,0,61696,61696,0,0,0,0,0,0\n0004a30b001a2b3d,0,0,0,0,0,0,0,0,0,0,0,0,0\n",

@@ -1,0 +1,115 @@
+//! Worked rows: what is delivered to a new desk, and what goes back. They hold over each kind of store that tests can make.
+mod data_frames;
+mod downlinks;
+mod failing;
+mod importing;
+mod joins;
+mod lines;
+mod refused_memory;
+mod reports;
+pub(crate) mod rows;
+mod runs;
+pub(crate) mod streams;
+mod sweeping;
+
+use desk_engine::{Outcome, deliver};
+use desk_store::{Keeper, Lists, Switched};
+use radio_core::Name;
+use registry_core::Config;
+use rows::{DEVICE_ADDED, Delivery, Row, SETUP, deliveries_of};
+use std::alloc::Global;
+use std::process::Abort;
+use std::test::Fail;
+
+/// A store that tests can make.
+trait Opened: Keeper + Drop + Sized {
+    /// One that has heard nothing.
+    fn opened(alloc: Global, config: Config) -> Result<Box<Self>, Fail>;
+}
+
+impl Opened for Lists {
+    fn opened(alloc: Global, config: Config) -> Result<Box<Self>, Fail> {
+        Ok(Box::new(alloc, Lists::new(alloc, config)?)?)
+    }
+}
+
+impl Opened for Switched {
+    fn opened(alloc: Global, config: Config) -> Result<Box<Self>, Fail> {
+        Ok(Box::new(alloc, Switched::new(alloc, config)?)?)
+    }
+}
+
+pub(crate) fn config(addresses: u32) -> Option<Config> {
+    Config::new(
+        Name::new(b"desk")?,
+        Name::new(b"office")?,
+        0x01a0_0000,
+        addresses,
+    )
+}
+
+/// A desk with so many addresses that has heard nothing.
+fn opening<K: Opened>(alloc: Global, addresses: u32) -> Result<Box<K>, Fail> {
+    K::opened(alloc, config(addresses).ok_or("no configuration")?)
+}
+
+/// A desk with a sender, an owner, two gateways and a device.
+fn with_device<R: Abort + AllocGlobal, K: Opened>(rt: &R) -> Result<Box<K>, Fail> {
+    let mut keeper = opening::<K>(rt.alloc(), 65_536)?;
+    deliver_each(rt, &mut *keeper, &SETUP)?;
+    deliver_each(rt, &mut *keeper, &DEVICE_ADDED)?;
+    Ok(keeper)
+}
+
+/// The outcome has this number and this text.
+fn expect(rt: &impl Abort, outcome: &Outcome, number: u8, wanted: &str) {
+    match outcome {
+        Outcome::Answered(text) => {
+            assert_eq!(rt; number, 0, "{wanted}");
+            assert!(rt; text.as_slice() == wanted.as_bytes(), "{wanted}");
+        }
+        Outcome::Refused(refusal, text) => {
+            assert_eq!(rt; number, refusal.number(), "{wanted}");
+            assert!(rt; text.as_slice() == wanted.as_bytes(), "{wanted}");
+        }
+        Outcome::Unavailable(_) => assert!(rt; false, "{wanted}"),
+    }
+}
+
+/// The outcome is what the delivery is told.
+fn expect_told(rt: &impl Abort, outcome: &Outcome, delivery: &Delivery) {
+    expect(rt, outcome, delivery.number, delivery.wanted.as_str());
+}
+
+fn deliver_each<R: Abort + AllocGlobal, K: Keeper>(
+    rt: &R,
+    keeper: &mut K,
+    rows: &[Row],
+) -> Result<(), Fail> {
+    for delivery in &deliveries_of(rt.alloc(), rows)? {
+        let outcome = deliver(rt.alloc(), keeper, delivery.text.as_bytes());
+        expect_told(rt, &outcome, delivery);
+    }
+    Ok(())
+}
+
+/// All rows hold over stores of this kind.
+fn rows_hold<R: Abort + AllocGlobal, K: Opened>(rt: &R) -> Result<(), Fail> {
+    runs::have_their_outcomes::<R, K>(rt)?;
+    runs::the_longest_text::<R, K>(rt)?;
+    importing::reports_are_heard_in_order::<R, K>(rt)?;
+    reports::the_worked_report::<R, K>(rt)?;
+    reports::months_have_edges::<R, K>(rt)?;
+    reports::devices_stand_in_order::<R, K>(rt)
+}
+
+#[test]
+fn rows_over_lists(rt: HostRuntime) -> Result<(), Fail> {
+    rows_hold::<HostRuntime, Lists>(&rt)
+}
+
+/// Its switch is left alone.
+#[test]
+fn rows_over_a_switched_store(rt: HostRuntime) -> Result<(), Fail> {
+    rows_hold::<HostRuntime, Switched>(&rt)
+}

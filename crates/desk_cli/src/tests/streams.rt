@@ -1,0 +1,70 @@
+//! A reader and a writer that fail.
+use std::io;
+use std::io::{ErrorKind, Read, Write};
+
+/// Gives its octets a hundred at most at a time, each time after an interruption. It fails at one read, which counts down.
+#[derive(Drop)]
+pub(crate) struct Pieces<'a> {
+    pub(crate) left: &'a [u8],
+    until_failure: usize,
+    interrupted: bool,
+}
+
+impl<'a> Pieces<'a> {
+    pub(crate) fn new(left: &'a [u8], until_failure: usize) -> Self {
+        Pieces {
+            left,
+            until_failure,
+            interrupted: false,
+        }
+    }
+}
+
+impl Read for Pieces<'_> {
+    fn read(&mut self, buf: &mut [u8]) -> io::Result<usize> {
+        self.interrupted = !self.interrupted;
+        if self.interrupted {
+            return Err(ErrorKind::Interrupted.into());
+        }
+        if self.until_failure == 0 {
+            return Err(ErrorKind::ConnectionReset.into());
+        }
+        self.until_failure -= 1;
+        let count = self.left.len().min(100).min(buf.len());
+        buf[..count].copy_from_slice(&self.left[..count]);
+        self.left = &self.left[count..];
+        Ok(count)
+    }
+}
+
+/// Takes what it is given, and fails at one write, which counts down.
+#[derive(Drop)]
+pub(crate) struct Failing {
+    until_failure: usize,
+    /// How many there were.
+    pub(crate) writes: usize,
+}
+
+impl Failing {
+    pub(crate) fn new(until_failure: usize) -> Self {
+        Failing {
+            until_failure,
+            writes: 0,
+        }
+    }
+}
+
+impl Write for Failing {
+    fn write(&mut self, buf: &[u8]) -> io::Result<usize> {
+        self.writes = self.writes.wrapping_add(1);
+        if self.until_failure == 0 {
+            return Err(ErrorKind::BrokenPipe.into());
+        }
+        self.until_failure -= 1;
+        Ok(buf.len())
+    }
+
+    fn flush(&mut self) -> io::Result<()> {
+        Ok(())
+    }
+}
