@@ -76,7 +76,8 @@ same_by_together (suc n) (a ∷ xs) ys h t =
     let short : length (filter other all) ≤ n = omega (arith, h, long, ap length (filter_first first a xs (at_itself a))) in
     let others = same_by_together n (filter other all) (filter other ys) short (together_of_filter other all ys t) in
     let joined : IsPermutation all (filter first all ++ filter other ys) =
-    IsPermutation-trans all (filter first all ++ filter other all) (filter first all ++ filter other ys) (IsPermutation-filter_both first other (λ b. refl) all) (IsPermutation-append_right (filter first all) (filter other all) (filter other ys) others) in
+    IsPermutation-trans all (filter first all ++ filter other all) (filter first all ++ filter other ys)
+    (IsPermutation-filter_both first other (λ b. refl) all) (IsPermutation-append_right (filter first all) (filter other all) (filter other ys) others) in
     let parted : IsPermutation (filter first all ++ filter other ys) ys =
     IsPermutation-sym ys (filter first all ++ filter other ys) (subst (λ k. IsPermutation ys (k ++ filter other ys)) (t a.start) (IsPermutation-filter_both first other (λ b. refl) ys)) in
     IsPermutation-trans all (filter first all ++ filter other ys) ys joined parted

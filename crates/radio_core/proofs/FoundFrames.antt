@@ -190,7 +190,8 @@ fields_are mhdr (a ∷ b ∷ c ∷ d ∷ fctrl ∷ m ∷ n ∷ rest) fields e fr
     }
 fields_are mhdr _ fields e frame_type h = absurd (let k : None ≡ Some fields = e in cc)
 
-data_is : (frame : ℕ → ℕ → Phy) (frame_type mhdr : ℕ) (body : List ℕ) (phy : Phy) → IsHeader frame_type mhdr → ((addr fcnt : ℕ) → IsData frame_type (mhdr ∷ body) addr fcnt → IsFrame (mhdr ∷ body) (frame addr fcnt)) → data_of frame body ≡ Some phy → IsFrame (mhdr ∷ body) phy
+data_is : (frame : ℕ → ℕ → Phy) (frame_type mhdr : ℕ) (body : List ℕ) (phy : Phy) → IsHeader frame_type mhdr
+    → ((addr fcnt : ℕ) → IsData frame_type (mhdr ∷ body) addr fcnt → IsFrame (mhdr ∷ body) (frame addr fcnt)) → data_of frame body ≡ Some phy → IsFrame (mhdr ∷ body) phy
 data_is frame frame_type mhdr body phy h of_type e =
     let found : (fields : ℕ × ℕ) × (fields_of body ≡ Some fields) × (frame fields.0 fields.1 ≡ phy) = mapped _ _ phy e in
     subst (IsFrame (mhdr ∷ body)) found.2 (of_type _ _ (fields_are mhdr body found.0 found.1 frame_type h))

@@ -14,19 +14,19 @@ use Rattle.duty_core.specs.Laws.{HoursWithinTells}
 use Rattle.duty_core.specs.Near.{greatest_length}
 use Rattle.duty_core.specs.Use.{EveryHourWithin, hour_from, shared_count, use_of}
 use Rattle.registry_core.specs.declared.effects.Effect.{Effect}
-use Rattle.registry_core.specs.declared.effects.Effect.TheVariants.{Nothing, AddsSender, AddsOwner, AddsGateway, AddsDevice, MovesDevice, AddsSession, AddsUplink, AddsCopy, AddsBooking, EndsBooking}
+use Rattle.registry_core.specs.declared.effects.Effect.TheVariants.{AddsBooking, EndsBooking}
 use Rattle.registry_core.specs.declared.facts.Booking.{Booking}
 use Rattle.registry_core.specs.declared.facts.Standing.{Standing}
 use Rattle.registry_core.specs.declared.facts.Standing.TheVariants.{Booked, Sent, Dropped}
 use Rattle.registry_core.specs.declared.messages.Envelope.{Envelope}
 use Rattle.registry_core.specs.Bookings.{downlinks_in, is_dropped, stands_at, stands_in}
-use Rattle.registry_core.specs.Heard.{state_after, state_of}
+use Rattle.registry_core.specs.Heard.{state_of}
 use Rattle.registry_core.specs.Numbered.{item_at, item_changed, place_changed}
 use Rattle.registry_core.specs.Settings.{Settings}
-use Rattle.registry_core.specs.State.{State, ended, opening, state_with}
-use Rattle.registry_core.specs.Step.{decision_of, step}
-use Rattle.registry_core.proofs.Decisions.{is_decision}
-use Rattle.registry_core.proofs.HeardStates.{IsAllowed, IsSound, change_sound, opening_sound}
+use Rattle.registry_core.specs.State.{State, ended, state_with}
+use Rattle.registry_core.specs.Step.{decision_of}
+use Rattle.registry_core.proofs.Decisions.{whatever_heard}
+use Rattle.registry_core.proofs.HeardStates.{IsAllowed}
 
 -- the use of an hour by the bookings that pass a test
 abbrev pub use_by : (Booking → Bool) → List Booking → ℤ → ℕ
@@ -138,15 +138,6 @@ ended_short sent bs (suc n) h = place_short sent bs n h
 -- ---- each change
 
 change_kept : (bounded : AirtimeIsBounded) (tells : HoursWithinTells) (c : Settings) (s : State) (effect : Effect) → IsAllowed c s effect → IsKept s.bookings → IsKept (state_with s effect).bookings
-change_kept bounded tells c s Nothing k h = h
-change_kept bounded tells c s (AddsSender name role) k h = h
-change_kept bounded tells c s (AddsOwner name) k h = h
-change_kept bounded tells c s (AddsGateway name) k h = h
-change_kept bounded tells c s (AddsDevice dev_eui device) k h = h
-change_kept bounded tells c s (MovesDevice dev_eui owner) k h = h
-change_kept bounded tells c s (AddsSession session uplink gateway reception) k h = h
-change_kept bounded tells c s (AddsUplink uplink gateway reception) k h = h
-change_kept bounded tells c s (AddsCopy number gateway reception) k h = h
 change_kept bounded tells c s (AddsBooking b) k h = record {
   short = short_last s.bookings b h.short (omega (arith, bounded k.1.0 k.1.1 false k.1.2, k.1.3));
   hours = λ gateway band t. added_hours s b gateway band t (stands_in gateway band b) refl (h.hours gateway band t) ((tells (downlinks_in s.bookings b.gateway b.band ++ b.span ∷ []) (limit_of b.band)).0 k.2);
@@ -155,12 +146,7 @@ change_kept bounded tells c s (EndsBooking number sent) k h = record {
   short = ended_short sent s.bookings number h.short;
   hours = λ gateway band t. omega (arith, ended_hours gateway band sent t s.bookings number k.booking k.there k.standing, h.hours gateway band t);
 }
-
-kept_after : (bounded : AirtimeIsBounded) (tells : HoursWithinTells) (c : Settings) (s : State) (es : List Envelope) → IsSound c s → IsKept s.bookings → IsKept (state_after c s es).bookings
-kept_after bounded tells c s [] sound h = h
-kept_after bounded tells c s (e ∷ es) sound h =
-    let allowed = (is_decision c s e sound).allowed in
-    kept_after bounded tells c (step c s e).0 es (change_sound c s (decision_of c s e).0 sound allowed) (change_kept bounded tells c s (decision_of c s e).0 allowed h)
+change_kept bounded tells c s effect k h = h
 
 pub kept_of : (bounded : AirtimeIsBounded) (tells : HoursWithinTells) (c : Settings) (heard : List Envelope) → IsKept (state_of c heard).bookings
-kept_of bounded tells c heard = kept_after bounded tells c (opening c) heard (opening_sound c) (record { short = tt; hours = λ gateway band t. omega arith })
+kept_of bounded tells c = whatever_heard c (λ s. IsKept s.bookings) (record { short = tt; hours = λ gateway band t. omega arith }) (λ s e allowed h. change_kept bounded tells c s (decision_of c s e).0 allowed h)

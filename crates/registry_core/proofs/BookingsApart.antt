@@ -12,7 +12,7 @@ use Rattle.duty_core.specs.Laws.{IsClearTells}
 use Rattle.duty_core.specs.Use.{Interval, is_in, shared_count}
 use Rattle.registry_core.specs.declared.answers.Refusal.TheVariants.{UnknownGateway, UnknownDevAddr, BadFrame, OutOfBand, NoUplink, DownCounter, Collision, Duty, Answered}
 use Rattle.registry_core.specs.declared.effects.Effect.{Effect}
-use Rattle.registry_core.specs.declared.effects.Effect.TheVariants.{Nothing, AddsSender, AddsOwner, AddsGateway, AddsDevice, MovesDevice, AddsSession, AddsUplink, AddsCopy, AddsBooking, EndsBooking}
+use Rattle.registry_core.specs.declared.effects.Effect.TheVariants.{AddsBooking, EndsBooking}
 use Rattle.registry_core.specs.declared.facts.Booking.{Booking}
 use Rattle.registry_core.specs.declared.facts.Standing.TheVariants.{Booked}
 use Rattle.registry_core.specs.declared.messages.Envelope.{Envelope}
@@ -22,14 +22,14 @@ use Rattle.registry_core.specs.Derived.{address_of}
 use Rattle.registry_core.specs.DownlinkLaws.{GatewaysSendOneAtATime, UplinksAreAnsweredOnce}
 use Rattle.registry_core.specs.Downlinks.{down_added, down_book, on_air}
 use Rattle.registry_core.specs.Frames.{counts_as, downlink_to, frame_at, goes_to}
-use Rattle.registry_core.specs.Heard.{state_after, state_of}
+use Rattle.registry_core.specs.Heard.{state_of}
 use Rattle.registry_core.specs.Numbered.{item_at, item_changed, place_changed}
 use Rattle.registry_core.specs.Settings.{Settings}
-use Rattle.registry_core.specs.State.{State, ended, opening, state_with}
-use Rattle.registry_core.specs.Step.{decision_of, step}
+use Rattle.registry_core.specs.State.{State, ended, state_with}
+use Rattle.registry_core.specs.Step.{decision_of}
 use Rattle.registry_core.specs.Windows.{delay, rate_in}
-use Rattle.registry_core.proofs.Decisions.{is_decision}
-use Rattle.registry_core.proofs.HeardStates.{IsAllowed, IsSound, change_sound, opening_sound}
+use Rattle.registry_core.proofs.Decisions.{whatever_heard}
+use Rattle.registry_core.proofs.HeardStates.{IsAllowed}
 use Rattle.std.proofs.lemmas.Option.{same_Some}
 use Rattle.registry_core.proofs.Items.{item_last, item_within}
 use Rattle.registry_core.proofs.BookedUplinks.{none_passes}
@@ -184,29 +184,15 @@ ended_apart bs number sent booked there standing h = record {
 -- ---- each change
 
 change_apart : (c : Settings) (s : State) (effect : Effect) → IsAllowed c s effect → Books s effect → AreApart s.bookings → AreApart (state_with s effect).bookings
-change_apart c s Nothing k b h = h
-change_apart c s (AddsSender name role) k b h = h
-change_apart c s (AddsOwner name) k b h = h
-change_apart c s (AddsGateway name) k b h = h
-change_apart c s (AddsDevice dev_eui device) k b h = h
-change_apart c s (MovesDevice dev_eui owner) k b h = h
-change_apart c s (AddsSession session uplink gateway reception) k b h = h
-change_apart c s (AddsUplink uplink gateway reception) k b h = h
-change_apart c s (AddsCopy number gateway reception) k b h = h
 change_apart c s (AddsBooking new) k b h = added_apart s new b h
 change_apart c s (EndsBooking number sent) k b h = ended_apart s.bookings number sent k.booking k.there k.standing h
-
-apart_after : (c : Settings) (s : State) (es : List Envelope) → IsSound c s → AreApart s.bookings → AreApart (state_after c s es).bookings
-apart_after c s [] sound h = h
-apart_after c s (e ∷ es) sound h =
-    let allowed = (is_decision c s e sound).allowed in
-    apart_after c (step c s e).0 es (change_sound c s (decision_of c s e).0 sound allowed) (change_apart c s (decision_of c s e).0 allowed (new_booking (IsFree s) c s (book_books c s) e e.message) h)
+change_apart c s effect k b h = h
 
 apart_of : (c : Settings) (heard : List Envelope) → AreApart (state_of c heard).bookings
-apart_of c heard = apart_after c (opening c) heard (opening_sound c) (record {
+apart_of c = whatever_heard c (λ s. AreApart s.bookings) (record {
   alone = λ gateway m n a b em en sa sb lt. absurd (omega (arith, item_within [] m a em));
   once = λ m n a b em en same da db lt. absurd (omega (arith, item_within [] m a em));
-})
+}) (λ s e allowed h. change_apart c s (decision_of c s e).0 allowed (new_booking (IsFree s) c s (book_books c s) e e.message) h)
 
 -- ---- the laws
 

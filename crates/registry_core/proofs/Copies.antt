@@ -45,7 +45,8 @@ pub other_gateway : (copies : ℕ → List ℕ → Option Reception) (n : ℕ) (
 other_gateway copies n gateway other r apart = rw (eq-eqb n n refl, false_from_ne_true (bytes_eq other gateway) (λ same. apart ((bytes_eq-Decides other gateway).0 same))) refl
 
 -- two copies at different gateways come to the same in either order
-pub either_order : (copies : ℕ → List ℕ → Option Reception) (n : ℕ) (g h : List ℕ) (x y : Reception) (m : ℕ) (at : List ℕ) (same : Bool) (is_g is_h : Bool) → g ≢ h → (m == n) ≡ same → bytes_eq at g ≡ is_g → bytes_eq at h ≡ is_h
+pub either_order : (copies : ℕ → List ℕ → Option Reception) (n : ℕ) (g h : List ℕ) (x y : Reception) (m : ℕ) (at : List ℕ) (same : Bool) (is_g is_h : Bool) → g ≢ h
+    → (m == n) ≡ same → bytes_eq at g ≡ is_g → bytes_eq at h ≡ is_h
     → copies_with (copies_with copies n g x) n h y m at ≡ copies_with (copies_with copies n h y) n g x m at
 either_order copies n g h x y m at true true true apart e eg eh = absurd (apart (sym ((bytes_eq-Decides at g).0 eg) ∙ (bytes_eq-Decides at h).0 eh))
 either_order copies n g h x y m at true true false apart e eg eh = rw (e, eq-eqb n n refl, eg, eh) refl

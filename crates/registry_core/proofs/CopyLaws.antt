@@ -5,12 +5,11 @@ use Rattle.std.specs.Prelude.{◌⊎◌, ◌==◌, ◌&&◌}
 use Rattle.std.proofs.lemmas.Bool.{and_parts, cases_order, eqb-true}
 use Rattle.std.proofs.lemmas.Option.{same_Some}
 use Rattle.registry_core.specs.declared.effects.Effect.{Effect}
-use Rattle.registry_core.specs.declared.effects.Effect.TheVariants.{Nothing, AddsSender, AddsOwner, AddsGateway, AddsDevice, MovesDevice, AddsSession, AddsUplink, AddsCopy, AddsBooking, EndsBooking}
+use Rattle.registry_core.specs.declared.effects.Effect.TheVariants.{AddsSession, AddsUplink, AddsBooking, EndsBooking}
 use Rattle.registry_core.specs.declared.facts.Kind.{Kind}
 use Rattle.registry_core.specs.declared.facts.Kind.TheVariants.{Join, Data}
 use Rattle.registry_core.specs.declared.facts.Session.{Session}
 use Rattle.registry_core.specs.declared.facts.Uplink.{Uplink}
-use Rattle.registry_core.specs.declared.messages.Envelope.{Envelope}
 use Rattle.registry_core.specs.DataFrames.{original_data}
 use Rattle.registry_core.specs.Derived.{is_data, is_data_with, is_join, is_join_with, is_of_device, is_session_of}
 use Rattle.registry_core.specs.Heard.{state_of}
@@ -23,7 +22,7 @@ use Rattle.registry_core.specs.Step.{decision_of}
 use Rattle.registry_core.proofs.Decisions.{BooksNothing, is_decision, sound_of}
 use Rattle.registry_core.proofs.HeardStates.{IsSound, NoncesRiseIn}
 use Rattle.registry_core.proofs.Items.{first_is, first_only, kept_with, with_octets}
-use Rattle.registry_core.proofs.UplinkLaws.{frames_are_booked_once}
+use Rattle.registry_core.proofs.UplinkLaws.{uplink_once}
 
 is_join_kind : (k : Kind) → is_join k ≡ true → k ≡ Join
 is_join_kind Join h = refl
@@ -103,12 +102,12 @@ data_parts session counter u h =
       counter = eqb-true u.counter counter (and_parts _ _ h).1;
     }
 
-data_once : (c : Settings) (heard : List Envelope) (session counter m n : ℕ) (u v : Uplink) → item_at (state_of c heard).uplinks m ≡ Some u → item_at (state_of c heard).uplinks n ≡ Some v
+pub data_once : (c : Settings) (s : State) (session counter m n : ℕ) (u v : Uplink) → IsSound c s → item_at s.uplinks m ≡ Some u → item_at s.uplinks n ≡ Some v
     → is_data_with session counter u ≡ true → is_data_with session counter v ≡ true → m ≡ n
-data_once c heard session counter m n u v em en du dv =
+data_once c s session counter m n u v sound em en du dv =
     let x = data_parts session counter u du in
     let y = data_parts session counter v dv in
-    frames_are_booked_once c heard m n u v em en (x.session ∙ sym y.session) (x.kind ∙ sym y.kind) (x.counter ∙ sym y.counter)
+    uplink_once c s m n u v sound em en (x.session ∙ sym y.session) (x.kind ∙ sym y.kind) (x.counter ∙ sym y.counter)
 
 pub data_copies_are_found : DataCopiesAreFound
 unfolding original_data
@@ -118,23 +117,17 @@ data_copies_are_found c heard session counter octets n u =
       λ e. let found = with_octets octets (first_that test s.uplinks) (n, u) e in
           let at = first_is test s.uplinks (n, u) found.0 in (at.0, at.1, found.1),
       λ all. kept_with octets (first_that test s.uplinks) n u
-          (first_only test s.uplinks n u all.0 all.1 (λ m v there passes. data_once c heard session counter m n v u there all.0 passes all.1)) all.2,
+          (first_only test s.uplinks n u all.0 all.1 (λ m v there passes. data_once c s session counter m n v u (sound_of c heard) there all.0 passes all.1)) all.2,
     )
 
 -- ---- a copy books nothing
 
 booked_nothing : (s : State) (effect : Effect) → BooksNothing effect → ((state_with s effect).sessions ≡ s.sessions) × ((state_with s effect).uplinks ≡ s.uplinks) × ((state_with s effect).bookings ≡ s.bookings)
-booked_nothing s Nothing k = (refl, refl, refl)
-booked_nothing s (AddsSender name role) k = (refl, refl, refl)
-booked_nothing s (AddsOwner name) k = (refl, refl, refl)
-booked_nothing s (AddsGateway name) k = (refl, refl, refl)
-booked_nothing s (AddsDevice dev_eui device) k = (refl, refl, refl)
-booked_nothing s (MovesDevice dev_eui owner) k = (refl, refl, refl)
 booked_nothing s (AddsSession session new gateway reception) k = absurd k
 booked_nothing s (AddsUplink new gateway reception) k = absurd k
-booked_nothing s (AddsCopy number gateway reception) k = (refl, refl, refl)
 booked_nothing s (AddsBooking booking) k = absurd k
 booked_nothing s (EndsBooking number sent) k = absurd k
+booked_nothing s effect k = (refl, refl, refl)
 
 pub copies_book_nothing : CopiesBookNothing
 copies_book_nothing c heard e copy =

@@ -360,19 +360,22 @@ sound_after c s (e ∷ es) h = sound_after c (step c s e).0 es (change_sound c s
 pub sound_of : (c : Settings) (heard : List Envelope) → IsSound c (state_of c heard)
 sound_of c heard = sound_after c (opening c) heard (opening_sound c)
 
+-- what holds at first, and is kept by what is allowed, holds whatever was heard
+pub whatever_heard : (c : Settings) (P : State → Type 0) → P (opening c) → ((s : State) (e : Envelope) → IsAllowed c s (decision_of c s e).0 → P s → P (step c s e).0)
+    → (heard : List Envelope) → P (state_of c heard)
+whatever_heard c P first kept heard = after (opening c) heard (opening_sound c) first
+  where
+    after : (s : State) (es : List Envelope) → IsSound c s → P s → P (state_after c s es)
+    after s [] sound h = h
+    after s (e ∷ es) sound h = after (step c s e).0 es (sound_after c s (e ∷ []) sound) (kept s e (is_decision c s e sound).allowed h)
+
 -- what is allowed fits
 fits : (c : Settings) (s : State) (effect : Effect) → IsAllowed c s effect → Fits effect s
-fits c s Nothing k = k
-fits c s (AddsSender name role) k = k
-fits c s (AddsOwner name) k = k
-fits c s (AddsGateway name) k = k
-fits c s (AddsDevice dev_eui device) k = k
-fits c s (MovesDevice dev_eui owner) k = k
 fits c s (AddsSession session u gateway reception) k = k.0
 fits c s (AddsUplink u gateway reception) k = k.0
 fits c s (AddsCopy number gateway reception) k = k.0
 fits c s (AddsBooking booking) k = k.0
-fits c s (EndsBooking number sent) k = k
+fits c s effect k = k
 
 pub decisions_fit : DecisionsFit
 decisions_fit c heard e list = fits c (state_of c heard) (decision_of c (state_of c heard) e).0 (is_decision c (state_of c heard) e (sound_of c heard)).allowed

@@ -85,8 +85,10 @@ banded_same clear hours s v number gateway start rate octets (Some band) kept sh
     added_same clear hours s v number gateway band start (on_air start rate octets) kept short count near (in_band s gateway start rate band v.near_in_band.items is near_in_band)
 
 -- from the frame on
-framed_same : (bounded : AirtimeIsBounded) (clear : IsClearByNearOnes) (hours : HoursWithinByNearOnes) (c : Settings) (s : State) (v : View) (number : ℕ) (gateway : List ℕ) (uplink : Uplink) (start : ℕ) (rate : Rate) (octets : List ℕ) (told : Option Downlink)
-    → IsKept s.bookings → downlink_to uplink.kind (frame_at rate.dr octets) ≡ told → v.base ≡ c.base → v.answered ≡ is_answered s.bookings number → v.next_down ≡ next_down s.bookings s.uplinks uplink.session → v.bookings ≡ length s.bookings
+framed_same : (bounded : AirtimeIsBounded) (clear : IsClearByNearOnes) (hours : HoursWithinByNearOnes) (c : Settings) (s : State) (v : View) (number : ℕ)
+    (gateway : List ℕ) (uplink : Uplink) (start : ℕ) (rate : Rate) (octets : List ℕ) (told : Option Downlink)
+    → IsKept s.bookings → downlink_to uplink.kind (frame_at rate.dr octets) ≡ told → v.base ≡ c.base → v.answered ≡ is_answered s.bookings number
+    → v.next_down ≡ next_down s.bookings s.uplinks uplink.session → v.bookings ≡ length s.bookings
     → IsPermutation (near_ones (pos start) (downlinks s.bookings gateway)) v.near.items → IsPermutation (near_in s gateway (start, rate)) v.near_in_band.items
     → (do
       down ← needs told BadFrame
@@ -119,15 +121,20 @@ framed_same bounded clear hours c s v number gateway uplink start rate octets (S
 abbrev seen_with : ℕ → Option Reception → Uplink → UplinkView
 seen_with number copy uplink = record { number = number; uplink = uplink; at_gateway = copy }
 
+-- when the window of the uplink that is there opens, by the copy that is there, and at which rate
+abbrev opens_at : Window → Option Uplink → Option Reception → Option (ℕ × Rate)
+opens_at window uplink copy = option_and_then (λ (u : Uplink). option_map (λ (r : Reception). window_of u.kind r.end r.rate window) copy) uplink
+
 -- what a view shows of the uplink, and what it shows near the window, with the uplink and the copy that are there
 record Shows (s : State) (v : View) (number : ℕ) (gateway : List ℕ) (window : Window) (uplink : Option Uplink) (copy : Option Reception) : Type 0 where
   seen : v.uplink ≡ option_map (seen_with number copy) uplink
   next_down : v.next_down ≡ option_map_or (λ (u : Uplink). next_down s.bookings s.uplinks u.session) uplink 0
-  near : IsPermutation (option_map_or (λ (opens : ℕ × Rate). near_ones (pos opens.0) (downlinks s.bookings gateway)) (option_and_then (λ (u : Uplink). option_map (λ (r : Reception). window_of u.kind r.end r.rate window) copy) uplink) []) v.near.items
-  near_in_band : IsPermutation (option_map_or (near_in s gateway) (option_and_then (λ (u : Uplink). option_map (λ (r : Reception). window_of u.kind r.end r.rate window) copy) uplink) []) v.near_in_band.items
+  near : IsPermutation (option_map_or (λ (opens : ℕ × Rate). near_ones (pos opens.0) (downlinks s.bookings gateway)) (opens_at window uplink copy) []) v.near.items
+  near_in_band : IsPermutation (option_map_or (near_in s gateway) (opens_at window uplink copy) []) v.near_in_band.items
 
 -- from the uplink on
-uplinked_same : (bounded : AirtimeIsBounded) (clear : IsClearByNearOnes) (hours : HoursWithinByNearOnes) (c : Settings) (s : State) (v : View) (number : ℕ) (gateway : List ℕ) (window : Window) (octets : List ℕ) (uplink : Option Uplink) (copy : Option Reception)
+uplinked_same : (bounded : AirtimeIsBounded) (clear : IsClearByNearOnes) (hours : HoursWithinByNearOnes) (c : Settings) (s : State) (v : View) (number : ℕ)
+    (gateway : List ℕ) (window : Window) (octets : List ℕ) (uplink : Option Uplink) (copy : Option Reception)
     → IsKept s.bookings → Shows s v number gateway window uplink copy → v.base ≡ c.base → v.answered ≡ is_answered s.bookings number → v.bookings ≡ length s.bookings
     → (do
       seen ← needs (option_map (seen_with number copy) uplink) NoUplink

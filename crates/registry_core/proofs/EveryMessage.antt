@@ -1,22 +1,25 @@
--- What no message does: a refused one changes nothing, and one that adds no sender leaves the senders.
-use Rattle.std.proofs.Common.{◌≡◌, ℕ, Bool, false, List, Option, refl, ap, rules}
+-- What no message does: a refused one changes nothing, one that adds no sender leaves the senders, and one of no operator leaves the
+-- register.
+use Rattle.std.proofs.Common.{◌≡◌, ℕ, Bool, true, false, List, Option, refl, ap, subst, rules}
+use Rattle.registry_core.specs.declared.answers.Refusal.TheVariants.{WrongRole}
 use Rattle.registry_core.specs.declared.effects.Effect.{Effect}
-use Rattle.registry_core.specs.declared.effects.Effect.TheVariants.{Nothing, AddsSender, AddsOwner, AddsGateway, AddsDevice, MovesDevice, AddsSession, AddsUplink, AddsCopy, AddsBooking, EndsBooking}
+use Rattle.registry_core.specs.declared.effects.Effect.TheVariants.{AddsSender, AddsOwner, AddsGateway, AddsDevice, MovesDevice}
 use Rattle.registry_core.specs.declared.facts.Reception.{Reception}
 use Rattle.registry_core.specs.declared.messages.Envelope.{Envelope}
 use Rattle.registry_core.specs.declared.messages.JoinVerdict.{JoinVerdict}
 use Rattle.registry_core.specs.declared.messages.Message.{Message}
 use Rattle.registry_core.specs.declared.messages.Message.TheVariants.{SenderAdd, OwnerAdd, GatewayAdd, DeviceAdd, DeviceMove, JoinHeard, FrameHeard, DownBook, DownDone}
 use Rattle.registry_core.specs.declared.messages.Report.{Report}
+use Rattle.registry_core.specs.declared.messages.Role.{Role}
 use Rattle.registry_core.specs.declared.windows.Window.{Window}
-use Rattle.registry_core.specs.Administration.{owner_add, gateway_add, device_add, device_move}
-use Rattle.registry_core.specs.Checks.{Checked}
+use Rattle.registry_core.specs.Administration.{is_operator, sender_add, owner_add, gateway_add, device_add, device_move}
+use Rattle.registry_core.specs.Checks.{Checked, ◌>>◌, wants}
 use Rattle.registry_core.specs.DataFrames.{data_added, frame_heard}
 use Rattle.registry_core.specs.Decision.{Decision, decision_or_refusal}
 use Rattle.registry_core.specs.Downlinks.{down_added, down_book, down_done}
 use Rattle.registry_core.specs.Heard.{state_of}
 use Rattle.registry_core.specs.Joins.{join_added, join_heard}
-use Rattle.registry_core.specs.Laws.{RefusalsChangeNothing, SendersStay, adds_sender}
+use Rattle.registry_core.specs.Laws.{OperatorsKeepTheRegister, RefusalsChangeNothing, SendersStay, adds_sender}
 use Rattle.registry_core.specs.Settings.{Settings}
 use Rattle.registry_core.specs.State.{State, state_with}
 use Rattle.registry_core.specs.Step.{checked_decision, decision_of}
@@ -26,73 +29,93 @@ use Rattle.registry_core.proofs.Decisions.{is_decision, sound_of}
 pub refusals_change_nothing : RefusalsChangeNothing
 refusals_change_nothing c heard e r refused = ap (state_with (state_of c heard)) ((is_decision c (state_of c heard) e (sound_of c heard)).refusal r refused)
 
--- ---- senders
+-- ---- which message a change comes from
 
-abbrev AddsNoSender : Effect → Type 0
-AddsNoSender (AddsSender name role) = ⊥
-AddsNoSender effect = Unit {0}
+-- what is kept of senders, owners, gateways and devices is changed by an operator's messages, and the senders by one that adds a sender
+abbrev IsFrom : Bool → Message → Effect → Type 0
+IsFrom operator m (AddsSender name role) = (operator ≡ true) × (adds_sender m ≡ true)
+IsFrom operator m (AddsOwner name) = operator ≡ true
+IsFrom operator m (AddsGateway name) = operator ≡ true
+IsFrom operator m (AddsDevice dev_eui device) = operator ≡ true
+IsFrom operator m (MovesDevice dev_eui owner) = operator ≡ true
+IsFrom operator m effect = Unit {0}
 
-abbrev LeavesSenders : Checked Decision → Type 0
-LeavesSenders checked = AddsNoSender (decision_or_refusal checked).0
+abbrev Changes : Bool → Message → Checked Decision → Type 0
+Changes operator m checked = IsFrom operator m (decision_or_refusal checked).0
 
-copy_leaves : (number : ℕ) (at : Option Reception) (report : Report) → AddsNoSender (copy_added number at report)
-copy_leaves number at report = search rules
+of_operator : (operator : Bool) (m : Message) (rest : Checked Decision) → Changes true m rest → Changes operator m (wants operator WrongRole >> rest)
+of_operator true m rest h = h
+of_operator false m rest h = tt
 
-owner_leaves : (s : State) (e : Envelope) (owner : List ℕ) → LeavesSenders (owner_add s e owner)
+sender_from : (s : State) (e : Envelope) (sender : List ℕ) (role : Role) → Changes (is_operator (s.senders e.sender)) (SenderAdd sender role) (sender_add s e sender role)
+unfolding sender_add
+sender_from s e sender role = of_operator (is_operator (s.senders e.sender)) (SenderAdd sender role) _ (search rules)
+
+owner_from : (s : State) (e : Envelope) (owner : List ℕ) → Changes (is_operator (s.senders e.sender)) (OwnerAdd owner) (owner_add s e owner)
 unfolding owner_add
-owner_leaves s e owner = search rules
+owner_from s e owner = of_operator (is_operator (s.senders e.sender)) (OwnerAdd owner) _ (search rules)
 
-gateway_leaves : (s : State) (e : Envelope) (gateway : List ℕ) → LeavesSenders (gateway_add s e gateway)
+gateway_from : (s : State) (e : Envelope) (gateway : List ℕ) → Changes (is_operator (s.senders e.sender)) (GatewayAdd gateway) (gateway_add s e gateway)
 unfolding gateway_add
-gateway_leaves s e gateway = search rules
+gateway_from s e gateway = of_operator (is_operator (s.senders e.sender)) (GatewayAdd gateway) _ (search rules)
 
-device_leaves : (s : State) (e : Envelope) (dev_eui join_eui : ℕ) (owner : List ℕ) → LeavesSenders (device_add s e dev_eui join_eui owner)
+device_from : (s : State) (e : Envelope) (dev_eui join_eui : ℕ) (owner : List ℕ)
+    → Changes (is_operator (s.senders e.sender)) (DeviceAdd dev_eui join_eui owner) (device_add s e dev_eui join_eui owner)
 unfolding device_add
-device_leaves s e dev_eui join_eui owner = search rules
+device_from s e dev_eui join_eui owner = of_operator (is_operator (s.senders e.sender)) (DeviceAdd dev_eui join_eui owner) _ (search rules)
 
-move_leaves : (s : State) (e : Envelope) (dev_eui : ℕ) (owner : List ℕ) → LeavesSenders (device_move s e dev_eui owner)
+move_from : (s : State) (e : Envelope) (dev_eui : ℕ) (owner : List ℕ) → Changes (is_operator (s.senders e.sender)) (DeviceMove dev_eui owner) (device_move s e dev_eui owner)
 unfolding device_move
-move_leaves s e dev_eui owner = search rules
+move_from s e dev_eui owner = of_operator (is_operator (s.senders e.sender)) (DeviceMove dev_eui owner) _ (search rules)
 
-join_leaves : (c : Settings) (s : State) (report : Report) (verdict : JoinVerdict) → LeavesSenders (join_heard c s report verdict)
+copy_from : (operator : Bool) (m : Message) (number : ℕ) (at : Option Reception) (report : Report) → IsFrom operator m (copy_added number at report)
+copy_from operator m number at report = search rules
+
+join_from : (operator : Bool) (m : Message) (c : Settings) (s : State) (report : Report) (verdict : JoinVerdict) → Changes operator m (join_heard c s report verdict)
 unfolding join_heard join_added
-join_leaves c s report verdict = search (rules, copy_leaves)
+join_from operator m c s report verdict = search (rules, copy_from)
 
-frame_leaves : (c : Settings) (s : State) (report : Report) (verdict : Option ℕ) → LeavesSenders (frame_heard c s report verdict)
+frame_from : (operator : Bool) (m : Message) (c : Settings) (s : State) (report : Report) (verdict : Option ℕ) → Changes operator m (frame_heard c s report verdict)
 unfolding frame_heard data_added
-frame_leaves c s report verdict = search (rules, copy_leaves)
+frame_from operator m c s report verdict = search (rules, copy_from)
 
-book_leaves : (c : Settings) (s : State) (number : ℕ) (gateway : List ℕ) (window : Window) (octets : List ℕ) → LeavesSenders (down_book c s number gateway window octets)
+book_from : (operator : Bool) (m : Message) (c : Settings) (s : State) (number : ℕ) (gateway : List ℕ) (window : Window) (octets : List ℕ)
+    → Changes operator m (down_book c s number gateway window octets)
 unfolding down_book down_added
-book_leaves c s number gateway window octets = search rules
+book_from operator m c s number gateway window octets = search rules
 
-done_leaves : (s : State) (number : ℕ) (sent : Bool) → LeavesSenders (down_done s number sent)
+done_from : (operator : Bool) (m : Message) (s : State) (number : ℕ) (sent : Bool) → Changes operator m (down_done s number sent)
 unfolding down_done
-done_leaves s number sent = search rules
+done_from operator m s number sent = search rules
 
-message_leaves : (c : Settings) (s : State) (e : Envelope) (m : Message) → adds_sender m ≡ false → LeavesSenders (checked_decision c s e m)
-message_leaves c s e (SenderAdd sender role) h = cc
-message_leaves c s e (OwnerAdd owner) h = owner_leaves s e owner
-message_leaves c s e (GatewayAdd gateway) h = gateway_leaves s e gateway
-message_leaves c s e (DeviceAdd dev_eui join_eui owner) h = device_leaves s e dev_eui join_eui owner
-message_leaves c s e (DeviceMove dev_eui owner) h = move_leaves s e dev_eui owner
-message_leaves c s e (JoinHeard report verdict) h = join_leaves c s report verdict
-message_leaves c s e (FrameHeard report verdict) h = frame_leaves c s report verdict
-message_leaves c s e (DownBook uplink gateway window octets) h = book_leaves c s uplink gateway window octets
-message_leaves c s e (DownDone booking sent) h = done_leaves s booking sent
+is_from : (c : Settings) (s : State) (e : Envelope) (m : Message) → Changes (is_operator (s.senders e.sender)) m (checked_decision c s e m)
+is_from c s e (SenderAdd sender role) = sender_from s e sender role
+is_from c s e (OwnerAdd owner) = owner_from s e owner
+is_from c s e (GatewayAdd gateway) = gateway_from s e gateway
+is_from c s e (DeviceAdd dev_eui join_eui owner) = device_from s e dev_eui join_eui owner
+is_from c s e (DeviceMove dev_eui owner) = move_from s e dev_eui owner
+is_from c s e (JoinHeard report verdict) = join_from _ (JoinHeard report verdict) c s report verdict
+is_from c s e (FrameHeard report verdict) = frame_from _ (FrameHeard report verdict) c s report verdict
+is_from c s e (DownBook uplink gateway window octets) = book_from _ (DownBook uplink gateway window octets) c s uplink gateway window octets
+is_from c s e (DownDone booking sent) = done_from _ (DownDone booking sent) s booking sent
 
-effect_leaves : (s : State) (effect : Effect) → AddsNoSender effect → (state_with s effect).senders ≡ s.senders
-effect_leaves s Nothing k = refl
-effect_leaves s (AddsSender name role) k = absurd k
-effect_leaves s (AddsOwner name) k = refl
-effect_leaves s (AddsGateway name) k = refl
-effect_leaves s (AddsDevice dev_eui device) k = refl
-effect_leaves s (MovesDevice dev_eui owner) k = refl
-effect_leaves s (AddsSession session uplink gateway reception) k = refl
-effect_leaves s (AddsUplink uplink gateway reception) k = refl
-effect_leaves s (AddsCopy number gateway reception) k = refl
-effect_leaves s (AddsBooking booking) k = refl
-effect_leaves s (EndsBooking number sent) k = refl
+-- ---- what stays
+
+same_senders : (s : State) (operator : Bool) (m : Message) (effect : Effect) → adds_sender m ≡ false → IsFrom operator m effect → (state_with s effect).senders ≡ s.senders
+same_senders s operator m (AddsSender name role) none k = cc
+same_senders s operator m effect none k = refl
 
 pub senders_stay : SendersStay
-senders_stay c s e none = effect_leaves s (decision_of c s e).0 (message_leaves c s e e.message none)
+senders_stay c s e none = same_senders s (is_operator (s.senders e.sender)) e.message (decision_of c s e).0 none (is_from c s e e.message)
+
+same_register : (s : State) (m : Message) (effect : Effect) → IsFrom false m effect → let after : State = state_with s effect in
+    (after.senders ≡ s.senders) × (after.owners ≡ s.owners) × (after.gateways ≡ s.gateways) × (after.devices ≡ s.devices)
+same_register s m (AddsSender name role) k = cc
+same_register s m (AddsOwner name) k = cc
+same_register s m (AddsGateway name) k = cc
+same_register s m (AddsDevice dev_eui device) k = cc
+same_register s m (MovesDevice dev_eui owner) k = cc
+same_register s m effect k = (refl, refl, refl, refl)
+
+pub operators_keep_the_register : OperatorsKeepTheRegister
+operators_keep_the_register c s e other = same_register s e.message (decision_of c s e).0 (subst (λ b. IsFrom b e.message (decision_of c s e).0) other (is_from c s e e.message))

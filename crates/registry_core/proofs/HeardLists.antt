@@ -1,6 +1,6 @@
 -- One more message leaves a heard list.
-use Rattle.std.proofs.Common.{◌≡◌, ◌<◌, true, false, List, [], ◌∷◌, ◌++◌, length, cond, refl, append_assoc, append-nil, arith, inl, inr}
-use Rattle.std.specs.Prelude.{◌&&◌, IsTrue}
+use Rattle.std.proofs.Common.{◌≡◌, ◌<◌, true, false, List, [], ◌∷◌, ◌++◌, length, append_assoc, append-nil, arith, inl, inr}
+use Rattle.std.specs.Prelude.{IsTrue}
 use Rattle.std.proofs.lemmas.Bool.{cases_Bool}
 use Rattle.std.proofs.lemmas.List.{length-append}
 use Rattle.registry_core.specs.declared.messages.Envelope.{Envelope}
@@ -16,19 +16,6 @@ are_heard_with c before [] e each in_range known new =
 are_heard_with c before (h ∷ hs) e each in_range known new =
     (each.0, each.1, each.2, are_heard_with c (before ++ h ∷ []) hs e each.3 in_range (rw append_assoc known) (rw append_assoc new))
 
--- where the sender is unknown, or the pair was heard, the list stays
-pub heard_with-stranger : (c : Settings) (heard : List Envelope) (e : Envelope) → is_sender (state_of c heard) e.sender ≡ false → heard_with c heard e ≡ heard
-unfolding heard_with
-heard_with-stranger c heard e unknown = rw unknown
-
-pub heard_with-repeat : (c : Settings) (heard : List Envelope) (e : Envelope) → has_pair heard e ≡ true → heard_with c heard e ≡ heard
-unfolding heard_with
-heard_with-repeat c heard e again = rw again (elim (is_sender (state_of c heard) e.sender) as (λ b. cond (b && false) (heard ++ e ∷ []) heard ≡ heard) [ true ↦ refl | false ↦ refl ])
-
-pub heard_with-new : (c : Settings) (heard : List Envelope) (e : Envelope) → is_sender (state_of c heard) e.sender ≡ true → has_pair heard e ≡ false → heard_with c heard e ≡ heard ++ e ∷ []
-unfolding heard_with
-heard_with-new c heard e known new = rw (known, new)
-
 heard_list_more : (c : Settings) (heard : List Envelope) (e : Envelope) → IsHeard c heard → length heard < most_heard → IsEnvelope e
     → is_sender (state_of c heard) e.sender ≡ true → has_pair heard e ≡ false → IsHeard c (heard ++ e ∷ [])
 heard_list_more c heard e list room in_range known new = record {
@@ -36,11 +23,13 @@ heard_list_more c heard e list room in_range known new = record {
   each = are_heard_with c [] heard e list.each in_range known new;
 }
 
+-- where the sender is unknown, or the pair was heard, the list stays
 pub heard_lists_stay : HeardListsStay
+unfolding heard_with
 heard_lists_stay c heard e list room in_range = elim (cases_Bool (is_sender (state_of c heard) e.sender)) [
-  | inr unknown ↦ rw (heard_with-stranger c heard e unknown) list
+  | inr unknown ↦ rw unknown list
   | inl known ↦ elim (cases_Bool (has_pair heard e)) [
-    | inl again ↦ rw (heard_with-repeat c heard e again) list
-    | inr new ↦ rw (heard_with-new c heard e known new) (heard_list_more c heard e list room in_range known new)
+    | inl again ↦ rw (known, again) list
+    | inr new ↦ rw (known, new) (heard_list_more c heard e list room in_range known new)
   ]
 ]

@@ -10,7 +10,7 @@ use Rattle.radio_core.specs.Frames.{frame_of}
 use Rattle.radio_core.specs.TimeOnAir.{airtime_of}
 use Rattle.duty_core.specs.Computed.{hours_within}
 use Rattle.registry_core.specs.declared.effects.Effect.{Effect}
-use Rattle.registry_core.specs.declared.effects.Effect.TheVariants.{Nothing, AddsSender, AddsOwner, AddsGateway, AddsDevice, MovesDevice, AddsSession, AddsUplink, AddsCopy, AddsBooking, EndsBooking}
+use Rattle.registry_core.specs.declared.effects.Effect.TheVariants.{AddsSession, AddsUplink, AddsCopy, AddsBooking}
 use Rattle.registry_core.specs.declared.facts.Kind.{Kind}
 use Rattle.registry_core.specs.declared.facts.Kind.TheVariants.{Join, Data}
 use Rattle.registry_core.specs.declared.facts.Reception.{Reception}
@@ -234,14 +234,7 @@ copy_sound c s number gateway reception h k = record {
     within n at r (inr same) = omega (arith, same, there (item_at s.uplinks number) refl k.0.uplink)
 
 pub change_sound : (c : Settings) (s : State) (effect : Effect) → IsSound c s → IsAllowed c s effect → IsSound c (state_with s effect)
-change_sound c s Nothing h k = h
-change_sound c s (AddsSender name role) h k = h
-change_sound c s (AddsOwner name) h k = h
-change_sound c s (AddsGateway name) h k = h
-change_sound c s (AddsDevice dev_eui device) h k = h
-change_sound c s (MovesDevice dev_eui owner) h k = h
 change_sound c s (AddsSession session u gateway reception) h k = session_sound c s session u gateway reception h k
 change_sound c s (AddsUplink u gateway reception) h k = uplink_sound c s u gateway reception h k
 change_sound c s (AddsCopy number gateway reception) h k = copy_sound c s number gateway reception h k
-change_sound c s (AddsBooking booking) h k = h
-change_sound c s (EndsBooking number sent) h k = h
+change_sound c s effect h k = h

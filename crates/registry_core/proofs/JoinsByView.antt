@@ -103,7 +103,8 @@ heard_same : (c : Settings) (s : State) (v : View) (report : Report) (verdict : 
     → Counts c s v → v.gateway_known ≡ s.gateways report.gateway → Sees s v report.gateway (join_request (frame_of report.octets))
     → join_heard_by v report verdict ≡ join_heard c s report verdict
 unfolding join_heard_by join_heard join_added_by
-heard_same c s v report verdict true is n known sees = rw (is, known) (ap (λ rest. wants (is_time report.time) Time >> (wants (s.gateways report.gateway) UnknownGateway >> rest)) (tail c s v report verdict (join_request (frame_of report.octets)) n sees))
+heard_same c s v report verdict true is n known sees =
+    rw (is, known) (ap (λ rest. wants (is_time report.time) Time >> (wants (s.gateways report.gateway) UnknownGateway >> rest)) (tail c s v report verdict (join_request (frame_of report.octets)) n sees))
 heard_same c s v report verdict false is n known sees = rw (is, known) refl
 
 pub join_heard_same : (c : Settings) (s : State) (e : Envelope) (v : View) (report : Report) (verdict : JoinVerdict) → e.message ≡ JoinHeard report verdict → IsView c s e v

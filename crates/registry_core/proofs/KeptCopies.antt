@@ -1,6 +1,6 @@
 -- A copy that is kept stays, and a report of a frame that is booked adds one copy at most.
 use Rattle.std.proofs.Common.{◌≡◌, ◌≢◌, ℕ, Bool, true, false, List, Option, Some, None, refl, sym, subst, ◌∙◌, ap, rules, inl, inr}
-use Rattle.std.specs.Prelude.{◌⊎◌, ◌==◌, bytes_eq}
+use Rattle.std.specs.Prelude.{◌⊎◌, ◌==◌, bytes_eq, unwrap_or}
 use Rattle.std.proofs.lemmas.Bool.{eq-eqb, eqb-true}
 use Rattle.std.proofs.lemmas.Option.{same_Some}
 use Rattle.std.proofs.lemmas.Slice.Eq.{bytes_eq-Decides}
@@ -9,7 +9,7 @@ use Rattle.radio_core.specs.Bands.{band_at}
 use Rattle.registry_core.specs.declared.answers.Refusal.{Refusal}
 use Rattle.registry_core.specs.declared.answers.Refusal.TheVariants.{UnknownGateway, UnknownDevEui, UnknownDevAddr, BadFrame, OutOfBand, MicFailed, JoinEui, Time}
 use Rattle.registry_core.specs.declared.effects.Effect.{Effect}
-use Rattle.registry_core.specs.declared.effects.Effect.TheVariants.{Nothing, AddsSender, AddsOwner, AddsGateway, AddsDevice, MovesDevice, AddsSession, AddsUplink, AddsCopy, AddsBooking, EndsBooking}
+use Rattle.registry_core.specs.declared.effects.Effect.TheVariants.{AddsSession, AddsUplink, AddsCopy}
 use Rattle.registry_core.specs.declared.facts.Reception.{Reception}
 use Rattle.registry_core.specs.declared.facts.Uplink.{Uplink}
 use Rattle.registry_core.specs.declared.frames.DataFrame.{DataFrame}
@@ -55,17 +55,10 @@ stays : (s : State) (number : ℕ) (gateway : List ℕ) (new : Reception) (n : �
 stays s number gateway new n at old none there = old_stays s.copies number gateway new n at old (n == number) (bytes_eq at gateway) refl refl none there
 
 pub copy_stays_with : (c : Settings) (s : State) (effect : Effect) → IsAllowed c s effect → (n : ℕ) (at : List ℕ) (old : Reception) → s.copies n at ≡ Some old → (state_with s effect).copies n at ≡ Some old
-copy_stays_with c s Nothing k n at old there = there
-copy_stays_with c s (AddsSender name role) k n at old there = there
-copy_stays_with c s (AddsOwner name) k n at old there = there
-copy_stays_with c s (AddsGateway name) k n at old there = there
-copy_stays_with c s (AddsDevice dev_eui device) k n at old there = there
-copy_stays_with c s (MovesDevice dev_eui owner) k n at old there = there
 copy_stays_with c s (AddsSession session uplink gateway new) k n at old there = stays s (next_uplink s) gateway new n at old k.0.no_copy there
 copy_stays_with c s (AddsUplink uplink gateway new) k n at old there = stays s (next_uplink s) gateway new n at old k.0.no_copy there
 copy_stays_with c s (AddsCopy number gateway new) k n at old there = stays s number gateway new n at old k.0.no_copy there
-copy_stays_with c s (AddsBooking booking) k n at old there = there
-copy_stays_with c s (EndsBooking number sent) k n at old there = there
+copy_stays_with c s effect k n at old there = there
 
 pub copies_stay : CopiesStay
 copies_stay c heard e number gateway copy there =
@@ -81,36 +74,32 @@ other_stays copies number gateway new n at true false is by apart = rw (is, by) 
 other_stays copies number gateway new n at true true is by (inl apart) = absurd (apart (eqb-true n number is))
 other_stays copies number gateway new n at true true is by (inr apart) = absurd (apart ((bytes_eq-Decides at gateway).0 by))
 
+-- a state that differs in the copies alone, and there in this one
+keeps_with : (s : State) (report : Report) (number : ℕ) (uplink : Uplink) (copies : ℕ → List ℕ → Option Reception) → item_at s.uplinks number ≡ Some uplink → uplink.octets ≡ report.octets
+    → copies number report.gateway ≡ Some (unwrap_or (s.copies number report.gateway) (reception_of report))
+    → ((n : ℕ) (gateway : List ℕ) → (n ≢ number) ⊎ (gateway ≢ report.gateway) → copies n gateway ≡ s.copies n gateway) → KeepsCopy report number s (record s { copies = copies })
+keeps_with s report number uplink copies there octets own others = record {
+  uplink = uplink;
+  there = there;
+  octets = octets;
+  own = own;
+  others = others;
+  senders = refl;
+  owners = refl;
+  gateways = refl;
+  devices = refl;
+  sessions = refl;
+  uplinks = refl;
+  bookings = refl;
+}
+
 copy_keeps : (s : State) (report : Report) (number : ℕ) (uplink : Uplink) (at : Option Reception) → item_at s.uplinks number ≡ Some uplink → uplink.octets ≡ report.octets
     → s.copies number report.gateway ≡ at → KeepsCopy report number s (state_with s (copy_added number at report))
-copy_keeps s report number uplink (Some old) there octets is = record {
-  uplink = uplink;
-  there = there;
-  octets = octets;
-  own = rw is refl;
-  others = λ n gateway apart. refl;
-  senders = refl;
-  owners = refl;
-  gateways = refl;
-  devices = refl;
-  sessions = refl;
-  uplinks = refl;
-  bookings = refl;
-}
-copy_keeps s report number uplink None there octets is = record {
-  uplink = uplink;
-  there = there;
-  octets = octets;
-  own = rw (is, eq-eqb number number refl, (bytes_eq-Decides report.gateway report.gateway).1 refl) refl;
-  others = λ n gateway apart. other_stays s.copies number report.gateway (reception_of report) n gateway (n == number) (bytes_eq gateway report.gateway) refl refl apart;
-  senders = refl;
-  owners = refl;
-  gateways = refl;
-  devices = refl;
-  sessions = refl;
-  uplinks = refl;
-  bookings = refl;
-}
+copy_keeps s report number uplink (Some old) there octets is = keeps_with s report number uplink s.copies there octets (rw is refl) (λ n gateway apart. refl)
+copy_keeps s report number uplink None there octets is =
+    keeps_with s report number uplink (copies_with s.copies number report.gateway (reception_of report)) there octets
+    (rw (is, eq-eqb number number refl, (bytes_eq-Decides report.gateway report.gateway).1 refl) refl)
+    (λ n gateway apart. other_stays s.copies number report.gateway (reception_of report) n gateway (n == number) (bytes_eq gateway report.gateway) refl refl apart)
 
 -- what the checks decide, where it is answered as a copy
 abbrev Keeps : State → Report → Checked Decision → Type 0

@@ -20,7 +20,6 @@ pub mod KeptCopies
 pub mod NewItems
 pub mod NumberedLaws
 pub mod ReceivedUplinks
-pub mod Register
 pub mod Replies
 pub mod ReportOrder
 pub mod Sameness

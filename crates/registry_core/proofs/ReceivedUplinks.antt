@@ -13,14 +13,13 @@ use Rattle.radio_core.specs.Frames.{frame_of}
 use Rattle.radio_core.specs.TimeOnAir.{AirtimeIsBounded, AirtimeIsComputed, IsAirtime, airtime_of}
 use Rattle.registry_core.specs.declared.answers.Refusal.TheVariants.{UnknownGateway, UnknownDevEui, UnknownDevAddr, BadFrame, OutOfBand, MicFailed, JoinEui, Nonce, Addresses, Replayed, Late, Gap, SessionEnded, Time}
 use Rattle.registry_core.specs.declared.effects.Effect.{Effect}
-use Rattle.registry_core.specs.declared.effects.Effect.TheVariants.{Nothing, AddsSender, AddsOwner, AddsGateway, AddsDevice, MovesDevice, AddsSession, AddsUplink, AddsCopy, AddsBooking, EndsBooking}
+use Rattle.registry_core.specs.declared.effects.Effect.TheVariants.{Nothing, AddsSession, AddsUplink}
 use Rattle.registry_core.specs.declared.facts.Kind.{Kind}
 use Rattle.registry_core.specs.declared.facts.Kind.TheVariants.{Join, Data}
 use Rattle.registry_core.specs.declared.facts.Reception.{Reception}
 use Rattle.registry_core.specs.declared.facts.Uplink.{Uplink}
 use Rattle.registry_core.specs.declared.frames.DataFrame.{DataFrame}
 use Rattle.registry_core.specs.declared.frames.JoinRequest.{JoinRequest}
-use Rattle.registry_core.specs.declared.messages.Envelope.{Envelope}
 use Rattle.registry_core.specs.declared.messages.JoinVerdict.{JoinVerdict}
 use Rattle.registry_core.specs.declared.messages.Report.{Report}
 use Rattle.registry_core.specs.AirtimeLaws.{IsReceived, UplinksAreReceived}
@@ -28,15 +27,14 @@ use Rattle.registry_core.specs.Checks.{unless}
 use Rattle.registry_core.specs.DataFrames.{data_added, data_copied, frame_heard, original_data}
 use Rattle.registry_core.specs.Derived.{data_with, is_above, is_below, is_below_floor, last_counter, last_nonce, session_with}
 use Rattle.registry_core.specs.Frames.{data_up, frame_at, join_request}
-use Rattle.registry_core.specs.Heard.{state_after}
 use Rattle.registry_core.specs.Joins.{is_good, join_added, join_copied, join_heard, original_join}
 use Rattle.registry_core.specs.Numbered.{item_at}
 use Rattle.registry_core.specs.Settings.{Settings}
-use Rattle.registry_core.specs.State.{State, copies_with, next_uplink, opening, state_with}
-use Rattle.registry_core.specs.Step.{decision_of, step}
+use Rattle.registry_core.specs.State.{State, copies_with, next_uplink, state_with}
+use Rattle.registry_core.specs.Step.{decision_of}
 use Rattle.registry_core.specs.Uplinks.{copy_added, is_time, reception_of, uplink_of}
-use Rattle.registry_core.proofs.Decisions.{is_decision}
-use Rattle.registry_core.proofs.HeardStates.{IsAllowed, IsSound, change_sound, opening_sound}
+use Rattle.registry_core.proofs.Decisions.{whatever_heard}
+use Rattle.registry_core.proofs.HeardStates.{IsAllowed}
 use Rattle.registry_core.proofs.Items.{item_last, item_within}
 use Rattle.registry_core.proofs.KeptCopies.{copy_stays_with}
 use Rattle.registry_core.proofs.NewItems.{Lets, OfUplink, lets_needs, lets_wants, new_uplink}
@@ -163,24 +161,12 @@ uplinks_with c s effect k h new gateway copy same is n u e = by (item_last s.upl
 
 change_received : (c : Settings) (s : State) (effect : Effect) → IsAllowed c s effect → New effect → AreReceived s → AreReceived (state_with s effect)
 change_received c s Nothing k new h = h
-change_received c s (AddsSender name role) k new h = uplinks_stay c s (AddsSender name role) k h
-change_received c s (AddsOwner name) k new h = uplinks_stay c s (AddsOwner name) k h
-change_received c s (AddsGateway name) k new h = uplinks_stay c s (AddsGateway name) k h
-change_received c s (AddsDevice dev_eui device) k new h = uplinks_stay c s (AddsDevice dev_eui device) k h
-change_received c s (MovesDevice dev_eui owner) k new h = uplinks_stay c s (MovesDevice dev_eui owner) k h
 change_received c s (AddsSession session uplink gateway copy) k new h = uplinks_with c s (AddsSession session uplink gateway copy) k h uplink gateway copy refl new
 change_received c s (AddsUplink uplink gateway copy) k new h = uplinks_with c s (AddsUplink uplink gateway copy) k h uplink gateway copy refl new
-change_received c s (AddsCopy number gateway copy) k new h = uplinks_stay c s (AddsCopy number gateway copy) k h
-change_received c s (AddsBooking booking) k new h = uplinks_stay c s (AddsBooking booking) k h
-change_received c s (EndsBooking number sent) k new h = uplinks_stay c s (EndsBooking number sent) k h
-
-received_after : RadioLaws → (c : Settings) (s : State) (es : List Envelope) → IsSound c s → AreReceived s → AreReceived (state_after c s es)
-received_after laws c s [] sound h = h
-received_after laws c s (e ∷ es) sound h =
-    let allowed = (is_decision c s e sound).allowed in
-    received_after laws c (step c s e).0 es (change_sound c s (decision_of c s e).0 sound allowed)
-    (change_received c s (decision_of c s e).0 allowed (new_uplink IsAsHeard c s (join_new laws c s) (frame_new laws c s) e e.message) h)
+change_received c s effect k new h = uplinks_stay c s effect k h
 
 pub uplinks_are_received : AirtimeIsComputed → AirtimeIsBounded → BandIsFound → UplinksAreReceived
-uplinks_are_received computed bounded found c heard =
-    received_after (record { computed = computed; bounded = bounded; found = found }) c (opening c) heard (opening_sound c) (λ n u e. absurd (omega (arith, item_within [] n u e)))
+uplinks_are_received computed bounded found c =
+    let laws : RadioLaws = record { computed = computed; bounded = bounded; found = found } in
+    whatever_heard c AreReceived (λ n u e. absurd (omega (arith, item_within [] n u e)))
+    (λ s e allowed h. change_received c s (decision_of c s e).0 allowed (new_uplink IsAsHeard c s (join_new laws c s) (frame_new laws c s) e e.message) h)

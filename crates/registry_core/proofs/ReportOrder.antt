@@ -1,6 +1,6 @@
 -- Two reports of one frame, whatever it is: the copies that they leave, and the states that differ in which came first.
-use Rattle.std.proofs.Common.{◌≡◌, ◌≢◌, ℕ, List, [], ◌∷◌, ◌++◌, Option, Some, None, refl, sym, ap, subst}
-use Rattle.std.specs.Prelude.{◌==◌, IsTrue, bytes_eq}
+use Rattle.std.proofs.Common.{◌≡◌, ◌≢◌, ℕ, ◌+◌, List, [], ◌∷◌, ◌++◌, length, Bool, true, Option, Some, None, refl, sym, ap, subst, ◌∙◌}
+use Rattle.std.specs.Prelude.{◌==◌, IsTrue, bytes_eq, option_and_then}
 use Rattle.registry_core.specs.declared.effects.Effect.{Effect}
 use Rattle.registry_core.specs.declared.facts.Reception.{Reception}
 use Rattle.registry_core.specs.declared.facts.Uplink.{Uplink}
@@ -9,12 +9,16 @@ use Rattle.registry_core.specs.declared.messages.Message.{Message}
 use Rattle.registry_core.specs.declared.messages.Report.{Report}
 use Rattle.registry_core.specs.Checks.{Checked}
 use Rattle.registry_core.specs.Decision.{Decision, decision_or_refusal}
+use Rattle.registry_core.specs.Numbered.{first_that, item_at}
 use Rattle.registry_core.specs.ReportOrder.{AreSameFrames, IsSameFrame, SameButFirst, is_success}
 use Rattle.registry_core.specs.Settings.{Settings}
-use Rattle.registry_core.specs.State.{State, state_with}
+use Rattle.registry_core.specs.State.{State, next_uplink, state_with, with_uplink}
 use Rattle.registry_core.specs.Step.{checked_decision, step}
-use Rattle.registry_core.specs.Uplinks.{copy_added, reception_of}
+use Rattle.registry_core.specs.Uplinks.{copy_added, reception_of, same_octets}
 use Rattle.registry_core.proofs.Copies.{either_order, other_gateway}
+use Rattle.registry_core.proofs.Decisions.{no_copy, sound_after}
+use Rattle.registry_core.proofs.HeardStates.{IsSound}
+use Rattle.registry_core.proofs.Items.{first_only, item_new, kept_with}
 use Rattle.registry_core.proofs.Telling.{NoRefusal, Tells}
 
 abbrev pub Succeeds : Checked Decision → Type 0
@@ -33,49 +37,130 @@ effect_of checked = (decision_or_refusal checked).0
 abbrev pub put : State → ℕ → Option Reception → Report → State
 put s n at report = state_with s (copy_added n at report)
 
+same_frame : (u v : Uplink) → u ≡ v → IsSameFrame u v
+same_frame u v is = subst (IsSameFrame u) is (record { session = refl; kind = refl; counter = refl; octets = refl })
+
 frames_self : (us : List Uplink) → AreSameFrames us us
 frames_self [] = tt
-frames_self (u ∷ us) = (record { session = refl; kind = refl; counter = refl; octets = refl }, frames_self us)
+frames_self (u ∷ us) = (same_frame u u refl, frames_self us)
 
-pub frames_push : (us : List Uplink) (u v : Uplink) → IsSameFrame u v → AreSameFrames (us ++ u ∷ []) (us ++ v ∷ [])
+frames_push : (us : List Uplink) (u v : Uplink) → IsSameFrame u v → AreSameFrames (us ++ u ∷ []) (us ++ v ∷ [])
 frames_push [] u v same = (same, tt)
-frames_push (w ∷ us) u v same = (record { session = refl; kind = refl; counter = refl; octets = refl }, frames_push us u v same)
+frames_push (w ∷ us) u v same = (same_frame w w refl, frames_push us u v same)
 
--- two copies of an uplink that is booked come to the same in either order
-pub both_copies : (s : State) (n : ℕ) (a b : Report) (at_a at_b : Option Reception) → a.gateway ≢ b.gateway → SameButFirst (put (put s n at_a a) n at_b b) (put (put s n at_b b) n at_a a)
-both_copies s n a b (Some x) (Some y) apart = record { senders = refl; owners = refl; gateways = refl; devices = refl; sessions = refl; uplinks = frames_self s.uplinks; copies = λ m at. refl; bookings = refl }
-both_copies s n a b (Some x) None apart = record { senders = refl; owners = refl; gateways = refl; devices = refl; sessions = refl; uplinks = frames_self s.uplinks; copies = λ m at. refl; bookings = refl }
-both_copies s n a b None (Some y) apart = record { senders = refl; owners = refl; gateways = refl; devices = refl; sessions = refl; uplinks = frames_self s.uplinks; copies = λ m at. refl; bookings = refl }
-both_copies s n a b None None apart = record {
-  senders = refl;
-  owners = refl;
-  gateways = refl;
-  devices = refl;
-  sessions = refl;
-  uplinks = frames_self s.uplinks;
-  copies = λ m at. either_order s.copies n a.gateway b.gateway (reception_of a) (reception_of b) m at (m == n) (bytes_eq at a.gateway) (bytes_eq at b.gateway) apart refl refl refl;
-  bookings = refl;
-}
+-- two states that differ in the uplinks alone, and there in which copy came first
+differ_first : (s : State) (us : List Uplink) (copies : ℕ → List ℕ → Option Reception) → AreSameFrames s.uplinks us → ((m : ℕ) (at : List ℕ) → s.copies m at ≡ copies m at)
+    → SameButFirst s (record s { uplinks = us; copies = copies })
+differ_first s us copies uplinks same =
+    record { senders = refl; owners = refl; gateways = refl; devices = refl; sessions = refl; uplinks = uplinks; copies = same; bookings = refl }
 
--- it leaves the copies of another gateway
-pub put_copies : (s : State) (n : ℕ) (a b : Report) (at_a : Option Reception) → b.gateway ≢ a.gateway → (put s n at_a a).copies n b.gateway ≡ s.copies n b.gateway
-put_copies s n a b (Some x) apart = refl
-put_copies s n a b None apart = other_gateway s.copies n a.gateway b.gateway (reception_of a) apart
-
--- and what is no copy
-pub put_rest : (s : State) (n : ℕ) (a : Report) (at_a : Option Reception) → ((put s n at_a a).gateways ≡ s.gateways) × ((put s n at_a a).sessions ≡ s.sessions) × ((put s n at_a a).uplinks ≡ s.uplinks)
-put_rest s n a (Some x) = (refl, refl, refl)
-put_rest s n a None = (refl, refl, refl)
+-- two copies of an uplink come to the same in either order, whichever of them it is booked as
+both_copies : (s : State) (us : List Uplink) (n : ℕ) (a b : Report) (at_a at_b : Option Reception) → a.gateway ≢ b.gateway → AreSameFrames s.uplinks us
+    → SameButFirst (put (put s n at_a a) n at_b b) (put (put (record s { uplinks = us }) n at_b b) n at_a a)
+both_copies s us n a b (Some x) (Some y) apart same = differ_first s us s.copies same (λ m at. refl)
+both_copies s us n a b (Some x) None apart same = let once : State = put s n None b in differ_first once us once.copies same (λ m at. refl)
+both_copies s us n a b None (Some y) apart same = let once : State = put s n None a in differ_first once us once.copies same (λ m at. refl)
+both_copies s us n a b None None apart same =
+    differ_first (put (put s n None a) n None b) us (put (put s n None b) n None a).copies same (λ m at. either_order s.copies n a.gateway b.gateway
+    (reception_of a) (reception_of b) m at (m == n) (bytes_eq at a.gateway) (bytes_eq at b.gateway) apart refl refl refl)
 
 -- what holds of two states holds of states that are equal to them
-pub either : (x y a b : State) → x ≡ a → y ≡ b → SameButFirst a b → SameButFirst x y
+either : (x y a b : State) → x ≡ a → y ≡ b → SameButFirst a b → SameButFirst x y
 either x y a b is_a is_b same = subst (λ z. SameButFirst z y) (sym is_a) (subst (SameButFirst a) (sym is_b) same)
 
--- ---- steps
+-- ---- two reports of one frame
 
--- what an envelope with the message leaves, and that its checks let it through where it succeeds
-pub step_is : (c : Settings) (s : State) (e : Envelope) (m : Message) → e.message ≡ m → (step c s e).0 ≡ state_with s (effect_of (checked_decision c s e m))
-step_is c s e m same = ap (λ told. state_with s (effect_of (checked_decision c s e told))) same
+-- how a kind of report is decided
+abbrev pub Hearing : Type 0
+Hearing = State → Report → Checked Decision
 
-pub answer_is : (c : Settings) (s : State) (e : Envelope) (m : Message) → e.message ≡ m → IsTrue (is_success (step c s e).1) → Succeeds (checked_decision c s e m)
-answer_is c s e m same h = subst (λ told. Succeeds (checked_decision c s e told)) same h
+-- what a report leaves
+abbrev pub after_report : Hearing → State → Report → State
+after_report hearing s report = state_with s (effect_of (hearing s report))
+
+-- a report is one of uplink n, whatever copies there are
+abbrev pub IsCopy : Hearing → State → ℕ → Report → Type 0
+IsCopy hearing s n report = (copies : ℕ → List ℕ → Option Reception) → effect_of (hearing (record s { copies = copies }) report) ≡ copy_added n (copies n report.gateway) report
+
+-- also after the copy of another gateway
+second_copy : (hearing : Hearing) (s : State) (n : ℕ) (a b : Report) (at_a at_b : Option Reception) → s.copies n b.gateway ≡ at_b → b.gateway ≢ a.gateway
+    → IsCopy hearing s n b → after_report hearing (put s n at_a a) b ≡ put (put s n at_a a) n at_b b
+second_copy hearing s n a b (Some x) at_b is apart copy = ap (state_with s) (copy s.copies ∙ ap (λ at. copy_added n at b) is)
+second_copy hearing s n a b None at_b is apart copy =
+    let once : State = put s n None a in
+    ap (state_with once) (copy once.copies ∙ ap (λ at. copy_added n at b) (other_gateway s.copies n a.gateway b.gateway (reception_of a) apart ∙ is))
+
+-- Each report comes to its copy of one uplink, which is booked as the one or the other: then both orders leave the same.
+in_any_order : (hearing : Hearing) (s base : State) (us : List Uplink) (n : ℕ) (a b : Report) (at_a at_b : Option Reception) → let other : State = record base { uplinks = us } in
+    a.gateway ≢ b.gateway → AreSameFrames base.uplinks us → base.copies n a.gateway ≡ at_a → base.copies n b.gateway ≡ at_b
+    → after_report hearing s a ≡ put base n at_a a → after_report hearing s b ≡ put other n at_b b → IsCopy hearing base n b → IsCopy hearing other n a
+    → SameButFirst (after_report hearing (after_report hearing s a) b) (after_report hearing (after_report hearing s b) a)
+in_any_order hearing s base us n a b at_a at_b apart same is_a is_b first_a first_b copy_b copy_a =
+    let other : State = record base { uplinks = us } in
+    either _ _ _ _ (ap (λ once. after_report hearing once b) first_a ∙ second_copy hearing base n a b at_a at_b is_b (λ e. apart (sym e)) copy_b)
+    (ap (λ once. after_report hearing once a) first_b ∙ second_copy hearing other n b a at_b at_a is_a apart copy_a) (both_copies base us n a b at_a at_b apart same)
+
+-- so it is of an uplink that is booked
+pub booked_in_any_order : (hearing : Hearing) (s : State) (n : ℕ) (a b : Report) → a.gateway ≢ b.gateway → IsCopy hearing s n a → IsCopy hearing s n b
+    → SameButFirst (after_report hearing (after_report hearing s a) b) (after_report hearing (after_report hearing s b) a)
+booked_in_any_order hearing s n a b apart copy_a copy_b =
+    in_any_order hearing s s s.uplinks n a b (s.copies n a.gateway) (s.copies n b.gateway) apart (frames_self s.uplinks) refl refl
+    (ap (state_with s) (copy_a s.copies)) (ap (state_with s) (copy_b s.copies)) copy_b copy_a
+
+-- The one report books the uplink, with its copy, and the other is a copy of that.
+pub record Books (hearing : Hearing) (s opened : State) (uplink : Uplink) (one other : Report) : Type 0 where
+  pub first : after_report hearing s one ≡ put (with_uplink opened uplink) (next_uplink s) None one
+  pub second : IsCopy hearing (with_uplink opened uplink) (next_uplink s) other
+
+-- and of a new one, whichever report books it
+pub new_in_any_order : (c : Settings) (hearing : Hearing) (s opened : State) (u v : Uplink) (a b : Report) → IsSound c s → opened.copies ≡ s.copies → a.gateway ≢ b.gateway → IsSameFrame u v
+    → Books hearing s opened u a b → Books hearing s opened v b a
+    → SameButFirst (after_report hearing (after_report hearing s a) b) (after_report hearing (after_report hearing s b) a)
+new_in_any_order c hearing s opened u v a b sound copies apart same by_a by_b =
+    in_any_order hearing s (with_uplink opened u) (opened.uplinks ++ v ∷ []) (next_uplink s) a b None None apart (frames_push opened.uplinks u v same) (none a.gateway) (none b.gateway)
+    by_a.first by_b.first by_a.second by_b.second
+  where
+    none : (gateway : List ℕ) → opened.copies (next_uplink s) gateway ≡ None
+    none gateway = ap (λ (all : ℕ → List ℕ → Option Reception). all (next_uplink s) gateway) copies ∙ no_copy c s gateway (s.copies (next_uplink s) gateway) sound refl
+
+-- the new uplink is found by its octets, where no other passes the test that it passes
+pub found_new : (test : Uplink → Bool) (us : List Uplink) (u : Uplink) (octets : List ℕ) → test u ≡ true → u.octets ≡ octets
+    → ((m n : ℕ) (z v : Uplink) → item_at (us ++ u ∷ []) m ≡ Some z → item_at (us ++ u ∷ []) n ≡ Some v → test z ≡ true → test v ≡ true → m ≡ n)
+    → option_and_then (same_octets octets) (first_that test (us ++ u ∷ [])) ≡ Some (length us + 1, u)
+found_new test us u octets passes same once =
+    let there : item_at (us ++ u ∷ []) (length us + 1) ≡ Some u = item_new us u (length us + 1) refl in
+    kept_with octets (first_that test (us ++ u ∷ [])) (length us + 1) u
+    (first_only test (us ++ u ∷ []) (length us + 1) u there passes (λ m z at h. once m (length us + 1) z u at there h passes)) same
+
+-- ---- the envelopes that have the reports as their messages
+
+-- where such an envelope is answered Success, its checks let it through, and it leaves what its report leaves, a sound state
+record Steps (c : Settings) (hearing : Hearing) (s : State) (e : Envelope) (report : Report) : Type 0 where
+  leaves : (t : State) → (step c t e).0 ≡ after_report hearing t report
+  sound : IsSound c (after_report hearing s report)
+  success : IsTrue (is_success (step c s e).1) → Succeeds (hearing s report)
+
+steps : (c : Settings) (hearing : Hearing) (message : Report → Message) (s : State) (e : Envelope) (report : Report)
+    → ((t : State) → checked_decision c t e (message report) ≡ hearing t report) → e.message ≡ message report → IsSound c s → Steps c hearing s e report
+steps c hearing message s e report decided same sound = record {
+  leaves = leaves;
+  sound = subst (IsSound c) (leaves s) (sound_after c s (e ∷ []) sound);
+  success = subst Succeeds (told s);
+}
+  where
+    told : (t : State) → checked_decision c t e e.message ≡ hearing t report
+    told t = ap (checked_decision c t e) same ∙ decided t
+
+    leaves : (t : State) → (step c t e).0 ≡ after_report hearing t report
+    leaves t = ap (λ checked. state_with t (effect_of checked)) (told t)
+
+pub by_reports : (c : Settings) (hearing : Hearing) (message : Report → Message) (s : State) (x y : Envelope) (a b : Report)
+    → ((t : State) (e : Envelope) (report : Report) → checked_decision c t e (message report) ≡ hearing t report) → x.message ≡ message a → y.message ≡ message b → IsSound c s
+    → (Succeeds (hearing s a) → Succeeds (hearing s b) → IsSound c (after_report hearing s a) → IsSound c (after_report hearing s b)
+    → SameButFirst (after_report hearing (after_report hearing s a) b) (after_report hearing (after_report hearing s b) a))
+    → IsTrue (is_success (step c s x).1) → IsTrue (is_success (step c s y).1) → SameButFirst (step c (step c s x).0 y).0 (step c (step c s y).0 x).0
+by_reports c hearing message s x y a b decided is_x is_y sound reports first second =
+    let one = steps c hearing message s x a (λ t. decided t x a) is_x sound in
+    let other = steps c hearing message s y b (λ t. decided t y b) is_y sound in
+    either _ _ _ _ (ap (λ once. (step c once y).0) (one.leaves s) ∙ other.leaves (after_report hearing s a))
+    (ap (λ once. (step c once x).0) (other.leaves s) ∙ one.leaves (after_report hearing s b)) (reports (one.success first) (other.success second) one.sound other.sound)

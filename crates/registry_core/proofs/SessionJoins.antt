@@ -3,19 +3,18 @@ use Rattle.std.proofs.Common.{◌≡◌, ℕ, zero, suc, ◌+◌, ◌≤◌, Lis
 use Rattle.std.specs.Prelude.{◌⊎◌}
 use Rattle.std.proofs.lemmas.Option.{same_Some}
 use Rattle.registry_core.specs.declared.effects.Effect.{Effect}
-use Rattle.registry_core.specs.declared.effects.Effect.TheVariants.{Nothing, AddsSender, AddsOwner, AddsGateway, AddsDevice, MovesDevice, AddsSession, AddsUplink, AddsCopy, AddsBooking, EndsBooking}
+use Rattle.registry_core.specs.declared.effects.Effect.TheVariants.{AddsSession, AddsUplink}
 use Rattle.registry_core.specs.declared.facts.Kind.TheVariants.{Join}
 use Rattle.registry_core.specs.declared.facts.Session.{Session}
 use Rattle.registry_core.specs.declared.facts.Uplink.{Uplink}
-use Rattle.registry_core.specs.declared.messages.Envelope.{Envelope}
-use Rattle.registry_core.specs.Heard.{state_after, state_of}
+use Rattle.registry_core.specs.Heard.{state_of}
 use Rattle.registry_core.specs.Laws.{SessionsHaveJoins, UplinksHaveSessions}
 use Rattle.registry_core.specs.Numbered.{item_at}
 use Rattle.registry_core.specs.Settings.{Settings}
-use Rattle.registry_core.specs.State.{State, opening, state_with}
-use Rattle.registry_core.specs.Step.{decision_of, step}
-use Rattle.registry_core.proofs.Decisions.{is_decision, sound_of}
-use Rattle.registry_core.proofs.HeardStates.{IsAllowed, IsSound, change_sound, opening_sound}
+use Rattle.registry_core.specs.State.{State, state_with}
+use Rattle.registry_core.specs.Step.{decision_of}
+use Rattle.registry_core.proofs.Decisions.{sound_of, whatever_heard}
+use Rattle.registry_core.proofs.HeardStates.{IsAllowed}
 use Rattle.registry_core.proofs.Items.{item_last, item_new, item_stays, item_within}
 
 -- the session with this number has its join among the uplinks
@@ -29,12 +28,6 @@ join_stays : (uplinks : List Uplink) (new : Uplink) (n : ℕ) (a : Session) → 
 join_stays uplinks new n a h = (h.0, h.1, item_stays uplinks new h.0 h.1 h.2, h.3, h.4, h.5)
 
 change_joins : (c : Settings) (s : State) (effect : Effect) → IsAllowed c s effect → HaveJoins s.sessions s.uplinks → HaveJoins (state_with s effect).sessions (state_with s effect).uplinks
-change_joins c s Nothing k h = h
-change_joins c s (AddsSender name role) k h = h
-change_joins c s (AddsOwner name) k h = h
-change_joins c s (AddsGateway name) k h = h
-change_joins c s (AddsDevice dev_eui device) k h = h
-change_joins c s (MovesDevice dev_eui owner) k h = h
 change_joins c s (AddsSession session uplink gateway reception) k h = λ n a e. by n a (item_last s.sessions session n a e)
   where
     by : (n : ℕ) (a : Session) → (item_at s.sessions n ≡ Some a) ⊎ ((n ≡ length s.sessions + 1) × (session ≡ a)) → HasJoin (s.uplinks ++ uplink ∷ []) n a
@@ -42,18 +35,11 @@ change_joins c s (AddsSession session uplink gateway reception) k h = λ n a e. 
     by n a (inr new) =
         (length s.uplinks + 1, uplink, item_new s.uplinks uplink (length s.uplinks + 1) refl, k.0.kind, k.0.number ∙ sym new.0, k.0.counter ∙ ap (λ (z : Session). z.nonce) new.1)
 change_joins c s (AddsUplink uplink gateway reception) k h = λ n a e. join_stays s.uplinks uplink n a (h n a e)
-change_joins c s (AddsCopy number gateway reception) k h = h
-change_joins c s (AddsBooking booking) k h = h
-change_joins c s (EndsBooking number sent) k h = h
-
-joins_after : (c : Settings) (s : State) (es : List Envelope) → IsSound c s → HaveJoins s.sessions s.uplinks → HaveJoins (state_after c s es).sessions (state_after c s es).uplinks
-joins_after c s [] sound h = h
-joins_after c s (e ∷ es) sound h =
-    let allowed = (is_decision c s e sound).allowed in
-    joins_after c (step c s e).0 es (change_sound c s (decision_of c s e).0 sound allowed) (change_joins c s (decision_of c s e).0 allowed h)
+change_joins c s effect k h = h
 
 pub sessions_have_joins : SessionsHaveJoins
-sessions_have_joins c heard = joins_after c (opening c) heard (opening_sound c) (λ n a e. absurd (omega (arith, item_within [] n a e)))
+sessions_have_joins c =
+    whatever_heard c (λ s. HaveJoins s.sessions s.uplinks) (λ n a e. absurd (omega (arith, item_within [] n a e))) (λ s e allowed h. change_joins c s (decision_of c s e).0 allowed h)
 
 -- within the length there is an item
 item_there : {X : Type 0} (xs : List X) (n : ℕ) → 1 ≤ n → n ≤ length xs → (x : X) × (item_at xs n ≡ Some x)

@@ -1,13 +1,12 @@
 -- Uplinks, whatever was heard: each frame is booked once, counters rise and agree with frames, each has a copy, and none changes.
-use Rattle.std.proofs.Common.{◌≡◌, ℕ, Some, refl, arith, ◌<◌, List, sym, inl, inr}
+use Rattle.std.proofs.Common.{◌≡◌, ℕ, Some, refl, arith, ◌<◌, sym, inl, inr}
 use Rattle.std.specs.Prelude.{◌⊎◌}
 use Rattle.std.proofs.lemmas.Bool.{cases_order}
 use Rattle.registry_core.specs.declared.effects.Effect.{Effect}
-use Rattle.registry_core.specs.declared.effects.Effect.TheVariants.{Nothing, AddsSender, AddsOwner, AddsGateway, AddsDevice, MovesDevice, AddsSession, AddsUplink, AddsCopy, AddsBooking, EndsBooking}
+use Rattle.registry_core.specs.declared.effects.Effect.TheVariants.{AddsSession, AddsUplink}
 use Rattle.registry_core.specs.declared.facts.Kind.{Kind}
 use Rattle.registry_core.specs.declared.facts.Kind.TheVariants.{Join, Data}
 use Rattle.registry_core.specs.declared.facts.Uplink.{Uplink}
-use Rattle.registry_core.specs.declared.messages.Envelope.{Envelope}
 use Rattle.registry_core.specs.Heard.{state_of}
 use Rattle.registry_core.specs.Laws.{UplinksHaveCopies, UplinksStay, FramesAreBookedOnce, CountersRise, CountersAgreeWithFrames}
 use Rattle.registry_core.specs.Numbered.{item_at}
@@ -15,6 +14,7 @@ use Rattle.registry_core.specs.Settings.{Settings}
 use Rattle.registry_core.specs.State.{State, state_with}
 use Rattle.registry_core.specs.Step.{decision_of}
 use Rattle.registry_core.proofs.Decisions.{sound_of}
+use Rattle.registry_core.proofs.HeardStates.{IsSound}
 use Rattle.registry_core.proofs.Items.{item_stays}
 
 pub counters_rise : CountersRise
@@ -23,34 +23,30 @@ counters_rise c heard = (sound_of c heard).counters
 pub counters_agree_with_frames : CountersAgreeWithFrames
 counters_agree_with_frames c heard = (sound_of c heard).frames
 
-once_by : (c : Settings) (heard : List Envelope) (m n : ℕ) (u v : Uplink) (k : Kind) → item_at (state_of c heard).uplinks m ≡ Some u → item_at (state_of c heard).uplinks n ≡ Some v
+once_by : (c : Settings) (s : State) (m n : ℕ) (u v : Uplink) (k : Kind) → IsSound c s → item_at s.uplinks m ≡ Some u → item_at s.uplinks n ≡ Some v
     → u.session ≡ v.session → u.kind ≡ k → v.kind ≡ k → u.counter ≡ v.counter → (m ≡ n) ⊎ ((m < n) ⊎ (n < m)) → m ≡ n
-once_by c heard m n u v Join em en same ku kv counter either = (sound_of c heard).joins m n u v em en ku kv same
-once_by c heard m n u v Data em en same ku kv counter (inl here) = here
-once_by c heard m n u v Data em en same ku kv counter (inr (inl below)) =
-    let rise : u.counter < v.counter = (sound_of c heard).counters m n u v em en ku kv same below in absurd (omega (arith, rise, counter))
-once_by c heard m n u v Data em en same ku kv counter (inr (inr above)) =
-    let rise : v.counter < u.counter = (sound_of c heard).counters n m v u en em kv ku (sym same) above in absurd (omega (arith, rise, counter))
+once_by c s m n u v Join sound em en same ku kv counter either = sound.joins m n u v em en ku kv same
+once_by c s m n u v Data sound em en same ku kv counter (inl here) = here
+once_by c s m n u v Data sound em en same ku kv counter (inr (inl below)) =
+    let rise : u.counter < v.counter = sound.counters m n u v em en ku kv same below in absurd (omega (arith, rise, counter))
+once_by c s m n u v Data sound em en same ku kv counter (inr (inr above)) =
+    let rise : v.counter < u.counter = sound.counters n m v u en em kv ku (sym same) above in absurd (omega (arith, rise, counter))
+
+pub uplink_once : (c : Settings) (s : State) (m n : ℕ) (u v : Uplink) → IsSound c s → item_at s.uplinks m ≡ Some u → item_at s.uplinks n ≡ Some v
+    → u.session ≡ v.session → u.kind ≡ v.kind → u.counter ≡ v.counter → m ≡ n
+uplink_once c s m n u v sound em en same kinds counter = once_by c s m n u v v.kind sound em en same kinds refl counter (cases_order m n)
 
 pub frames_are_booked_once : FramesAreBookedOnce
-frames_are_booked_once c heard m n u v em en same kinds counter = once_by c heard m n u v v.kind em en same kinds refl counter (cases_order m n)
+frames_are_booked_once c heard m n u v = uplink_once c (state_of c heard) m n u v (sound_of c heard)
 
 pub uplinks_have_copies : UplinksHaveCopies
 uplinks_have_copies c heard = (sound_of c heard).copied
 
 -- no change changes an uplink
 pub uplink_stays_with : (s : State) (effect : Effect) (n : ℕ) (u : Uplink) → item_at s.uplinks n ≡ Some u → item_at (state_with s effect).uplinks n ≡ Some u
-uplink_stays_with s Nothing n u e = e
-uplink_stays_with s (AddsSender name role) n u e = e
-uplink_stays_with s (AddsOwner name) n u e = e
-uplink_stays_with s (AddsGateway name) n u e = e
-uplink_stays_with s (AddsDevice dev_eui device) n u e = e
-uplink_stays_with s (MovesDevice dev_eui owner) n u e = e
 uplink_stays_with s (AddsSession session new gateway reception) n u e = item_stays s.uplinks new n u e
 uplink_stays_with s (AddsUplink new gateway reception) n u e = item_stays s.uplinks new n u e
-uplink_stays_with s (AddsCopy number gateway reception) n u e = e
-uplink_stays_with s (AddsBooking booking) n u e = e
-uplink_stays_with s (EndsBooking number sent) n u e = e
+uplink_stays_with s effect n u e = e
 
 pub uplinks_stay : UplinksStay
 uplinks_stay c s e n u there = uplink_stays_with s (decision_of c s e).0 n u there

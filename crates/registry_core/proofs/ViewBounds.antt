@@ -7,7 +7,7 @@ use Rattle.radio_core.specs.Frames.{frame_of}
 use Rattle.radio_core.specs.TimeOnAir.{AirtimeIsBounded}
 use Rattle.duty_core.specs.Laws.{HoursWithinByNearOnes, HoursWithinTells, IsClearByNearOnes}
 use Rattle.registry_core.specs.declared.effects.Effect.{Effect}
-use Rattle.registry_core.specs.declared.effects.Effect.TheVariants.{Nothing, AddsSender, AddsOwner, AddsGateway, AddsDevice, MovesDevice, AddsSession, AddsUplink, AddsCopy, AddsBooking, EndsBooking}
+use Rattle.registry_core.specs.declared.effects.Effect.TheVariants.{AddsSession, AddsUplink, AddsBooking, EndsBooking}
 use Rattle.registry_core.specs.declared.facts.Session.{Session}
 use Rattle.registry_core.specs.declared.facts.Uplink.{Uplink}
 use Rattle.registry_core.specs.declared.frames.JoinRequest.{JoinRequest}
@@ -46,17 +46,11 @@ record IsFew (s : State) (n : ℕ) : Type 0 where
 
 -- a change adds one uplink at most, and one booking
 one_more : (s : State) (effect : Effect) (n : ℕ) → IsFew s n → IsFew (state_with s effect) (n + 1)
-one_more s Nothing n h = record { uplinks = omega (arith, h.uplinks); bookings = omega (arith, h.bookings) }
-one_more s (AddsSender name role) n h = record { uplinks = omega (arith, h.uplinks); bookings = omega (arith, h.bookings) }
-one_more s (AddsOwner name) n h = record { uplinks = omega (arith, h.uplinks); bookings = omega (arith, h.bookings) }
-one_more s (AddsGateway name) n h = record { uplinks = omega (arith, h.uplinks); bookings = omega (arith, h.bookings) }
-one_more s (AddsDevice dev_eui device) n h = record { uplinks = omega (arith, h.uplinks); bookings = omega (arith, h.bookings) }
-one_more s (MovesDevice dev_eui owner) n h = record { uplinks = omega (arith, h.uplinks); bookings = omega (arith, h.bookings) }
 one_more s (AddsSession session u gateway reception) n h = record { uplinks = omega (arith, length_push s.uplinks u, h.uplinks); bookings = omega (arith, h.bookings) }
 one_more s (AddsUplink u gateway reception) n h = record { uplinks = omega (arith, length_push s.uplinks u, h.uplinks); bookings = omega (arith, h.bookings) }
-one_more s (AddsCopy number gateway reception) n h = record { uplinks = omega (arith, h.uplinks); bookings = omega (arith, h.bookings) }
 one_more s (AddsBooking booking) n h = record { uplinks = omega (arith, h.uplinks); bookings = omega (arith, length_push s.bookings booking, h.bookings) }
 one_more s (EndsBooking number sent) n h = record { uplinks = omega (arith, h.uplinks); bookings = omega (arith, item_changed_length (ended sent) s.bookings number, h.bookings) }
+one_more s effect n h = record { uplinks = omega (arith, h.uplinks); bookings = omega (arith, h.bookings) }
 
 few_after : (c : Settings) (s : State) (es : List Envelope) (n : ℕ) → IsFew s n → IsFew (state_after c s es) (n + length es)
 few_after c s [] n h = record { uplinks = omega (arith, h.uplinks); bookings = omega (arith, h.bookings) }
@@ -80,7 +74,8 @@ session_within : (c : Settings) (s : State) (gateway : List ℕ) (found : Option
 session_within c s gateway None k = tt
 session_within c s gateway (Some p) k = k p refl
 
-join_within : (c : Settings) (s : State) (told : Option JoinRequest) → IsSound c s → (p : ℕ × Uplink) → option_and_then (λ (join : JoinRequest). join_with s.uplinks s.sessions join.dev_eui join.nonce) told ≡ Some p → (1 ≤ p.1.session) × (p.1.session ≤ c.addresses)
+join_within : (c : Settings) (s : State) (told : Option JoinRequest) → IsSound c s → (p : ℕ × Uplink)
+    → option_and_then (λ (join : JoinRequest). join_with s.uplinks s.sessions join.dev_eui join.nonce) told ≡ Some p → (1 ≤ p.1.session) × (p.1.session ≤ c.addresses)
 join_within c s None h p e = cc
 join_within c s (Some join) h p e =
     in_block c s p.0 p.1 h (first_is (is_join_with s.sessions join.dev_eui join.nonce) s.uplinks p e).0
@@ -126,7 +121,8 @@ frame_checked c heard e v report verdict checked block list same sees decided =
     (data_within c (state_of c heard) (session_for c (state_of c heard) (FrameHeard report verdict)) verdict (sound_of c heard)))
     ∙ frame_heard_same c (state_of c heard) e v report verdict same sees
 
-pub book_checked : (bounded : AirtimeIsBounded) (tells : HoursWithinTells) (clear : IsClearByNearOnes) (hours : HoursWithinByNearOnes) (c : Settings) (heard : List Envelope) (e : Envelope) (v : View) (number : ℕ) (gateway : List ℕ) (window : Window) (octets : List ℕ)
+pub book_checked : (bounded : AirtimeIsBounded) (tells : HoursWithinTells) (clear : IsClearByNearOnes) (hours : HoursWithinByNearOnes) (c : Settings)
+    (heard : List Envelope) (e : Envelope) (v : View) (number : ℕ) (gateway : List ℕ) (window : Window) (octets : List ℕ)
     (checked : Checked Decision) → IsBlock c.base c.addresses → IsHeard c heard → e.message ≡ DownBook number gateway window octets → IsView c (state_of c heard) e v
     → (HasRoom v → checked ≡ down_book_by v gateway window octets) → checked ≡ down_book c (state_of c heard) number gateway window octets
 book_checked bounded tells clear hours c heard e v number gateway window octets checked block list same sees decided =

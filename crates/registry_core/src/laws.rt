@@ -9,7 +9,7 @@ ghost use Rattle.registry_core.specs.Fits.{DecisionsFit};
 ghost use Rattle.registry_core.specs.Heard.{FirstAnswersStay, HeardListsStay, NewNumbersAreDecided, NothingIsHeard, UsedNumbersAreRefused};
 ghost use Rattle.registry_core.specs.Laws.{AddressesAreApart, AddressesLieInBlock, CopiesBookNothing, CountersAgreeWithFrames, CountersRise, DataCopiesAreFound, FramesAreBookedOnce, JoinCopiesAreFound, NoncesRise, OperatorsKeepTheRegister, RefusalsChangeNothing, SendersStay, SessionsAreFound, SessionsHaveJoins, StepsRefuseByNumber, UplinksHaveCopies, UplinksHaveSessions, UplinksStay};
 ghost use Rattle.registry_core.specs.NumberedLaws.{FirstIsFirst, GreatestIsMost, OneIsChanged};
-ghost use Rattle.registry_core.specs.Ranges.{IsEnvelope, IsOctets, IsReport, IsSettings};
+ghost use Rattle.registry_core.specs.Ranges.{IsEnvelope, IsMessage, IsName, IsOctets, IsReport, IsSettings};
 ghost use Rattle.registry_core.specs.ReportOrder.{DataInAnyOrder, JoinsInAnyOrder};
 ghost use Rattle.registry_core.specs.Same.{SameMessageTells};
 ghost use Rattle.registry_core.specs.UplinkLaws.{FramesBookedExactly, JoinedExactly};
@@ -17,8 +17,8 @@ ghost use Rattle.registry_core.specs.UplinkLaws.{FramesBookedExactly, JoinedExac
 use crate::configuration::Config;
 use crate::messages::{Envelope, Message, Report};
 use duty_core::laws::computed_forms_tell;
-use radio_core::Octets;
 use radio_core::laws::{airtime_is_bounded, airtime_is_computed, band_is_found};
+use radio_core::{Name, Octets};
 
 /// The test of two messages tells whether they are equal.
 #[tactic(auto, using(crate::proofs::Sameness::same_message_tells))]
@@ -269,30 +269,29 @@ pub fn configs_keep_ranges(config: &Config)
 pub fn envelopes_keep_ranges(envelope: &Envelope)
     ensures { IsEnvelope envelope.now }
 {
-    let _sender = envelope.sender.get();
+    name_keeps_form(&envelope.sender);
     let _transaction = envelope.transaction;
-    match &envelope.message {
-        Message::SenderAdd { sender, role: _ } => {
-            let _named = sender.get();
-        }
-        Message::OwnerAdd { owner } => {
-            let _owner = owner.get();
-        }
-        Message::GatewayAdd { gateway } => {
-            let _gateway = gateway.get();
-        }
+    message_keeps_ranges(&envelope.message);
+}
+
+fn message_keeps_ranges(message: &Message)
+    ensures { IsMessage message.now }
+{
+    match message {
+        Message::SenderAdd { sender, role: _ } => name_keeps_form(sender),
+        Message::OwnerAdd { owner } => name_keeps_form(owner),
+        Message::GatewayAdd { gateway } => name_keeps_form(gateway),
         Message::DeviceAdd {
             dev_eui,
             join_eui,
             owner,
         } => {
-            let _dev_eui = dev_eui.get();
-            let _join_eui = join_eui.get();
-            let _owner = owner.get();
+            let _numbers = (dev_eui.get(), join_eui.get());
+            name_keeps_form(owner);
         }
         Message::DeviceMove { dev_eui, owner } => {
             let _dev_eui = dev_eui.get();
-            let _owner = owner.get();
+            name_keeps_form(owner);
         }
         Message::JoinHeard { report, verdict: _ } => report_keeps_ranges(report),
         Message::FrameHeard { report, verdict } => {
@@ -306,7 +305,7 @@ pub fn envelopes_keep_ranges(envelope: &Envelope)
             octets,
         } => {
             let _uplink = uplink.get();
-            let _gateway = gateway.get();
+            name_keeps_form(gateway);
             octets_keep_ranges(octets);
         }
         Message::DownDone { booking, sent: _ } => {
@@ -318,10 +317,16 @@ pub fn envelopes_keep_ranges(envelope: &Envelope)
 fn report_keeps_ranges(report: &Report)
     ensures { IsReport report.now }
 {
-    let _gateway = report.gateway.get();
+    name_keeps_form(&report.gateway);
     let _time = report.time.get();
     let _freq = report.rate.freq;
     octets_keep_ranges(&report.octets);
+}
+
+fn name_keeps_form(name: &Name)
+    ensures { IsName name.now }
+{
+    let _octets = name.get();
 }
 
 fn octets_keep_ranges(octets: &Octets)

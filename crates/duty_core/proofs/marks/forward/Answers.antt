@@ -24,4 +24,6 @@ loop-passed-preserved c =
     let fits : SFits w64 c.edge_of-next.result = search rules in
     let least : first_place ≤ℤ next = omega (arith, ints) in
     let most : next ≤ℤ x = omega (arith, ints, c.if-x-next.false) in
-    mark_more c.args.edge c.args.spans.now c.loop-passed.passed c.loop-passed.sum x c.index-spans-passed.result next c.place-sum.result c.loop-passed.invariant (omega (arith, c.loop-passed-test.true)) c.index-spans-passed.is (to_z-of_z w64 c.edge_of-next.result fits ∙ c.edge_of-next.ensures) least most c.place-sum.ensures
+    mark_more c.args.edge c.args.spans.now c.loop-passed.passed c.loop-passed.sum x c.index-spans-passed.result next c.place-sum.result
+    c.loop-passed.invariant (omega (arith, c.loop-passed-test.true)) c.index-spans-passed.is
+    (to_z-of_z w64 c.edge_of-next.result fits ∙ c.edge_of-next.ensures) least most c.place-sum.ensures

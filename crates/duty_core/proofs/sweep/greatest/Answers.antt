@@ -47,8 +47,10 @@ loop-span-preserved c =
     with_new spans c.args.new (end_of item -ℤ pos hour) last _ _ _ c.slide-at_end.ensures.used c.shared_count-in-loop-span.ensures c.from-in-loop-span-2.ensures last_is in
     record {
       most = omega (arith, at_start, at_end, c.loop-span.invariant.most, ap (edge_use all) c.span-item.is, greatest_use-drop all spans c.loop-span.span-index item c.loop-span-test.true);
-      by_start = λ d more. window_next Start spans c.slide-at_start.result.0 start _ 0 c.loop-span.span-index item d c.slide-at_start.ensures.window c.loop-span-test.true c.span-item.is (omega (arith, ints, start_is)) (omega (arith, ints)) c.requires.starts more;
-      by_end = λ d more. window_next End spans c.slide-at_end.result.0 last _ hour c.loop-span.span-index item d c.slide-at_end.ensures.window c.loop-span-test.true c.span-item.is (omega (arith, ints, last_is)) (omega (arith, ints)) c.requires.ends more;
+      by_start = λ d more. window_next Start spans c.slide-at_start.result.0 start _ 0 c.loop-span.span-index item d
+          c.slide-at_start.ensures.window c.loop-span-test.true c.span-item.is (omega (arith, ints, start_is)) (omega (arith, ints)) c.requires.starts more;
+      by_end = λ d more. window_next End spans c.slide-at_end.result.0 last _ hour c.loop-span.span-index item d
+          c.slide-at_end.ensures.window c.loop-span-test.true c.span-item.is (omega (arith, ints, last_is)) (omega (arith, ints)) c.requires.ends more;
     }
 
 pub returns : goal.returns
