@@ -1,10 +1,10 @@
 -- How a connection was served, from how its parts were.
-use Rattle.std.proofs.Common.{◌≡◌, ℕ, Bool, List, [], ◌∷◌, ◌++◌, Option, length, take, drop, map, refl, ap, ◌∙◌, subst, append-nil}
+use Rattle.std.proofs.Common.{◌≡◌, ℕ, List, [], ◌∷◌, ◌++◌, Option, length, take, drop, map, refl, ap, ◌∙◌, subst, append-nil}
 use Rattle.std.proofs.KnownBytes.{Consumes-trans}
 use Rattle.std.specs.List.{All}
 use Rattle.std.specs.Io.KnownBytes.{Consumes, IsAtEnd}
 use Rattle.httparse.specs.Grammar.{RequestHead, print_request}
-use Rattle.httparse.specs.Spans.{IsHeaderWithin, IsRequestAt, header_bytes, span_bytes}
+use Rattle.httparse.specs.Spans.{IsHeaderWithin, IsRequestAt, header_bytes, name_and_value, span_bytes}
 use Rattle.httparse.specs.declared.spans.HeaderSpan.{HeaderSpan}
 use Rattle.httparse.specs.declared.spans.RequestSpans.{RequestSpans}
 use Rattle.desk_store.specs.Meaning.{Meaning}
@@ -12,10 +12,14 @@ use Rattle.desk_http.specs.declared.asking.Asked.{Asked}
 use Rattle.desk_http.specs.declared.serving.ServeEnd.{ServeEnd}
 use Rattle.desk_http.specs.declared.serving.ServeEnd.TheVariants.{Done, Closed, Read, Write, Memory}
 use Rattle.desk_http.specs.Heads.{IsWithinLimits}
-use Rattle.desk_http.specs.Requests.{asked_of, asked_by_head}
+use Rattle.desk_http.specs.Requests.{Asks, IsBodyOf, asked_of, head}
 use Rattle.desk_http.specs.Responses.{Response}
-use Rattle.desk_http.specs.Serving.{ServingEndsBy, Serves, ServesHead, head}
+use Rattle.desk_http.specs.Serving.{ServingEndsBy, Serves, ServesRequest}
+use Rattle.desk_http.specs.Targets.{path_of}
 use Rattle.desk_http.specs.steps.Answering.{Writes}
+use Rattle.desk_http.specs.steps.Requests.{request_of}
+use Rattle.desk_http.specs.steps.Targets.{named_by}
+use Rattle.desk_http.proofs.Named.{named_is}
 
 -- what serves one way serves another
 pub ends-more : {K : Type 0} (old new : K) (P Q : Response → Type 0) (A B : Type 0) (before after : Option (List ℕ)) (end : ServeEnd)
@@ -49,31 +53,32 @@ all_head octets headers spans h at all =
     let rest : drop spans.len octets ≡ [] = rw all (drop-all octets) in
     at.reads.1 ∙ ap (λ l. print_request h ++ l) rest ∙ append-nil (print_request h)
 
--- what the parts of a head ask for is what the head asks for
+-- what is asked with the parts of a head is what is asked with the head
 asked_is : (octets : List ℕ) (headers : List HeaderSpan) (spans : RequestSpans) (h : RequestHead) → IsRequestAt octets headers spans h
-    → asked_of (span_bytes octets spans.method) (span_bytes octets spans.path) (map (header_bytes octets) (take spans.headers headers)) ≡ asked_by_head h
+    → asked_of (named_by (path_of (span_bytes octets spans.path))) (span_bytes octets spans.method) (map (header_bytes octets) (take spans.headers headers))
+    ≡ asked_of (named_by (path_of h.target)) h.method (map name_and_value h.fields)
 asked_is octets headers spans h at =
-    ap (λ m. asked_of m (span_bytes octets spans.path) (map (header_bytes octets) (take spans.headers headers))) at.method
-    ∙ ap (λ t. asked_of h.method t (map (header_bytes octets) (take spans.headers headers))) at.path
-    ∙ ap (λ f. asked_of h.method h.target f) at.fields
+    ap (λ m. asked_of (named_by (path_of (span_bytes octets spans.path))) m (map (header_bytes octets) (take spans.headers headers))) at.method
+    ∙ ap (λ t. asked_of (named_by (path_of t)) h.method (map (header_bytes octets) (take spans.headers headers))) at.path
+    ∙ ap (λ f. asked_of (named_by (path_of h.target)) h.method f) at.fields
 
 module _ {K : Type 0} (m : Meaning K) (old new : K) where
   -- a head and what came after it
   pub served : (end : ServeEnd) (h : RequestHead) (octets : List ℕ) (headers : List HeaderSpan) (spans : RequestSpans) (asked : Asked) (target : List ℕ) (from mid rest before after : Option (List ℕ))
       → Consumes from mid octets → IsRequestAt octets headers spans h → spans.len ≡ length octets → IsWithinLimits h → target ≡ span_bytes octets spans.path
-      → asked ≡ asked_of (span_bytes octets spans.method) (span_bytes octets spans.path) (map (header_bytes octets) (take spans.headers headers))
-      → ServingEndsBy old new (λ r. (body : List ℕ) × Consumes mid rest body × ServesHead m old new asked target body rest r) ⊥ before after end
+      → request_of (path_of (span_bytes octets spans.path)) asked
+      ≡ asked_of (named_by (path_of (span_bytes octets spans.path))) (span_bytes octets spans.method) (map (header_bytes octets) (take spans.headers headers))
+      → ServingEndsBy old new (λ r. (body : List ℕ) × Consumes mid rest body × IsBodyOf (request_of (path_of target) asked) body rest
+      × ServesRequest m old new (request_of (path_of target) asked) body r) ⊥ before after end
       → ServingEndsBy old new (λ r. (input : List ℕ) × Consumes from rest input × Serves m old new input rest r) (Consumes from rest [] × IsAtEnd rest) before after end
   served end h octets headers spans asked target from mid rest before after read at all fits target_is asked_are done =
       let octets_are = all_head octets headers spans h at all in
-      let asks : asked ≡ asked_by_head h = asked_are ∙ asked_is octets headers spans h at in
-      let names : target ≡ h.target = target_is ∙ at.path in
+      let request_is = ap (λ t. request_of (path_of t) asked) target_is ∙ asked_are ∙ asked_is octets headers spans h at in
+      let asks : Asks h (request_of (path_of target) asked) = (named_by (path_of h.target), named_is (path_of h.target), request_is) in
       ends-more old new _ _ _ _ before after end
       (λ r p. (
         octets ++ p.0,
         Consumes-trans from mid rest octets p.0 read p.1,
-        head h p.0 at.reads.0 fits (ap (λ l. l ++ p.0) octets_are)
-            (subst (λ a. ServesHead m old new a h.target p.0 rest r) asks
-            (subst (λ t. ServesHead m old new asked t p.0 rest r) names p.2)),
+        (request_of (path_of target) asked, p.0, head h at.reads.0 fits asks (ap (λ l. l ++ p.0) octets_are) p.2, p.3),
       ))
       (λ a. absurd a) done

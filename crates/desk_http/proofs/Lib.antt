@@ -1,7 +1,10 @@
 pub mod Digits
 pub mod Ended
 pub mod Ends
+pub mod FieldSteps
+pub mod Named
 pub mod OneHead
+pub mod OneRequest
 pub mod Reported
 pub mod Routes
 pub mod Written

@@ -1,5 +1,5 @@
 -- What a report is answered, from what the engine says of it.
-use Rattle.std.proofs.Common.{◌≡◌, ◌↔◌, ℕ, Bool, List, Option, Result, Ok, Err, IfOk, IfErr, OnOk, IsTrue, refl, ap}
+use Rattle.std.proofs.Common.{◌≡◌, ◌↔◌, ℕ, List, Option, Result, Ok, Err, IfOk, IfErr, OnOk, IsTrue, refl, ap}
 use Rattle.std.specs.Prelude.{ℤ}
 use Rattle.registry_core.specs.declared.messages.Envelope.{Envelope}
 use Rattle.registry_core.specs.Heard.{state_of}

@@ -6,7 +6,8 @@ use Rattle.std.specs.Prelude.{◌⊎◌, ltb, nat_eq, nat_lt}
 use Rattle.std.specs.Cmp.Lexicographic.{pointwise}
 use Rattle.matchit.specs.Rows.{RowsOf, param_token, catch_all_token}
 use Rattle.matchit.specs.Seek.{seek, param_step, step, own, or_else, segment, has_slash, cuts, with_suffix}
-use Rattle.desk_http.specs.Targets.{after_slash, before_slash, follows, is_empty, is_owner_and_month, is_part, is_slash}
+use Rattle.desk_http.specs.Targets.{is_part, is_slash}
+use Rattle.desk_http.specs.steps.Targets.{after_slash, before_slash, follows, is_empty, is_owner_and_month}
 
 -- no octet is a token of a parameter
 abbrev pub AreOctets : List ℕ → Type 0
@@ -25,18 +26,22 @@ and-false : (a : Bool) → (a && false) ≡ false
 and-false true = refl
 and-false false = refl
 
-or_false_parts : (a b : Bool) → (a || b) ≡ false → b ≡ false
+pub or_false_parts : (a b : Bool) → (a || b) ≡ false → b ≡ false
 or_false_parts true b e = cc
 or_false_parts false b e = e
+
+pub false-if-not : (a b : Bool) → (a || b) ≡ false → a ≡ false
+false-if-not true b e = cc
+false-if-not false b e = refl
 
 not_so : (b : Bool) → (b ≡ true → ⊥) → b ≡ false
 not_so true f = absurd (f refl)
 not_so false f = refl
 
-take-one-more : (n c : ℕ) (text : List ℕ) → take (1 + n) (c ∷ text) ≡ c ∷ take n text
+pub take-one-more : (n c : ℕ) (text : List ℕ) → take (1 + n) (c ∷ text) ≡ c ∷ take n text
 take-one-more n c text = let more : 1 + n ≡ suc n = omega arith in ap (λ m. take m (c ∷ text)) more
 
-drop-one-more : (n c : ℕ) (text : List ℕ) → drop (1 + n + 1) (c ∷ text) ≡ drop (n + 1) text
+pub drop-one-more : (n c : ℕ) (text : List ℕ) → drop (1 + n + 1) (c ∷ text) ≡ drop (n + 1) text
 drop-one-more n c text = let more : 1 + n + 1 ≡ suc (n + 1) = omega arith in ap (λ m. drop m (c ∷ text)) more
 
 abbrev slash_if : Bool → List ℕ
@@ -156,19 +161,19 @@ module _ {K : Type 0} where
 -- ---- parts of a path
 
 -- the text is a front without a slash, a slash, and a back
-record HasSlash (text front back : List ℕ) : Type 0 where
-  text_is : text ≡ front ++ 47 ∷ back
+pub record HasSlash (text front back : List ℕ) : Type 0 where
+  pub text_is : text ≡ front ++ 47 ∷ back
   front_any : list_any is_slash front ≡ false
   segment_is : segment text ≡ front ++ 47 ∷ []
-  before_is : before_slash text ≡ front
-  after_is : after_slash text ≡ back
+  pub before_is : before_slash text ≡ front
+  pub after_is : after_slash text ≡ back
 
-record NoSlash (text : List ℕ) : Type 0 where
+pub record NoSlash (text : List ℕ) : Type 0 where
   text_any : list_any is_slash text ≡ false
   segment_is : segment text ≡ text
-  after_is : after_slash text ≡ []
+  pub after_is : after_slash text ≡ []
 
-abbrev Split : List ℕ → Type 0
+abbrev pub Split : List ℕ → Type 0
 Split text = NoSlash text ⊎ ((front back : List ℕ) × HasSlash text front back)
 
 split-more : (c : ℕ) (text : List ℕ) (b : Bool) → (c == 47) ≡ b → Split text → Split (c ∷ text)
@@ -202,7 +207,7 @@ split-more c text false e (inr some) = inr (
   },
 )
 
-split : (text : List ℕ) → Split text
+pub split : (text : List ℕ) → Split text
 split [] = inl (record { text_any = refl; segment_is = refl; after_is = refl })
 split (c ∷ text) = split-more c text (c == 47) refl (split text)
 

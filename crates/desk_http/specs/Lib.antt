@@ -2,6 +2,7 @@ pub mod Fields
 pub mod HeadLaws
 pub mod Heads
 pub mod Reports
+pub mod RequestLaws
 pub mod Requests
 pub mod Responses
 pub mod Serving

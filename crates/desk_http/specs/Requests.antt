@@ -1,42 +1,57 @@
--- What a request's head asks for: the checks in order.
-use Rattle.std.specs.Prelude.{ℕ, List, map, Option, Some, None, if◌then◌else◌}
+-- What a request asks for: the checks of its head in order, and its body.
+use Rattle.std.specs.Prelude.{◌≡◌, ◌<◌, ◌⊎◌, ℕ, List, [], ◌++◌, length, map, Option, Some, None, if◌then◌else◌}
+use Rattle.std.specs.Io.KnownBytes.{IsAtEnd}
 use Rattle.std.specs.Str.{bytes_eq}
-use Rattle.httparse.specs.Grammar.{RequestHead}
+use Rattle.httparse.specs.Grammar.{RequestHead, IsRequestHead, print_request}
 use Rattle.httparse.specs.Spans.{name_and_value}
-use Rattle.desk_http.specs.declared.asking.Asked.{Asked}
-use Rattle.desk_http.specs.declared.asking.Asked.TheVariants as asks
 use Rattle.desk_http.specs.declared.fields.BodyLength.{BodyLength}
 use Rattle.desk_http.specs.declared.fields.BodyLength.TheVariants.{Absent, Number, TooLong, Bad}
-use Rattle.desk_http.specs.declared.targets.Route.{Route}
-use Rattle.desk_http.specs.declared.targets.Route.TheVariants.{Messages, OwnerReport, BandReport}
 use Rattle.desk_http.specs.Fields.{NamedValue, has_transfer_encoding, body_length}
-use Rattle.desk_http.specs.Targets.{method_of, path_of, route_of}
+use Rattle.desk_http.specs.Heads.{IsNoHead, IsWithinLimits}
+use Rattle.desk_http.specs.Responses.{Response, no_head, no_route, other_method, no_length, too_long}
+use Rattle.desk_http.specs.Targets.{Resource, messages, reports, bands, Names, method_of, path_of}
 
--- a message needs its length in octets
-abbrev pub asked_by_length : BodyLength → Asked
-asked_by_length Absent = asks.NoLength
-asked_by_length (Number n) = asks.Deliver n
-asked_by_length TooLong = asks.TooLong
-asked_by_length Bad = asks.BadLength
+-- what is asked for: a message of so many octets to be delivered, or a report; or nothing that is served, and this response refuses it
+pub data Request : Type 0 where
+  refused : Response → Request
+  message : (count : ℕ) → Request
+  owner_report : (owner month : List ℕ) → Request
+  band_report : (gateway : List ℕ) → Request
+
+-- a message needs its length
+abbrev pub asked_by_length : BodyLength → Request
+asked_by_length Absent = refused no_length
+asked_by_length (Number n) = message n
+asked_by_length TooLong = refused too_long
+asked_by_length Bad = refused no_head
 
 -- a message under a transfer encoding has no length
-abbrev pub asked_of_messages : List NamedValue → Asked
-asked_of_messages fields = if has_transfer_encoding fields then asks.NoLength else asked_by_length (body_length fields)
+abbrev pub asked_of_messages : List NamedValue → Request
+asked_of_messages fields = if has_transfer_encoding fields then refused no_length else asked_by_length (body_length fields)
 
--- what a route is asked for by its own method; the fields of a report's head don't matter
-abbrev pub asked_by_route : Route → List NamedValue → Asked
-asked_by_route Messages fields = asked_of_messages fields
-asked_by_route OwnerReport fields = asks.OwnerReport
-asked_by_route BandReport fields = asks.BandReport
+-- what is asked of a resource by its own method; the fields of a report's head don't matter
+abbrev pub asked_by_resource : Resource → List NamedValue → Request
+asked_by_resource messages fields = asked_of_messages fields
+asked_by_resource (reports owner month) fields = owner_report owner month
+asked_by_resource (bands gateway) fields = band_report gateway
 
-abbrev pub asked_with : Option Route → List ℕ → List NamedValue → Asked
-asked_with None method fields = asks.NoRoute
-asked_with (Some route) method fields = if bytes_eq method (method_of route) then asked_by_route route fields else asks.OtherMethod route
+-- first what is named, then its method, then what is asked of it
+abbrev pub asked_of : Option Resource → List ℕ → List NamedValue → Request
+asked_of None method fields = refused no_route
+asked_of (Some resource) method fields =
+    if bytes_eq method (method_of resource) then asked_by_resource resource fields else refused (other_method (method_of resource))
 
--- first the route, then its method, then what the route asks
-unfoldable pub asked_of : List ℕ → List ℕ → List NamedValue → Asked
-asked_of method target fields = asked_with (route_of (path_of target)) method fields
+-- the head asks for this
+abbrev pub Asks : RequestHead → Request → Type 0
+Asks h request = (named : Option Resource) × Names (path_of h.target) named × (request ≡ asked_of named h.method (map name_and_value h.fields))
 
--- what a head asks for
-abbrev pub asked_by_head : RequestHead → Asked
-asked_by_head h = asked_of h.method h.target (map name_and_value h.fields)
+-- what is read after the head: of a message all its octets, or the input ended before; and else nothing
+abbrev pub IsBodyOf : Request → List ℕ → Option (List ℕ) → Type 0
+IsBodyOf (message count) body rest = (length body ≡ count) ⊎ ((length body < count) × IsAtEnd rest)
+IsBodyOf _ body rest = body ≡ []
+
+-- What was read is this request with this body: no head; or a head, and after it no more than the body that it asks for. This may be left of the input.
+pub data Reads (input : List ℕ) (rest : Option (List ℕ)) (request : Request) (body : List ℕ) : Type 0 where
+  bad_head : IsNoHead input rest → request ≡ refused no_head → body ≡ [] → Reads input rest request body
+  head : (h : RequestHead) → IsRequestHead h → IsWithinLimits h → Asks h request → input ≡ print_request h ++ body → IsBodyOf request body rest
+      → Reads input rest request body

@@ -7,8 +7,6 @@ use Rattle.desk_engine.specs.declared.report_faults.ReportFault.{ReportFault}
 use Rattle.desk_engine.specs.declared.report_faults.ReportFault.TheVariants as fault
 use Rattle.desk_engine.specs.declared.outcomes.Outcome.{Outcome}
 use Rattle.desk_engine.specs.declared.outcomes.Outcome.TheVariants.{Answered, Refused, Unavailable}
-use Rattle.desk_http.specs.declared.targets.Route.{Route}
-use Rattle.desk_http.specs.Targets.{method_of}
 
 -- a response: its status, the type of its body, the method that is allowed where another was used, and its body
 pub record Response : Type 0 where
@@ -45,9 +43,9 @@ no_head = plain 400 (codes "head\n")
 abbrev pub no_route : Response
 no_route = plain 404 (codes "route\n")
 
--- the route has one method, and this is it
-abbrev pub other_method : Route → Response
-other_method route = record { status = 405; kind = codes "text/plain"; allow = Some (method_of route); body = codes "method\n" }
+-- what is named has one method, and this is it
+abbrev pub other_method : List ℕ → Response
+other_method method = record { status = 405; kind = codes "text/plain"; allow = Some method; body = codes "method\n" }
 
 abbrev pub no_length : Response
 no_length = plain 411 (codes "length\n")

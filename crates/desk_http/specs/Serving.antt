@@ -1,7 +1,6 @@
 -- What a connection is served.
-use Rattle.std.specs.Prelude.{◌≡◌, ◌<◌, ◌⊎◌, ◌↔◌, ℕ, ℤ, List, [], ◌++◌, length, Option, Some, Result, Err}
-use Rattle.std.specs.Io.KnownBytes.{Appends, IsAtEnd, Keeps}
-use Rattle.httparse.specs.Grammar.{RequestHead, IsRequestHead, print_request}
+use Rattle.std.specs.Prelude.{◌≡◌, ◌<◌, ◌⊎◌, ◌↔◌, ℕ, ℤ, List, length, Option, Some, Result, Err}
+use Rattle.std.specs.Io.KnownBytes.{Appends, Keeps}
 use Rattle.registry_core.specs.declared.messages.Envelope.{Envelope}
 use Rattle.registry_core.specs.Heard.{state_of}
 use Rattle.registry_core.specs.Settings.{Settings}
@@ -18,15 +17,11 @@ use Rattle.desk_engine.specs.Months.{IsMonth}
 use Rattle.desk_engine.specs.Outcomes.{IfRefused, IsOutcome, IsUnheard, delivery_of, doubt_of_text, fault_of}
 use Rattle.desk_engine.specs.Reporting.{store_fault}
 use Rattle.desk_engine.specs.Told.{text_told}
-use Rattle.desk_http.specs.declared.asking.Asked.{Asked}
-use Rattle.desk_http.specs.declared.asking.Asked.TheVariants.{NoRoute, OtherMethod, NoLength, BadLength, TooLong, Deliver, OwnerReport, BandReport}
 use Rattle.desk_http.specs.declared.serving.ServeEnd.{ServeEnd}
 use Rattle.desk_http.specs.declared.serving.ServeEnd.TheVariants.{Done, Closed, Read, Write, Memory}
-use Rattle.desk_http.specs.Heads.{IsNoHead, IsWithinLimits}
 use Rattle.desk_http.specs.Reports.{IsBandAnswer, IsOwnerAnswer}
-use Rattle.desk_http.specs.Requests.{asked_by_head}
-use Rattle.desk_http.specs.Responses.{Response, response_text, no_head, no_route, other_method, no_length, too_long, cut_body, outcome_response, report_response}
-use Rattle.desk_http.specs.Targets.{gateway_of, month_of, owner_of}
+use Rattle.desk_http.specs.Requests.{Reads, Request, refused, message, owner_report, band_report}
+use Rattle.desk_http.specs.Responses.{Response, response_text, cut_body, outcome_response, report_response}
 
 module _ {K : Type 0} (m : Meaning K) (old new : K) where
   -- The body was delivered once, with this outcome: it is what the text is told, and the store is in order for what is heard with it.
@@ -38,15 +33,11 @@ module _ {K : Type 0} (m : Meaning K) (old new : K) where
     pub fault : IsOfCalls (fault_of outcome)
     pub size : (c : Settings) (heard : List Envelope) → WasInOrder m c heard old new → fault_of outcome ≡ Some Size → HasNoRoom m new heard
 
-  -- no octet after the head was read, the store stands as before, and this is the response
-  abbrev pub IsRefused : Response → List ℕ → Response → Type 0
-  IsRefused wanted body response = (body ≡ []) × (new ≡ old) × (response ≡ wanted)
-
-  -- A body of so many octets was read and delivered once; or the input ended before, and the store stands as before.
-  abbrev pub ServesMessage : ℕ → List ℕ → Option (List ℕ) → Response → Type 0
-  ServesMessage count body rest response =
+  -- A body of so many octets was delivered once; or it is cut off, and the store stands as before.
+  abbrev pub ServesMessage : ℕ → List ℕ → Response → Type 0
+  ServesMessage count body response =
       ((length body ≡ count) × (outcome : Outcome) × IsDelivered body outcome × (response ≡ outcome_response outcome))
-      ⊎ ((length body < count) × IsAtEnd rest × (new ≡ old) × (response ≡ cut_body))
+      ⊎ ((length body < count) × (new ≡ old) × (response ≡ cut_body))
 
   -- The owner's report of a month was asked for once, and this is the response. The store is read alone, and stays in order.
   pub record ServesOwnerReport (owner month : List ℕ) (response : Response) : Type 0 where
@@ -65,22 +56,16 @@ module _ {K : Type 0} (m : Meaning K) (old new : K) where
     pub told : (c : Settings) (heard : List Envelope) → WasInOrder m c heard old new → IsBandAnswer (state_of c heard) gateway answer
     pub order : (c : Settings) (heard : List Envelope) → WasInOrder m c heard old new → IsInOrder m c new heard
 
-  -- what was read after a head, the response, and what the store has by then
-  abbrev pub ServesHead : Asked → List ℕ → List ℕ → Option (List ℕ) → Response → Type 0
-  ServesHead NoRoute target body rest response = IsRefused no_route body response
-  ServesHead (OtherMethod route) target body rest response = IsRefused (other_method route) body response
-  ServesHead NoLength target body rest response = IsRefused no_length body response
-  ServesHead BadLength target body rest response = IsRefused no_head body response
-  ServesHead TooLong target body rest response = IsRefused too_long body response
-  ServesHead (Deliver count) target body rest response = ServesMessage count body rest response
-  ServesHead OwnerReport target body rest response = (body ≡ []) × ServesOwnerReport (owner_of target) (month_of target) response
-  ServesHead BandReport target body rest response = (body ≡ []) × ServesBandReport (gateway_of target) response
+  -- what is done of a request with this body, and the response
+  abbrev pub ServesRequest : Request → List ℕ → Response → Type 0
+  ServesRequest (refused wanted) body response = (new ≡ old) × (response ≡ wanted)
+  ServesRequest (message count) body response = ServesMessage count body response
+  ServesRequest (owner_report owner month) body response = ServesOwnerReport owner month response
+  ServesRequest (band_report gateway) body response = ServesBandReport gateway response
 
-  -- This input was read, and this is what may be left of it: no head; or a head, and after it no more than the body that it asks for.
-  pub data Serves (input : List ℕ) (rest : Option (List ℕ)) (response : Response) : Type 0 where
-    bad_head : IsNoHead input rest → new ≡ old → response ≡ no_head → Serves input rest response
-    head : (h : RequestHead) (body : List ℕ) → IsRequestHead h → IsWithinLimits h → input ≡ print_request h ++ body → ServesHead (asked_by_head h) h.target body rest response
-        → Serves input rest response
+  -- This input was read, and this may be left of it: a request, which was served so.
+  abbrev pub Serves : List ℕ → Option (List ℕ) → Response → Type 0
+  Serves input rest response = (request : Request) × (body : List ℕ) × Reads input rest request body × ServesRequest request body response
 
 -- the store stands as before, and nothing was written
 abbrev pub IsIdle : {K : Type 0} → K → K → Option (List ℕ) → Option (List ℕ) → Type 0

@@ -1,3 +1,6 @@
 -- What the clauses of private functions say.
 pub mod Answering
+pub mod Fields
 pub mod Heads
+pub mod Requests
+pub mod Targets

@@ -1,8 +1,11 @@
 //! What a request's head asks for: the checks in order.
-ghost use Rattle.std.specs.Prelude.{◌≡◌, length, map, IfOk};
+ghost use Rattle.std.specs.Prelude.{◌≡◌, ℕ, List, length, map, IfOk};
 ghost use Rattle.std.specs.List.{All};
 ghost use Rattle.httparse.specs.Spans.{IsHeaderWithin, header_bytes};
-ghost use Rattle.desk_http.specs.Requests.{asked_by_route, asked_of, asked_of_messages};
+ghost use Rattle.desk_http.specs.Requests.{asked_by_resource, asked_of, asked_of_messages};
+ghost use Rattle.desk_http.specs.Targets.{path_of};
+ghost use Rattle.desk_http.specs.steps.Requests.{request_of};
+ghost use Rattle.desk_http.specs.steps.Targets.{named_by, resource_of};
 
 use crate::fields::{BodyLength, body_length, has_transfer_encoding};
 use crate::targets::{Route, method_of, path_of, route_of};
@@ -28,7 +31,6 @@ pub(crate) enum Asked {
 }
 
 /// What a head with these parts asks for.
-#[tactic(auto, unfolding(crate::specs::Requests::asked_of))]
 pub(crate) fn asked_of(
     alloc: Global,
     method: &[u8],
@@ -37,7 +39,8 @@ pub(crate) fn asked_of(
     headers: &[HeaderSpan],
 ) -> Result<Asked, InsertError>
     requires { All (IsHeaderWithin (length octets.now)) headers.now }
-    ensures { IfOk result (λ asked. asked ≡ asked_of method.now target.now (map (header_bytes octets.now) headers.now)) }
+    ensures { IfOk result (λ asked. request_of (path_of target.now) asked
+        ≡ asked_of (named_by (path_of target.now)) method.now (map (header_bytes octets.now) headers.now)) }
 {
     let Some(route) = route_of(alloc, path_of(target))? else {
         return Ok(Asked::NoRoute);
@@ -51,7 +54,7 @@ pub(crate) fn asked_of(
 /// What a route is asked for by its own method.
 fn asked_by_route(route: Route, octets: &[u8], headers: &[HeaderSpan]) -> Asked
     requires { All (IsHeaderWithin (length octets.now)) headers.now }
-    ensures { result ≡ asked_by_route route (map (header_bytes octets.now) headers.now) }
+    ensures { (path : List ℕ) → request_of path result ≡ asked_by_resource (resource_of path route) (map (header_bytes octets.now) headers.now) }
 {
     match route {
         Route::Messages => asked_of_messages(octets, headers),
@@ -63,7 +66,7 @@ fn asked_by_route(route: Route, octets: &[u8], headers: &[HeaderSpan]) -> Asked
 /// A message needs a length, and under a transfer encoding it has none.
 fn asked_of_messages(octets: &[u8], headers: &[HeaderSpan]) -> Asked
     requires { All (IsHeaderWithin (length octets.now)) headers.now }
-    ensures { result ≡ asked_of_messages (map (header_bytes octets.now) headers.now) }
+    ensures { (path : List ℕ) → request_of path result ≡ asked_of_messages (map (header_bytes octets.now) headers.now) }
 {
     if has_transfer_encoding(octets, headers) {
         return Asked::NoLength;

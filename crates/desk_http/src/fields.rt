@@ -4,7 +4,8 @@ ghost use Rattle.std.specs.List.{All, list_all};
 ghost use Rattle.std.specs.Char.{is_ascii_digit, to_ascii_lowercase};
 ghost use Rattle.std.specs.Str.Parse.{digits_value};
 ghost use Rattle.httparse.specs.Spans.{IsHeaderWithin, header_bytes};
-ghost use Rattle.desk_http.specs.Fields.{has_name, is_number, length_of, length_with, length_after, body_length, has_transfer_encoding, names_encoding};
+ghost use Rattle.desk_http.specs.Fields.{has_name, is_number, length_of, body_length, has_transfer_encoding};
+ghost use Rattle.desk_http.specs.steps.Fields.{length_with, length_after, names_encoding};
 
 use desk_engine::LONGEST_MESSAGE;
 use httparse::spans::HeaderSpan;

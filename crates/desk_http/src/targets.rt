@@ -1,7 +1,8 @@
 //! What a request's target names.
-ghost use Rattle.std.specs.Prelude.{◌≡◌, IfOk, Option, None, Some};
+ghost use Rattle.std.specs.Prelude.{◌≡◌, ℕ, List, IfOk, Option, None, Some};
 ghost use Rattle.std.specs.Str.{IsUtf8};
-ghost use Rattle.desk_http.specs.Targets.{path_of, before_slash, after_slash, names_of, route_of, method_of};
+ghost use Rattle.desk_http.specs.Targets.{path_of, method_of};
+ghost use Rattle.desk_http.specs.steps.Targets.{before_slash, after_slash, names_of, route_of, resource_of};
 
 use matchit::{InsertError, Router};
 use std::alloc::Global;
@@ -20,7 +21,7 @@ pub(crate) enum Route {
 
 /// The method of a route.
 pub(crate) fn method_of(route: Route) -> &'static str
-    ensures { result.now ≡ method_of route }
+    ensures { (path : List ℕ) → result.now ≡ method_of (resource_of path route) }
 {
     match route {
         Route::Messages => "POST",

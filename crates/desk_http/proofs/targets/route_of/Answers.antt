@@ -1,7 +1,7 @@
 use Rattle.std.proofs.Common.{ap, sym, ◌∙◌}
 use Rattle.matchit.proofs.OnLiterals.{matchit_on_literals}
 use Rattle.matchit.specs.Router.{RouteOf}
-use Rattle.desk_http.specs.Targets.{route_of}
+use Rattle.desk_http.specs.steps.Targets.{route_of}
 use Rattle.desk_http.specs.declared.targets.Route.{Route}
 use Rattle.desk_http.proofs.Routes.{AreOctets-from, routes, value_of}
 use Rattle.desk_http.proofs.targets.route_of.Goals as goal
