@@ -6,6 +6,7 @@ mod importing;
 mod joins;
 mod lines;
 mod refused_memory;
+mod report_sizes;
 mod reports;
 pub(crate) mod rows;
 mod runs;

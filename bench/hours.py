@@ -1,0 +1,132 @@
+#!/usr/bin/env python3
+"""Measures what looks at hours: the sweep, a downlink on a gateway with many bookings, and both reports.
+
+    bench/hours.py [--built]
+
+It prints the microseconds of `sweep_peak` on lists of several sizes, of one DownBook on a gateway with so many bookings, and of
+both reports on so many uplinks and bookings. The sweep and the reports are timed inside tests of duty_core and desk_cli, which
+assert what they answer: `rt test` proves and builds them first, or with --built those are run that it built last. A DownBook is
+timed through `desk lines`: of two streams the one ends with 50,000 of them more, each refused since it collides with a booking, so
+that the bookings stay as many. All times are the least of five runs.
+"""
+
+import argparse
+import os
+import re
+import subprocess
+import sys
+import tempfile
+
+from normal_operation import DEVICES, ROOT, SECOND, Stream
+
+SWEEP = ("duty_core", "tests::sweeps::sweeps_by_size")
+OWNER = ("desk_cli", "tests::report_sizes::an_owner_with_many_uplinks")
+GATEWAY = ("desk_cli", "tests::report_sizes::a_gateway_with_many_bookings")
+
+# devices, uplinks
+OWNERS = [(200, 10_000), (200, 100_000), (5_000, 100_000), (1, 10_000), (1, 50_000)]
+
+BOOKINGS = [10_000, 100_000]
+
+# between two uplinks, in microseconds: so far apart their downlinks keep every hour
+APART = 10_000_000
+
+MORE = 50_000
+
+RUNS = 5
+
+
+def timed(test, **sizes):
+    """Runs the test with these sizes, and prints what it measured."""
+    crate, name = test
+    program = ROOT / "crates" / crate / "out" / f"{crate}_tests"
+    env = {**os.environ, **{word: str(size) for word, size in sizes.items()}}
+    least = {}
+    for _ in range(RUNS):
+        ran = subprocess.run([program, name], env=env, capture_output=True, text=True)
+        told = re.findall(r"^(\w+: .*), (\d+) microseconds$", ran.stdout, re.M)
+        if ran.returncode != 0 or not told:
+            sys.exit(f"{name} ended with {ran.returncode}:\n{ran.stdout}{ran.stderr}")
+        for what, took in told:
+            least[what] = min(int(took), least.get(what, int(took)))
+    for what, took in least.items():
+        print(f"{what}: {took:,} microseconds", flush=True)
+
+
+class OneGateway(Stream):
+    """Every frame is heard by the first gateway alone."""
+
+    def hearing(self):
+        return [0]
+
+
+def downlinks(count):
+    """A stream that ends with so many bookings at one gateway, and one with downlinks more that collide with the last."""
+    stream = OneGateway(1)
+    stream.register()
+    for device in range(DEVICES):
+        stream.join(device)
+    up = [0] * DEVICES
+    down = [0] * DEVICES
+    for place in range(count):
+        device = place % DEVICES
+        stream.now += APART
+        stream.data(device, up[device])
+        up[device] += 1
+        stream.answer(device, down[device], 0)
+        down[device] += 1
+    # a device that sends at the same time as the last one, so that their downlinks would too
+    other = count % DEVICES
+    stream.now -= SECOND
+    stream.data(other, up[other])
+    begun = len(stream.lines)
+    for _ in range(MORE):
+        stream.answer(other, down[other], 0)
+        # no DownDone
+        stream.lines.pop()
+    return stream.lines[:begun], stream.lines
+
+
+def seconds(lines, refused):
+    """The processor's seconds, the least of the runs. The last lines are refused, so many."""
+    least = None
+    with tempfile.TemporaryFile() as given, tempfile.TemporaryFile() as told:
+        given.write("".join(line + "\n" for line in lines).encode())
+        for _ in range(RUNS):
+            given.seek(0)
+            told.seek(0)
+            program = subprocess.Popen([ROOT / "desk", "lines"], stdin=given, stdout=told)
+            _, status, used = os.wait4(program.pid, 0)
+            if status != 0:
+                sys.exit(f"desk ended with {status}")
+            took = used.ru_utime + used.ru_stime
+            least = took if least is None else min(least, took)
+        told.seek(0)
+        answers = told.read().splitlines()
+    for place, (line, answer) in enumerate(zip(lines, answers, strict=True)):
+        if (b'"ResultCode":"Success"' in answer) != (place < len(lines) - refused):
+            sys.exit(f"{line}\n{answer.decode()}")
+    return least
+
+
+def main():
+    words = argparse.ArgumentParser(description=__doc__, formatter_class=argparse.RawDescriptionHelpFormatter)
+    words.add_argument("--built", action="store_true", help="take the tests that rt test built last")
+    if not words.parse_args().built:
+        for crate in ("duty_core", "desk_cli"):
+            subprocess.run(["rt", "test"], cwd=ROOT / "crates" / crate, check=True)
+    timed(SWEEP)
+    for devices, uplinks in OWNERS:
+        timed(OWNER, DESK_DEVICES=devices, DESK_UPLINKS=uplinks)
+    for bookings in BOOKINGS:
+        timed(GATEWAY, DESK_BOOKINGS=bookings)
+    # the first call may prove and build the program
+    subprocess.run([ROOT / "desk", "lines"], stdin=subprocess.DEVNULL, check=True)
+    for count in (100, 10_000, 100_000):
+        before, after = downlinks(count)
+        took = (seconds(after, MORE) - seconds(before, 0)) / MORE
+        print(f"DownBook: {count} bookings, {took * 1_000_000:.1f} microseconds", flush=True)
+
+
+if __name__ == "__main__":
+    main()
