@@ -8,6 +8,7 @@ mod lines;
 mod refused_memory;
 mod report_sizes;
 mod reports;
+mod requests;
 pub(crate) mod rows;
 mod runs;
 pub(crate) mod streams;
@@ -97,6 +98,7 @@ fn deliver_each<R: Abort + AllocGlobal, K: Keeper>(
 /// All rows hold over stores of this kind.
 fn rows_hold<R: Abort + AllocGlobal, K: Opened>(rt: &R) -> Result<(), Fail> {
     runs::have_their_outcomes::<R, K>(rt)?;
+    runs::hours_have_their_outcomes::<R, K>(rt)?;
     runs::the_longest_text::<R, K>(rt)?;
     importing::reports_are_heard_in_order::<R, K>(rt)?;
     reports::the_worked_report::<R, K>(rt)?;

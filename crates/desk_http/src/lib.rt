@@ -9,7 +9,5 @@ pub mod laws;
 mod responses;
 mod serving;
 mod targets;
-#[cfg(test)]
-mod tests;
 
 pub use serving::{ServeEnd, serve_one};

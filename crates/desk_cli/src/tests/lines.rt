@@ -1,15 +1,11 @@
 //! Lines over plain lists: whole outputs, the limit of a line, and a read or a write that fails.
 use super::opening;
-use super::rows::{ADDED, MALFORMED, REQUEST};
+use super::rows::{ADDED, MALFORMED, OTHER_OWNER, REQUEST};
 use super::streams::{Failing, Pieces};
 use desk_engine::{LinesEnd, run_lines};
 use desk_store::Lists;
 use std::alloc::Global;
 use std::test::Fail;
-
-/// Another owner under the same number.
-const OTHER_OWNER: &str =
-    r#"{"ProtocolVersion":"1.0","SenderID":"office","ReceiverID":"desk","TransactionID":1,"MessageType":"OwnerAdd","Owner":"city"}"#;
 
 const REUSED: &str =
     r#"{"MessageType":"OwnerAddAns","ProtocolVersion":"1.0","ReceiverID":"office","Result":{"Description":"transaction","ResultCode":"Other"},"SenderID":"desk","TransactionID":1}"#;

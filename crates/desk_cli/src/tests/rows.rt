@@ -225,6 +225,10 @@ fn number_of(told: Told) -> u8 {
 pub(crate) const REQUEST: &str =
     r#"{"ProtocolVersion":"1.0","SenderID":"office","ReceiverID":"desk","TransactionID":1,"MessageType":"OwnerAdd","Owner":"town"}"#;
 
+/// Another owner under its number.
+pub(crate) const OTHER_OWNER: &str =
+    r#"{"ProtocolVersion":"1.0","SenderID":"office","ReceiverID":"desk","TransactionID":1,"MessageType":"OwnerAdd","Owner":"city"}"#;
+
 /// The answer of the worked request.
 pub(crate) const ADDED: &str =
     r#"{"MessageType":"OwnerAddAns","ProtocolVersion":"1.0","ReceiverID":"office","Result":{"Description":"","ResultCode":"Success"},"SenderID":"desk","TransactionID":1}"#;

@@ -1,7 +1,8 @@
 //! The messages of runs from the opening state, through `deliver` one by one and through `run` at once.
 use super::data_frames::{DATA, SESSIONS};
 use super::downlinks::{
-    BETWEEN, BETWEEN_ABOVE, COLLISIONS, DOWNLINKS, HOURS, HOURS_ABOVE, LENGTHS, WORKED_DOWNLINKS,
+    BETWEEN, BETWEEN_ABOVE, COLLISIONS, DOWNLINKS, HOUR_BEGUN, HOURS, HOURS_ABOVE, LENGTHS,
+    WORKED_DOWNLINKS,
 };
 use super::joins::{JOINS, ONE_ADDRESS};
 use super::rows::{ADDED, MALFORMED, OWNERS, REGISTRY, REQUEST, Row, SETUP, deliveries_of};
@@ -30,24 +31,26 @@ fn run_all<R: Abort + AllocGlobal, K: Keeper>(
     Ok(())
 }
 
-/// Delivers what is before the rows and then these, one by one and at once, each time to a desk with so many addresses that has
-/// heard nothing. Each delivery has its outcome.
+/// Delivers the tables in order, one by one and at once, each time to a desk with so many addresses that has heard nothing. Each
+/// delivery has its outcome.
 fn expect_run<R: Abort + AllocGlobal, K: Opened>(
     rt: &R,
     addresses: u32,
-    before: &[Row],
-    rows: &[Row],
+    tables: &[&[Row]],
 ) -> Result<(), Fail> {
     let mut keeper = opening::<K>(rt.alloc(), addresses)?;
-    deliver_each(rt, &mut *keeper, before)?;
-    deliver_each(rt, &mut *keeper, rows)?;
+    for rows in tables {
+        deliver_each(rt, &mut *keeper, rows)?;
+    }
     let mut keeper = opening::<K>(rt.alloc(), addresses)?;
-    run_all(rt, &mut *keeper, before)?;
-    run_all(rt, &mut *keeper, rows)
+    for rows in tables {
+        run_all(rt, &mut *keeper, rows)?;
+    }
+    Ok(())
 }
 
 pub(super) fn have_their_outcomes<R: Abort + AllocGlobal, K: Opened>(rt: &R) -> Result<(), Fail> {
-    expect_run::<R, K>(rt, 65_536, &[], &OWNERS)?;
+    expect_run::<R, K>(rt, 65_536, &[&OWNERS[..]])?;
     for (addresses, rows) in [
         (65_536, &REGISTRY[..]),
         (65_536, &JOINS),
@@ -55,15 +58,22 @@ pub(super) fn have_their_outcomes<R: Abort + AllocGlobal, K: Opened>(rt: &R) -> 
         (65_536, &DATA),
         (65_536, &SESSIONS),
         (65_536, &WORKED_DOWNLINKS),
-        (65_536, &HOURS),
-        (65_536, &HOURS_ABOVE),
         (65_536, &BETWEEN),
         (65_536, &BETWEEN_ABOVE),
         (65_536, &COLLISIONS),
         (65_536, &DOWNLINKS),
         (65_536, &LENGTHS),
     ] {
-        expect_run::<R, K>(rt, addresses, &SETUP, rows)?;
+        expect_run::<R, K>(rt, addresses, &[&SETUP[..], rows])?;
+    }
+    Ok(())
+}
+
+pub(super) fn hours_have_their_outcomes<R: Abort + AllocGlobal, K: Opened>(
+    rt: &R,
+) -> Result<(), Fail> {
+    for rows in [&HOURS[..], &HOURS_ABOVE] {
+        expect_run::<R, K>(rt, 65_536, &[&SETUP[..], &HOUR_BEGUN, rows])?;
     }
     Ok(())
 }

@@ -1,0 +1,156 @@
+//! Heads and bodies: their forms, their limits, and every beginning of them.
+use super::responses::{ADDED, CUT_BODY, NO_HEAD, TOO_LONG};
+use super::{expect, posted};
+use crate::tests::opening;
+use crate::tests::rows::{OTHER_OWNER, REQUEST};
+use desk_http::{ServeEnd, serve_one};
+use desk_store::Lists;
+use std::alloc::Global;
+use std::process::Abort;
+use std::test::Fail;
+
+/// The desk refuses the input for its head. How much of it is read isn't said.
+fn expect_no_head<R: Abort + AllocGlobal>(rt: &R, lists: &mut Lists, input: &[u8]) {
+    let mut reader = input;
+    let mut written = Vec::new(rt.alloc());
+    let end = serve_one(rt.alloc(), lists, &mut reader, &mut written);
+    assert_eq!(rt; end, ServeEnd::Done(400));
+    assert!(rt; written.as_slice() == NO_HEAD.as_bytes());
+}
+
+#[test]
+fn forms_of_a_head(rt: HostRuntime) -> Result<(), Fail> {
+    let mut lists = opening::<Lists>(rt.alloc(), 65_536)?;
+    for start in [
+        "POST /v1/messages?x=1 HTTP/1.1\r\nContent-Length: 123\r\n\r\n",
+        "POST /v1/messages?? HTTP/1.0\nCONTENT-LENGTH:000000000000000000000000123\n\n",
+        "\r\n\r\nPOST /v1/messages HTTP/1.1\r\nHost: desk\r\ncontent-length: \t123 \t\r\n\r\n",
+    ] {
+        let input = format!(in rt.alloc(); "{start}{REQUEST}")?;
+        expect(&rt, &mut *lists, input.as_bytes(), 0, 200, ADDED);
+    }
+    Ok(())
+}
+
+/// A POST whose head has so many octets, by a field of letters.
+fn padded(alloc: Global, octets: usize) -> Result<String, Fail> {
+    let letters = String::from_utf8(vec![in alloc; b'a'; octets.saturating_sub(56)]?)?;
+    Ok(format!(in alloc;
+        "POST /v1/messages HTTP/1.1\r\nContent-Length: 123\r\nA: {letters}\r\n\r\n{REQUEST}"
+    )?)
+}
+
+/// A POST with so many headers.
+fn headed(alloc: Global, headers: usize) -> Result<String, Fail> {
+    let mut fields = String::new(alloc);
+    for _ in 1..headers {
+        fields.push_str("A: b\r\n")?;
+    }
+    Ok(format!(in alloc;
+        "POST /v1/messages HTTP/1.1\r\n{fields}Content-Length: 123\r\n\r\n{REQUEST}"
+    )?)
+}
+
+fn beginning(input: &[u8], octets: usize) -> &[u8] {
+    &input[..octets.min(input.len())]
+}
+
+/// A line that no head has is refused at its end, and a control octet at once: what comes after isn't waited for.
+#[test]
+fn what_no_head_has(rt: HostRuntime) -> Result<(), Fail> {
+    let mut lists = opening::<Lists>(rt.alloc(), 65_536)?;
+    for input in [
+        "GET /v1/messages\nabc",
+        "\r\n\nGET /v1/messages HTTP/2.0\r\nabc",
+        "GET /v1/messages HTTP/1.1\r\nA\r\nabc",
+        "GET /v1/messages HTTP/1.1\r\n A: b\nabc",
+        "\u{16}abc",
+        "\n\nGET /v1/messages\0abc",
+        "GET /v1/messages HTTP/1.1\r\nA: \u{7f}abc",
+    ] {
+        expect(&rt, &mut *lists, input.as_bytes(), 3, 400, NO_HEAD);
+    }
+    Ok(())
+}
+
+#[test]
+fn limits_of_a_head(rt: HostRuntime) -> Result<(), Fail> {
+    let alloc = rt.alloc();
+    let mut lists = opening::<Lists>(alloc, 65_536)?;
+    let input = padded(alloc, 8_193)?;
+    expect(&rt, &mut *lists, input.as_bytes(), 124, 400, NO_HEAD);
+    let input = headed(alloc, 33)?;
+    expect_no_head(&rt, &mut *lists, input.as_bytes());
+    // The head isn't ended.
+    assert_eq!(rt; input.len(), 366);
+    expect_no_head(&rt, &mut *lists, beginning(input.as_bytes(), 242));
+    expect_no_head(
+        &rt,
+        &mut *lists,
+        b"POST /v1/messages HTTP/1.1\r\nA: \0\r\n\r\n",
+    );
+    expect_no_head(&rt, &mut *lists, b"POST /v1/messages HTTP/2.0\r\n\r\n");
+    // A target that isn't UTF-8, in its query too.
+    expect_no_head(&rt, &mut *lists, b"GET /v1/\xff HTTP/1.1\r\n\r\n");
+    expect_no_head(&rt, &mut *lists, b"GET /v1/messages?\xff HTTP/1.1\r\n\r\n");
+    let input = posted(alloc, OTHER_OWNER, "")?;
+    expect(&rt, &mut *lists, input.as_bytes(), 0, 200, ADDED);
+    let mut lists = opening::<Lists>(alloc, 65_536)?;
+    let input = padded(alloc, 8_192)?;
+    expect(&rt, &mut *lists, input.as_bytes(), 0, 200, ADDED);
+    let input = headed(alloc, 32)?;
+    expect(&rt, &mut *lists, input.as_bytes(), 0, 200, ADDED);
+    Ok(())
+}
+
+#[test]
+fn limits_of_a_body(rt: HostRuntime) -> Result<(), Fail> {
+    let alloc = rt.alloc();
+    let mut lists = opening::<Lists>(alloc, 65_536)?;
+    let spaces = String::from_utf8(vec![in alloc; b' '; 65_413]?)?;
+    let message = format!(in alloc; "{REQUEST}{spaces}")?;
+    let input = posted(alloc, message.as_str(), "")?;
+    expect(&rt, &mut *lists, input.as_bytes(), 0, 200, ADDED);
+    let message = format!(in alloc; "{REQUEST}{spaces} ")?;
+    let input = posted(alloc, message.as_str(), "")?;
+    expect(&rt, &mut *lists, input.as_bytes(), 65_537, 413, TOO_LONG);
+    Ok(())
+}
+
+#[test]
+fn every_beginning(rt: HostRuntime) -> Result<(), Fail> {
+    let alloc = rt.alloc();
+    let mut lists = opening::<Lists>(alloc, 65_536)?;
+    let input = posted(alloc, REQUEST, "")?;
+    let mut nothing: &[u8] = b"";
+    let mut written = Vec::new(alloc);
+    let end = serve_one(alloc, &mut *lists, &mut nothing, &mut written);
+    assert_eq!(rt; end, ServeEnd::Closed);
+    assert!(rt; written.is_empty());
+    // The head has 51 octets.
+    assert_eq!(rt; input.len(), 174);
+    for length in 1..51 {
+        expect(
+            &rt,
+            &mut *lists,
+            &input.as_bytes()[..length],
+            0,
+            400,
+            NO_HEAD,
+        );
+    }
+    for length in 51..174 {
+        expect(
+            &rt,
+            &mut *lists,
+            &input.as_bytes()[..length],
+            0,
+            400,
+            CUT_BODY,
+        );
+    }
+    // None of them was heard.
+    let other = posted(alloc, OTHER_OWNER, "")?;
+    expect(&rt, &mut *lists, other.as_bytes(), 0, 200, ADDED);
+    Ok(())
+}

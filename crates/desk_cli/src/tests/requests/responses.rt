@@ -1,0 +1,67 @@
+//! Whole responses.
+
+pub(super) const ADDED: &str =
+    "HTTP/1.1 200 OK\r\ncontent-type: application/json\r\ncontent-length: 162\r\nconnection: close\r\n\r\n{\"MessageType\":\"OwnerAddAns\",\"ProtocolVersion\":\"1.0\",\"ReceiverID\":\"office\",\"Result\":{\"Description\":\"\",\"ResultCode\":\"Success\"},\"SenderID\":\"desk\",\"TransactionID\":1}";
+
+pub(super) const REUSED: &str =
+    "HTTP/1.1 409 Conflict\r\ncontent-type: application/json\r\ncontent-length: 171\r\nconnection: close\r\n\r\n{\"MessageType\":\"OwnerAddAns\",\"ProtocolVersion\":\"1.0\",\"ReceiverID\":\"office\",\"Result\":{\"Description\":\"transaction\",\"ResultCode\":\"Other\"},\"SenderID\":\"desk\",\"TransactionID\":1}";
+
+pub(super) const DEVICE_ADDED: &str =
+    "HTTP/1.1 200 OK\r\ncontent-type: application/json\r\ncontent-length: 163\r\nconnection: close\r\n\r\n{\"MessageType\":\"DeviceAddAns\",\"ProtocolVersion\":\"1.0\",\"ReceiverID\":\"office\",\"Result\":{\"Description\":\"\",\"ResultCode\":\"Success\"},\"SenderID\":\"desk\",\"TransactionID\":2}";
+
+pub(super) const DEVICE_REUSED: &str =
+    "HTTP/1.1 409 Conflict\r\ncontent-type: application/json\r\ncontent-length: 172\r\nconnection: close\r\n\r\n{\"MessageType\":\"DeviceAddAns\",\"ProtocolVersion\":\"1.0\",\"ReceiverID\":\"office\",\"Result\":{\"Description\":\"transaction\",\"ResultCode\":\"Other\"},\"SenderID\":\"desk\",\"TransactionID\":2}";
+
+pub(super) const DEVICE_EXISTS: &str =
+    "HTTP/1.1 200 OK\r\ncontent-type: application/json\r\ncontent-length: 167\r\nconnection: close\r\n\r\n{\"MessageType\":\"DeviceAddAns\",\"ProtocolVersion\":\"1.0\",\"ReceiverID\":\"office\",\"Result\":{\"Description\":\"exists\",\"ResultCode\":\"Other\"},\"SenderID\":\"desk\",\"TransactionID\":3}";
+
+pub(super) const UNKNOWN_SENDER: &str =
+    "HTTP/1.1 400 Bad Request\r\ncontent-type: application/json\r\ncontent-length: 170\r\nconnection: close\r\n\r\n{\"MessageType\":\"OwnerAddAns\",\"ProtocolVersion\":\"1.0\",\"ReceiverID\":\"stranger\",\"Result\":{\"Description\":\"\",\"ResultCode\":\"UnknownSender\"},\"SenderID\":\"desk\",\"TransactionID\":1}";
+
+pub(super) const MALFORMED: &str =
+    "HTTP/1.1 400 Bad Request\r\ncontent-type: application/json\r\ncontent-length: 101\r\nconnection: close\r\n\r\n{\"ProtocolVersion\":\"1.0\",\"Result\":{\"Description\":\"malformed\",\"ResultCode\":\"Other\"},\"SenderID\":\"desk\"}";
+
+pub(super) const NO_HEAD: &str =
+    "HTTP/1.1 400 Bad Request\r\ncontent-type: text/plain\r\ncontent-length: 5\r\nconnection: close\r\n\r\nhead\n";
+
+pub(super) const NO_ROUTE: &str =
+    "HTTP/1.1 404 Not Found\r\ncontent-type: text/plain\r\ncontent-length: 6\r\nconnection: close\r\n\r\nroute\n";
+
+pub(super) const NOT_BY_GET: &str =
+    "HTTP/1.1 405 Method Not Allowed\r\ncontent-type: text/plain\r\ncontent-length: 7\r\nallow: POST\r\nconnection: close\r\n\r\nmethod\n";
+
+pub(super) const NOT_BY_POST: &str =
+    "HTTP/1.1 405 Method Not Allowed\r\ncontent-type: text/plain\r\ncontent-length: 7\r\nallow: GET\r\nconnection: close\r\n\r\nmethod\n";
+
+pub(super) const NO_LENGTH: &str =
+    "HTTP/1.1 411 Length Required\r\ncontent-type: text/plain\r\ncontent-length: 7\r\nconnection: close\r\n\r\nlength\n";
+
+pub(super) const TOO_LONG: &str =
+    "HTTP/1.1 413 Payload Too Large\r\ncontent-type: text/plain\r\ncontent-length: 5\r\nconnection: close\r\n\r\nsize\n";
+
+pub(super) const CUT_BODY: &str =
+    "HTTP/1.1 400 Bad Request\r\ncontent-type: text/plain\r\ncontent-length: 5\r\nconnection: close\r\n\r\nbody\n";
+
+pub(super) const BAD_MONTH: &str =
+    "HTTP/1.1 400 Bad Request\r\ncontent-type: text/plain\r\ncontent-length: 5\r\nconnection: close\r\n\r\ntime\n";
+
+pub(super) const NO_OWNER: &str =
+    "HTTP/1.1 404 Not Found\r\ncontent-type: text/plain\r\ncontent-length: 6\r\nconnection: close\r\n\r\nowner\n";
+
+pub(super) const NO_GATEWAY: &str =
+    "HTTP/1.1 404 Not Found\r\ncontent-type: text/plain\r\ncontent-length: 8\r\nconnection: close\r\n\r\ngateway\n";
+
+pub(super) const UNAVAILABLE: &str =
+    "HTTP/1.1 503 Service Unavailable\r\ncontent-type: text/plain\r\ncontent-length: 12\r\nconnection: close\r\n\r\nunavailable\n";
+
+pub(super) const EMPTY_REPORT: &str =
+    "HTTP/1.1 200 OK\r\ncontent-type: text/csv\r\ncontent-length: 118\r\nconnection: close\r\n\r\ndev_eui,uplinks,b1_us,b1_peak_us,b2_us,b2_peak_us,b3_us,b3_peak_us,b4_us,b4_peak_us,b5_us,b5_peak_us,b6_us,b6_peak_us\n";
+
+pub(super) const OWNER_REPORT: &str =
+    "HTTP/1.1 200 OK\r\ncontent-type: text/csv\r\ncontent-length: 171\r\nconnection: close\r\n\r\ndev_eui,uplinks,b1_us,b1_peak_us,b2_us,b2_peak_us,b3_us,b3_peak_us,b4_us,b4_peak_us,b5_us,b5_peak_us,b6_us,b6_peak_us\n0004a30b001a2b3c,2,0,0,0,0,102912,102912,0,0,0,0,0,0\n";
+
+pub(super) const UNUSED_BANDS: &str =
+    "HTTP/1.1 200 OK\r\ncontent-type: text/csv\r\ncontent-length: 148\r\nconnection: close\r\n\r\nband,limit_us,bookings,booked_us,peak_us\nB1,3600000,0,0,0\nB2,36000000,0,0,0\nB3,36000000,0,0,0\nB4,3600000,0,0,0\nB5,360000000,0,0,0\nB6,36000000,0,0,0\n";
+
+pub(super) const BAND_REPORT: &str =
+    "HTTP/1.1 200 OK\r\ncontent-type: text/csv\r\ncontent-length: 156\r\nconnection: close\r\n\r\nband,limit_us,bookings,booked_us,peak_us\nB1,3600000,0,0,0\nB2,36000000,0,0,0\nB3,36000000,1,46336,46336\nB4,3600000,0,0,0\nB5,360000000,0,0,0\nB6,36000000,0,0,0\n";
