@@ -1,0 +1,64 @@
+#!/usr/bin/env python3
+"""Asks the real SQLite how it would run each statement of desk_rows: none may look through a table.
+
+    checks/query_plans.py
+
+It takes the texts of the statements from `crates/desk_rows/src/*.rt`, makes the tables and indexes in a file by those that begin
+with CREATE, and asks `EXPLAIN QUERY PLAN` of each SELECT and UPDATE. A plan that scans a table or sorts rows fails, but for a look
+at the first row in the order of the rowid, which SQLite calls a scan too and ends after one row. It prints a line for each
+statement and at the end how many there were, and by which key or index.
+"""
+
+import re
+import sqlite3
+import sys
+import tempfile
+from pathlib import Path
+
+ROOT = Path(__file__).resolve().parent.parent
+SOURCES = ROOT / "crates" / "desk_rows" / "src"
+TEXT = re.compile(r'"((?:SELECT|UPDATE|CREATE) [^"]*)"')
+# The first row in the order of the rowid, or the last.
+ENDS = re.compile(r"^SELECT (\w+) FROM \w+ ORDER BY \1( DESC)? LIMIT 1$")
+
+
+def statements():
+    """Each text of the sources, with the file that it stands in."""
+    for path in sorted(SOURCES.glob("*.rt")):
+        for text in TEXT.findall(path.read_text()):
+            yield path.name, text
+
+
+def is_bad(text, step):
+    """Whether a step of the plan looks through a table, or puts rows in order."""
+    if ENDS.match(text):
+        return False
+    return step.startswith("SCAN") or "TEMP B-TREE" in step
+
+
+def main():
+    texts = list(statements())
+    tables = [text for _, text in texts if text.startswith("CREATE")]
+    asked = [(name, text) for name, text in texts if not text.startswith("CREATE") and name != "tests.rt"]
+    failed = 0
+    ways = {}
+    with tempfile.TemporaryDirectory() as folder:
+        conn = sqlite3.connect(Path(folder) / "desk.db")
+        conn.executescript(tables[0])
+        for name, text in asked:
+            many = len(set(re.findall(r"\?\d", text)))
+            steps = [row[3] for row in conn.execute("EXPLAIN QUERY PLAN " + text, [None] * many)]
+            bad = [step for step in steps if is_bad(text, step)]
+            failed += bool(bad)
+            way = re.sub(r" \(.*", "", "; ".join(steps))
+            ways[way] = ways.get(way, 0) + 1
+            print("FAILED" if bad else "ok", name, "|", text, "|", "; ".join(steps))
+        conn.close()
+    for way, count in sorted(ways.items()):
+        print(count, way)
+    print(f"SQLite {sqlite3.sqlite_version}: {len(asked) - failed} of {len(asked)} statements by a key or an index")
+    return 1 if failed or not asked else 0
+
+
+if __name__ == "__main__":
+    sys.exit(main())

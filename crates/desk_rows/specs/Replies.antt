@@ -1,0 +1,10 @@
+-- The texts that were heard and answered, as contracts see them.
+use Rattle.std.specs.Prelude.{ℕ, List}
+use Rattle.desk_rows.specs.Rows.{ReplyRow}
+use Rattle.desk_rows.specs.declared.replies.Texts.{Texts}
+
+abbrev pub texts_shown : Texts → List ℕ × List ℕ
+texts_shown t = (t.message.items, t.answer.items)
+
+abbrev pub reply_texts : ReplyRow → List ℕ × List ℕ
+reply_texts r = (r.message, r.answer)

@@ -1,0 +1,220 @@
+-- The typed rows of the ten tables, and how they stand in a database.
+use Rattle.std.specs.Prelude.{◌≡◌, ◌==◌, ◌&&◌, Bool, bytes_eq, ℕ, ◌+◌, ◌<◌, ◌≤◌, ◌^◌, pos, List, [], ◌∷◌, length, map, Option, Some, None}
+use Rattle.std.specs.Int.{to_be_bytes, w64}
+use Rattle.std.specs.List.{AllByRecursion}
+use Rattle.radio_core.specs.Bands.{band_number}
+use Rattle.radio_core.specs.DataRates.{dr_number}
+use Rattle.duty_core.specs.Range.{IsStart}
+use Rattle.registry_core.specs.declared.facts.Booking.{Booking}
+use Rattle.registry_core.specs.declared.facts.Device.{Device}
+use Rattle.registry_core.specs.declared.facts.Kind.{Kind}
+use Rattle.registry_core.specs.declared.facts.Kind.TheVariants.{Join, Data}
+use Rattle.registry_core.specs.declared.facts.Reception.{Reception}
+use Rattle.registry_core.specs.declared.facts.Session.{Session}
+use Rattle.registry_core.specs.declared.facts.Standing.{Standing}
+use Rattle.registry_core.specs.declared.facts.Standing.TheVariants.{Booked, Sent, Dropped}
+use Rattle.registry_core.specs.declared.facts.Uplink.{Uplink}
+use Rattle.registry_core.specs.declared.messages.Role.{Role}
+use Rattle.registry_core.specs.declared.messages.Role.TheVariants.{Operator, Radio}
+use Rattle.registry_core.specs.Ranges.{IsEui, IsName}
+use Rattle.registry_core.specs.Settings.{Settings}
+use Rattle.registry_core.specs.Wholes.{IsWhole}
+use Rattle.sqlite_value.specs.declared.value.Value.{Value}
+use Rattle.sqlite_value.specs.declared.value.Value.TheVariants.{Null, Int, Text, Blob}
+use Rattle.sqlite_value.specs.Order.{Row}
+use Rattle.sqlite_trees.specs.Tree.{Trees}
+use Rattle.sqlite.specs.Effect.{Database, IsDatabase}
+use Rattle.desk_rows.specs.Schema.{desk_schema}
+
+-- ---- values
+
+abbrev pub number : ℕ → Value
+number n = Int (pos n)
+
+-- 8 octets, the most significant first
+abbrev pub eui : ℕ → Value
+eui n = Blob (to_be_bytes w64 n)
+
+abbrev pub or_null : {X : Type 0} → (X → Value) → Option X → Value
+or_null f None = Null
+or_null f (Some x) = f x
+
+abbrev pub role_number : Role → ℕ
+role_number Operator = 0
+role_number Radio = 1
+
+abbrev pub kind_number : Kind → ℕ
+kind_number Join = 0
+kind_number Data = 1
+
+abbrev pub standing_number : Standing → ℕ
+standing_number Booked = 0
+standing_number Sent = 1
+standing_number Dropped = 2
+
+-- ---- rows
+
+pub record SenderRow : Type 0 where
+  pub name : List ℕ
+  pub role : Role
+
+-- a message that was heard, and its answer
+pub record ReplyRow : Type 0 where
+  pub sender : List ℕ
+  pub number : ℕ
+  pub message : List ℕ
+  pub answer : List ℕ
+
+pub record DeviceRow : Type 0 where
+  pub dev_eui : ℕ
+  pub device : Device
+  -- the greatest number of a session of the device that has a data uplink
+  pub floor : Option ℕ
+
+pub record SessionRow : Type 0 where
+  pub session : Session
+  -- how many bookings answer its data uplinks
+  pub next_down : ℕ
+
+pub record CopyRow : Type 0 where
+  pub uplink : ℕ
+  pub gateway : List ℕ
+  pub reception : Reception
+
+pub record BookingRow : Type 0 where
+  pub booking : Booking
+  -- those of its uplink
+  pub session : ℕ
+  pub kind : Kind
+
+-- what the tables hold, each in the order in which its rows were added
+pub record Rows : Type 0 where
+  pub settings : Settings
+  pub senders : List SenderRow
+  pub replies : List ReplyRow
+  pub owners : List (List ℕ)
+  pub gateways : List (List ℕ)
+  pub devices : List DeviceRow
+  pub sessions : List SessionRow
+  pub uplinks : List Uplink
+  pub copies : List CopyRow
+  pub bookings : List BookingRow
+
+-- ---- keys
+
+abbrev pub is_sender : List ℕ → SenderRow → Bool
+is_sender name s = bytes_eq s.name name
+
+abbrev pub is_reply : List ℕ → ℕ → ReplyRow → Bool
+is_reply sender number r = bytes_eq r.sender sender && r.number == number
+
+abbrev pub is_device : ℕ → DeviceRow → Bool
+is_device dev_eui d = d.dev_eui == dev_eui
+
+abbrev pub is_session : ℕ → ℕ → SessionRow → Bool
+is_session device nonce s = s.session.device == device && s.session.nonce == nonce
+
+abbrev pub is_uplink : ℕ → Kind → ℕ → Uplink → Bool
+is_uplink session kind counter u = u.session == session && (kind_number u.kind == kind_number kind && u.counter == counter)
+
+abbrev pub is_copy : ℕ → List ℕ → CopyRow → Bool
+is_copy uplink gateway c = c.uplink == uplink && bytes_eq c.gateway gateway
+
+-- ---- cells: a row without its rowid, where the column of an INTEGER PRIMARY KEY holds NULL
+
+abbrev pub meta_cells : Settings → Row
+meta_cells c = Null ∷ number 1 ∷ Text c.receiver ∷ Text c.operator ∷ number c.base ∷ number c.addresses ∷ []
+
+abbrev pub sender_cells : SenderRow → Row
+sender_cells s = Text s.name ∷ number (role_number s.role) ∷ []
+
+abbrev pub reply_cells : ReplyRow → Row
+reply_cells r = Null ∷ Text r.sender ∷ number r.number ∷ Blob r.message ∷ Blob r.answer ∷ []
+
+abbrev pub name_cells : List ℕ → Row
+name_cells name = Text name ∷ []
+
+abbrev pub device_cells : DeviceRow → Row
+device_cells d = eui d.dev_eui ∷ eui d.device.join_eui ∷ Text d.device.owner ∷ or_null number d.floor ∷ []
+
+abbrev pub session_cells : SessionRow → Row
+session_cells s = Null ∷ eui s.session.device ∷ number s.session.nonce ∷ number s.next_down ∷ []
+
+abbrev pub uplink_cells : Uplink → Row
+uplink_cells u = Null ∷ number u.session ∷ number (kind_number u.kind) ∷ number u.counter ∷ Blob u.octets ∷ number u.start ∷ number u.airtime ∷ number (band_number u.band) ∷ []
+
+abbrev pub copy_cells : CopyRow → Row
+copy_cells c = number c.uplink ∷ Text c.gateway ∷ number c.reception.end ∷ number c.reception.rate.freq ∷ number (dr_number c.reception.rate.dr) ∷ []
+
+abbrev pub booking_cells : BookingRow → Row
+booking_cells b =
+    Null ∷ number b.booking.uplink ∷ Text b.booking.gateway ∷ number b.session ∷ number (kind_number b.kind) ∷ number (band_number b.booking.band)
+    ∷ Int b.booking.span.start ∷ number b.booking.span.len ∷ number (standing_number b.booking.standing) ∷ []
+
+-- ---- tables
+
+-- rows with the rowids from a number on, in order
+abbrev pub numbered_from : ℕ → List Row → List Row
+numbered_from n [] = []
+numbered_from n (cells ∷ more) = (Int (pos n) ∷ cells) ∷ numbered_from (n + 1) more
+
+abbrev pub table_of : {X : Type 0} → (X → Row) → List X → List Row
+table_of cells rows = numbered_from 1 (map cells rows)
+
+-- the number of the last row
+abbrev pub last_number : {X : Type 0} → List X → Option ℕ
+last_number [] = None
+last_number (x ∷ xs) = Some (1 + length xs)
+
+-- ---- ranges: those of the types that rows are read as
+
+pub record IsDevice (d : DeviceRow) : Type 0 where
+  pub dev_eui : IsEui d.dev_eui
+  pub join_eui : IsEui d.device.join_eui
+  pub owner : IsName d.device.owner
+
+pub record IsSession (s : SessionRow) : Type 0 where
+  pub device : IsEui s.session.device
+  pub nonce : s.session.nonce < 2 ^ 16
+
+pub record IsUplink (u : Uplink) : Type 0 where
+  pub counter : u.counter < 2 ^ 32
+  pub octets : length u.octets ≤ 255
+  pub start : IsWhole u.start
+  pub airtime : u.airtime < 2 ^ 32
+
+pub record IsCopy (c : CopyRow) : Type 0 where
+  pub end : IsWhole c.reception.end
+  pub freq : c.reception.rate.freq < 2 ^ 32
+
+pub record IsBooking (b : BookingRow) : Type 0 where
+  pub gateway : IsName b.booking.gateway
+  pub start : IsStart b.booking.span.start
+  pub len : b.booking.span.len < 2 ^ 32
+
+pub record InRange (r : Rows) : Type 0 where
+  pub devices : AllByRecursion IsDevice r.devices
+  pub sessions : AllByRecursion IsSession r.sessions
+  pub uplinks : AllByRecursion IsUplink r.uplinks
+  pub copies : AllByRecursion IsCopy r.copies
+  pub bookings : AllByRecursion IsBooking r.bookings
+
+-- The database has the schema and nothing else, and its ten tables hold exactly these rows.
+pub record Holds (db : Database) (r : Rows) : Type 0 where
+  pub schema : db.schema ≡ desk_schema
+  pub sound : IsDatabase db
+  pub in_range : InRange r
+  pub meta : db.trees 0 ≡ table_of meta_cells (r.settings ∷ [])
+  pub sender : db.trees 1 ≡ table_of sender_cells r.senders
+  pub reply : db.trees 3 ≡ table_of reply_cells r.replies
+  pub owner : db.trees 5 ≡ table_of name_cells r.owners
+  pub gateway : db.trees 7 ≡ table_of name_cells r.gateways
+  pub device : db.trees 9 ≡ table_of device_cells r.devices
+  pub session : db.trees 11 ≡ table_of session_cells r.sessions
+  pub uplink : db.trees 13 ≡ table_of uplink_cells r.uplinks
+  pub copy : db.trees 15 ≡ table_of copy_cells r.copies
+  pub booking : db.trees 17 ≡ table_of booking_cells r.bookings
+
+-- trees alone, as a crash leaves them
+abbrev pub HoldsTrees : Trees → Rows → Type 0
+HoldsTrees trees r = Holds (record { schema = desk_schema; trees = trees }) r

@@ -1,0 +1,109 @@
+//! Bookings of downlinks.
+ghost use Rattle.std.specs.Prelude.{◌≡◌, ◌+◌, ◌<◌, ◌^◌, ◌++◌, [], ◌∷◌, length, option_map};
+ghost use Rattle.std.specs.List.{list_any};
+ghost use Rattle.duty_core.specs.Range.{IsStart};
+ghost use Rattle.registry_core.specs.declared.facts.Booking.{Booking};
+ghost use Rattle.registry_core.specs.Bookings.{is_answer_to};
+ghost use Rattle.registry_core.specs.Numbered.{item_at};
+ghost use Rattle.registry_core.specs.Ranges.{IsName};
+ghost use Rattle.desk_rows.specs.Shown.{booking_shown};
+ghost use Rattle.sqlite.specs.Held.{state};
+ghost use Rattle.desk_rows.specs.Rows.{last_number};
+ghost use Rattle.desk_rows.specs.Calls.{Changes, Reads};
+
+use crate::columns::{band_at, name_at, number_at, span_at, standing_at};
+use crate::faults::RowFault;
+use crate::queries::{FromRow, find, is_found};
+use crate::values::{band, kind, len, number, standing, start, text, whole};
+use crate::writes::write;
+use registry_core::{Booking, Kind, Whole};
+use sqlite::{Alter, Connection, Row, Transaction};
+
+impl FromRow for Booking {
+    ghost Seen = { Booking };
+
+    ghost seen = { λ booking. booking };
+
+    ghost shows = { booking_shown };
+
+    ghost InRange = { λ booking. IsName booking.gateway × IsStart booking.span.start × (booking.span.len < 2 ^ 32) };
+
+    fn from_row(row: &Row) -> Result<Booking, RowFault> {
+        let uplink = number_at(row, 0)?;
+        let gateway = name_at(row, 1)?;
+        let band = band_at(row, 2)?;
+        let span = span_at(row, 3)?;
+        let standing = standing_at(row, 5)?;
+        Ok(Booking {
+            uplink,
+            gateway,
+            band,
+            span,
+            standing,
+        })
+    }
+}
+
+/// The booking with this number, from 1, if there is one.
+pub fn booking<S: Alter>(
+    conn: &mut Connection<S>,
+    number: Whole,
+) -> Result<Option<Booking>, RowFault>
+    ensures { Reads (state S.Store conn.old) (state S.Store conn.new) result (λ r booking. booking ≡ option_map (λ row. row.booking) (item_at r.bookings number)) }
+{
+    find(
+        conn,
+        "SELECT uplink, gateway, band, start, airtime, state FROM booking WHERE number = ?1 ORDER BY number",
+        &[whole(number)],
+    )
+}
+
+/// Whether a booking that isn't dropped answers the uplink.
+pub fn is_answered<S: Alter>(conn: &mut Connection<S>, uplink: Whole) -> Result<bool, RowFault>
+    ensures { Reads (state S.Store conn.old) (state S.Store conn.new) result (λ r answered. answered ≡ list_any (λ row. is_answer_to uplink row.booking) r.bookings) }
+{
+    is_found(
+        conn,
+        "SELECT 1 FROM booking WHERE uplink = ?1 AND state <> 2 ORDER BY number",
+        &[whole(uplink)],
+    )
+}
+
+/// The number of the last booking, if there is one.
+pub fn last_booking<S: Alter>(conn: &mut Connection<S>) -> Result<Option<u64>, RowFault>
+    ensures { Reads (state S.Store conn.old) (state S.Store conn.new) result (λ r number. number ≡ last_number r.bookings) }
+{
+    find(
+        conn,
+        "SELECT number FROM booking ORDER BY number DESC LIMIT 1",
+        &[],
+    )
+}
+
+/// Adds a booking at the end, with the session and the kind of the uplink that it answers.
+pub fn insert_booking<S: Alter>(
+    tx: &mut Transaction<'_, S>,
+    booking: &Booking,
+    session: u64,
+    answers: Kind,
+) -> Result<(), RowFault>
+    ensures same_reference { tx.new.conn.ghost_name ≡ tx.old.conn.ghost_name }
+    ensures changes { Changes (state S.Store tx.old.conn.now) (state S.Store tx.new.conn.now) result ((booking.now.uplink < 2 ^ 63) × (session < 2 ^ 63))
+        (λ r. Unit {0} × (1 + length r.bookings < 2 ^ 63))
+        (λ r. record r { bookings = r.bookings ++ record { booking = booking.now; session = session; kind = answers } ∷ [] }) }
+{
+    write(
+        tx,
+        "INSERT INTO booking (uplink, gateway, session, kind, band, start, airtime, state) VALUES (?1, ?2, ?3, ?4, ?5, ?6, ?7, ?8)",
+        &[
+            number(booking.uplink),
+            text(&booking.gateway),
+            number(session),
+            kind(answers),
+            band(booking.band),
+            start(booking.span),
+            len(booking.span),
+            standing(booking.standing),
+        ],
+    )
+}

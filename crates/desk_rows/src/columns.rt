@@ -1,0 +1,186 @@
+//! Values as columns of a row tell them.
+ghost use Rattle.std.specs.Prelude.{◌≡◌, ◌+◌, ◌<◌, ◌≤◌, ◌^◌, ℕ, List, Ok, length, IfOk, IfErr};
+ghost use Rattle.sqlite_value.specs.declared.value.Value.TheVariants.{Blob, Int, Text};
+ghost use Rattle.sqlite_value.specs.Order.{column};
+ghost use Rattle.duty_core.specs.Range.{IsStart};
+ghost use Rattle.duty_core.specs.Use.{Interval};
+ghost use Rattle.radio_core.specs.Bands.{band_number};
+ghost use Rattle.radio_core.specs.DataRates.{dr_number};
+ghost use Rattle.registry_core.specs.Ranges.{IsEui, IsName};
+ghost use Rattle.registry_core.specs.Wholes.{IsWhole};
+ghost use Rattle.desk_rows.specs.Faults.{IsEven, ReadsAt};
+ghost use Rattle.desk_rows.specs.Rows.{eui, kind_number, number, role_number, standing_number};
+
+use crate::faults::{RowFault, read_fault};
+use duty_core::Span;
+use radio_core::{Band, DataRate, Eui, Name, Octets};
+use registry_core::{Kind, Role, Standing, Whole};
+use sqlite::Row;
+use sqlite_value::value::ValueRef;
+
+pub(crate) fn integer_at(row: &Row, at: usize) -> Result<i64, RowFault>
+    ensures { ReadsAt Int (λ n. Unit {0}) row.now at result }
+{
+    match row.get_ref(at) {
+        Ok(ValueRef::Int(n)) => Ok(n),
+        _ => Err(RowFault::Row),
+    }
+}
+
+pub(crate) fn number_at(row: &Row, at: usize) -> Result<u64, RowFault>
+    ensures { ReadsAt number (λ n. Unit {0}) row.now at result }
+{
+    match row.get_ref(at) {
+        Ok(ValueRef::Int(n)) => match u64::try_from(n) {
+            Ok(n) => Ok(n),
+            Err(_) => Err(RowFault::Row),
+        },
+        _ => Err(RowFault::Row),
+    }
+}
+
+pub(crate) fn word_at(row: &Row, at: usize) -> Result<u32, RowFault>
+    ensures { ReadsAt number (λ n. n < 2 ^ 32) row.now at result }
+{
+    match u32::try_from(number_at(row, at)?) {
+        Ok(n) => Ok(n),
+        Err(_) => Err(RowFault::Row),
+    }
+}
+
+pub(crate) fn short_at(row: &Row, at: usize) -> Result<u16, RowFault>
+    ensures { ReadsAt number (λ n. n < 2 ^ 16) row.now at result }
+{
+    match u16::try_from(number_at(row, at)?) {
+        Ok(n) => Ok(n),
+        Err(_) => Err(RowFault::Row),
+    }
+}
+
+pub(crate) fn whole_at(row: &Row, at: usize) -> Result<Whole, RowFault>
+    ensures { ReadsAt number IsWhole row.now at result }
+{
+    match Whole::new(number_at(row, at)?) {
+        Some(n) => Ok(n),
+        None => Err(RowFault::Row),
+    }
+}
+
+pub(crate) fn name_at(row: &Row, at: usize) -> Result<Name, RowFault>
+    ensures { ReadsAt Text IsName row.now at result }
+{
+    match row.get_ref(at) {
+        Ok(ValueRef::Text(octets)) => match Name::new(octets) {
+            Some(name) => Ok(name),
+            None => Err(RowFault::Row),
+        },
+        _ => Err(RowFault::Row),
+    }
+}
+
+pub(crate) fn octets_at(row: &Row, at: usize) -> Result<Vec<u8>, RowFault>
+    ensures ok { IfOk result (λ octets. column row.now at ≡ Blob octets.items) }
+    ensures in_order { IfErr result (λ fault. (octets : List ℕ) → column row.now at ≡ Blob octets → at < length row.now → IsEven fault) }
+{
+    match row.get(at) {
+        Ok(octets) => Ok(octets),
+        Err(error) => Err(read_fault(error)),
+    }
+}
+
+pub(crate) fn frame_at(row: &Row, at: usize) -> Result<Octets, RowFault>
+    ensures { ReadsAt Blob (λ octets. length octets ≤ 255) row.now at result }
+{
+    match row.get_ref(at) {
+        Ok(ValueRef::Blob(octets)) => match Octets::new(octets) {
+            Some(octets) => Ok(octets),
+            None => Err(RowFault::Row),
+        },
+        _ => Err(RowFault::Row),
+    }
+}
+
+pub(crate) fn eui_at(row: &Row, at: usize) -> Result<Eui, RowFault>
+    ensures { ReadsAt eui IsEui row.now at result }
+{
+    match row.get_ref(at) {
+        Ok(ValueRef::Blob(octets)) => match <[u8; 8]>::try_from(octets) {
+            Ok(octets) => Ok(Eui::new(u64::from_be_bytes(octets))),
+            Err(_) => Err(RowFault::Row),
+        },
+        _ => Err(RowFault::Row),
+    }
+}
+
+/// A span, its length one place on.
+pub(crate) fn span_at(row: &Row, at: u8) -> Result<Span, RowFault>
+    ensures { (span : Interval) → IsStart span.start → span.len < 2 ^ 32 → column row.now at ≡ Int span.start → column row.now (at + 1) ≡ number span.len
+        → at + 1 < length row.now → result ≡ Ok span }
+{
+    let start = integer_at(row, usize::from(at))?;
+    let len = word_at(row, usize::from(at) + 1)?;
+    match Span::new(start, len) {
+        Some(span) => Ok(span),
+        None => Err(RowFault::Row),
+    }
+}
+
+pub(crate) fn role_at(row: &Row, at: usize) -> Result<Role, RowFault>
+    ensures { ReadsAt (λ role. number (role_number role)) (λ role. Unit {0}) row.now at result }
+{
+    match number_at(row, at)? {
+        0 => Ok(Role::Operator),
+        1 => Ok(Role::Radio),
+        _ => Err(RowFault::Row),
+    }
+}
+
+pub(crate) fn kind_at(row: &Row, at: usize) -> Result<Kind, RowFault>
+    ensures { ReadsAt (λ kind. number (kind_number kind)) (λ kind. Unit {0}) row.now at result }
+{
+    match number_at(row, at)? {
+        0 => Ok(Kind::Join),
+        1 => Ok(Kind::Data),
+        _ => Err(RowFault::Row),
+    }
+}
+
+pub(crate) fn standing_at(row: &Row, at: usize) -> Result<Standing, RowFault>
+    ensures { ReadsAt (λ standing. number (standing_number standing)) (λ standing. Unit {0}) row.now at result }
+{
+    match number_at(row, at)? {
+        0 => Ok(Standing::Booked),
+        1 => Ok(Standing::Sent),
+        2 => Ok(Standing::Dropped),
+        _ => Err(RowFault::Row),
+    }
+}
+
+pub(crate) fn band_at(row: &Row, at: usize) -> Result<Band, RowFault>
+    ensures { ReadsAt (λ band. number (band_number band)) (λ band. Unit {0}) row.now at result }
+{
+    match number_at(row, at)? {
+        1 => Ok(Band::B1),
+        2 => Ok(Band::B2),
+        3 => Ok(Band::B3),
+        4 => Ok(Band::B4),
+        5 => Ok(Band::B5),
+        6 => Ok(Band::B6),
+        _ => Err(RowFault::Row),
+    }
+}
+
+pub(crate) fn data_rate_at(row: &Row, at: usize) -> Result<DataRate, RowFault>
+    ensures { ReadsAt (λ dr. number (dr_number dr)) (λ dr. Unit {0}) row.now at result }
+{
+    match number_at(row, at)? {
+        0 => Ok(DataRate::Dr0),
+        1 => Ok(DataRate::Dr1),
+        2 => Ok(DataRate::Dr2),
+        3 => Ok(DataRate::Dr3),
+        4 => Ok(DataRate::Dr4),
+        5 => Ok(DataRate::Dr5),
+        6 => Ok(DataRate::Dr6),
+        _ => Err(RowFault::Row),
+    }
+}

@@ -1,0 +1,78 @@
+//! Copies of uplinks.
+ghost use Rattle.std.specs.Prelude.{◌≡◌, ◌+◌, ◌<◌, ◌^◌, ◌++◌, [], ◌∷◌, length, false, find, option_map};
+ghost use Rattle.std.specs.List.{list_any};
+ghost use Rattle.sqlite.specs.Held.{state};
+ghost use Rattle.desk_rows.specs.Calls.{Changes, Reads};
+ghost use Rattle.registry_core.specs.declared.facts.Reception.{Reception};
+ghost use Rattle.registry_core.specs.Wholes.{IsWhole};
+ghost use Rattle.desk_rows.specs.Rows.{is_copy};
+ghost use Rattle.desk_rows.specs.Shown.{copy_shown};
+
+use crate::columns::{data_rate_at, whole_at, word_at};
+use crate::faults::RowFault;
+use crate::queries::{FromRow, find};
+use crate::values::{data_rate, number, text, whole, word};
+use crate::writes::write;
+use radio_core::{Name, Rate};
+use registry_core::{Reception, Whole};
+use sqlite::{Alter, Connection, Row, Transaction};
+
+impl FromRow for Reception {
+    ghost Seen = { Reception };
+
+    ghost seen = { λ copy. copy };
+
+    ghost shows = { copy_shown };
+
+    ghost InRange = { λ copy. IsWhole copy.end × (copy.rate.freq < 2 ^ 32) };
+
+    fn from_row(row: &Row) -> Result<Reception, RowFault> {
+        let end = whole_at(row, 0)?;
+        let freq = word_at(row, 1)?;
+        let dr = data_rate_at(row, 2)?;
+        Ok(Reception {
+            end,
+            rate: Rate { freq, dr },
+        })
+    }
+}
+
+/// The copy of an uplink at a gateway, if there is one.
+pub fn copy_at<S: Alter>(
+    conn: &mut Connection<S>,
+    uplink: Whole,
+    gateway: &Name,
+) -> Result<Option<Reception>, RowFault>
+    ensures { Reads (state S.Store conn.old) (state S.Store conn.new) result (λ r copy. copy ≡ option_map (λ row. row.reception) (find (is_copy uplink gateway.now) r.copies)) }
+{
+    find(
+        conn,
+        "SELECT ended, freq, dr FROM copy WHERE uplink = ?1 AND gateway = ?2 ORDER BY rowid",
+        &[whole(uplink), text(gateway)],
+    )
+}
+
+/// Adds the copy of an uplink at a gateway.
+pub fn insert_copy<S: Alter>(
+    tx: &mut Transaction<'_, S>,
+    uplink: u64,
+    gateway: &Name,
+    copy: &Reception,
+) -> Result<(), RowFault>
+    ensures same_reference { tx.new.conn.ghost_name ≡ tx.old.conn.ghost_name }
+    ensures changes { Changes (state S.Store tx.old.conn.now) (state S.Store tx.new.conn.now) result (uplink < 2 ^ 63)
+        (λ r. (list_any (is_copy uplink gateway.now) r.copies ≡ false) × (1 + length r.copies < 2 ^ 63))
+        (λ r. record r { copies = r.copies ++ record { uplink = uplink; gateway = gateway.now; reception = copy.now } ∷ [] }) }
+{
+    write(
+        tx,
+        "INSERT INTO copy (uplink, gateway, ended, freq, dr) VALUES (?1, ?2, ?3, ?4, ?5)",
+        &[
+            number(uplink),
+            text(gateway),
+            whole(copy.end),
+            word(copy.rate.freq),
+            data_rate(copy.rate.dr),
+        ],
+    )
+}

@@ -1,0 +1,100 @@
+//! Devices.
+ghost use Rattle.std.specs.Prelude.{◌≡◌, ◌+◌, ◌<◌, ◌^◌, ◌++◌, [], ◌∷◌, ℕ, Option, length, false, None, find, option_map};
+ghost use Rattle.std.specs.List.{list_any};
+ghost use Rattle.sqlite.specs.Held.{state};
+ghost use Rattle.desk_rows.specs.Calls.{Changes, Reads};
+ghost use Rattle.sqlite_value.specs.declared.value.Value.TheVariants.{Text};
+ghost use Rattle.registry_core.specs.declared.facts.Device.{Device};
+ghost use Rattle.registry_core.specs.Ranges.{IsEui, IsName};
+ghost use Rattle.desk_rows.specs.Rows.{eui, is_device, number, or_null};
+
+use crate::columns::{eui_at, name_at, number_at};
+use crate::faults::RowFault;
+use crate::queries::{FromRow, find};
+use crate::values::{blob, octets_of, text};
+use crate::writes::write;
+use radio_core::Eui;
+use registry_core::Device;
+use sqlite::{Alter, Connection, Row, Transaction};
+use sqlite_value::value::ValueRef;
+
+impl FromRow for Device {
+    ghost Seen = { Device };
+
+    ghost seen = { λ device. device };
+
+    ghost shows = { λ device. eui device.join_eui ∷ Text device.owner ∷ [] };
+
+    ghost InRange = { λ device. IsEui device.join_eui × IsName device.owner };
+
+    fn from_row(row: &Row) -> Result<Device, RowFault> {
+        let join_eui = eui_at(row, 0)?;
+        let owner = name_at(row, 1)?;
+        Ok(Device { join_eui, owner })
+    }
+}
+
+/// The device with this DevEUI, if there is one.
+pub fn device<S: Alter>(conn: &mut Connection<S>, dev_eui: Eui) -> Result<Option<Device>, RowFault>
+    ensures { Reads (state S.Store conn.old) (state S.Store conn.new) result (λ r device. device ≡ option_map (λ row. row.device) (find (is_device dev_eui) r.devices)) }
+{
+    let eui = octets_of(dev_eui);
+    find(
+        conn,
+        "SELECT join_eui, owner FROM device WHERE eui = ?1 ORDER BY rowid",
+        &[blob(&eui)],
+    )
+}
+
+/// A session's number where there is one.
+impl FromRow for Option<u64> {
+    ghost Seen = { Option ℕ };
+
+    ghost seen = { λ number. number };
+
+    ghost shows = { λ n. or_null number n ∷ [] };
+
+    ghost InRange = { λ number. Unit {0} };
+
+    fn from_row(row: &Row) -> Result<Option<u64>, RowFault> {
+        match row.get_ref(0) {
+            Ok(ValueRef::Null) => Ok(None),
+            _ => Ok(Some(number_at(row, 0)?)),
+        }
+    }
+}
+
+/// Of the device with this DevEUI, if there is one, the greatest number of a session that has a data uplink.
+pub fn floor_of<S: Alter>(
+    conn: &mut Connection<S>,
+    dev_eui: Eui,
+) -> Result<Option<Option<u64>>, RowFault>
+    ensures { Reads (state S.Store conn.old) (state S.Store conn.new) result (λ r floor. floor ≡ option_map (λ row. row.floor) (find (is_device dev_eui) r.devices)) }
+{
+    let eui = octets_of(dev_eui);
+    find(
+        conn,
+        "SELECT floor FROM device WHERE eui = ?1 ORDER BY rowid",
+        &[blob(&eui)],
+    )
+}
+
+/// Adds a device, none of whose sessions has a data uplink.
+pub fn insert_device<S: Alter>(
+    tx: &mut Transaction<'_, S>,
+    dev_eui: Eui,
+    device: &Device,
+) -> Result<(), RowFault>
+    ensures same_reference { tx.new.conn.ghost_name ≡ tx.old.conn.ghost_name }
+    ensures changes { Changes (state S.Store tx.old.conn.now) (state S.Store tx.new.conn.now) result (Unit {0})
+        (λ r. (list_any (is_device dev_eui) r.devices ≡ false) × (1 + length r.devices < 2 ^ 63))
+        (λ r. record r { devices = r.devices ++ record { dev_eui = dev_eui; device = device.now; floor = None } ∷ [] }) }
+{
+    let eui = octets_of(dev_eui);
+    let join_eui = octets_of(device.join_eui);
+    write(
+        tx,
+        "INSERT INTO device (eui, join_eui, owner) VALUES (?1, ?2, ?3)",
+        &[blob(&eui), blob(&join_eui), text(&device.owner)],
+    )
+}

@@ -1,0 +1,33 @@
+//! Statements on the ten tables.
+#![tactic(auto)]
+
+mod bookings;
+mod columns;
+mod copies;
+mod devices;
+mod faults;
+mod gateways;
+pub mod laws;
+mod making;
+mod owners;
+mod queries;
+mod replies;
+mod senders;
+mod sessions;
+#[cfg(test)]
+mod tests;
+mod uplinks;
+mod values;
+mod writes;
+
+pub use bookings::{booking, insert_booking, is_answered, last_booking};
+pub use copies::{copy_at, insert_copy};
+pub use devices::{device, floor_of, insert_device};
+pub use faults::RowFault;
+pub use gateways::{gateway_is_known, insert_gateway};
+pub use making::{create_tables, insert_settings};
+pub use owners::{insert_owner, owner_is_known};
+pub use replies::{Texts, insert_reply, last_reply, texts_of};
+pub use senders::{insert_sender, role_of};
+pub use sessions::{insert_session, last_nonce, last_session, next_down, session, session_with};
+pub use uplinks::{insert_uplink, last_counter, last_uplink, uplink, uplink_with};

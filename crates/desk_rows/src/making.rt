@@ -1,0 +1,57 @@
+//! A new desk's tables, and the row that tells what it is made with.
+ghost use Rattle.std.specs.Prelude.{◌≡◌, None, IsTrue, IfErr, OnOk, is_ok};
+ghost use Rattle.sqlite.specs.Held.{state};
+ghost use Rattle.sqlite.specs.State.{HasCleanDisk, KeepsCommit, Survives};
+ghost use Rattle.desk_rows.specs.Calls.{IsWrite};
+ghost use Rattle.desk_rows.specs.Faults.{IsEven};
+ghost use Rattle.desk_rows.specs.Making.{IsBare, settings_rows};
+ghost use Rattle.desk_rows.specs.Rows.{Holds};
+ghost use Rattle.desk_rows.specs.Schema.{no_schema};
+
+use crate::faults::{RowFault, fault_of};
+use crate::values::{text, word};
+use crate::writes::write;
+use registry_core::Config;
+use sqlite::{Alter, Transaction};
+
+const TABLES: &str =
+    "CREATE TABLE meta (id INTEGER PRIMARY KEY, version INTEGER NOT NULL, receiver TEXT NOT NULL, operator TEXT NOT NULL, base INTEGER NOT NULL, addresses INTEGER NOT NULL) STRICT; CREATE TABLE sender (name TEXT PRIMARY KEY, role INTEGER NOT NULL) STRICT; CREATE TABLE reply (seq INTEGER PRIMARY KEY, sender TEXT NOT NULL, number INTEGER NOT NULL, message BLOB NOT NULL, answer BLOB NOT NULL, UNIQUE (sender, number)) STRICT; CREATE TABLE owner (name TEXT PRIMARY KEY) STRICT; CREATE TABLE gateway (name TEXT PRIMARY KEY) STRICT; CREATE TABLE device (eui BLOB PRIMARY KEY, join_eui BLOB NOT NULL, owner TEXT NOT NULL, floor INTEGER) STRICT; CREATE TABLE session (number INTEGER PRIMARY KEY, device BLOB NOT NULL, nonce INTEGER NOT NULL, next_down INTEGER NOT NULL, UNIQUE (device, nonce)) STRICT; CREATE TABLE uplink (number INTEGER PRIMARY KEY, session INTEGER NOT NULL, kind INTEGER NOT NULL, counter INTEGER NOT NULL, octets BLOB NOT NULL, start INTEGER NOT NULL, airtime INTEGER NOT NULL, band INTEGER NOT NULL, UNIQUE (session, kind, counter)) STRICT; CREATE TABLE copy (uplink INTEGER NOT NULL, gateway TEXT NOT NULL, ended INTEGER NOT NULL, freq INTEGER NOT NULL, dr INTEGER NOT NULL, PRIMARY KEY (uplink, gateway)) STRICT; CREATE TABLE booking (number INTEGER PRIMARY KEY, uplink INTEGER NOT NULL, gateway TEXT NOT NULL, session INTEGER NOT NULL, kind INTEGER NOT NULL, band INTEGER NOT NULL, start INTEGER NOT NULL, airtime INTEGER NOT NULL, state INTEGER NOT NULL) STRICT; CREATE INDEX device_owner ON device (owner, eui); CREATE INDEX uplink_start ON uplink (session, start); CREATE INDEX booking_start ON booking (gateway, start); CREATE INDEX booking_uplink ON booking (uplink)";
+
+/// The ten tables with their indexes, in one batch, in a database that has none.
+pub fn create_tables<S: Alter>(tx: &mut Transaction<'_, S>) -> Result<(), RowFault>
+    ensures same_reference { tx.new.conn.ghost_name ≡ tx.old.conn.ghost_name }
+    ensures made { HasCleanDisk (state S.Store tx.new.conn.now) → (state S.Store tx.old.conn.now).now.schema ≡ no_schema → OnOk result (IsBare (state S.Store tx.new.conn.now).now) }
+    ensures kept { HasCleanDisk (state S.Store tx.new.conn.now) → KeepsCommit (state S.Store tx.old.conn.now) (state S.Store tx.new.conn.now) }
+    ensures inside { HasCleanDisk (state S.Store tx.new.conn.now)
+        → OnOk result ((state S.Store tx.new.conn.now).in_transaction ≡ (state S.Store tx.old.conn.now).in_transaction) }
+    ensures survives { Survives (state S.Store tx.old.conn.now) (state S.Store tx.new.conn.now) (λ _. ⊥) }
+{
+    match tx.execute_batch(TABLES) {
+        Ok(()) => Ok(()),
+        Err(error) => Err(fault_of(error)),
+    }
+}
+
+/// The one row of meta: version 1 of the schema, and what the desk is made with.
+pub fn insert_settings<S: Alter>(
+    tx: &mut Transaction<'_, S>,
+    config: &Config,
+) -> Result<(), RowFault>
+    ensures same_reference { tx.new.conn.ghost_name ≡ tx.old.conn.ghost_name }
+    ensures write { IsWrite (state S.Store tx.old.conn.now) (state S.Store tx.new.conn.now) (is_ok result) }
+    ensures made { HasCleanDisk (state S.Store tx.new.conn.now) → IsTrue (state S.Store tx.old.conn.now).in_transaction
+        → IsBare (state S.Store tx.old.conn.now).now → OnOk result (Holds (state S.Store tx.new.conn.now).now (settings_rows config.now)) }
+    ensures in_order { HasCleanDisk (state S.Store tx.new.conn.now) → IsTrue (state S.Store tx.old.conn.now).in_transaction
+        → (state S.Store tx.old.conn.now).step_limit ≡ None → IsBare (state S.Store tx.old.conn.now).now → IfErr result IsEven }
+{
+    write(
+        tx,
+        "INSERT INTO meta (version, receiver, operator, base, addresses) VALUES (1, ?1, ?2, ?3, ?4)",
+        &[
+            text(config.receiver()),
+            text(config.operator()),
+            word(config.base()),
+            word(config.addresses()),
+        ],
+    )
+}

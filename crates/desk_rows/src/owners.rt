@@ -1,0 +1,33 @@
+//! Owners.
+ghost use Rattle.std.specs.Prelude.{◌≡◌, ◌+◌, ◌<◌, ◌^◌, ◌++◌, [], ◌∷◌, length, false, bytes_eq};
+ghost use Rattle.std.specs.List.{list_any};
+ghost use Rattle.sqlite.specs.Held.{state};
+ghost use Rattle.desk_rows.specs.Calls.{Reads, Changes};
+
+use crate::faults::RowFault;
+use crate::queries::is_found;
+use crate::values::text;
+use crate::writes::write;
+use radio_core::Name;
+use sqlite::{Alter, Connection, Transaction};
+
+/// Whether there is an owner of this name.
+pub fn owner_is_known<S: Alter>(conn: &mut Connection<S>, name: &Name) -> Result<bool, RowFault>
+    ensures { Reads (state S.Store conn.old) (state S.Store conn.new) result (λ r known. known ≡ list_any (λ owner. bytes_eq owner name.now) r.owners) }
+{
+    is_found(
+        conn,
+        "SELECT 1 FROM owner WHERE name = ?1 ORDER BY rowid",
+        &[text(name)],
+    )
+}
+
+/// Adds an owner.
+pub fn insert_owner<S: Alter>(tx: &mut Transaction<'_, S>, name: &Name) -> Result<(), RowFault>
+    ensures same_reference { tx.new.conn.ghost_name ≡ tx.old.conn.ghost_name }
+    ensures changes { Changes (state S.Store tx.old.conn.now) (state S.Store tx.new.conn.now) result (Unit {0})
+        (λ r. (list_any (λ owner. bytes_eq owner name.now) r.owners ≡ false) × (1 + length r.owners < 2 ^ 63))
+        (λ r. record r { owners = r.owners ++ name.now ∷ [] }) }
+{
+    write(tx, "INSERT INTO owner (name) VALUES (?1)", &[text(name)])
+}

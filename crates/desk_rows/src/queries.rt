@@ -1,0 +1,98 @@
+//! One query of one row.
+ghost use Rattle.std.specs.Prelude.{◌≡◌, ℕ, List, [], ◌∷◌, Result};
+ghost use Rattle.sqlite.specs.Held.{state};
+ghost use Rattle.sqlite.specs.Values.{bound};
+ghost use Rattle.sqlite.specs.declared.error.Error.{Error};
+ghost use Rattle.sqlite_value.specs.Order.{Row};
+ghost use Rattle.sqlite_value.specs.declared.value.Value.{Value};
+ghost use Rattle.desk_rows.specs.Faults.{Decodes, found_of, known_of};
+ghost use Rattle.desk_rows.specs.Rows.{number};
+ghost use Rattle.desk_rows.specs.Queries.{Finds, HasRun, IsReadOf, Knows};
+
+use crate::columns::number_at;
+use crate::faults::{RowFault, found};
+use sqlite::{Alter, Connection, Row};
+use sqlite_value::value::ValueRef;
+
+/// What a row of an answer shows.
+pub(crate) trait FromRow: Sized {
+    /// What contracts see of it, how a row shows that, and its range.
+    ghost Seen: { Type 0 };
+
+    ghost seen: { Self → Seen };
+
+    ghost shows: { Seen → List Value };
+
+    ghost InRange: { Seen → Type 0 };
+
+    fn from_row(row: &Row) -> Result<Self, RowFault>
+        ensures { Decodes seen shows InRange row.now result };
+}
+
+impl FromRow for u64 {
+    ghost Seen = { ℕ };
+
+    ghost seen = { λ n. n };
+
+    ghost shows = { λ n. number n ∷ [] };
+
+    ghost InRange = { λ n. Unit {0} };
+
+    fn from_row(row: &Row) -> Result<u64, RowFault> {
+        number_at(row, 0)
+    }
+}
+
+/// The first row that the query shows, if it shows one.
+fn first_row<S: Alter>(
+    conn: &mut Connection<S>,
+    sql: &str,
+    params: &[ValueRef<'_>],
+) -> Result<Option<Row>, RowFault>
+    ensures { (answer : Result Row Error) × (result ≡ found_of answer)
+        × HasRun sql.now (bound params.now) (state S.Store conn.old) (state S.Store conn.new) answer }
+{
+    found(conn.query_row(sql, params))
+}
+
+fn read<T: FromRow>(found: Result<Option<Row>, RowFault>) -> Result<Option<T>, RowFault>
+    ensures { IsReadOf T.seen T.shows T.InRange found result }
+{
+    match found {
+        Ok(Some(row)) => Ok(Some(T::from_row(&row)?)),
+        Ok(None) => Ok(None),
+        Err(fault) => Err(fault),
+    }
+}
+
+/// What the first row shows, if the query shows one.
+pub(crate) fn find<S: Alter, T: FromRow>(
+    conn: &mut Connection<S>,
+    sql: &str,
+    params: &[ValueRef<'_>],
+) -> Result<Option<T>, RowFault>
+    ensures { Finds sql.now (bound params.now) (state S.Store conn.old) (state S.Store conn.new) T.seen T.shows T.InRange result }
+{
+    read(first_row(conn, sql, params))
+}
+
+fn known(found: Result<Option<Row>, RowFault>) -> Result<bool, RowFault>
+    ensures { result ≡ known_of found }
+{
+    match found {
+        Ok(Some(_)) => Ok(true),
+        Ok(None) => Ok(false),
+        Err(fault) => Err(fault),
+    }
+}
+
+/// Whether the query shows a row.
+pub(crate) fn is_found<S: Alter>(
+    conn: &mut Connection<S>,
+    sql: &str,
+    params: &[ValueRef<'_>],
+) -> Result<bool, RowFault>
+    ensures { Knows sql.now (bound params.now) (state S.Store conn.old) (state S.Store conn.new) result }
+{
+    known(first_row(conn, sql, params))
+}

@@ -1,0 +1,82 @@
+//! Messages that were heard, with their answers.
+ghost use Rattle.std.specs.Prelude.{◌≡◌, ◌+◌, ◌<◌, ◌^◌, ◌++◌, [], ◌∷◌, ℕ, List, length, false, find, option_map};
+ghost use Rattle.std.specs.List.{list_any};
+ghost use Rattle.sqlite.specs.Held.{state};
+ghost use Rattle.desk_rows.specs.Calls.{Changes, Reads};
+ghost use Rattle.sqlite_value.specs.declared.value.Value.TheVariants.{Blob};
+ghost use Rattle.desk_rows.specs.Replies.{reply_texts, texts_shown};
+ghost use Rattle.desk_rows.specs.Rows.{is_reply, last_number};
+
+use crate::columns::octets_at;
+use crate::faults::RowFault;
+use crate::queries::{FromRow, find};
+use crate::values::{blob, text, word};
+use crate::writes::write;
+use radio_core::Name;
+use sqlite::{Alter, Connection, Row, Transaction};
+
+/// The texts of a message that was heard and of its answer.
+#[derive(Debug, Drop)]
+pub struct Texts {
+    pub message: Vec<u8>,
+    pub answer: Vec<u8>,
+}
+
+impl FromRow for Texts {
+    ghost Seen = { List ℕ × List ℕ };
+
+    ghost seen = { texts_shown };
+
+    ghost shows = { λ t. Blob t.0 ∷ Blob t.1 ∷ [] };
+
+    ghost InRange = { λ t. Unit {0} };
+
+    fn from_row(row: &Row) -> Result<Texts, RowFault> {
+        let message = octets_at(row, 0)?;
+        let answer = octets_at(row, 1)?;
+        Ok(Texts { message, answer })
+    }
+}
+
+/// The texts of the message that was heard with this sender and number, if there is one.
+pub fn texts_of<S: Alter>(
+    conn: &mut Connection<S>,
+    sender: &Name,
+    number: u32,
+) -> Result<Option<Texts>, RowFault>
+    ensures { Reads (state S.Store conn.old) (state S.Store conn.new) result
+        (λ r texts. option_map texts_shown texts ≡ option_map reply_texts (find (is_reply sender.now number) r.replies)) }
+{
+    find(
+        conn,
+        "SELECT message, answer FROM reply WHERE sender = ?1 AND number = ?2 ORDER BY seq",
+        &[text(sender), word(number)],
+    )
+}
+
+/// The number of the last message that was heard, if there is one.
+pub fn last_reply<S: Alter>(conn: &mut Connection<S>) -> Result<Option<u64>, RowFault>
+    ensures { Reads (state S.Store conn.old) (state S.Store conn.new) result (λ r number. number ≡ last_number r.replies) }
+{
+    find(conn, "SELECT seq FROM reply ORDER BY seq DESC LIMIT 1", &[])
+}
+
+/// Adds a message that was heard, with its answer, at the end.
+pub fn insert_reply<S: Alter>(
+    tx: &mut Transaction<'_, S>,
+    sender: &Name,
+    number: u32,
+    message: &[u8],
+    answer: &[u8],
+) -> Result<(), RowFault>
+    ensures same_reference { tx.new.conn.ghost_name ≡ tx.old.conn.ghost_name }
+    ensures changes { Changes (state S.Store tx.old.conn.now) (state S.Store tx.new.conn.now) result (Unit {0})
+        (λ r. (list_any (is_reply sender.now number) r.replies ≡ false) × (1 + length r.replies < 2 ^ 63))
+        (λ r. record r { replies = r.replies ++ record { sender = sender.now; number = number; message = message.now; answer = answer.now } ∷ [] }) }
+{
+    write(
+        tx,
+        "INSERT INTO reply (sender, number, message, answer) VALUES (?1, ?2, ?3, ?4)",
+        &[text(sender), word(number), blob(message), blob(answer)],
+    )
+}

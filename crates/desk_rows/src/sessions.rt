@@ -1,0 +1,131 @@
+//! Sessions.
+ghost use Rattle.std.specs.Prelude.{◌≡◌, ◌==◌, ℕ, filter, map, ◌+◌, ◌<◌, ◌^◌, ◌++◌, [], ◌∷◌, length, false, option_map};
+ghost use Rattle.std.specs.List.{list_any};
+ghost use Rattle.sqlite.specs.Held.{state};
+ghost use Rattle.desk_rows.specs.Calls.{Changes, Reads};
+ghost use Rattle.registry_core.specs.declared.facts.Session.{Session};
+ghost use Rattle.registry_core.specs.Numbered.{first_that, greatest, item_at};
+ghost use Rattle.registry_core.specs.Ranges.{IsEui};
+ghost use Rattle.desk_rows.specs.Rows.{eui, is_session, last_number, number};
+
+use crate::columns::{eui_at, short_at};
+use crate::faults::RowFault;
+use crate::queries::{FromRow, find};
+use crate::values::{blob, octets_of, short, whole};
+use crate::writes::write;
+use radio_core::Eui;
+use registry_core::{Session, Whole};
+use sqlite::{Alter, Connection, Row, Transaction};
+
+impl FromRow for Session {
+    ghost Seen = { Session };
+
+    ghost seen = { λ session. session };
+
+    ghost shows = { λ session. eui session.device ∷ number session.nonce ∷ [] };
+
+    ghost InRange = { λ session. IsEui session.device × (session.nonce < 2 ^ 16) };
+
+    fn from_row(row: &Row) -> Result<Session, RowFault> {
+        let device = eui_at(row, 0)?;
+        let nonce = short_at(row, 1)?;
+        Ok(Session { device, nonce })
+    }
+}
+
+/// The session with this number, from 1, if there is one.
+pub fn session<S: Alter>(
+    conn: &mut Connection<S>,
+    number: Whole,
+) -> Result<Option<Session>, RowFault>
+    ensures { Reads (state S.Store conn.old) (state S.Store conn.new) result (λ r session. session ≡ option_map (λ row. row.session) (item_at r.sessions number)) }
+{
+    find(
+        conn,
+        "SELECT device, nonce FROM session WHERE number = ?1 ORDER BY number",
+        &[whole(number)],
+    )
+}
+
+/// How many bookings answer the data uplinks of the session with this number, if there is one.
+pub fn next_down<S: Alter>(conn: &mut Connection<S>, number: Whole) -> Result<Option<u64>, RowFault>
+    ensures { Reads (state S.Store conn.old) (state S.Store conn.new) result (λ r counter. counter ≡ option_map (λ row. row.next_down) (item_at r.sessions number)) }
+{
+    find(
+        conn,
+        "SELECT next_down FROM session WHERE number = ?1 ORDER BY number",
+        &[whole(number)],
+    )
+}
+
+/// The number of the session of the device with this nonce, if there is one.
+pub fn session_with<S: Alter>(
+    conn: &mut Connection<S>,
+    device: Eui,
+    nonce: u16,
+) -> Result<Option<u64>, RowFault>
+    ensures { Reads (state S.Store conn.old) (state S.Store conn.new) result (λ r number. number ≡ option_map (λ found. found.0) (first_that (is_session device nonce) r.sessions)) }
+{
+    let octets = octets_of(device);
+    find(
+        conn,
+        "SELECT number FROM session WHERE device = ?1 AND nonce = ?2 ORDER BY number",
+        &[blob(&octets), short(nonce)],
+    )
+}
+
+/// The number of the last session, if there is one.
+pub fn last_session<S: Alter>(conn: &mut Connection<S>) -> Result<Option<u64>, RowFault>
+    ensures { Reads (state S.Store conn.old) (state S.Store conn.new) result (λ r number. number ≡ last_number r.sessions) }
+{
+    find(
+        conn,
+        "SELECT number FROM session ORDER BY number DESC LIMIT 1",
+        &[],
+    )
+}
+
+impl FromRow for u16 {
+    ghost Seen = { ℕ };
+
+    ghost seen = { λ n. n };
+
+    ghost shows = { λ n. number n ∷ [] };
+
+    ghost InRange = { λ n. n < 2 ^ 16 };
+
+    fn from_row(row: &Row) -> Result<u16, RowFault> {
+        short_at(row, 0)
+    }
+}
+
+/// The last nonce of a device.
+pub fn last_nonce<S: Alter>(conn: &mut Connection<S>, device: Eui) -> Result<Option<u16>, RowFault>
+    ensures { Reads (state S.Store conn.old) (state S.Store conn.new) result
+        (λ r nonce. nonce ≡ greatest (map (λ row. row.session.nonce) (filter (λ row. row.session.device == device) r.sessions))) }
+{
+    let octets = octets_of(device);
+    find(
+        conn,
+        "SELECT nonce FROM session WHERE device = ?1 ORDER BY nonce DESC, number DESC LIMIT 1",
+        &[blob(&octets)],
+    )
+}
+
+/// Adds a session at the end, none of whose uplinks a booking answers.
+pub fn insert_session<S: Alter>(
+    tx: &mut Transaction<'_, S>,
+    session: Session,
+) -> Result<(), RowFault>
+    ensures same_reference { tx.new.conn.ghost_name ≡ tx.old.conn.ghost_name }
+    ensures changes { Changes (state S.Store tx.old.conn.now) (state S.Store tx.new.conn.now) result (Unit {0})
+        (λ r. (list_any (is_session session.device session.nonce) r.sessions ≡ false) × (1 + length r.sessions < 2 ^ 63))
+        (λ r. record r { sessions = r.sessions ++ record { session = session; next_down = 0 } ∷ [] }) }
+{
+    let device = octets_of(session.device);
+    write(
+        tx,
+        "INSERT INTO session (device, nonce, next_down) VALUES (?1, ?2, 0)",
+        &[blob(&device), short(session.nonce)],
+    )
+}

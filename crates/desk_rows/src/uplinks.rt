@@ -1,0 +1,140 @@
+//! Uplinks.
+ghost use Rattle.std.specs.Prelude.{◌≡◌, ◌+◌, ◌<◌, ◌^◌, ◌++◌, [], ◌∷◌, ℕ, length, false, option_map};
+ghost use Rattle.std.specs.List.{list_any};
+ghost use Rattle.sqlite.specs.Held.{state};
+ghost use Rattle.desk_rows.specs.Calls.{Changes, Reads};
+ghost use Rattle.registry_core.specs.declared.facts.Uplink.{Uplink};
+ghost use Rattle.registry_core.specs.Derived.{last_counter};
+ghost use Rattle.registry_core.specs.Numbered.{first_that, item_at};
+ghost use Rattle.desk_rows.specs.Rows.{IsUplink, is_uplink, last_number, number};
+ghost use Rattle.desk_rows.specs.Shown.{uplink_shown};
+
+use crate::columns::{band_at, frame_at, kind_at, number_at, whole_at, word_at};
+use crate::faults::RowFault;
+use crate::queries::{FromRow, find};
+use crate::values::{band, frame, kind, number, whole, word};
+use crate::writes::write;
+use registry_core::{Kind, Uplink, Whole};
+use sqlite::{Alter, Connection, Row, Transaction};
+
+impl FromRow for (u64, Uplink) {
+    ghost Seen = { ℕ × Uplink };
+
+    ghost seen = { λ found. found };
+
+    ghost shows = { uplink_shown };
+
+    ghost InRange = { λ found. IsUplink found.1 };
+
+    fn from_row(row: &Row) -> Result<(u64, Uplink), RowFault> {
+        let number = number_at(row, 0)?;
+        let session = number_at(row, 1)?;
+        let kind = kind_at(row, 2)?;
+        let counter = word_at(row, 3)?;
+        let octets = frame_at(row, 4)?;
+        let start = whole_at(row, 5)?;
+        let airtime = word_at(row, 6)?;
+        let band = band_at(row, 7)?;
+        let uplink = Uplink {
+            session,
+            kind,
+            counter,
+            octets,
+            start,
+            airtime,
+            band,
+        };
+        Ok((number, uplink))
+    }
+}
+
+/// The uplink with this number, from 1, and the number, if there is one.
+pub fn uplink<S: Alter>(
+    conn: &mut Connection<S>,
+    number: Whole,
+) -> Result<Option<(u64, Uplink)>, RowFault>
+    ensures { Reads (state S.Store conn.old) (state S.Store conn.new) result (λ r found. found ≡ option_map (λ uplink. (number, uplink)) (item_at r.uplinks number)) }
+{
+    find(
+        conn,
+        "SELECT number, session, kind, counter, octets, start, airtime, band FROM uplink WHERE number = ?1 ORDER BY number",
+        &[whole(number)],
+    )
+}
+
+/// The uplink of a session of this kind with this counter, and its number, if there is one.
+pub fn uplink_with<S: Alter>(
+    conn: &mut Connection<S>,
+    session: Whole,
+    of: Kind,
+    counter: u32,
+) -> Result<Option<(u64, Uplink)>, RowFault>
+    ensures { Reads (state S.Store conn.old) (state S.Store conn.new) result (λ r found. found ≡ first_that (is_uplink session of counter) r.uplinks) }
+{
+    find(
+        conn,
+        "SELECT number, session, kind, counter, octets, start, airtime, band FROM uplink WHERE session = ?1 AND kind = ?2 AND counter = ?3 ORDER BY number",
+        &[whole(session), kind(of), word(counter)],
+    )
+}
+
+/// The number of the last uplink, if there is one.
+pub fn last_uplink<S: Alter>(conn: &mut Connection<S>) -> Result<Option<u64>, RowFault>
+    ensures { Reads (state S.Store conn.old) (state S.Store conn.new) result (λ r number. number ≡ last_number r.uplinks) }
+{
+    find(
+        conn,
+        "SELECT number FROM uplink ORDER BY number DESC LIMIT 1",
+        &[],
+    )
+}
+
+impl FromRow for u32 {
+    ghost Seen = { ℕ };
+
+    ghost seen = { λ n. n };
+
+    ghost shows = { λ n. number n ∷ [] };
+
+    ghost InRange = { λ n. n < 2 ^ 32 };
+
+    fn from_row(row: &Row) -> Result<u32, RowFault> {
+        word_at(row, 0)
+    }
+}
+
+/// The last counter of a session's data uplinks.
+pub fn last_counter<S: Alter>(
+    conn: &mut Connection<S>,
+    session: Whole,
+) -> Result<Option<u32>, RowFault>
+    ensures { Reads (state S.Store conn.old) (state S.Store conn.new) result (λ r counter. counter ≡ last_counter r.uplinks session) }
+{
+    find(
+        conn,
+        "SELECT counter FROM uplink WHERE session = ?1 AND kind = 1 ORDER BY counter DESC, number DESC LIMIT 1",
+        &[whole(session)],
+    )
+}
+
+/// Adds an uplink at the end.
+pub fn insert_uplink<S: Alter>(tx: &mut Transaction<'_, S>, uplink: &Uplink) -> Result<(), RowFault>
+    ensures same_reference { tx.new.conn.ghost_name ≡ tx.old.conn.ghost_name }
+    ensures changes { Changes (state S.Store tx.old.conn.now) (state S.Store tx.new.conn.now) result (uplink.now.session < 2 ^ 63)
+        (λ r. (list_any (is_uplink uplink.now.session uplink.now.kind uplink.now.counter) r.uplinks ≡ false) × (1 + length r.uplinks < 2 ^ 63))
+        (λ r. record r { uplinks = r.uplinks ++ uplink.now ∷ [] }) }
+{
+    write(
+        tx,
+        "INSERT INTO uplink (session, kind, counter, octets, start, airtime, band) VALUES (?1, ?2, ?3, ?4, ?5, ?6, ?7)",
+        &[
+            number(uplink.session),
+            kind(uplink.kind),
+            word(uplink.counter),
+            frame(&uplink.octets),
+            whole(uplink.start),
+            word(uplink.airtime),
+            band(uplink.band),
+        ],
+    )
+}
