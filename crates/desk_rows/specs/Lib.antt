@@ -9,3 +9,4 @@ pub mod Rows
 pub mod Schema
 pub mod Shown
 pub mod Statements
+pub mod order

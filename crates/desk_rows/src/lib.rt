@@ -9,6 +9,7 @@ mod faults;
 mod gateways;
 pub mod laws;
 mod making;
+pub mod order;
 mod owners;
 mod queries;
 mod replies;

@@ -1,0 +1,42 @@
+-- No two rows have one key with each effect.
+use Rattle.std.proofs.Common.{◌≡◌, ℕ, ◌<◌, ◌==◌, ◌&&◌, Bool, true, false, List, [], ◌∷◌, ◌++◌, map, None, refl, sym, ap, subst, arith}
+use Rattle.std.specs.Prelude.{nat_eq, IsTrue}
+use Rattle.std.specs.List.{AllByRecursion, IsDistinct}
+use Rattle.std.proofs.lemmas.Bool.{and_right, ne_eqb}
+use Rattle.std.proofs.lemmas.List.{map-append}
+use Rattle.registry_core.specs.declared.facts.Session.{Session}
+use Rattle.registry_core.specs.Derived.{is_above, is_session_of, last_nonce}
+use Rattle.desk_rows.specs.Rows.{DeviceRow}
+use Rattle.desk_rows.specs.order.Facts.{is_device_row}
+use Rattle.desk_rows.specs.order.RowsOf.{same_join}
+use Rattle.desk_rows.proofs.OrderLemmas.Counting.{above_each}
+use Rattle.desk_rows.proofs.OrderLemmas.Each.{all_map, all_so, distinct_with, none_found}
+use Rattle.desk_rows.proofs.OrderLemmas.Finding.{none_shown}
+use Rattle.desk_rows.proofs.OrderLemmas.Telling.{device_told}
+
+abbrev pub euis : List DeviceRow → List ℕ
+euis devices = map (λ (d : DeviceRow). d.dev_eui) devices
+
+pub devices_with : (devices : List DeviceRow) (new : DeviceRow) → device_told devices new.dev_eui ≡ None → IsDistinct nat_eq (euis devices)
+    → IsDistinct nat_eq (euis (devices ++ new ∷ []))
+devices_with devices new free apart =
+    subst (IsDistinct nat_eq) (sym (map-append (λ (d : DeviceRow). d.dev_eui) devices (new ∷ [])))
+    (distinct_with nat_eq (euis devices) new.dev_eui apart
+    (all_map (λ d. is_device_row new.dev_eui d ≡ false) (λ n. nat_eq n new.dev_eui ≡ false) (λ (d : DeviceRow). d.dev_eui) (λ d no. no) devices
+    (none_found (is_device_row new.dev_eui) devices (none_shown (λ (d : DeviceRow). d.device) _ free))))
+
+-- a session of the device with the nonce isn't there, where the nonce is above the last
+module _ (sessions : List Session) (new : Session) (above : IsTrue (is_above new.nonce (last_nonce sessions new.device))) where
+  other_by : (s : Session) (b : Bool) → (s.device == new.device) ≡ b → (is_session_of new.device s ≡ true → s.nonce < new.nonce) → same_join s new ≡ false
+  other_by s true own below =
+      let less : s.nonce < new.nonce = below own in
+      and_right (s.device == new.device) _ (ne_eqb s.nonce new.nonce (λ same. omega arith))
+  other_by s false apart below = ap (λ b. b && s.nonce == new.nonce) apart
+
+  pub no_such_join : AllByRecursion (λ s. same_join s new ≡ false) sessions
+  no_such_join = all_so (λ s. is_session_of new.device s ≡ true
+      → s.nonce < new.nonce) (λ s. same_join s new ≡ false) (λ s below. other_by s (s.device == new.device) refl below) sessions
+      (above_each (λ (s : Session). s.nonce) (is_session_of new.device) new.nonce sessions above)
+
+  pub sessions_with : IsDistinct same_join sessions → IsDistinct same_join (sessions ++ new ∷ [])
+  sessions_with apart = distinct_with same_join sessions new apart no_such_join

@@ -1,0 +1,47 @@
+-- What rows name is there with each effect.
+use Rattle.std.proofs.Common.{◌≡◌, ℕ, true, List, [], ◌∷◌, ◌++◌, Option, Some, None, is_some, sym, ap, ◌∙◌}
+use Rattle.std.specs.Prelude.{IsTrue}
+use Rattle.std.specs.List.{AllByRecursion}
+use Rattle.registry_core.specs.declared.facts.Kind.TheVariants.{Data}
+use Rattle.registry_core.specs.declared.facts.Session.{Session}
+use Rattle.registry_core.specs.declared.facts.Uplink.{Uplink}
+use Rattle.registry_core.specs.Numbered.{item_at}
+use Rattle.desk_rows.specs.Rows.{DeviceRow}
+use Rattle.desk_rows.specs.order.RowsOf.{IsOfSession}
+use Rattle.desk_rows.proofs.OrderLemmas.Each.{all_so}
+use Rattle.desk_rows.proofs.OrderLemmas.Numbering.{item_kept}
+use Rattle.desk_rows.proofs.OrderLemmas.Finding.{still_shown}
+use Rattle.desk_rows.proofs.OrderLemmas.Telling.{device_told}
+
+-- ---- devices of sessions
+
+abbrev pub HasDevice : List DeviceRow → Session → Type 0
+HasDevice devices s = IsTrue (is_some (device_told devices s.device))
+
+pub device_with : (devices more : List DeviceRow) (sessions : List Session) → AllByRecursion (HasDevice devices) sessions
+    → AllByRecursion (HasDevice (devices ++ more)) sessions
+device_with devices more sessions each =
+    all_so (HasDevice devices) (HasDevice (devices ++ more)) (λ s has. still_shown (λ (d : DeviceRow). d.device) _ devices more has) sessions each
+
+pub device_changed : (old new : List DeviceRow) → ((dev_eui : ℕ) → is_some (device_told new dev_eui) ≡ is_some (device_told old dev_eui))
+    → (sessions : List Session)
+    → AllByRecursion (HasDevice old) sessions → AllByRecursion (HasDevice new) sessions
+device_changed old new same sessions each = all_so (HasDevice old) (HasDevice new) (λ s has. same s.device ∙ has) sessions each
+
+-- ---- sessions of uplinks
+
+pub session_kept : (sessions more : List Session) (u : Uplink) → IsOfSession sessions u → IsOfSession (sessions ++ more) u
+session_kept sessions more u of = record { session = of.session; there = item_kept sessions more u.session of.session of.there; nonce = of.nonce }
+
+-- a join uplink of a new session
+pub session_new : (sessions : List Session) (session : Session) (u : Uplink) → (n : ℕ) → u.session ≡ n → item_at (sessions ++ session ∷ []) n ≡ Some session
+    → u.counter ≡ session.nonce
+    → IsOfSession (sessions ++ session ∷ []) u
+session_new sessions session u n is there nonce =
+    record { session = session; there = ap (item_at (sessions ++ session ∷ [])) is ∙ there; nonce = λ join. sym nonce }
+
+-- a data uplink of a session that is there
+pub session_there : (sessions : List Session) (u : Uplink) (found : Option Session) → item_at sessions u.session ≡ found → is_some found ≡ true
+    → u.kind ≡ Data → IsOfSession sessions u
+session_there sessions u None at some is = let none : is_some {T = Session} None ≡ true = some in cc
+session_there sessions u (Some s) at some is = record { session = s; there = at; nonce = λ join. cc }

@@ -1,0 +1,6 @@
+pub mod Arranged
+pub mod Changes
+pub mod Facts
+pub mod Keys
+pub mod LookUps
+pub mod RowsOf

@@ -1,0 +1,91 @@
+-- Rows in an order, and what they tell of the facts: bookings and uplinks in order of start, an owner's devices by DevEUI.
+use Rattle.std.specs.Prelude.{◌≡◌, ℕ, ◌<◌, ◌≤◌, ◌&&◌, ℤ, pos, int_le, int_lt, Bool, true, false, List, map, filter, Option, bytes_eq}
+use Rattle.std.specs.declared.cmp.Ordering.{Ordering}
+use Rattle.std.specs.declared.cmp.Ordering.TheVariants.{Equal}
+use Rattle.std.specs.List.{AllByRecursion}
+use Rattle.std.specs.Option.{option_map_or}
+use Rattle.std.specs.Ordering.{int_cmp, is_gt, ordering_then}
+use Rattle.radio_core.specs.declared.bands.Band.{Band}
+use Rattle.duty_core.specs.InOrder.{IsByStart}
+use Rattle.duty_core.specs.Near.{is_near, near_ones}
+use Rattle.duty_core.specs.Use.{Interval}
+use Rattle.registry_core.specs.declared.facts.Booking.{Booking}
+use Rattle.registry_core.specs.declared.facts.Uplink.{Uplink}
+use Rattle.registry_core.specs.Bookings.{downlinks_in, stands_in}
+use Rattle.registry_core.specs.Numbered.{item_at}
+use Rattle.registry_core.specs.Ranges.{IsEui}
+use Rattle.registry_core.specs.Reports.{IsNextDevice, in_band, interval_of, is_after, is_in_band, uplinks_from}
+use Rattle.registry_core.specs.Settings.{Settings}
+use Rattle.registry_core.specs.State.{State}
+use Rattle.desk_rows.specs.Rows.{Rows, BookingRow, DeviceRow, SessionRow}
+use Rattle.desk_rows.specs.order.LookUps.{Falls, first_by, is_row_of_device, rows_by}
+use Rattle.desk_rows.specs.order.RowsOf.{AreRowsOf}
+
+-- ---- in order of start, then of number
+
+-- in this order starts rise, and of equal starts the one with the lower number comes first
+abbrev pub PutsByStart : {X : Type 0} → (X → ℤ) → (ℕ × X → ℕ × X → Ordering) → Type 0
+PutsByStart {X} start order = (a b : ℕ × X) → a.0 < b.0 → is_gt (order a b) ≡ int_lt (start b.1) (start a.1)
+
+-- when the rows that pass the test are on the air, in this order
+abbrev pub spans_by : {X : Type 0} → (X → Interval) → (ℕ × X → ℕ × X → Ordering) → (X → Bool) → List X → List Interval
+spans_by span order test rows = map (λ row. span row.1) (rows_by order test rows)
+
+abbrev pub booking_span : BookingRow → Interval
+booking_span b = b.booking.span
+
+-- the uplink is one of the device's in the band, and starts from the one time on and before the other
+abbrev pub is_uplink_of : List SessionRow → ℕ → Band → ℤ → ℤ → Uplink → Bool
+is_uplink_of sessions dev_eui band from to u =
+    (option_map_or (is_row_of_device dev_eui) (item_at sessions u.session) false && int_le from (pos u.start) && int_lt (pos u.start) to) && is_in_band band u
+
+-- ---- by DevEUI
+
+-- in this order the DevEUIs of 64 bits rise: what comes after another has no lower one
+pub record RisesByEui (order : ℕ × DeviceRow → ℕ × DeviceRow → Ordering) : Type 0 where
+  pub after : (a b : ℕ × DeviceRow) → IsEui a.1.dev_eui → IsEui b.1.dev_eui → is_gt (order a b) ≡ true → b.1.dev_eui ≤ a.1.dev_eui
+  pub before : (a b : ℕ × DeviceRow) → IsEui a.1.dev_eui → IsEui b.1.dev_eui → is_gt (order a b) ≡ false → a.1.dev_eui ≤ b.1.dev_eui
+
+-- the owner's, above the one that is given
+abbrev pub is_next_of : List ℕ → Option ℕ → DeviceRow → Bool
+is_next_of owner after d = bytes_eq d.device.owner owner && is_after after d.dev_eui
+
+-- ---- laws
+
+-- in such orders the rows are the registry's lists
+pub record ListsTell (facts : State) (r : Rows) : Type 0 where
+  -- of those bookings that pass any test, as that they stand at a gateway
+  pub near : (test : Booking → Bool) (start : ℤ) (order : ℕ × BookingRow → ℕ × BookingRow → Ordering) → PutsByStart (λ b. (booking_span b).start) order
+      → IsByStart (near_ones start (map (λ b. b.span) (filter test facts.bookings)))
+      (spans_by booking_span order (λ b. test b.booking && is_near start (booking_span b)) r.bookings)
+  pub bookings : (gateway : List ℕ) (band : Band) (order : ℕ × BookingRow → ℕ × BookingRow → Ordering) → PutsByStart (λ b. (booking_span b).start) order
+      → IsByStart (downlinks_in facts.bookings gateway band) (spans_by booking_span order (λ b. stands_in gateway band b.booking) r.bookings)
+  pub uplinks : (dev_eui : ℕ) (band : Band) (from to : ℤ) (order : ℕ × Uplink → ℕ × Uplink → Ordering) → PutsByStart (λ u. (interval_of u).start) order
+      → IsByStart (in_band band (uplinks_from facts.uplinks facts.sessions dev_eui from to))
+      (spans_by interval_of order (is_uplink_of r.sessions dev_eui band from to) r.uplinks)
+  pub next_device : (owner : List ℕ) (after : Option ℕ) (order : ℕ × DeviceRow → ℕ × DeviceRow → Ordering) → RisesByEui order
+      → AllByRecursion (λ d. IsEui d.dev_eui) r.devices
+      → IsNextDevice facts owner after (first_by (λ d. d.dev_eui) order (is_next_of owner after) r.devices)
+
+abbrev pub ArrangedRowsTell : Type 0
+ArrangedRowsTell = (c : Settings) (facts : State) (r : Rows) → AreRowsOf c facts r → ListsTell facts r
+
+-- ---- orders by columns
+
+-- by start, then by number
+abbrev pub by_start : {X : Type 0} → (X → ℤ) → ℕ × X → ℕ × X → Ordering
+by_start start a b = ordering_then (int_cmp (start a.1) (start b.1)) (ordering_then (int_cmp (pos a.0) (pos b.0)) Equal)
+
+-- an order by the key, falling, and then by anything, falls
+abbrev pub FallsFirst : {A : Type 0} → (A → ℕ) → Type 0
+FallsFirst {A} key = (rest : A → A → Ordering) → Falls key (λ a b. ordering_then (int_cmp (pos (key b)) (pos (key a))) (rest a b))
+
+-- orders by columns are such orders
+pub record OrdersHold : Type 0 where
+  pub bookings : PutsByStart (λ (b : BookingRow). (booking_span b).start) (by_start (λ (b : BookingRow). (booking_span b).start))
+  pub uplinks : PutsByStart (λ (u : Uplink). (interval_of u).start) (by_start (λ (u : Uplink). (interval_of u).start))
+  pub nonces : FallsFirst (λ (s : ℕ × SessionRow). s.1.session.nonce)
+  pub counters : FallsFirst (λ (u : ℕ × Uplink). u.1.counter)
+  pub session_numbers : FallsFirst (λ (s : ℕ × SessionRow). s.0)
+  pub uplink_numbers : FallsFirst (λ (u : ℕ × Uplink). u.0)
+  pub booking_numbers : FallsFirst (λ (b : ℕ × BookingRow). b.0)

@@ -1,0 +1,84 @@
+-- Which rows are those of a configuration and of facts: they tell them, each kept counter is right, what a row names is there,
+-- and no two rows have one key.
+use Rattle.std.specs.Prelude.{◌≡◌, ℕ, ◌+◌, ◌≤◌, ◌==◌, ◌&&◌, Bool, List, map, filter, length, Option, Some, is_some, nat_eq, IsTrue}
+use Rattle.std.specs.List.{AllByRecursion, IsDistinct}
+use Rattle.registry_core.specs.declared.facts.Kind.TheVariants.{Join}
+use Rattle.registry_core.specs.declared.facts.Session.{Session}
+use Rattle.registry_core.specs.declared.facts.Uplink.{Uplink}
+use Rattle.registry_core.specs.Bookings.{next_down}
+use Rattle.registry_core.specs.Derived.{is_data, is_of_device}
+use Rattle.registry_core.specs.Numbered.{item_at, greatest}
+use Rattle.registry_core.specs.Settings.{Settings}
+use Rattle.registry_core.specs.State.{State}
+use Rattle.desk_rows.specs.Rows.{Rows, DeviceRow, SessionRow, BookingRow}
+use Rattle.desk_rows.specs.order.Facts.{bookings_in, facts_in, sessions_in}
+
+-- ---- kept counters
+
+-- a data uplink of a session of the device
+abbrev pub is_data_from : List Session → ℕ → Uplink → Bool
+is_data_from sessions dev_eui uplink = is_data uplink.kind && is_of_device sessions dev_eui uplink.session
+
+-- the greatest number of a session of the device that has a data uplink
+abbrev pub floor_of : List Uplink → List Session → ℕ → Option ℕ
+floor_of uplinks sessions dev_eui = greatest (map (λ u. u.session) (filter (is_data_from sessions dev_eui) uplinks))
+
+-- the uplink that a booking answers is there, and its session and kind stand in the booking's row
+pub record AnswersUplink (uplinks : List Uplink) (b : BookingRow) : Type 0 where
+  pub uplink : Uplink
+  pub there : item_at uplinks b.booking.uplink ≡ Some uplink
+  pub session : b.session ≡ uplink.session
+  pub kind : b.kind ≡ uplink.kind
+
+-- a device's floor, a session's next downlink counter, and a booking's session and kind are what the lists give
+pub record IsCounted (r : Rows) : Type 0 where
+  pub floors : AllByRecursion (λ (d : DeviceRow). d.floor ≡ floor_of r.uplinks (sessions_in r.sessions) d.dev_eui) r.devices
+  pub next_downs : (n : ℕ) (s : SessionRow) → item_at r.sessions n ≡ Some s → s.next_down ≡ next_down (bookings_in r.bookings) r.uplinks n
+  pub bookings : AllByRecursion (AnswersUplink r.uplinks) r.bookings
+
+-- ---- what rows name
+
+-- the uplink's session is there, and the counter of a join is its session's nonce
+pub record IsOfSession (sessions : List Session) (uplink : Uplink) : Type 0 where
+  pub session : Session
+  pub there : item_at sessions uplink.session ≡ Some session
+  pub nonce : uplink.kind ≡ Join → session.nonce ≡ uplink.counter
+
+-- the device of each session is there, and the session of each uplink
+pub record NamesRows (r : Rows) : Type 0 where
+  pub sessions : AllByRecursion (λ (s : Session). IsTrue (is_some ((facts_in r).devices s.device))) (sessions_in r.sessions)
+  pub uplinks : AllByRecursion (IsOfSession (sessions_in r.sessions)) r.uplinks
+
+-- ---- keys
+
+abbrev pub same_join : Session → Session → Bool
+same_join a b = a.device == b.device && a.nonce == b.nonce
+
+-- no two devices have one DevEUI, and no two sessions one device and one nonce
+pub record IsKeyed (r : Rows) : Type 0 where
+  pub devices : IsDistinct nat_eq (map (λ (d : DeviceRow). d.dev_eui) r.devices)
+  pub sessions : IsDistinct same_join (sessions_in r.sessions)
+
+-- ---- how many
+
+-- each message that was heard has added one row at most to a table; the operator's was there before
+pub record IsFew (r : Rows) : Type 0 where
+  pub senders : length r.senders ≤ length r.replies + 1
+  pub owners : length r.owners ≤ length r.replies
+  pub gateways : length r.gateways ≤ length r.replies
+  pub devices : length r.devices ≤ length r.replies
+  pub sessions : length r.sessions ≤ length r.replies
+  pub uplinks : length r.uplinks ≤ length r.replies
+  pub copies : length r.copies ≤ length r.replies
+  pub bookings : length r.bookings ≤ length r.replies
+
+-- ---- in order
+
+-- the rows are those of this configuration and these facts
+pub record AreRowsOf (c : Settings) (facts : State) (r : Rows) : Type 0 where
+  pub settings : r.settings ≡ c
+  pub is : facts ≡ facts_in r
+  pub counted : IsCounted r
+  pub names : NamesRows r
+  pub keyed : IsKeyed r
+  pub few : IsFew r

@@ -1,0 +1,8 @@
+//! The rows of the tables and the registry's facts: laws, each the contract of a function that does nothing.
+mod changes;
+mod keys;
+mod look_ups;
+
+pub use changes::{opening_rows_tell, rows_follow_facts};
+pub use keys::{changed_rows_are_there, keys_are_free};
+pub use look_ups::{arranged_rows_tell, look_ups_tell, orders_hold};

@@ -1,0 +1,12 @@
+//! What each effect finds in the rows.
+ghost use Rattle.desk_rows.specs.order.Keys.{ChangedRowsAreThere, KeysAreFree};
+
+/// Where an effect fits and there is room for a message more, the key of each row that it adds is free, and so is a rowid.
+pub fn keys_are_free()
+    ensures { KeysAreFree }
+{}
+
+/// Where an effect fits, each row that it changes is there, once.
+pub fn changed_rows_are_there()
+    ensures { ChangedRowsAreThere }
+{}
