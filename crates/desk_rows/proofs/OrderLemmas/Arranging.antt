@@ -16,9 +16,9 @@ use Rattle.registry_core.specs.Numbered.{item_at}
 use Rattle.registry_core.specs.Ranges.{IsEui}
 use Rattle.registry_core.specs.Reports.{IsNextDevice, in_band, interval_of, is_after, is_in_band, is_owned, is_uplink_from, uplinks_from}
 use Rattle.sqlite_keyed.specs.Lists.{insert_sorted, sort_by}
-use Rattle.desk_rows.specs.Rows.{Rows, BookingRow, DeviceRow, SessionRow}
+use Rattle.desk_rows.specs.Rows.{Rows, BookingRow, DeviceRow, SessionRow, is_device}
 use Rattle.desk_rows.specs.order.Arranged.{ArrangedRowsTell, ListsTell, RisesByEui, booking_span, is_next_of, is_uplink_of}
-use Rattle.desk_rows.specs.order.Facts.{bookings_in, facts_in, is_device_row, sessions_in}
+use Rattle.desk_rows.specs.order.Facts.{bookings_in, facts_in, sessions_in}
 use Rattle.desk_rows.specs.order.LookUps.{first_by, is_row_of_device, zip_from}
 use Rattle.desk_rows.proofs.OrderLemmas.Counting.{filter-map, filter_alike, filter_twice}
 use Rattle.desk_rows.proofs.OrderLemmas.Each.{all_both, all_found, all_kept, all_map, all_shown, all_so, all_were}
@@ -112,21 +112,21 @@ first_all P (y ∷ ys) x is each = let same : y ≡ x = cc in subst P same each.
 
 -- each device is found by its DevEUI
 each_found : (devices : List DeviceRow) → IsDistinct nat_eq (map (λ (d : DeviceRow). d.dev_eui) devices)
-    → AllByRecursion (λ (d : DeviceRow). find (is_device_row d.dev_eui) devices ≡ Some d) devices
+    → AllByRecursion (λ (d : DeviceRow). find (is_device d.dev_eui) devices ≡ Some d) devices
 unfolding IsDistinct
 each_found [] apart = tt
 each_found (e ∷ ds) apart = (
-  ap (λ b. cond b (Some e) (find (is_device_row e.dev_eui) ds)) (eq-eqb e.dev_eui e.dev_eui refl),
-  all_so (λ (d : DeviceRow). (nat_eq e.dev_eui d.dev_eui ≡ false) × (find (is_device_row d.dev_eui) ds ≡ Some d))
-      (λ (d : DeviceRow). find (is_device_row d.dev_eui) (e ∷ ds) ≡ Some d)
-      (λ d is. ap (λ b. cond b (Some e) (find (is_device_row d.dev_eui) ds)) is.0 ∙ is.1) ds
-      (all_both (λ (d : DeviceRow). nat_eq e.dev_eui d.dev_eui ≡ false) (λ (d : DeviceRow). find (is_device_row d.dev_eui) ds ≡ Some d) ds
+  ap (λ b. cond b (Some e) (find (is_device e.dev_eui) ds)) (eq-eqb e.dev_eui e.dev_eui refl),
+  all_so (λ (d : DeviceRow). (nat_eq e.dev_eui d.dev_eui ≡ false) × (find (is_device d.dev_eui) ds ≡ Some d))
+      (λ (d : DeviceRow). find (is_device d.dev_eui) (e ∷ ds) ≡ Some d)
+      (λ d is. ap (λ b. cond b (Some e) (find (is_device d.dev_eui) ds)) is.0 ∙ is.1) ds
+      (all_both (λ (d : DeviceRow). nat_eq e.dev_eui d.dev_eui ≡ false) (λ (d : DeviceRow). find (is_device d.dev_eui) ds ≡ Some d) ds
       (all_shown (λ (d : DeviceRow). d.dev_eui) (λ m. nat_eq e.dev_eui m ≡ false) ds apart.0) (each_found ds apart.1)),
 )
 
 module _ (r : Rows) (apart : IsDistinct nat_eq (map (λ (d : DeviceRow). d.dev_eui) r.devices)) (owner : List ℕ) (after : Option ℕ) where
   -- what the facts say of a device that is found
-  owned_found : (dev_eui : ℕ) (found : Option DeviceRow) → find (is_device_row dev_eui) r.devices ≡ found
+  owned_found : (dev_eui : ℕ) (found : Option DeviceRow) → find (is_device dev_eui) r.devices ≡ found
       → is_owned (facts_in r) owner dev_eui ≡ option_map_or (λ (d : DeviceRow). bytes_eq d.device.owner owner) found false
   owned_found dev_eui None is =
       ap (λ found. option_map_or (λ (device : Device). bytes_eq device.owner owner) (option_map (λ (d : DeviceRow). d.device) found) false) is
@@ -138,28 +138,28 @@ module _ (r : Rows) (apart : IsDistinct nat_eq (map (λ (d : DeviceRow). d.dev_e
 
   each_wanted : AllByRecursion (λ (d : DeviceRow). IsWanted d.dev_eui) (filter (is_next_of owner after) r.devices)
   each_wanted = all_kept (λ (d : DeviceRow). IsWanted d.dev_eui) (is_next_of owner after) r.devices
-      (all_so (λ (d : DeviceRow). find (is_device_row d.dev_eui) r.devices ≡ Some d) (λ (d : DeviceRow). is_next_of owner after d ≡ true → IsWanted d.dev_eui)
+      (all_so (λ (d : DeviceRow). find (is_device d.dev_eui) r.devices ≡ Some d) (λ (d : DeviceRow). is_next_of owner after d ≡ true → IsWanted d.dev_eui)
       (λ d is passes. ap (λ b. b && is_after after d.dev_eui) (owned_found d.dev_eui (Some d) is) ∙ passes) r.devices (each_found r.devices apart))
 
   -- a wanted device is one that is asked for
-  wanted_by : (dev_eui : ℕ) (found : Option DeviceRow) → find (is_device_row dev_eui) r.devices ≡ found → IsWanted dev_eui
-      → (d : DeviceRow) × (find (is_device_row dev_eui) r.devices ≡ Some d) × (d.dev_eui ≡ dev_eui) × (is_next_of owner after d ≡ true)
+  wanted_by : (dev_eui : ℕ) (found : Option DeviceRow) → find (is_device dev_eui) r.devices ≡ found → IsWanted dev_eui
+      → (d : DeviceRow) × (find (is_device dev_eui) r.devices ≡ Some d) × (d.dev_eui ≡ dev_eui) × (is_next_of owner after d ≡ true)
   wanted_by dev_eui None is wanted =
       let no : false ≡ true = sym (owned_found dev_eui None is) ∙ (and_parts (is_owned (facts_in r) owner dev_eui) (is_after after dev_eui) wanted).0 in cc
   wanted_by dev_eui (Some d) is wanted =
       let parts = and_parts (is_owned (facts_in r) owner dev_eui) (is_after after dev_eui) wanted in
-      let same : d.dev_eui ≡ dev_eui = eqb-true d.dev_eui dev_eui (found_passes (is_device_row dev_eui) r.devices d is) in
+      let same : d.dev_eui ≡ dev_eui = eqb-true d.dev_eui dev_eui (found_passes (is_device dev_eui) r.devices d is) in
       (d, is, same, and_from _ _ (sym (owned_found dev_eui (Some d) is) ∙ parts.0) (ap (is_after after) same ∙ parts.1))
 
   -- what holds of each that is asked for holds of it
   of_wanted : (P : DeviceRow → Type 0) → AllByRecursion P (filter (is_next_of owner after) r.devices) → (dev_eui : ℕ) → IsWanted dev_eui
       → (d : DeviceRow) × (d.dev_eui ≡ dev_eui) × P d
   of_wanted P each dev_eui wanted =
-      let d = wanted_by dev_eui (find (is_device_row dev_eui) r.devices) refl wanted in (
+      let d = wanted_by dev_eui (find (is_device dev_eui) r.devices) refl wanted in (
         d.0,
         d.2,
         all_found (λ d. is_next_of owner after d ≡ true
-            → P d) (is_device_row dev_eui) r.devices d.0 d.1 (all_were P (is_next_of owner after) r.devices each) d.3,
+            → P d) (is_device dev_eui) r.devices d.0 d.1 (all_were P (is_next_of owner after) r.devices each) d.3,
       )
 
   module _ (order : ℕ × DeviceRow → ℕ × DeviceRow

@@ -17,9 +17,9 @@ use Rattle.registry_core.specs.Fits.{Fits}
 use Rattle.registry_core.specs.Numbered.{greatest, item_at}
 use Rattle.registry_core.specs.State.{state_with}
 use Rattle.sqlite_keyed.specs.Lists.{update_where}
-use Rattle.desk_rows.specs.Rows.{Rows, DeviceRow, ReplyRow, SessionRow}
+use Rattle.desk_rows.specs.Rows.{Rows, DeviceRow, ReplyRow, SessionRow, is_device}
 use Rattle.desk_rows.specs.order.Changes.{RowsFollowFacts, booking_row, device_row, kind_at, moved, raised, rows_with, session_at, session_row, sessions_counted}
-use Rattle.desk_rows.specs.order.Facts.{bookings_in, facts_in, is_device_row, sessions_in}
+use Rattle.desk_rows.specs.order.Facts.{bookings_in, facts_in, sessions_in}
 use Rattle.desk_rows.specs.order.RowsOf.{AnswersUplink, IsCounted, IsKeyed, IsOfSession, NamesRows, floor_of, is_data_from, same_join}
 use Rattle.desk_rows.proofs.OrderLemmas.Counters.{HasDowns, HasFloor, answers_ended, answers_new, answers_with, downs_with, floor_join, floor_session, floors_raised, kind_found, next_down_ended, next_down_kept, next_down_none, session_found}
 use Rattle.desk_rows.proofs.OrderLemmas.Counting.{filter_none}
@@ -52,8 +52,8 @@ no_floor r names dev_eui free = sym (ap (λ us. greatest (map (λ (u : Uplink). 
         (λ same. both_ways (is_some (device_told r.devices of.session.device)) (ap is_some (ap (device_told r.devices) same ∙ free)) has))
 
 moved_floors : (r : Rows) (dev_eui : ℕ) (owner : List ℕ) → IsCounted r
-    → AllByRecursion (HasFloor r.uplinks (sessions_in r.sessions)) (update_where (is_device_row dev_eui) (moved owner) r.devices)
-moved_floors r dev_eui owner counted = all_map has has _ (λ d floor. by d (is_device_row dev_eui d) floor) r.devices counted.floors
+    → AllByRecursion (HasFloor r.uplinks (sessions_in r.sessions)) (update_where (is_device dev_eui) (moved owner) r.devices)
+moved_floors r dev_eui owner counted = all_map has has _ (λ d floor. by d (is_device dev_eui d) floor) r.devices counted.floors
   where
     has : DeviceRow → Type 0
     has = HasFloor r.uplinks (sessions_in r.sessions)
@@ -149,7 +149,7 @@ names_with r (EndsBooking number sent) reply fits names = record { sessions = na
 names_with r (AddsDevice dev_eui device) reply fits names =
     record { sessions = device_with r.devices (device_row dev_eui device ∷ []) (sessions_in r.sessions) names.sessions; uplinks = names.uplinks }
 names_with r (MovesDevice dev_eui owner) reply fits names = record {
-  sessions = device_changed r.devices _ (there_changed (is_device_row dev_eui) (moved owner) (λ d. refl) r.devices) (sessions_in r.sessions) names.sessions;
+  sessions = device_changed r.devices _ (there_changed (is_device dev_eui) (moved owner) (λ d. refl) r.devices) (sessions_in r.sessions) names.sessions;
   uplinks = names.uplinks;
 }
 names_with r (AddsSession session uplink gateway reception) reply fits names =
@@ -188,7 +188,7 @@ keyed_with r (EndsBooking number sent) reply fits keyed = record { devices = key
 keyed_with r (AddsDevice dev_eui device) reply fits keyed =
     record { devices = devices_with r.devices (device_row dev_eui device) fits.0 keyed.devices; sessions = keyed.sessions }
 keyed_with r (MovesDevice dev_eui owner) reply fits keyed = record {
-  devices = subst (IsDistinct nat_eq) (euis_changed (is_device_row dev_eui) (moved owner) (λ d. refl) r.devices) keyed.devices;
+  devices = subst (IsDistinct nat_eq) (euis_changed (is_device dev_eui) (moved owner) (λ d. refl) r.devices) keyed.devices;
   sessions = keyed.sessions;
 }
 keyed_with r (AddsSession session uplink gateway reception) reply fits keyed = record {

@@ -10,9 +10,9 @@ use Rattle.registry_core.specs.declared.facts.Session.{Session}
 use Rattle.registry_core.specs.declared.facts.Uplink.{Uplink}
 use Rattle.registry_core.specs.Derived.{data_with, is_data, is_data_of, is_data_with, is_join, is_join_with, is_of_device, is_session_of, join_with}
 use Rattle.registry_core.specs.Numbered.{first_from, first_that}
-use Rattle.desk_rows.specs.Rows.{Rows, SessionRow, kind_number}
+use Rattle.desk_rows.specs.Rows.{Rows, SessionRow, kind_number, is_session}
 use Rattle.desk_rows.specs.order.Facts.{sessions_in}
-use Rattle.desk_rows.specs.order.Keys.{is_session_row, is_uplink_row}
+use Rattle.desk_rows.specs.order.Keys.{is_uplink_row}
 use Rattle.desk_rows.specs.order.LookUps.{is_data_row, row_with, uplink_joined}
 use Rattle.desk_rows.specs.order.RowsOf.{IsKeyed, IsOfSession, NamesRows, same_join}
 use Rattle.desk_rows.proofs.OrderLemmas.Each.{apart_at}
@@ -102,7 +102,7 @@ module _ (r : Rows) (names : NamesRows r) (keyed : IsKeyed r) (dev_eui nonce : �
   -- the session's row of a join of the device with the nonce
   joined_row : (u : Uplink) (of : IsOfSession sessions u) → is_join_with sessions dev_eui nonce u ≡ true
       → (k : ℕ) × (row : SessionRow) × (u.session ≡ suc k) × (slice_get r.sessions k ≡ Some row) × (row.session ≡ of.session) ×
-      (is_session_row dev_eui nonce row ≡ true)
+      (is_session dev_eui nonce row ≡ true)
   joined_row u of is =
       let outer = and_parts (is_join u.kind && is_of_device sessions dev_eui u.session) (u.counter == nonce) is in
       let inner = and_parts (is_join u.kind) (is_of_device sessions dev_eui u.session) outer.0 in
@@ -119,19 +119,19 @@ module _ (r : Rows) (names : NamesRows r) (keyed : IsKeyed r) (dev_eui nonce : �
             ∙ eq-eqb of.session.nonce nonce same),
       )
 
-  none_joined : first_that (is_session_row dev_eui nonce) r.sessions ≡ None → join_with r.uplinks sessions dev_eui nonce ≡ None
+  none_joined : first_that (is_session dev_eui nonce) r.sessions ≡ None → join_with r.uplinks sessions dev_eui nonce ≡ None
   none_joined none =
       first_alike (IsOfSession sessions) (is_join_with sessions dev_eui nonce) (λ u. false)
       (λ u of. false_from_ne_true _
-      (λ is. let row = joined_row u of is in both_ways _ (none_from (is_session_row dev_eui nonce) 1 r.sessions none row.0 row.1 row.3) row.5))
+      (λ is. let row = joined_row u of is in both_ways _ (none_from (is_session dev_eui nonce) 1 r.sessions none row.0 row.1 row.3) row.5))
       1 r.uplinks names.uplinks
       ∙ first_none 1 r.uplinks
 
-  module _ (s : SessionRow) (k : ℕ) (at_k : slice_get r.sessions k ≡ Some s) (has : is_session_row dev_eui nonce s ≡ true) where
+  module _ (s : SessionRow) (k : ℕ) (at_k : slice_get r.sessions k ≡ Some s) (has : is_session dev_eui nonce s ≡ true) where
     shown_at : slice_get sessions k ≡ Some s.session
     shown_at = item_at-map (λ (x : SessionRow). x.session) r.sessions (suc k) ∙ ap (option_map (λ (x : SessionRow). x.session)) at_k
 
-    same_place : (m : ℕ) (row : SessionRow) → slice_get r.sessions m ≡ Some row → is_session_row dev_eui nonce row ≡ true → m ≡ k
+    same_place : (m : ℕ) (row : SessionRow) → slice_get r.sessions m ≡ Some row → is_session dev_eui nonce row ≡ true → m ≡ k
     same_place m row at_m is =
         let a = and_parts (s.session.device == dev_eui) (s.session.nonce == nonce) has in
         let b = and_parts (row.session.device == dev_eui) (row.session.nonce == nonce) is in
@@ -169,17 +169,17 @@ module _ (r : Rows) (names : NamesRows r) (keyed : IsKeyed r) (dev_eui nonce : �
     some_joined = first_alike (IsOfSession sessions) (is_uplink_row (suc k) Join nonce) (is_join_with sessions dev_eui nonce)
         (λ u of. same_tests _ _ (is_joined u of) (has_row u of)) 1 r.uplinks names.uplinks
 
-  joined_by : (found : Option (ℕ × SessionRow)) → first_that (is_session_row dev_eui nonce) r.sessions ≡ found
+  joined_by : (found : Option (ℕ × SessionRow)) → first_that (is_session dev_eui nonce) r.sessions ≡ found
       → option_and_then (λ (n : ℕ). first_that (is_uplink_row n Join nonce) r.uplinks) (option_map (λ (f : ℕ × SessionRow). f.0) found)
       ≡ join_with r.uplinks sessions dev_eui nonce
   joined_by None is = sym (none_joined is)
   joined_by (Some f) is =
-      let found = found_from (is_session_row dev_eui nonce) 1 r.sessions f.0 f.1 is in
+      let found = found_from (is_session dev_eui nonce) 1 r.sessions f.0 f.1 is in
       let number : f.0 ≡ suc found.0 = omega (arith, found.1) in
       ap (λ n. first_that (is_uplink_row n Join nonce) r.uplinks) number ∙ some_joined f.1 found.0 found.2 found.3
 
   pub join_found : uplink_joined r dev_eui nonce ≡ join_with r.uplinks sessions dev_eui nonce
   join_found =
       (λ i. option_and_then (λ (n : ℕ). first_zipped (is_uplink_row n Join nonce) 1 r.uplinks i)
-      (option_map (λ (f : ℕ × SessionRow). f.0) (first_zipped (is_session_row dev_eui nonce) 1 r.sessions i)))
-      ∙ joined_by (first_that (is_session_row dev_eui nonce) r.sessions) refl
+      (option_map (λ (f : ℕ × SessionRow). f.0) (first_zipped (is_session dev_eui nonce) 1 r.sessions i)))
+      ∙ joined_by (first_that (is_session dev_eui nonce) r.sessions) refl

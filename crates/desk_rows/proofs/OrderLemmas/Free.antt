@@ -12,8 +12,8 @@ use Rattle.registry_core.specs.declared.facts.Uplink.{Uplink}
 use Rattle.registry_core.specs.Derived.{is_above, is_data, is_data_of, last_counter}
 use Rattle.registry_core.specs.Fits.{Fits}
 use Rattle.registry_core.specs.Heard.{most_heard}
-use Rattle.desk_rows.specs.Rows.{Rows, CopyRow, DeviceRow, SenderRow, SessionRow, kind_number}
-use Rattle.desk_rows.specs.order.Facts.{facts_in, is_copy_row, is_device_row, is_sender_row, sessions_in}
+use Rattle.desk_rows.specs.Rows.{Rows, CopyRow, DeviceRow, SenderRow, SessionRow, kind_number, is_copy, is_device, is_sender}
+use Rattle.desk_rows.specs.order.Facts.{facts_in, sessions_in}
 use Rattle.desk_rows.specs.order.Keys.{HasRoom, IsFreeFor, KeysAreFree, is_uplink_row}
 use Rattle.desk_rows.specs.order.RowsOf.{IsFew, IsOfSession, same_join}
 use Rattle.desk_rows.proofs.OrderLemmas.Counting.{above_each}
@@ -71,11 +71,11 @@ free_for : (r : Rows) (effect : Effect) → AllByRecursion (IsOfSession (session
     → length r.replies < most_heard → IsFreeFor effect r
 free_for r Nothing named few fits below = tt
 free_for r (AddsSender name role) named few fits below =
-    record { key = none_has (λ (s : SenderRow). s.role) (is_sender_row name) r.senders fits; room = room r.senders r.replies few.senders below }
+    record { key = none_has (λ (s : SenderRow). s.role) (is_sender name) r.senders fits; room = room r.senders r.replies few.senders below }
 free_for r (AddsOwner name) named few fits below = record { key = fits; room = room r.owners r.replies (omega (arith, few.owners)) below }
 free_for r (AddsGateway name) named few fits below = record { key = fits; room = room r.gateways r.replies (omega (arith, few.gateways)) below }
 free_for r (AddsDevice dev_eui device) named few fits below = record {
-  key = none_has (λ (d : DeviceRow). d.device) (is_device_row dev_eui) r.devices fits.0;
+  key = none_has (λ (d : DeviceRow). d.device) (is_device dev_eui) r.devices fits.0;
   room = room r.devices r.replies (omega (arith, few.devices)) below;
 }
 free_for r (MovesDevice dev_eui owner) named few fits below = tt
@@ -89,7 +89,7 @@ free_for r (AddsSession session uplink gateway reception) named few fits below =
     room = room r.uplinks r.replies (omega (arith, few.uplinks)) below;
   },
   record {
-    key = none_has (λ (c : CopyRow). c.reception) (is_copy_row (length r.uplinks + 1) gateway) r.copies fits.no_copy;
+    key = none_has (λ (c : CopyRow). c.reception) (is_copy (length r.uplinks + 1) gateway) r.copies fits.no_copy;
     room = room r.copies r.replies (omega (arith, few.copies)) below;
   },
 )
@@ -100,12 +100,12 @@ free_for r (AddsUplink uplink gateway reception) named few fits below = (
     room = room r.uplinks r.replies (omega (arith, few.uplinks)) below;
   },
   record {
-    key = none_has (λ (c : CopyRow). c.reception) (is_copy_row (length r.uplinks + 1) gateway) r.copies fits.no_copy;
+    key = none_has (λ (c : CopyRow). c.reception) (is_copy (length r.uplinks + 1) gateway) r.copies fits.no_copy;
     room = room r.copies r.replies (omega (arith, few.copies)) below;
   },
 )
 free_for r (AddsCopy number gateway reception) named few fits below = record {
-  key = none_has (λ (c : CopyRow). c.reception) (is_copy_row number gateway) r.copies fits.no_copy;
+  key = none_has (λ (c : CopyRow). c.reception) (is_copy number gateway) r.copies fits.no_copy;
   room = room r.copies r.replies (omega (arith, few.copies)) below;
 }
 free_for r (AddsBooking booking) named few fits below = room r.bookings r.replies (omega (arith, few.bookings)) below

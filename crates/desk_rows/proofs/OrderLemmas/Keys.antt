@@ -6,8 +6,7 @@ use Rattle.std.proofs.lemmas.Bool.{and_right, ne_eqb}
 use Rattle.std.proofs.lemmas.List.{map-append}
 use Rattle.registry_core.specs.declared.facts.Session.{Session}
 use Rattle.registry_core.specs.Derived.{is_above, is_session_of, last_nonce}
-use Rattle.desk_rows.specs.Rows.{DeviceRow}
-use Rattle.desk_rows.specs.order.Facts.{is_device_row}
+use Rattle.desk_rows.specs.Rows.{DeviceRow, is_device}
 use Rattle.desk_rows.specs.order.RowsOf.{same_join}
 use Rattle.desk_rows.proofs.OrderLemmas.Counting.{above_each}
 use Rattle.desk_rows.proofs.OrderLemmas.Each.{all_map, all_so, distinct_with, none_found}
@@ -22,8 +21,8 @@ pub devices_with : (devices : List DeviceRow) (new : DeviceRow) → device_told 
 devices_with devices new free apart =
     subst (IsDistinct nat_eq) (sym (map-append (λ (d : DeviceRow). d.dev_eui) devices (new ∷ [])))
     (distinct_with nat_eq (euis devices) new.dev_eui apart
-    (all_map (λ d. is_device_row new.dev_eui d ≡ false) (λ n. nat_eq n new.dev_eui ≡ false) (λ (d : DeviceRow). d.dev_eui) (λ d no. no) devices
-    (none_found (is_device_row new.dev_eui) devices (none_shown (λ (d : DeviceRow). d.device) _ free))))
+    (all_map (λ d. is_device new.dev_eui d ≡ false) (λ n. nat_eq n new.dev_eui ≡ false) (λ (d : DeviceRow). d.dev_eui) (λ d no. no) devices
+    (none_found (is_device new.dev_eui) devices (none_shown (λ (d : DeviceRow). d.device) _ free))))
 
 -- a session of the device with the nonce isn't there, where the nonce is above the last
 module _ (sessions : List Session) (new : Session) (above : IsTrue (is_above new.nonce (last_nonce sessions new.device))) where

@@ -9,8 +9,8 @@ use Rattle.registry_core.specs.Derived.{is_below, is_below_floor, is_data_of}
 use Rattle.registry_core.specs.Numbered.{greatest, item_at}
 use Rattle.registry_core.specs.Settings.{Settings}
 use Rattle.registry_core.specs.State.{State}
-use Rattle.desk_rows.specs.Rows.{Rows, BookingRow, DeviceRow, SessionRow}
-use Rattle.desk_rows.specs.order.Facts.{bookings_in, is_device_row, sessions_in}
+use Rattle.desk_rows.specs.Rows.{Rows, BookingRow, DeviceRow, SessionRow, is_device}
+use Rattle.desk_rows.specs.order.Facts.{bookings_in, sessions_in}
 use Rattle.desk_rows.specs.order.LookUps.{CountersTell, CountsTell, FramesTell, LastOnesTell, LookUpsTell, NumbersTell, RowsAreItems, floor_in, is_data_row, is_row_of_device}
 use Rattle.desk_rows.specs.order.RowsOf.{AreRowsOf, floor_of}
 use Rattle.desk_rows.proofs.OrderLemmas.Counters.{HasFloor, next_down_none}
@@ -34,15 +34,15 @@ rows_are_items r = record {
 module _ (c : Settings) (facts : State) (r : Rows) (are : AreRowsOf c facts r) where
   -- ---- of the rows' own facts
 
-  floor_by : (dev_eui : ℕ) (found : Option DeviceRow) → find (is_device_row dev_eui) r.devices ≡ found
+  floor_by : (dev_eui : ℕ) (found : Option DeviceRow) → find (is_device dev_eui) r.devices ≡ found
       → option_and_then (λ (d : DeviceRow). d.floor) found ≡ floor_of r.uplinks (sessions_in r.sessions) dev_eui
   floor_by dev_eui None is = no_floor r are.names dev_eui (ap (option_map (λ (d : DeviceRow). d.device)) is)
   floor_by dev_eui (Some d) is =
-      all_found (HasFloor r.uplinks (sessions_in r.sessions)) (is_device_row dev_eui) r.devices d is are.counted.floors
-      ∙ ap (floor_of r.uplinks (sessions_in r.sessions)) (eqb-true d.dev_eui dev_eui (found_passes (is_device_row dev_eui) r.devices d is))
+      all_found (HasFloor r.uplinks (sessions_in r.sessions)) (is_device dev_eui) r.devices d is are.counted.floors
+      ∙ ap (floor_of r.uplinks (sessions_in r.sessions)) (eqb-true d.dev_eui dev_eui (found_passes (is_device dev_eui) r.devices d is))
 
   floor_told : (dev_eui n : ℕ) → is_below n (floor_in r.devices dev_eui) ≡ is_below_floor r.uplinks (sessions_in r.sessions) dev_eui n
-  floor_told dev_eui n = ap (is_below n) (floor_by dev_eui (find (is_device_row dev_eui) r.devices) refl)
+  floor_told dev_eui n = ap (is_below n) (floor_by dev_eui (find (is_device dev_eui) r.devices) refl)
       ∙ below_floor r.uplinks (sessions_in r.sessions) dev_eui n
 
   next_down_by : (n : ℕ) (found : Option SessionRow) → item_at r.sessions n ≡ found

@@ -19,9 +19,9 @@ use Rattle.registry_core.specs.Derived.{is_of_device}
 use Rattle.registry_core.specs.Fits.{Fits}
 use Rattle.registry_core.specs.State.{at_name, at_number, copies_with, devices_with_move, ended, owned_by, state_with}
 use Rattle.sqlite_keyed.specs.Lists.{update_where}
-use Rattle.desk_rows.specs.Rows.{Rows, SenderRow, ReplyRow, DeviceRow, SessionRow, CopyRow, BookingRow}
+use Rattle.desk_rows.specs.Rows.{Rows, SenderRow, ReplyRow, DeviceRow, SessionRow, CopyRow, BookingRow, is_copy, is_device, is_sender}
 use Rattle.desk_rows.specs.order.Changes.{booking_row, copy_row, counted_down, device_row, ended_row, kind_at, moved, raised, rows_with, sender_row, session_at, session_row, sessions_counted}
-use Rattle.desk_rows.specs.order.Facts.{facts_in, is_copy_row, is_device_row, is_name_row, is_sender_row, sessions_in}
+use Rattle.desk_rows.specs.order.Facts.{facts_in, is_name_row, sessions_in}
 use Rattle.desk_rows.proofs.OrderLemmas.Finding.{find-map, found_passes, none_shown, shown_with}
 use Rattle.desk_rows.proofs.OrderLemmas.Numbering.{map-item_changed, map_unchanged}
 
@@ -31,13 +31,13 @@ same_name : (a b : List ℕ) → bytes_eq a b ≡ true → a ≡ b
 same_name a b is = (bytes_eq-Decides a b).0 is
 
 abbrev role_told : List SenderRow → List ℕ → Option Role
-role_told senders name = option_map (λ (s : SenderRow). s.role) (find (is_sender_row name) senders)
+role_told senders name = option_map (λ (s : SenderRow). s.role) (find (is_sender name) senders)
 
 sender_with : (senders : List SenderRow) (name : List ℕ) (role : Role) → role_told senders name ≡ None → (other : List ℕ)
     → at_name (role_told senders) name (Some role) other ≡ role_told (senders ++ sender_row name role ∷ []) other
 sender_with senders name role free other =
     ap (λ b. cond b (Some role) (role_told senders other)) (nat_list_eq_equiv.symm other name)
-    ∙ sym (shown_with (λ (s : SenderRow). s.role) (is_sender_row other) senders (sender_row name role)
+    ∙ sym (shown_with (λ (s : SenderRow). s.role) (is_sender other) senders (sender_row name role)
     (λ same. none_shown (λ (s : SenderRow). s.role) _ (subst (λ n. role_told senders n ≡ None) (same_name name other same) free)))
 
 pub known_with : (names : List (List ℕ)) (name other : List ℕ)
@@ -55,13 +55,13 @@ known_with names name other =
 -- ---- devices
 
 abbrev pub device_told : List DeviceRow → ℕ → Option Device
-device_told devices dev_eui = option_map (λ (d : DeviceRow). d.device) (find (is_device_row dev_eui) devices)
+device_told devices dev_eui = option_map (λ (d : DeviceRow). d.device) (find (is_device dev_eui) devices)
 
 device_with : (devices : List DeviceRow) (dev_eui : ℕ) (device : Device) → device_told devices dev_eui ≡ None → (other : ℕ)
     → at_number (device_told devices) dev_eui (Some device) other ≡ device_told (devices ++ device_row dev_eui device ∷ []) other
 device_with devices dev_eui device free other =
     ap (λ b. cond b (Some device) (device_told devices other)) (nat_eq_equiv.symm other dev_eui)
-    ∙ sym (shown_with (λ (d : DeviceRow). d.device) (is_device_row other) devices (device_row dev_eui device)
+    ∙ sym (shown_with (λ (d : DeviceRow). d.device) (is_device other) devices (device_row dev_eui device)
     (λ same. none_shown (λ (d : DeviceRow). d.device) _ (subst (λ n. device_told devices n ≡ None) (eqb-true dev_eui other same) free)))
 
 -- a change of those that pass a test, which leaves the DevEUI
@@ -71,8 +71,8 @@ module _ (test : DeviceRow → Bool) (change : DeviceRow → DeviceRow) (stays :
   eui_by d false = refl
 
   pub found_changed : (dev_eui : ℕ) (devices : List DeviceRow)
-      → find (is_device_row dev_eui) (update_where test change devices) ≡ option_map (λ d. cond (test d) (change d) d) (find (is_device_row dev_eui) devices)
-  found_changed dev_eui devices = find-map (is_device_row dev_eui) (λ d. cond (test d) (change d) d) (λ d. ap (λ n. n == dev_eui) (eui_by d (test d))) devices
+      → find (is_device dev_eui) (update_where test change devices) ≡ option_map (λ d. cond (test d) (change d) d) (find (is_device dev_eui) devices)
+  found_changed dev_eui devices = find-map (is_device dev_eui) (λ d. cond (test d) (change d) d) (λ d. ap (λ n. n == dev_eui) (eui_by d (test d))) devices
 
 module _ (devices : List DeviceRow) (dev_eui : ℕ) (owner : List ℕ) where
   moved_at : (d : DeviceRow) (b : Bool) → (d.dev_eui == dev_eui) ≡ b
@@ -80,27 +80,27 @@ module _ (devices : List DeviceRow) (dev_eui : ℕ) (owner : List ℕ) where
   moved_at d true is = ap (λ b. (cond b (moved owner d) d).device) is
   moved_at d false is = ap (λ b. (cond b (moved owner d) d).device) is
 
-  moved_found : (other : ℕ) (found : Option DeviceRow) → find (is_device_row other) devices ≡ found → (b : Bool) → (other == dev_eui) ≡ b
+  moved_found : (other : ℕ) (found : Option DeviceRow) → find (is_device other) devices ≡ found → (b : Bool) → (other == dev_eui) ≡ b
       → cond b (option_map (owned_by owner) (device_told devices dev_eui)) (option_map (λ (d : DeviceRow). d.device) found)
-      ≡ option_map (λ (d : DeviceRow). d.device) (option_map (λ d. cond (is_device_row dev_eui d) (moved owner d) d) found)
+      ≡ option_map (λ (d : DeviceRow). d.device) (option_map (λ d. cond (is_device dev_eui d) (moved owner d) d) found)
   moved_found other found is true same =
       ap (λ n. option_map (owned_by owner) (device_told devices n)) (sym (eqb-true other dev_eui same))
       ∙ ap (λ o. option_map (owned_by owner) (option_map (λ (d : DeviceRow). d.device) o)) is ∙ here found is
     where
-      here : (o : Option DeviceRow) → find (is_device_row other) devices ≡ o → option_map (owned_by owner) (option_map (λ (d : DeviceRow). d.device) o)
-          ≡ option_map (λ (d : DeviceRow). d.device) (option_map (λ d. cond (is_device_row dev_eui d) (moved owner d) d) o)
+      here : (o : Option DeviceRow) → find (is_device other) devices ≡ o → option_map (owned_by owner) (option_map (λ (d : DeviceRow). d.device) o)
+          ≡ option_map (λ (d : DeviceRow). d.device) (option_map (λ d. cond (is_device dev_eui d) (moved owner d) d) o)
       here None none = refl
       here (Some d) some = ap Some
-          (sym (moved_at d true (ap (λ n. n == dev_eui) (eqb-true d.dev_eui other (found_passes (is_device_row other) devices d some)) ∙ same)))
+          (sym (moved_at d true (ap (λ n. n == dev_eui) (eqb-true d.dev_eui other (found_passes (is_device other) devices d some)) ∙ same)))
   moved_found other None is false apart = refl
   moved_found other (Some d) is false apart =
-      ap Some (sym (moved_at d false (ap (λ n. n == dev_eui) (eqb-true d.dev_eui other (found_passes (is_device_row other) devices d is)) ∙ apart)))
+      ap Some (sym (moved_at d false (ap (λ n. n == dev_eui) (eqb-true d.dev_eui other (found_passes (is_device other) devices d is)) ∙ apart)))
 
   move_with : (other : ℕ)
-      → devices_with_move (device_told devices) dev_eui owner other ≡ device_told (update_where (is_device_row dev_eui) (moved owner) devices) other
+      → devices_with_move (device_told devices) dev_eui owner other ≡ device_told (update_where (is_device dev_eui) (moved owner) devices) other
   move_with other =
-      moved_found other (find (is_device_row other) devices) refl (other == dev_eui) refl
-      ∙ sym (ap (option_map (λ (d : DeviceRow). d.device)) (found_changed (is_device_row dev_eui) (moved owner) (λ d. refl) other devices))
+      moved_found other (find (is_device other) devices) refl (other == dev_eui) refl
+      ∙ sym (ap (option_map (λ (d : DeviceRow). d.device)) (found_changed (is_device dev_eui) (moved owner) (λ d. refl) other devices))
 
 -- no device comes or goes
 pub there_changed : (test : DeviceRow → Bool) (change : DeviceRow → DeviceRow) → ((d : DeviceRow) → (change d).dev_eui ≡ d.dev_eui)
@@ -108,7 +108,7 @@ pub there_changed : (test : DeviceRow → Bool) (change : DeviceRow → DeviceRo
     → is_some (device_told (update_where test change devices) other) ≡ is_some (device_told devices other)
 there_changed test change stays devices other =
     ap (λ found. is_some (option_map (λ (d : DeviceRow). d.device) found)) (found_changed test change stays other devices)
-    ∙ same (find (is_device_row other) devices)
+    ∙ same (find (is_device other) devices)
   where
     same : (o : Option DeviceRow)
         → is_some (option_map (λ (d : DeviceRow). d.device) (option_map (λ d. cond (test d) (change d) d) o))
@@ -126,7 +126,7 @@ euis_changed test change stays (d ∷ ds) = ap₂ (λ n ns. n ∷ ns) (sym (eui_
 pub raised_with : (test : DeviceRow → Bool) (number : ℕ) (devices : List DeviceRow) (other : ℕ)
     → device_told devices other ≡ device_told (update_where test (raised number) devices) other
 raised_with test number devices other =
-    same (find (is_device_row other) devices)
+    same (find (is_device other) devices)
     ∙ sym (ap (option_map (λ (d : DeviceRow). d.device)) (found_changed test (raised number) (λ d. refl) other devices))
   where
     by : (d : DeviceRow) (b : Bool) → d.device ≡ (cond b (raised number d) d).device
@@ -141,7 +141,7 @@ raised_with test number devices other =
 -- ---- copies
 
 abbrev copy_told : List CopyRow → ℕ → List ℕ → Option Reception
-copy_told copies number gateway = option_map (λ (c : CopyRow). c.reception) (find (is_copy_row number gateway) copies)
+copy_told copies number gateway = option_map (λ (c : CopyRow). c.reception) (find (is_copy number gateway) copies)
 
 copy_key : (copies : ℕ → List ℕ → Option Reception) (number : ℕ) (gateway : List ℕ) (reception : Reception) (n : ℕ) (at : List ℕ) (b : Bool)
     → (n == number) ≡ b
@@ -154,7 +154,7 @@ copy_with : (copies : List CopyRow) (number : ℕ) (gateway : List ℕ) (recepti
     → copies_with (copy_told copies) number gateway reception n at ≡ copy_told (copies ++ copy_row number gateway reception ∷ []) n at
 copy_with copies number gateway reception free n at =
     sym (copy_key (copy_told copies) number gateway reception n at (n == number) refl)
-    ∙ sym (shown_with (λ (c : CopyRow). c.reception) (is_copy_row n at) copies (copy_row number gateway reception) (λ same.
+    ∙ sym (shown_with (λ (c : CopyRow). c.reception) (is_copy n at) copies (copy_row number gateway reception) (λ same.
     let parts = and_parts (number == n) (bytes_eq gateway at) same in
     none_shown (λ (c : CopyRow). c.reception) _
     (subst (λ m. copy_told copies m at ≡ None) (eqb-true number n parts.0)

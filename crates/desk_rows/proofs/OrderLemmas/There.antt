@@ -16,9 +16,9 @@ use Rattle.registry_core.specs.Numbered.{item_at, place_changed}
 use Rattle.registry_core.specs.Settings.{Settings}
 use Rattle.registry_core.specs.State.{State}
 use Rattle.sqlite_keyed.specs.Lists.{update_where}
-use Rattle.desk_rows.specs.Rows.{Rows, BookingRow, DeviceRow, SessionRow}
+use Rattle.desk_rows.specs.Rows.{Rows, BookingRow, DeviceRow, SessionRow, is_device}
 use Rattle.desk_rows.specs.order.Changes.{counted_down, devices_raised, raised, session_at, sessions_counted}
-use Rattle.desk_rows.specs.order.Facts.{facts_in, is_device_row, sessions_in}
+use Rattle.desk_rows.specs.order.Facts.{facts_in, sessions_in}
 use Rattle.desk_rows.specs.order.Keys.{ChangedRowsAreThere, CountsOne, EndsOne, HasOnly, IsThereFor, RaisesOne, floor_set, next_down_set}
 use Rattle.desk_rows.specs.order.RowsOf.{AreRowsOf, IsOfSession}
 use Rattle.desk_rows.proofs.OrderLemmas.Counters.{kind_found, session_found}
@@ -82,7 +82,7 @@ shown_some show (Some x) some = refl
 
 only_device : (devices : List DeviceRow) (dev_eui : ℕ) → IsDistinct nat_eq (map (λ (d : DeviceRow). d.dev_eui) devices)
     → is_some (device_told devices dev_eui) ≡ true
-    → HasOnly (is_device_row dev_eui) devices
+    → HasOnly (is_device dev_eui) devices
 only_device devices dev_eui apart some =
     let at = only_at (λ (d : DeviceRow). d.dev_eui) dev_eui devices apart (shown_some (λ (d : DeviceRow). d.device) _ some) in
     record { number = suc at.place; row = at.row; there = at.there; only = at.only; changed = at.changed }
@@ -118,7 +118,7 @@ module _ (n : ℕ) (test : DeviceRow → Bool) where
 
 module _ (c : Settings) (facts : State) (r : Rows) (are : AreRowsOf c facts r) where
   same_test : (number : ℕ) (s : SessionRow) (session : Session) → item_at (sessions_in r.sessions) number ≡ Some session → s.session ≡ session
-      → (λ (d : DeviceRow). is_of_device (sessions_in r.sessions) d.dev_eui number) ≡ is_device_row s.session.device
+      → (λ (d : DeviceRow). is_of_device (sessions_in r.sessions) d.dev_eui number) ≡ is_device s.session.device
   same_test number s session there is = λ i d. (
       ap (λ found. option_map_or (is_session_of d.dev_eui) found false) there
       ∙ nat_eq_equiv.symm session.device d.dev_eui
@@ -129,9 +129,9 @@ module _ (c : Settings) (facts : State) (r : Rows) (are : AreRowsOf c facts r) w
       let found = item_there (sessions_in r.sessions) uplink.session _ refl some in
       let row = row_there (λ (s : SessionRow). s.session) r.sessions uplink.session found.0 found.1 in
       let has : HasDevice r.devices found.0 = all_at (HasDevice r.devices) (sessions_in r.sessions) uplink.session found.0 found.1 are.names.sessions in
-      let device : HasOnly (is_device_row row.0.session.device) r.devices =
+      let device : HasOnly (is_device row.0.session.device) r.devices =
       only_device r.devices row.0.session.device are.keyed.devices (ap (λ (s : Session). is_some (device_told r.devices s.device)) row.2 ∙ has) in
-      let raises : devices_raised r.sessions uplink.session r.devices ≡ update_where (is_device_row row.0.session.device) (raised uplink.session) r.devices =
+      let raises : devices_raised r.sessions uplink.session r.devices ≡ update_where (is_device row.0.session.device) (raised uplink.session) r.devices =
       ap (λ test. update_where test (raised uplink.session) r.devices) (same_test uplink.session row.0 found.0 found.1 row.2) in
       record {
         session = row.0;
@@ -142,7 +142,7 @@ module _ (c : Settings) (facts : State) (r : Rows) (are : AreRowsOf c facts r) w
             (raised_above uplink.session device.row above);
         stays = λ below. raises ∙ device.changed (raised uplink.session)
             ∙ item_changed_none (raised uplink.session) r.devices device.number device.row device.there (raised_below uplink.session device.row below);
-        at_once = raises ∙ raised_where uplink.session (is_device_row row.0.session.device) r.devices;
+        at_once = raises ∙ raised_where uplink.session (is_device row.0.session.device) r.devices;
       }
 
   counts_one : (booking : Booking) → is_some (item_at r.uplinks booking.uplink) ≡ true → CountsOne booking r

@@ -18,8 +18,8 @@ use Rattle.registry_core.specs.Numbered.{item_at, item_changed}
 use Rattle.registry_core.specs.Settings.{Settings}
 use Rattle.registry_core.specs.State.{State, ended, opening, owned_by, state_with}
 use Rattle.sqlite_keyed.specs.Lists.{update_where}
-use Rattle.desk_rows.specs.Rows.{Rows, SenderRow, ReplyRow, DeviceRow, SessionRow, CopyRow, BookingRow}
-use Rattle.desk_rows.specs.order.Facts.{is_device_row, sessions_in}
+use Rattle.desk_rows.specs.Rows.{Rows, SenderRow, ReplyRow, DeviceRow, SessionRow, CopyRow, BookingRow, is_device}
+use Rattle.desk_rows.specs.order.Facts.{sessions_in}
 use Rattle.desk_rows.specs.order.RowsOf.{AreRowsOf}
 
 -- ---- rows
@@ -89,7 +89,7 @@ rows_changed (AddsSender name role) r = record r { senders = r.senders ++ sender
 rows_changed (AddsOwner name) r = record r { owners = r.owners ++ name ∷ [] }
 rows_changed (AddsGateway name) r = record r { gateways = r.gateways ++ name ∷ [] }
 rows_changed (AddsDevice dev_eui device) r = record r { devices = r.devices ++ device_row dev_eui device ∷ [] }
-rows_changed (MovesDevice dev_eui owner) r = record r { devices = update_where (is_device_row dev_eui) (moved owner) r.devices }
+rows_changed (MovesDevice dev_eui owner) r = record r { devices = update_where (is_device dev_eui) (moved owner) r.devices }
 -- a join leaves the floor
 rows_changed (AddsSession session uplink gateway reception) r =
     with_uplink_row uplink gateway reception (record r { sessions = r.sessions ++ session_row session ∷ [] })

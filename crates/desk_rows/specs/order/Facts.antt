@@ -4,21 +4,12 @@ use Rattle.std.specs.List.{list_any}
 use Rattle.registry_core.specs.declared.facts.Booking.{Booking}
 use Rattle.registry_core.specs.declared.facts.Session.{Session}
 use Rattle.registry_core.specs.State.{State}
-use Rattle.desk_rows.specs.Rows.{Rows, SenderRow, DeviceRow, SessionRow, CopyRow, BookingRow}
+use Rattle.desk_rows.specs.Rows.{Rows, SenderRow, DeviceRow, SessionRow, CopyRow, BookingRow, is_copy, is_device, is_sender}
 
 -- ---- the row with a key
 
-abbrev pub is_sender_row : List ℕ → SenderRow → Bool
-is_sender_row name s = bytes_eq s.name name
-
 abbrev pub is_name_row : List ℕ → List ℕ → Bool
 is_name_row name row = bytes_eq row name
-
-abbrev pub is_device_row : ℕ → DeviceRow → Bool
-is_device_row dev_eui d = d.dev_eui == dev_eui
-
-abbrev pub is_copy_row : ℕ → List ℕ → CopyRow → Bool
-is_copy_row number gateway c = c.uplink == number && bytes_eq c.gateway gateway
 
 -- ---- what the rows tell
 
@@ -31,12 +22,12 @@ bookings_in rows = map (λ b. b.booking) rows
 -- the facts: what has a key is what its row tells, and nothing else is there
 abbrev pub facts_in : Rows → State
 facts_in r = record {
-  senders = λ name. option_map (λ (s : SenderRow). s.role) (find (is_sender_row name) r.senders);
+  senders = λ name. option_map (λ (s : SenderRow). s.role) (find (is_sender name) r.senders);
   owners = λ name. list_any (is_name_row name) r.owners;
   gateways = λ name. list_any (is_name_row name) r.gateways;
-  devices = λ dev_eui. option_map (λ (d : DeviceRow). d.device) (find (is_device_row dev_eui) r.devices);
+  devices = λ dev_eui. option_map (λ (d : DeviceRow). d.device) (find (is_device dev_eui) r.devices);
   sessions = sessions_in r.sessions;
   uplinks = r.uplinks;
-  copies = λ number gateway. option_map (λ (c : CopyRow). c.reception) (find (is_copy_row number gateway) r.copies);
+  copies = λ number gateway. option_map (λ (c : CopyRow). c.reception) (find (is_copy number gateway) r.copies);
   bookings = bookings_in r.bookings;
 }

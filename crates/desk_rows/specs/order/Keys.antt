@@ -15,15 +15,12 @@ use Rattle.registry_core.specs.Numbered.{item_at, item_changed}
 use Rattle.registry_core.specs.Settings.{Settings}
 use Rattle.registry_core.specs.State.{State}
 use Rattle.sqlite_keyed.specs.Lists.{update_where}
-use Rattle.desk_rows.specs.Rows.{Rows, BookingRow, DeviceRow, SessionRow, kind_number}
+use Rattle.desk_rows.specs.Rows.{Rows, BookingRow, DeviceRow, SessionRow, kind_number, is_copy, is_device, is_sender, is_session}
 use Rattle.desk_rows.specs.order.Changes.{booking_row, devices_raised, kind_at, session_at, sessions_counted}
-use Rattle.desk_rows.specs.order.Facts.{is_copy_row, is_device_row, is_name_row, is_sender_row}
+use Rattle.desk_rows.specs.order.Facts.{is_name_row}
 use Rattle.desk_rows.specs.order.RowsOf.{AreRowsOf}
 
 -- ---- rows that are added
-
-abbrev pub is_session_row : ℕ → ℕ → SessionRow → Bool
-is_session_row dev_eui nonce s = s.session.device == dev_eui && s.session.nonce == nonce
 
 abbrev pub is_uplink_row : ℕ → Kind → ℕ → Uplink → Bool
 is_uplink_row session kind counter u = u.session == session && kind_number u.kind == kind_number kind && u.counter == counter
@@ -40,16 +37,16 @@ pub record IsFree {X : Type 0} (has_key : X → Bool) (rows : List X) : Type 0 w
 -- each row that the effect adds can be added
 abbrev pub IsFreeFor : Effect → Rows → Type 0
 IsFreeFor Nothing r = Unit {0}
-IsFreeFor (AddsSender name role) r = IsFree (is_sender_row name) r.senders
+IsFreeFor (AddsSender name role) r = IsFree (is_sender name) r.senders
 IsFreeFor (AddsOwner name) r = IsFree (is_name_row name) r.owners
 IsFreeFor (AddsGateway name) r = IsFree (is_name_row name) r.gateways
-IsFreeFor (AddsDevice dev_eui device) r = IsFree (is_device_row dev_eui) r.devices
+IsFreeFor (AddsDevice dev_eui device) r = IsFree (is_device dev_eui) r.devices
 IsFreeFor (MovesDevice dev_eui owner) r = Unit {0}
-IsFreeFor (AddsSession session uplink gateway reception) r = IsFree (is_session_row session.device session.nonce) r.sessions
-    × IsFree (is_uplink_row uplink.session uplink.kind uplink.counter) r.uplinks × IsFree (is_copy_row (length r.uplinks + 1) gateway) r.copies
+IsFreeFor (AddsSession session uplink gateway reception) r = IsFree (is_session session.device session.nonce) r.sessions
+    × IsFree (is_uplink_row uplink.session uplink.kind uplink.counter) r.uplinks × IsFree (is_copy (length r.uplinks + 1) gateway) r.copies
 IsFreeFor (AddsUplink uplink gateway reception) r =
-    IsFree (is_uplink_row uplink.session uplink.kind uplink.counter) r.uplinks × IsFree (is_copy_row (length r.uplinks + 1) gateway) r.copies
-IsFreeFor (AddsCopy number gateway reception) r = IsFree (is_copy_row number gateway) r.copies
+    IsFree (is_uplink_row uplink.session uplink.kind uplink.counter) r.uplinks × IsFree (is_copy (length r.uplinks + 1) gateway) r.copies
+IsFreeFor (AddsCopy number gateway reception) r = IsFree (is_copy number gateway) r.copies
 IsFreeFor (AddsBooking booking) r = HasRoom r.bookings
 IsFreeFor (EndsBooking number sent) r = Unit {0}
 
@@ -73,13 +70,13 @@ next_down_set n s = record s { next_down = n }
 pub record RaisesOne (uplink : Uplink) (r : Rows) : Type 0 where
   pub session : SessionRow
   pub there : item_at r.sessions uplink.session ≡ Some session
-  pub device : HasOnly (is_device_row session.session.device) r.devices
+  pub device : HasOnly (is_device session.session.device) r.devices
   pub sets : is_above uplink.session device.row.floor ≡ true
       → devices_raised r.sessions uplink.session r.devices ≡ item_changed (floor_set uplink.session) r.devices device.number
   pub stays : is_above uplink.session device.row.floor ≡ false → devices_raised r.sessions uplink.session r.devices ≡ r.devices
   -- both at once
   pub at_once : devices_raised r.sessions uplink.session r.devices
-      ≡ update_where (λ d. is_device_row session.session.device d && is_above uplink.session d.floor) (floor_set uplink.session) r.devices
+      ≡ update_where (λ d. is_device session.session.device d && is_above uplink.session d.floor) (floor_set uplink.session) r.devices
 
 -- The session whose counter a booking raises is that of its uplink. A downlink that answers a join raises none.
 pub record CountsOne (booking : Booking) (r : Rows) : Type 0 where
@@ -100,7 +97,7 @@ pub record EndsOne (number : ℕ) (r : Rows) : Type 0 where
 
 -- each row that the effect changes is there
 abbrev pub IsThereFor : Effect → Rows → Type 0
-IsThereFor (MovesDevice dev_eui owner) r = HasOnly (is_device_row dev_eui) r.devices
+IsThereFor (MovesDevice dev_eui owner) r = HasOnly (is_device dev_eui) r.devices
 IsThereFor (AddsUplink uplink gateway reception) r = RaisesOne uplink r
 IsThereFor (AddsBooking booking) r = CountsOne booking r
 IsThereFor (EndsBooking number sent) r = EndsOne number r

@@ -12,9 +12,8 @@ use Rattle.registry_core.specs.Numbered.{first_that, item_at}
 use Rattle.registry_core.specs.Settings.{Settings}
 use Rattle.registry_core.specs.State.{State}
 use Rattle.sqlite_keyed.specs.Lists.{sort_by}
-use Rattle.desk_rows.specs.Rows.{Rows, BookingRow, DeviceRow, SessionRow, kind_number}
-use Rattle.desk_rows.specs.order.Facts.{is_device_row}
-use Rattle.desk_rows.specs.order.Keys.{is_session_row, is_uplink_row}
+use Rattle.desk_rows.specs.Rows.{Rows, BookingRow, DeviceRow, SessionRow, kind_number, is_device, is_session}
+use Rattle.desk_rows.specs.order.Keys.{is_uplink_row}
 use Rattle.desk_rows.specs.order.RowsOf.{AreRowsOf}
 use Rattle.std.specs.Prelude.{find}
 
@@ -56,7 +55,7 @@ row_at n rows = option_map (λ row. row.1) (find (λ row. row.0 == n) (zip_from 
 
 -- the floor in the device's row
 abbrev pub floor_in : List DeviceRow → ℕ → Option ℕ
-floor_in devices dev_eui = option_and_then (λ (d : DeviceRow). d.floor) (find (is_device_row dev_eui) devices)
+floor_in devices dev_eui = option_and_then (λ (d : DeviceRow). d.floor) (find (is_device dev_eui) devices)
 
 -- the next downlink counter in the session's row
 abbrev pub next_down_in : List SessionRow → ℕ → ℕ
@@ -71,7 +70,7 @@ is_data_row n u = u.session == n && kind_number u.kind == kind_number Data
 
 -- the number of the session of the device with the nonce
 abbrev pub session_joined : List SessionRow → ℕ → ℕ → Option ℕ
-session_joined sessions dev_eui nonce = option_map (λ (found : ℕ × SessionRow). found.0) (row_with (is_session_row dev_eui nonce) sessions)
+session_joined sessions dev_eui nonce = option_map (λ (found : ℕ × SessionRow). found.0) (row_with (is_session dev_eui nonce) sessions)
 
 -- the join uplink of that session with that counter
 abbrev pub uplink_joined : Rows → ℕ → ℕ → Option (ℕ × Uplink)
