@@ -11,7 +11,8 @@ use Rattle.desk_http.specs.steps.Fields.{encoding_so_far, length_after, length_s
 
 -- ---- a transfer encoding
 
-encoding-from : (so_far : Bool) (fields : List NamedValue) → fold names_encoding so_far fields ≡ (so_far || list_any (is_named (codes "transfer-encoding")) fields)
+encoding-from : (so_far : Bool) (fields : List NamedValue)
+    → fold names_encoding so_far fields ≡ (so_far || list_any (is_named (codes "transfer-encoding")) fields)
 encoding-from true [] = refl
 encoding-from false [] = refl
 encoding-from true (field ∷ fields) = encoding-from true fields
@@ -48,7 +49,8 @@ lengths_of fields = map length_of (map (λ field. field.1) fields)
 
 one-more : (b : Bool) (so_far : BodyLength) (field : NamedValue) (fields named : List NamedValue)
     → ((l : BodyLength) → fold length_after l fields ≡ fold length_with l (lengths_of named))
-    → fold length_after (if b then length_with so_far (length_of field.1) else so_far) fields ≡ fold length_with so_far (lengths_of (cond b (field ∷ named) named))
+    → fold length_after (if b then length_with so_far (length_of field.1) else so_far) fields
+    ≡ fold length_with so_far (lengths_of (cond b (field ∷ named) named))
 one-more true so_far field fields named more = more (length_with so_far (length_of field.1))
 one-more false so_far field fields named more = more so_far
 

@@ -10,7 +10,8 @@ use Rattle.desk_http.proofs.Routes.{drop-one-more, false-if-not, or_false_parts,
 
 -- ---- a path with a route has the form of it
 
-follows-is : (front : List ℕ) (kind : List ℕ → Bool) (path : List ℕ) → follows front kind path ≡ true → (tail : List ℕ) × (path ≡ front ++ tail) × (kind tail ≡ true)
+follows-is : (front : List ℕ) (kind : List ℕ → Bool) (path : List ℕ) → follows front kind path ≡ true
+    → (tail : List ℕ) × (path ≡ front ++ tail) × (kind tail ≡ true)
 follows-is [] kind path h = (path, refl, h)
 follows-is (x ∷ front) kind [] h = absurd (true≢false (sym h))
 follows-is (x ∷ front) kind (c ∷ path) h =
@@ -57,7 +58,8 @@ reports-at path h =
           ∙ sym (reports-path (before_slash found.0) (after_slash found.0)),
     )
 
-found-at : (path : List ℕ) (a b c : Bool) → follows (codes "/v1/messages") is_empty path ≡ a → follows (codes "/v1/reports/") is_owner_and_month path ≡ b
+found-at : (path : List ℕ) (a b c : Bool) → follows (codes "/v1/messages") is_empty path ≡ a
+    → follows (codes "/v1/reports/") is_owner_and_month path ≡ b
     → follows (codes "/v1/bands/") is_part path ≡ c → (resource : Resource)
     → option_map (resource_of path) (cond a (Some Messages) (cond b (Some OwnerReport) (cond c (Some BandReport) None))) ≡ Some resource → IsPathTo path resource
 found-at path true b c ea eb ec resource e =
@@ -73,7 +75,8 @@ found-at path false false false ea eb ec resource e = cc
 
 -- ---- a path of a form has the route of it
 
-parted : (front back : List ℕ) → list_any is_slash front ≡ false → (before_slash (front ++ 47 ∷ back) ≡ front) × (after_slash (front ++ 47 ∷ back) ≡ back)
+parted : (front back : List ℕ) → list_any is_slash front ≡ false
+    → (before_slash (front ++ 47 ∷ back) ≡ front) × (after_slash (front ++ 47 ∷ back) ≡ back)
 parted [] back none = (refl, refl)
 parted (c ∷ front) back none =
     let parts = or_false_parts (c == 47) (list_any is_slash front) none in
@@ -94,7 +97,8 @@ one : {A : Type 0} (a : Bool) (x y : A) → a ≡ true → cond a x y ≡ x
 one true x y ea = refl
 one false x y ea = absurd (true≢false (sym ea))
 
-reports-found : (names owner month : List ℕ) → before_slash names ≡ owner → after_slash names ≡ month → is_part owner ≡ true → is_part month ≡ true
+reports-found : (names owner month : List ℕ) → before_slash names ≡ owner → after_slash names ≡ month
+    → is_part owner ≡ true → is_part month ≡ true
     → named_by (codes "/v1/reports/" ++ names) ≡ Some (reports owner month)
 unfolding route_of
 reports-found names owner month before after owner_part month_part =

@@ -30,7 +30,8 @@ cut-off front back text later end short e =
     let none : length later ≡ 0 = ap length end in
     omega (arith, lengths, none, short)
 
-body-one : (request : Request) (body text left later : List ℕ) → IsBodyOf request body (Some left) → IsBodyOf request text (Some later) → body ++ left ≡ text ++ later → body ≡ text
+body-one : (request : Request) (body text left later : List ℕ)
+    → IsBodyOf request body (Some left) → IsBodyOf request text (Some later) → body ++ left ≡ text ++ later → body ≡ text
 body-one (refused wanted) body text left later x y e = x ∙ sym y
 body-one (owner_report owner month) body text left later x y e = x ∙ sym y
 body-one (band_report gateway) body text left later x y e = x ∙ sym y
@@ -47,12 +48,15 @@ from-head : (octets body left : List ℕ) (h : RequestHead) → octets ≡ print
 from-head octets body left h e = ap (λ l. l ++ left) e ∙ append_assoc (print_request h) body left
 
 pub requests_are_one : RequestsAreOne
-requests_are_one input left other later request asked body text (bad_head none is empty) (bad_head none_too is_too empty_too) e = (is ∙ sym is_too, empty ∙ sym empty_too)
+requests_are_one input left other later request asked body text (bad_head none is empty) (bad_head none_too is_too empty_too) e =
+    (is ∙ sym is_too, empty ∙ sym empty_too)
 requests_are_one input left other later request asked body text (bad_head none is empty) (head k right fits asks all whole) e =
     absurd (no_head_is_none input left (text ++ later) k none (right, e ∙ from-head other text later k all) fits)
 requests_are_one input left other later request asked body text (head h right fits asks all whole) (bad_head none is empty) e =
     absurd (no_head_is_none other later (body ++ left) h none (right, sym e ∙ from-head input body left h all) fits)
 requests_are_one input left other later request asked body text (head h right fits asks all whole) (head k right_too fits_too asks_too all_too whole_too) e =
-    let heads = heads_are_one (input ++ left) (body ++ left) (text ++ later) h k (right, from-head input body left h all) (right_too, e ∙ from-head other text later k all_too) in
+    let one = from-head input body left h all in
+    let too = e ∙ from-head other text later k all_too in
+    let heads = heads_are_one (input ++ left) (body ++ left) (text ++ later) h k (right, one) (right_too, too) in
     let same = asks-one k request asked (subst (λ x. Asks x request) heads.0 asks) asks_too in
     (same, body-one asked body text left later (subst (λ r. IsBodyOf r body (Some left)) same whole) whole_too heads.1)
