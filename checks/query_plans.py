@@ -5,7 +5,7 @@
 
 It takes the texts of the statements from `crates/desk_rows/src/*.rt`, makes the tables and indexes in a file by those that begin
 with CREATE, and asks `EXPLAIN QUERY PLAN` of each SELECT and UPDATE. A plan that scans a table or sorts rows fails, but for a look
-at the first row in the order of the rowid, which SQLite calls a scan too and ends after one row. It prints a line for each
+at the first row in the order of the rowid, which SQLite calls a scan too and ends after one row, and for meta, which has one row. It prints a line for each
 statement and at the end how many there were, and by which key or index.
 """
 
@@ -18,8 +18,9 @@ from pathlib import Path
 ROOT = Path(__file__).resolve().parent.parent
 SOURCES = ROOT / "crates" / "desk_rows" / "src"
 TEXT = re.compile(r'"((?:SELECT|UPDATE|CREATE) [^"]*)"')
-# The first row in the order of the rowid, or the last.
+# The first row in the order of the rowid, or the last; and the table of one row.
 ENDS = re.compile(r"^SELECT (\w+) FROM \w+ ORDER BY \1( DESC)? LIMIT 1$")
+ONE_ROW = re.compile(r"^SELECT [^?]* FROM meta$")
 
 
 def statements():
@@ -31,7 +32,7 @@ def statements():
 
 def is_bad(text, step):
     """Whether a step of the plan looks through a table, or puts rows in order."""
-    if ENDS.match(text):
+    if ENDS.match(text) or ONE_ROW.match(text):
         return False
     return step.startswith("SCAN") or "TEMP B-TREE" in step
 
@@ -56,7 +57,7 @@ def main():
         conn.close()
     for way, count in sorted(ways.items()):
         print(count, way)
-    print(f"SQLite {sqlite3.sqlite_version}: {len(asked) - failed} of {len(asked)} statements by a key or an index")
+    print(f"SQLite {sqlite3.sqlite_version}: {len(asked) - failed} of {len(asked)} statements look through no table")
     return 1 if failed or not asked else 0
 
 

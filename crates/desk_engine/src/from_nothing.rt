@@ -2,7 +2,8 @@
 ghost use Rattle.std.specs.Prelude.{◌≡◌, ℕ, [], map, take, IfOk};
 ghost use Rattle.registry_core.specs.Bookings.{EveryHourKept};
 ghost use Rattle.registry_core.specs.Heard.{state_of};
-ghost use Rattle.desk_store.specs.Lists.{kept_of};
+ghost use Rattle.registry_core.specs.State.{opening};
+ghost use Rattle.desk_store.specs.Lists.{kept_of, settings_of};
 ghost use Rattle.desk_engine.specs.Deliveries.{heard_all};
 ghost use Rattle.desk_engine.specs.InOrder.{kept_after};
 ghost use Rattle.desk_engine.specs.Outcomes.{AreOutcomes, deliveries_of};
@@ -34,7 +35,18 @@ pub fn run_from_nothing(
 {
     hours_are_kept();
     nothing_is_heard();
-    let mut lists = Lists::new(alloc, config)?;
-    let outcomes = run(alloc, &mut lists, texts)?;
-    Ok((lists, outcomes))
+    let mut lists = opened(alloc, config)?;
+    match run(alloc, &mut *lists, texts) {
+        Ok(outcomes) => Ok((Box::into_inner(lists), outcomes)),
+        Err(error) => Err(error),
+    }
+}
+
+/// The lists, in a box: they are large, and would be moved about.
+fn opened(alloc: Global, config: Config) -> Result<Box<Lists>, AllocError>
+    ensures opens { IfOk result (λ lists. kept_of lists.value ≡ record { facts = opening config; entries = [] }) }
+    ensures config { IfOk result (λ lists. settings_of lists.value ≡ config) }
+{
+    let lists = Lists::new(alloc, config)?;
+    Ok(Box::new(alloc, lists)?)
 }

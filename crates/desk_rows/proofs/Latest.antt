@@ -1,5 +1,5 @@
 -- The look-ups of the greatest: the last number of a table, a device's last nonce, a session's last counter.
-use Rattle.std.proofs.Common.{◌≡◌, ◌<◌, ◌≤◌, ◌+◌, ◌^◌, ◌==◌, ◌<ℤ◌, ℕ, ℤ, pos, max, List, [], ◌∷◌, codes, ◌&&◌, true, false, true≢false, map, filter, length, cond, Option, Some, None, option_map, refl, sym, ap, ap₂, subst, ◌∙◌, arith, Bool, Result, Ordering, Less, Equal, Greater, int_cmp}
+use Rattle.std.proofs.Common.{◌≡◌, ◌<◌, ◌≤◌, ◌+◌, ◌^◌, ◌==◌, ◌<ℤ◌, ℕ, pos, max, List, [], ◌∷◌, codes, ◌&&◌, true, false, true≢false, map, filter, length, cond, Option, Some, None, option_map, refl, sym, ap, ap₂, subst, ◌∙◌, arith, Bool, Result, Ordering, Less, Equal, Greater, int_cmp}
 use Rattle.std.specs.List.{list_all, AllByRecursion}
 use Rattle.std.specs.Prelude.{IfSome}
 use Rattle.std.specs.Ordering.{is_eq, is_gt, ordering_then, MatchOrdering}
@@ -31,7 +31,7 @@ use Rattle.registry_core.specs.Ranges.{IsEui}
 use Rattle.desk_rows.specs.Schema.{desk_schema}
 use Rattle.desk_rows.specs.Calls.{Reads}
 use Rattle.desk_rows.specs.Queries.{Finds}
-use Rattle.desk_rows.specs.Rows.{Rows, Holds, ReplyRow, SessionRow, BookingRow, IsSession, IsUplink, reply_cells, session_cells, uplink_cells, booking_cells, eui, number, kind_number, table_of, last_number}
+use Rattle.desk_rows.specs.Rows.{Rows, Holds, SessionRow, IsSession, IsUplink, reply_cells, session_cells, uplink_cells, booking_cells, eui, number, kind_number, table_of, last_number}
 use Rattle.desk_rows.specs.declared.faults.RowFault.{RowFault}
 use Rattle.desk_rows.proofs.Lookups.{IsLookup, finds, says_so}
 use Rattle.desk_rows.proofs.Ordered.{Asked, query_of, falling, encode, zip_from, head, first_sorted, map_same, map_twice}

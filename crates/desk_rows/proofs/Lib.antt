@@ -8,6 +8,8 @@ pub mod Inserts
 pub mod Latest
 pub mod Lookups
 pub mod MakingLemmas
+pub mod MetaLemmas
+pub mod MetaTexts
 pub mod NumberedLemmas
 pub mod OrderLemmas
 pub mod Ordered
@@ -17,3 +19,4 @@ pub mod RefusedLemmas
 pub mod SchemaTexts
 pub mod Tables
 pub mod Terms
+pub mod Unrefused

@@ -1,5 +1,5 @@
 -- The tables after the batch, and after the first row.
-use Rattle.std.proofs.Common.{◌≡◌, ◌+◌, ◌<◌, ◌^◌, ◌∙◌, ℕ, pos, List, [], ◌∷◌, codes, length, None, Ok, Result, OnOk, IfErr, refl, sym, ap, subst, arith, inl}
+use Rattle.std.proofs.Common.{◌≡◌, ◌∙◌, ℕ, pos, List, [], ◌∷◌, codes, length, None, Ok, Result, OnOk, IfErr, refl, sym, subst, arith, inl}
 use Rattle.std.specs.List.{AllByRecursion}
 use Rattle.sqlite_value.specs.declared.value.Value.TheVariants.{Null, Int, Text}
 use Rattle.sqlite_value.specs.Order.{Row}
@@ -16,11 +16,10 @@ use Rattle.sqlite.specs.State.{State, HasCleanDisk, Executes}
 use Rattle.sqlite_tied.specs.Compute.{everything}
 use Rattle.registry_core.specs.Settings.{Settings}
 use Rattle.std.specs.Prelude.{IsTrue}
-use Rattle.desk_rows.specs.Change.{KeepsOthers}
 use Rattle.desk_rows.specs.Faults.{IsEven}
 use Rattle.desk_rows.specs.Making.{IsBare, IsEmptied, settings_rows}
-use Rattle.desk_rows.specs.Rows.{Rows, Holds, meta_cells, number, table_of}
-use Rattle.desk_rows.specs.Schema.{desk_schema, desk_tables, meta_table, no_schema}
+use Rattle.desk_rows.specs.Rows.{Holds, meta_cells, number}
+use Rattle.desk_rows.specs.Schema.{desk_tables, meta_table, no_schema}
 use Rattle.desk_rows.specs.Statements.{HasWritten}
 use Rattle.desk_rows.specs.declared.faults.RowFault.{RowFault}
 use Rattle.desk_rows.proofs.InsertLemmas.{cast_null, cast_int, uncounted}

@@ -1,10 +1,8 @@
 -- What a query leaves, and when it shows no row.
-use Rattle.std.proofs.Common.{◌≡◌, ◌⊎◌, inl, inr, ℕ, List, [], Option, Some, None, Ok, Err, Result, OnOk, refl, sym, subst, ◌∙◌}
+use Rattle.std.proofs.Common.{◌≡◌, ◌⊎◌, inl, inr, ℕ, List, [], Option, Ok, Err, Result, OnOk, subst}
 use Rattle.sqlite_value.specs.Order.{Row}
 use Rattle.sqlite_trees.specs.declared.error.StoreError.{StoreError}
 use Rattle.sqlite_trees.specs.declared.error.StoreError.TheVariants.{OutOfMemory, Io, Corrupt, Full, Broken, Unstorable}
-use Rattle.sqlite_schema.specs.declared.command.Returning.{Returning}
-use Rattle.std.specs.Prelude.{IsTrue}
 use Rattle.sqlite.specs.Command.{Command}
 use Rattle.sqlite.specs.Command.TheVariants.{Select, Rows}
 use Rattle.sqlite.specs.declared.error.Error.{Error}
@@ -47,7 +45,7 @@ shows_none sql params old new plain (inl (inr h)) =
     let it = subst (FailsToShow old new sql h.0 (timed params h.0.formats h.1.now) QueryReturnedNoRows) none h.2 in
     absurd (no_refusal old.step_limit h.0.command it.0 _ it.2)
 
-fails_leave : (sql : List ℕ) (params : Row) (old new : State) (e : Error) → IsPlain (understood old.now.schema sql) → FailsToQuery sql params old new e → IsUnchanged old new ⊎ IsRolledBack old new
+pub fails_leave : (sql : List ℕ) (params : Row) (old new : State) (e : Error) → IsPlain (understood old.now.schema sql) → FailsToQuery sql params old new e → IsUnchanged old new ⊎ IsRolledBack old new
 unfolding FailsToQuery IsNotRun
 fails_leave sql params old new e plain (inl (inl h)) = inl h.1
 fails_leave sql params old new e plain (inl (inr h)) = inr h.3

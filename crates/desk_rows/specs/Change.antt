@@ -1,10 +1,8 @@
 -- What a writing call leaves of the other tables.
-use Rattle.std.specs.Prelude.{◌≡◌, ◌≢◌, ℕ, List, ◌∷◌, map, drop, IsPermutation}
+use Rattle.std.specs.Prelude.{◌≡◌, ◌≢◌, ℕ}
 use Rattle.std.specs.List.{AllByRecursion}
-use Rattle.sqlite_value.specs.Order.{Row}
 use Rattle.sqlite_trees.specs.Tree.{Trees}
-use Rattle.sqlite.specs.Effect.{Database}
-use Rattle.desk_rows.specs.Schema.{desk_schema, desk_tables}
+use Rattle.desk_rows.specs.Schema.{desk_tables}
 
 -- each other table of the desk is as it was
 abbrev pub KeepsOthers : ℕ → Trees → Trees → Type 0

@@ -3,6 +3,7 @@ pub mod Change
 pub mod Decode
 pub mod Faults
 pub mod Making
+pub mod Meta
 pub mod Queries
 pub mod Replies
 pub mod Rows

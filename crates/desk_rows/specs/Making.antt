@@ -1,5 +1,5 @@
 -- A desk's database before its first rows, and with them.
-use Rattle.std.specs.Prelude.{◌≡◌, [], ◌∷◌}
+use Rattle.std.specs.Prelude.{◌≡◌, []}
 use Rattle.std.specs.List.{AllByRecursion}
 use Rattle.registry_core.specs.Settings.{Settings}
 use Rattle.sqlite.specs.Effect.{Database, IsDatabase}

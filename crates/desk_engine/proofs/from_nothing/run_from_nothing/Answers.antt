@@ -1,23 +1,31 @@
-use Rattle.std.proofs.Common.{[], sym}
-use Rattle.desk_engine.specs.InOrder.{kept_after}
+use Rattle.std.proofs.Common.{[], sym, ap, ◌≡◌, ◌∙◌, subst}
+use Rattle.registry_core.specs.Bookings.{EveryHourKept}
+use Rattle.desk_store.specs.Lists.{kept_of, lists_meaning}
+use Rattle.desk_store.specs.declared.lists.Lists.{Lists}
+use Rattle.desk_engine.specs.InOrder.{IsInOrder, kept_after}
 use Rattle.desk_engine.proofs.KeptAfter.{hours_of}
 use Rattle.desk_engine.proofs.from_nothing.run_from_nothing.Goals as goal
 
-pub returns-clause-outcomes : goal.returns-clause-outcomes
+pub returns-in-Ok-clause-outcomes : goal.returns-in-Ok-clause-outcomes
 unfolding kept_after
-returns-clause-outcomes c =
-    c.in_ok-outcomes.ensures.outcomes c.args.config []
-    (record { its = sym c.in_ok-lists.ensures.config; sound = tt; order = record { list = c.nothing_is_heard.ensures c.args.config; kept = sym c.in_ok-lists.ensures.opens } })
+returns-in-Ok-clause-outcomes c =
+    let lists : c.deref_mut.result.now ≡ c.in_ok-lists.lists.value = c.deref_mut.ensures.value in
+    let order : IsInOrder lists_meaning c.args.config c.deref_mut.result.now [] = record { list = c.nothing_is_heard.ensures c.args.config; kept = sym (rw (sym lists) at c.in_ok-lists.ensures.opens) } in
+    c.in-Ok.ensures.outcomes c.args.config [] (record { its = sym (rw (sym lists) at c.in_ok-lists.ensures.config); sound = tt; order = order })
 
-pub returns-clause-kept : goal.returns-clause-kept
+pub returns-in-Ok-clause-kept : goal.returns-in-Ok-clause-kept
 unfolding kept_after
-returns-clause-kept c =
-    sym (c.in_ok-outcomes.ensures.store.order c.args.config []
-    (record { its = sym c.in_ok-lists.ensures.config; sound = tt; order = record { list = c.nothing_is_heard.ensures c.args.config; kept = sym c.in_ok-lists.ensures.opens } })).kept
+returns-in-Ok-clause-kept c =
+    let lists : c.deref_mut.result.now ≡ c.in_ok-lists.lists.value = c.deref_mut.ensures.value in
+    let order : IsInOrder lists_meaning c.args.config c.deref_mut.result.now [] = record { list = c.nothing_is_heard.ensures c.args.config; kept = sym (rw (sym lists) at c.in_ok-lists.ensures.opens) } in
+    let back : c.into_inner.result ≡ c.run.new.keeper = c.into_inner.ensures in
+    ap kept_of back ∙ sym (c.in-Ok.ensures.store.order c.args.config [] (record { its = sym (rw (sym lists) at c.in_ok-lists.ensures.config); sound = tt; order = order })).kept
 
-pub returns-clause-hours : goal.returns-clause-hours
+pub returns-in-Ok-clause-hours : goal.returns-in-Ok-clause-hours
 unfolding kept_after
-returns-clause-hours c =
-    let order = c.in_ok-outcomes.ensures.store.order c.args.config []
-    (record { its = sym c.in_ok-lists.ensures.config; sound = tt; order = record { list = c.nothing_is_heard.ensures c.args.config; kept = sym c.in_ok-lists.ensures.opens } }) in
-    hours_of c.hours_are_kept.ensures c.args.config _ _ order.kept
+returns-in-Ok-clause-hours c =
+    let lists : c.deref_mut.result.now ≡ c.in_ok-lists.lists.value = c.deref_mut.ensures.value in
+    let order : IsInOrder lists_meaning c.args.config c.deref_mut.result.now [] = record { list = c.nothing_is_heard.ensures c.args.config; kept = sym (rw (sym lists) at c.in_ok-lists.ensures.opens) } in
+    let back : c.into_inner.result ≡ c.run.new.keeper = c.into_inner.ensures in
+    let after = c.in-Ok.ensures.store.order c.args.config [] (record { its = sym (rw (sym lists) at c.in_ok-lists.ensures.config); sound = tt; order = order }) in
+    subst (λ (l : Lists). EveryHourKept (kept_of l).facts) (sym back) (hours_of c.hours_are_kept.ensures c.args.config _ _ after.kept)

@@ -1,4 +1,3 @@
-use Rattle.std.proofs.Common.{◌≡◌}
 use Rattle.desk_rows.proofs.Latest.{last_booking_told}
 use Rattle.desk_rows.proofs.bookings.last_booking.Goals as goal
 

@@ -1,4 +1,3 @@
-use Rattle.std.proofs.Common.{◌≡◌}
 use Rattle.sqlite.specs.Held.{state}
 use Rattle.desk_rows.proofs.MakingLemmas.{settings_made, settings_in_order}
 use Rattle.desk_rows.proofs.making.insert_settings.Goals as goal

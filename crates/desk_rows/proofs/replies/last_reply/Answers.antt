@@ -1,4 +1,3 @@
-use Rattle.std.proofs.Common.{◌≡◌}
 use Rattle.desk_rows.proofs.Latest.{last_reply_told}
 use Rattle.desk_rows.proofs.replies.last_reply.Goals as goal
 

@@ -1,4 +1,3 @@
-use Rattle.std.proofs.Common.{◌≡◌}
 use Rattle.desk_rows.proofs.Latest.{last_nonce_told}
 use Rattle.desk_rows.proofs.sessions.last_nonce.Goals as goal
 

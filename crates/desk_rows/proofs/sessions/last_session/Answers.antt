@@ -1,4 +1,3 @@
-use Rattle.std.proofs.Common.{◌≡◌}
 use Rattle.desk_rows.proofs.Latest.{last_session_told}
 use Rattle.desk_rows.proofs.sessions.last_session.Goals as goal
 

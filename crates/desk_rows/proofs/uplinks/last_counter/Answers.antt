@@ -1,4 +1,3 @@
-use Rattle.std.proofs.Common.{◌≡◌}
 use Rattle.desk_rows.proofs.Latest.{last_counter_told}
 use Rattle.desk_rows.proofs.uplinks.last_counter.Goals as goal
 

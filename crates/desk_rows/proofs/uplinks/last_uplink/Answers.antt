@@ -1,4 +1,3 @@
-use Rattle.std.proofs.Common.{◌≡◌}
 use Rattle.desk_rows.proofs.Latest.{last_uplink_told}
 use Rattle.desk_rows.proofs.uplinks.last_uplink.Goals as goal
 

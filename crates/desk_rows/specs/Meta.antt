@@ -1,0 +1,43 @@
+-- The row of meta: which version the schema has, and what the desk is made with, whatever else the database has.
+use Rattle.std.specs.Prelude.{◌≡◌, ◌<◌, ◌^◌, ℤ, pos, [], ◌∷◌, take}
+use Rattle.registry_core.specs.Ranges.{IsName}
+use Rattle.registry_core.specs.Settings.{Settings, IsBlock}
+use Rattle.sqlite_value.specs.declared.value.Value.TheVariants.{Int, Text}
+use Rattle.sqlite_value.specs.Order.{Row, column}
+use Rattle.sqlite_trees.specs.Tree.{Trees}
+use Rattle.sqlite_schema.specs.declared.schema.Schema.{Schema}
+use Rattle.desk_rows.specs.Schema.{meta_table}
+
+-- the first table is the one that tells the version
+pub record HasMeta (schema : Schema) : Type 0 where
+  pub first : take 1 schema.tables ≡ meta_table ∷ []
+  pub no_views : schema.views ≡ []
+
+-- the configuration is one that a desk can have
+pub record IsConfig (c : Settings) : Type 0 where
+  pub receiver : IsName c.receiver
+  pub operator : IsName c.operator
+  pub block : IsBlock c.base c.addresses
+  pub fits : c.addresses < 2 ^ 32
+
+-- there is one row of meta, and it is in shape
+pub record TellsMeta (trees : Trees) (version : ℤ) (c : Settings) : Type 0 where
+  pub row : Row
+  pub one : trees 0 ≡ row ∷ []
+  pub id : column row 0 ≡ Int (pos 1)
+  pub version_is : column row 2 ≡ Int version
+  pub receiver : column row 3 ≡ Text c.receiver
+  pub operator : column row 4 ≡ Text c.operator
+  pub base : column row 5 ≡ Int (pos c.base)
+  pub addresses : column row 6 ≡ Int (pos c.addresses)
+  pub config : IsConfig c
+
+-- the row that the query shows is in shape
+pub record TellsRow (row : Row) (version : ℤ) (c : Settings) : Type 0 where
+  pub id : column row 0 ≡ Int (pos 1)
+  pub version_is : column row 1 ≡ Int version
+  pub receiver : column row 2 ≡ Text c.receiver
+  pub operator : column row 3 ≡ Text c.operator
+  pub base : column row 4 ≡ Int (pos c.base)
+  pub addresses : column row 5 ≡ Int (pos c.addresses)
+  pub config : IsConfig c
