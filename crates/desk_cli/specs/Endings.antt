@@ -5,11 +5,11 @@ use Rattle.desk_cli.specs.declared.endings.Ending.TheVariants.{Done, Refused, Mi
 use Rattle.desk_cli.specs.declared.usage.Usage.{Usage}
 use Rattle.desk_cli.specs.declared.usage.Usage.TheVariants.{Memory}
 
-abbrev pub status_of : Ending → ℕ
-status_of Done = 0
-status_of Refused = 1
-status_of Misused = 2
-status_of Failed = 3
+abbrev pub exit_number : Ending → ℕ
+exit_number Done = 0
+exit_number Refused = 1
+exit_number Misused = 2
+exit_number Failed = 3
 
 -- the want of memory is a failure, and all else that is wrong with words is a misuse, help too
 abbrev pub ending_of : Usage → Ending

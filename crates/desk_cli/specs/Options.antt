@@ -26,16 +26,16 @@ with_settings app =
 -- ---- what they give
 
 -- a value, or which value is bad
-abbrev pub Checked : Type 0 → Type 0
-Checked X = Result X BadValue
+abbrev pub OrBad : Type 0 → Type 0
+OrBad X = Result X BadValue
 
 infixl 10 ◌>>=◌
-abbrev pub ◌>>=◌ : {X Y : Type 0} → Checked X → (X → Checked Y) → Checked Y
+abbrev pub ◌>>=◌ : {X Y : Type 0} → OrBad X → (X → OrBad Y) → OrBad Y
 (Ok x) >>= next = next x
 (Err bad) >>= next = Err bad
 
 -- it has to be there, or else this value is bad
-abbrev pub needs : {X : Type 0} → Option X → BadValue → Checked X
+abbrev pub needs : {X : Type 0} → Option X → BadValue → OrBad X
 needs (Some x) bad = Ok x
 needs None bad = Err bad
 
@@ -57,7 +57,7 @@ abbrev pub value_at : {X : Type 0} → (Text → Option X) → Text → List Row
 value_at form option rows = option_and_then form (first_of option rows)
 
 -- the configuration of the four options, or the first of them that is bad
-unfoldable pub config_of : List Row → Checked Settings
+unfoldable pub config_of : List Row → OrBad Settings
 config_of rows = do
   receiver ← needs (value_at name_of (codes "receiver") rows) Receiver
   operator ← needs (value_at name_of (codes "operator") rows) Operator

@@ -1,7 +1,7 @@
 //! How the program ends.
 ghost use Rattle.std.specs.Prelude.{◌≡◌};
 ghost use Rattle.std.specs.Process.{exit_status};
-ghost use Rattle.desk_cli.specs.Endings.{ending_of, status_of};
+ghost use Rattle.desk_cli.specs.Endings.{ending_of, exit_number};
 
 use crate::usage::Usage;
 use std::process::ExitCode;
@@ -22,7 +22,7 @@ pub enum Ending {
 impl Ending {
     /// The exit status.
     pub fn status(self) -> ExitCode
-        ensures { exit_status result ≡ status_of self }
+        ensures { exit_status result ≡ exit_number self }
     {
         ExitCode::from(self as u8)
     }

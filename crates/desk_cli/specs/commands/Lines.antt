@@ -5,7 +5,7 @@ use Rattle.clap.specs.Simple.{App, new_app}
 use Rattle.registry_core.specs.Settings.{Settings}
 use Rattle.desk_engine.specs.Lines.{all_lines, answer_lines}
 use Rattle.desk_cli.specs.Named.{Named, bad, names}
-use Rattle.desk_cli.specs.Options.{Checked, with_settings}
+use Rattle.desk_cli.specs.Options.{OrBad, with_settings}
 use Rattle.desk_cli.specs.declared.commands.Command.TheVariants.{Lines}
 
 -- its words
@@ -13,7 +13,7 @@ abbrev pub lines_app : App
 lines_app = with_settings (new_app (codes "lines"))
 
 -- what its options name
-abbrev pub lines_named : Checked Settings → Named
+abbrev pub lines_named : OrBad Settings → Named
 lines_named (Ok config) = names (Lines config)
 lines_named (Err value) = bad value
 
