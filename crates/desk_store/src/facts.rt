@@ -1,13 +1,14 @@
 //! The registry's facts in the plain form: what has a key in maps and sets, and what is numbered in lists.
 ghost use Rattle.std.specs.Prelude.{◌≡◌, ◌+◌, [], ◌∷◌, ◌++◌, length, IfOk, OnOk, OnErr};
 ghost use Rattle.registry_core.specs.State.{copies_with, devices_with_move, opening, state_with};
+ghost use Rattle.registry_core.specs.declared.effects.Effect.TheVariants.{AddsCopy, AddsSession, AddsUplink};
 ghost use Rattle.desk_store.specs.Facts.{copies_of, devices_of, facts_of};
 
 use crate::sessions::Sessions;
 use crate::traffic::Traffic;
 use indexmap::{IndexMap, IndexSet};
 use radio_core::{Eui, Name};
-use registry_core::{Config, Device, Effect, Reception, Role, Uplink};
+use registry_core::{Config, Device, Effect, Reception, Role, Session, Uplink};
 use std::alloc::{AllocError, Global};
 
 /// The registry's facts. Contracts see what they are by `facts_of`.
@@ -66,44 +67,76 @@ impl Facts {
                 uplink,
                 gateway,
                 reception,
-            } => {
-                self.sessions.make_room()?;
-                add_uplink(
-                    &mut self.traffic,
-                    &mut self.copies,
-                    uplink,
-                    gateway,
-                    reception,
-                )?;
-                self.sessions.push(session)?;
-            }
+            } => self.add_session(session, uplink, gateway, reception)?,
             Effect::AddsUplink {
                 uplink,
                 gateway,
                 reception,
-            } => add_uplink(
-                &mut self.traffic,
-                &mut self.copies,
-                uplink,
-                gateway,
-                reception,
-            )?,
+            } => self.add_uplink(uplink, gateway, reception)?,
             Effect::AddsCopy {
                 uplink,
                 gateway,
                 reception,
-            } => {
-                self.copies.insert((uplink, gateway), reception)?;
-            }
+            } => self.add_copy(uplink, gateway, reception)?,
             Effect::AddsBooking { booking } => self.traffic.push_booking(booking)?,
             Effect::EndsBooking { booking, sent } => self.traffic.end_booking(booking, sent)?,
         }
         Ok(())
     }
+
+    /// Adds the session, its join uplink and that one's copy, or nothing.
+    fn add_session(
+        &mut self,
+        session: Session,
+        uplink: Uplink,
+        gateway: Name,
+        reception: Reception,
+    ) -> Result<(), AllocError>
+        ensures ok { OnOk result (facts_of self.new ≡ state_with (facts_of self.old) (AddsSession session uplink gateway reception)) }
+        ensures err { OnErr result (facts_of self.new ≡ facts_of self.old) }
+    {
+        self.sessions.make_room()?;
+        self.add_uplink(uplink, gateway, reception)?;
+        self.sessions.push(session)
+    }
+
+    /// Adds the uplink and its copy, or nothing.
+    fn add_uplink(
+        &mut self,
+        uplink: Uplink,
+        gateway: Name,
+        reception: Reception,
+    ) -> Result<(), AllocError>
+        ensures ok { OnOk result (facts_of self.new ≡ state_with (facts_of self.old) (AddsUplink uplink gateway reception)) }
+        ensures err { OnErr result (facts_of self.new ≡ facts_of self.old) }
+        ensures sessions { self.new.sessions ≡ self.old.sessions }
+    {
+        put_uplink(
+            &mut self.traffic,
+            &mut self.copies,
+            uplink,
+            gateway,
+            reception,
+        )
+    }
+
+    /// Adds the copy, or nothing.
+    fn add_copy(
+        &mut self,
+        uplink: u64,
+        gateway: Name,
+        reception: Reception,
+    ) -> Result<(), AllocError>
+        ensures ok { OnOk result (facts_of self.new ≡ state_with (facts_of self.old) (AddsCopy uplink gateway reception)) }
+        ensures err { OnErr result (facts_of self.new ≡ facts_of self.old) }
+    {
+        self.copies.insert((uplink, gateway), reception)?;
+        Ok(())
+    }
 }
 
 /// The uplink goes to the end with the next number, and so does its copy; or neither.
-fn add_uplink(
+fn put_uplink(
     traffic: &mut Traffic,
     copies: &mut IndexMap<(u64, Name), Reception>,
     uplink: Uplink,

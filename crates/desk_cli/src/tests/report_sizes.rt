@@ -152,6 +152,11 @@ fn an_owner_with_many_uplinks(rt: HostRuntime) -> Result<(), Fail> {
     Ok(())
 }
 
+/// So many seconds after the month begins, as the start of a span.
+fn moment(seconds: u64) -> Result<i64, &'static str> {
+    i64::try_from(later(seconds)).map_err(|_| "out of range")
+}
+
 /// A gateway with so many bookings, a second apart.
 fn booked(alloc: Global, bookings: u64) -> Result<Box<Lists>, Fail> {
     let mut lists = opening::<Lists>(alloc, 65_536)?;
@@ -162,7 +167,7 @@ fn booked(alloc: Global, bookings: u64) -> Result<Box<Lists>, Fail> {
             uplink: 1,
             gateway,
             band: Band::B3,
-            span: Span::new(later(place) as i64, AIRTIME).ok_or("out of range")?,
+            span: Span::new(moment(place)?, AIRTIME).ok_or("out of range")?,
             standing: Standing::Sent,
         };
         let add = Effect::AddsBooking { booking };

@@ -3,7 +3,7 @@ use Rattle.std.specs.Map.{lookup}
 use Rattle.registry_core.specs.State.{copies_with}
 use Rattle.desk_store.specs.Facts.{same_copy}
 use Rattle.desk_store.proofs.Keyed.{copies_with-updated}
-use Rattle.desk_store.proofs.facts.add_uplink.Goals as goal
+use Rattle.desk_store.proofs.facts.put_uplink.Goals as goal
 
 pub returns-clause-copies : goal.returns-clause-copies
 returns-clause-copies c =
