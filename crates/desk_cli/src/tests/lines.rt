@@ -92,15 +92,15 @@ fn a_write_fails(rt: HostRuntime) -> Result<(), Fail> {
     let want = format!(in alloc; "{ADDED}\n{MALFORMED}\n")?;
     let reused = format!(in alloc; "{REUSED}\n")?;
     let input = format!(in alloc; "{REQUEST}\n\n{{")?;
-    // Two writes an answer.
-    for until_failure in 0..5 {
+    // One write an answer.
+    for until_failure in 0..3 {
         let mut lists = opening::<Lists>(alloc, 65_536)?;
         let mut reader = input.as_bytes();
         let mut writer = Failing::new(until_failure);
         let ended = run_lines(alloc, &mut *lists, &mut reader, &mut writer);
         assert_eq!(rt;
             ended,
-            if until_failure < 4 {
+            if until_failure < 2 {
                 LinesEnd::Write
             } else {
                 LinesEnd::Done
