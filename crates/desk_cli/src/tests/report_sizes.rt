@@ -125,7 +125,7 @@ fn lines(alloc: Global, devices: u64, uplinks: u64) -> Result<String, Fail> {
     let count = uplinks / devices.max(1);
     let airtime = count.saturating_mul(u64::from(AIRTIME));
     let peak = count
-        .min(3_600 / devices.max(1))
+        .min((3_599 / devices.max(1)).saturating_add(1))
         .saturating_mul(u64::from(AIRTIME));
     let mut text = String::new(alloc);
     for device in 1..=devices {
