@@ -30,9 +30,9 @@ use Rattle.registry_core.specs.Ranges.{IsEui, IsName}
 use Rattle.registry_core.specs.Wholes.{IsWhole}
 use Rattle.desk_rows.specs.Rows.{Rows, Holds, SenderRow, ReplyRow, DeviceRow, SessionRow, CopyRow, BookingRow, IsDevice, IsSession, IsUplink, IsCopy, IsBooking, sender_cells, reply_cells, name_cells, device_cells, session_cells, uplink_cells, copy_cells, booking_cells, number, eui, or_null, role_number, kind_number, standing_number, is_sender, is_reply, is_device, is_session, is_uplink, is_copy}
 use Rattle.desk_rows.specs.Calls.{Reads}
-use Rattle.desk_rows.specs.Queries.{Finds, Knows}
+use Rattle.desk_rows.specs.steps.Queries.{Finds, Knows}
 use Rattle.desk_rows.specs.Replies.{texts_shown, reply_texts}
-use Rattle.desk_rows.specs.Shown.{uplink_shown, copy_shown, booking_shown}
+use Rattle.desk_rows.specs.steps.Shown.{uplink_shown, copy_shown, booking_shown}
 use Rattle.desk_rows.specs.declared.faults.RowFault.{RowFault}
 use Rattle.desk_rows.specs.declared.replies.Texts.{Texts}
 use Rattle.desk_rows.proofs.Lookups.{IsLookup, known_by, found_by, says_so}

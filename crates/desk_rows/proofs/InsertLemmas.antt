@@ -22,7 +22,7 @@ use Rattle.sqlite.specs.Listing.{understood}
 use Rattle.sqlite.specs.State.{State, mode_of, Executes}
 use Rattle.sqlite.proofs.Callers.{IsPlain, command_of, statement_of, runs_as, one_step}
 use Rattle.desk_rows.specs.Schema.{desk_schema, desk_tables}
-use Rattle.desk_rows.specs.Change.{KeepsOthers}
+use Rattle.desk_rows.specs.steps.Change.{KeepsOthers}
 
 either : (b : Bool) (x : Value) → cond b x x ≡ x
 either true x = refl

@@ -38,12 +38,13 @@ use Rattle.sqlite.specs.declared.error.Error.{Error}
 use Rattle.sqlite.specs.State.{State, Executes, ExecutesInside, EndsScope}
 use Rattle.sqlite.proofs.Callers.{IsPlain, command_of}
 use Rattle.desk_rows.specs.Schema.{desk_schema, desk_tables}
-use Rattle.desk_rows.specs.Change.{KeepsOthers}
+use Rattle.desk_rows.specs.steps.Change.{KeepsOthers}
 use Rattle.desk_rows.specs.Rows.{Rows, Holds, InRange, numbered_from, table_of}
 use Rattle.desk_rows.specs.Calls.{Changes}
-use Rattle.desk_rows.specs.Statements.{HasWritten}
+use Rattle.desk_rows.specs.steps.Statements.{HasWritten}
 use Rattle.desk_rows.proofs.Tables.{tables, with_table, holds_with}
-use Rattle.desk_rows.specs.Faults.{fault_of, is_odd}
+use Rattle.desk_rows.specs.Faults.{is_odd}
+use Rattle.desk_rows.specs.steps.Errors.{fault_of}
 use Rattle.desk_rows.specs.declared.faults.RowFault.{RowFault}
 use Rattle.desk_rows.specs.declared.faults.RowFault.TheVariants.{Memory, Disk, Size, Row as OutOfShape, Refused}
 use Rattle.desk_rows.proofs.FaultLemmas.{not_row}

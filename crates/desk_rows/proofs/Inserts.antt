@@ -13,7 +13,7 @@ use Rattle.registry_core.specs.declared.facts.Uplink.{Uplink}
 use Rattle.desk_rows.specs.Schema.{sender_table, reply_table, owner_table, gateway_table, device_table, session_table, uplink_table, copy_table, booking_table}
 use Rattle.desk_rows.specs.Rows.{SenderRow, ReplyRow, DeviceRow, SessionRow, CopyRow, BookingRow, IsDevice, IsSession, IsUplink, IsCopy, IsBooking, sender_cells, reply_cells, name_cells, device_cells, session_cells, uplink_cells, copy_cells, booking_cells, number, eui, role_number, kind_number, standing_number, is_sender, is_reply, is_device, is_session, is_uplink, is_copy}
 use Rattle.desk_rows.specs.Calls.{Changes}
-use Rattle.desk_rows.specs.Statements.{HasWritten}
+use Rattle.desk_rows.specs.steps.Statements.{HasWritten}
 use Rattle.desk_rows.specs.declared.faults.RowFault.{RowFault}
 use Rattle.desk_rows.proofs.InsertLemmas.{cast_null, cast_int}
 use Rattle.desk_rows.proofs.Insertions.{IsInsert, key_free, changed_by}

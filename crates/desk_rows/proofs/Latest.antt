@@ -30,7 +30,7 @@ use Rattle.registry_core.specs.Numbered.{greatest}
 use Rattle.registry_core.specs.Ranges.{IsEui}
 use Rattle.desk_rows.specs.Schema.{desk_schema}
 use Rattle.desk_rows.specs.Calls.{Reads}
-use Rattle.desk_rows.specs.Queries.{Finds}
+use Rattle.desk_rows.specs.steps.Queries.{Finds}
 use Rattle.desk_rows.specs.Rows.{Rows, Holds, SessionRow, IsSession, IsUplink, reply_cells, session_cells, uplink_cells, booking_cells, eui, number, kind_number, table_of, last_number}
 use Rattle.desk_rows.specs.declared.faults.RowFault.{RowFault}
 use Rattle.desk_rows.proofs.Lookups.{IsLookup, finds, says_so}

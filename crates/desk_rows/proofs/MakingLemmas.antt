@@ -20,7 +20,7 @@ use Rattle.desk_rows.specs.Faults.{IsEven}
 use Rattle.desk_rows.specs.Making.{IsBare, IsEmptied, settings_rows}
 use Rattle.desk_rows.specs.Rows.{Holds, meta_cells, number}
 use Rattle.desk_rows.specs.Schema.{desk_tables, meta_table, no_schema}
-use Rattle.desk_rows.specs.Statements.{HasWritten}
+use Rattle.desk_rows.specs.steps.Statements.{HasWritten}
 use Rattle.desk_rows.specs.declared.faults.RowFault.{RowFault}
 use Rattle.desk_rows.proofs.InsertLemmas.{cast_null, cast_int, uncounted}
 use Rattle.desk_rows.proofs.Insertions.{IsInsert, row_added, insert_in_order, ran_well}

@@ -25,8 +25,10 @@ use Rattle.desk_rows.specs.declared.faults.RowFault.TheVariants.{Memory, Disk, S
 use Rattle.desk_rows.specs.declared.faults.RowFault.{RowFault}
 use Rattle.desk_rows.proofs.FaultLemmas.{not_row}
 use Rattle.desk_rows.specs.Schema.{meta_table}
-use Rattle.desk_rows.specs.Faults.{fault_of, is_odd}
-use Rattle.desk_rows.specs.Meta.{HasMeta, TellsMeta, TellsRow}
+use Rattle.desk_rows.specs.Faults.{is_odd}
+use Rattle.desk_rows.specs.steps.Errors.{fault_of}
+use Rattle.desk_rows.specs.Meta.{HasMeta, TellsMeta}
+use Rattle.desk_rows.specs.steps.Meta.{TellsRow}
 use Rattle.desk_rows.proofs.MetaTexts.{find_text, find_query, find_is, find_plain, find_whole, find_typed, names, beside}
 use Rattle.desk_rows.proofs.QueryLemmas.{shown_leaves, fails_leave}
 use Rattle.desk_rows.proofs.ReadLemmas.{answer_count, passing}

@@ -7,7 +7,7 @@ use Rattle.sqlite.specs.Command.{Command}
 use Rattle.sqlite.specs.Command.TheVariants.{Select, Rows}
 use Rattle.sqlite.specs.declared.error.Error.{Error}
 use Rattle.sqlite.specs.declared.error.Error.TheVariants.{SqliteFailure, SqlInputError, InvalidParameterCount, ExecuteReturnedResults, InvalidQuery, MultipleStatement, QueryReturnedNoRows, InvalidColumnIndex, InvalidColumnType, IntegralValueOutOfRange, Utf8Error}
-use Rattle.desk_rows.specs.Faults.{found_of}
+use Rattle.desk_rows.specs.steps.Errors.{found_of}
 use Rattle.std.specs.Result.{is_ok}
 use Rattle.desk_rows.specs.Calls.{Leaves}
 use Rattle.sqlite.specs.Effect.{Database, RefusesToRead}

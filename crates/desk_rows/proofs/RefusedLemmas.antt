@@ -30,7 +30,7 @@ use Rattle.sqlite.specs.Listing.{understood}
 use Rattle.sqlite.specs.Clock.{timed}
 use Rattle.sqlite.specs.State.{State, mode_of, Executes, IsNoStatement, IsNotRun, IsUnchanged, ExecutesIn, RunsCommand, text_of, shows_rows, store_error}
 use Rattle.desk_rows.specs.Schema.{desk_schema, desk_tables}
-use Rattle.desk_rows.specs.Faults.{fault_of}
+use Rattle.desk_rows.specs.steps.Errors.{fault_of}
 use Rattle.desk_rows.specs.declared.faults.RowFault.TheVariants.{Refused}
 use Rattle.desk_rows.proofs.InsertLemmas.{uncounted}
 

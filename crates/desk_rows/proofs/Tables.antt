@@ -6,7 +6,7 @@ use Rattle.sqlite_value.specs.Order.{Row}
 use Rattle.sqlite_trees.specs.Tree.{Trees}
 use Rattle.sqlite.specs.Effect.{Database, IsDatabase}
 use Rattle.desk_rows.specs.Schema.{desk_schema}
-use Rattle.desk_rows.specs.Change.{KeepsOthers}
+use Rattle.desk_rows.specs.steps.Change.{KeepsOthers}
 use Rattle.desk_rows.specs.Rows.{Rows, Holds, InRange, table_of, meta_cells, sender_cells, reply_cells, name_cells, device_cells, session_cells, uplink_cells, copy_cells, booking_cells}
 
 -- the rows of each tree that has a table

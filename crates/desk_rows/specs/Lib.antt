@@ -1,13 +1,9 @@
 pub mod Calls
-pub mod Change
-pub mod Decode
 pub mod Faults
 pub mod Making
 pub mod Meta
-pub mod Queries
 pub mod Replies
 pub mod Rows
 pub mod Schema
-pub mod Shown
-pub mod Statements
 pub mod order
+pub mod steps

@@ -31,13 +31,3 @@ pub record TellsMeta (trees : Trees) (version : ℤ) (c : Settings) : Type 0 whe
   pub base : column row 5 ≡ Int (pos c.base)
   pub addresses : column row 6 ≡ Int (pos c.addresses)
   pub config : IsConfig c
-
--- the row that the query shows is in shape
-pub record TellsRow (row : Row) (version : ℤ) (c : Settings) : Type 0 where
-  pub id : column row 0 ≡ Int (pos 1)
-  pub version_is : column row 1 ≡ Int version
-  pub receiver : column row 2 ≡ Text c.receiver
-  pub operator : column row 3 ≡ Text c.operator
-  pub base : column row 4 ≡ Int (pos c.base)
-  pub addresses : column row 5 ≡ Int (pos c.addresses)
-  pub config : IsConfig c

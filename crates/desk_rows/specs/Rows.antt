@@ -214,7 +214,3 @@ pub record Holds (db : Database) (r : Rows) : Type 0 where
   pub uplink : db.trees 13 ≡ table_of uplink_cells r.uplinks
   pub copy : db.trees 15 ≡ table_of copy_cells r.copies
   pub booking : db.trees 17 ≡ table_of booking_cells r.bookings
-
--- trees alone, as a crash leaves them
-abbrev pub HoldsTrees : Trees → Rows → Type 0
-HoldsTrees trees r = Holds (record { schema = desk_schema; trees = trees }) r

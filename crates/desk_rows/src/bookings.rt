@@ -6,7 +6,7 @@ ghost use Rattle.registry_core.specs.declared.facts.Booking.{Booking};
 ghost use Rattle.registry_core.specs.Bookings.{is_answer_to};
 ghost use Rattle.registry_core.specs.Numbered.{item_at};
 ghost use Rattle.registry_core.specs.Ranges.{IsName};
-ghost use Rattle.desk_rows.specs.Shown.{booking_shown};
+ghost use Rattle.desk_rows.specs.steps.Shown.{booking_shown};
 ghost use Rattle.sqlite.specs.Held.{state};
 ghost use Rattle.desk_rows.specs.Rows.{last_number};
 ghost use Rattle.desk_rows.specs.Calls.{Changes, Reads};

@@ -8,7 +8,8 @@ ghost use Rattle.radio_core.specs.Bands.{band_number};
 ghost use Rattle.radio_core.specs.DataRates.{dr_number};
 ghost use Rattle.registry_core.specs.Ranges.{IsEui, IsName};
 ghost use Rattle.registry_core.specs.Wholes.{IsWhole};
-ghost use Rattle.desk_rows.specs.Faults.{IsEven, ReadsAt};
+ghost use Rattle.desk_rows.specs.Faults.{IsEven};
+ghost use Rattle.desk_rows.specs.steps.Errors.{ReadsAt};
 ghost use Rattle.desk_rows.specs.Rows.{eui, kind_number, number, role_number, standing_number};
 
 use crate::faults::{RowFault, read_fault};

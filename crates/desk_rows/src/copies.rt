@@ -6,7 +6,7 @@ ghost use Rattle.desk_rows.specs.Calls.{Changes, Reads};
 ghost use Rattle.registry_core.specs.declared.facts.Reception.{Reception};
 ghost use Rattle.registry_core.specs.Wholes.{IsWhole};
 ghost use Rattle.desk_rows.specs.Rows.{is_copy};
-ghost use Rattle.desk_rows.specs.Shown.{copy_shown};
+ghost use Rattle.desk_rows.specs.steps.Shown.{copy_shown};
 
 use crate::columns::{data_rate_at, whole_at, word_at};
 use crate::faults::RowFault;

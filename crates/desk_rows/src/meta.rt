@@ -7,7 +7,8 @@ ghost use Rattle.registry_core.specs.Settings.{Settings};
 ghost use Rattle.sqlite.specs.Held.{state};
 ghost use Rattle.sqlite.specs.State.{HasCleanDisk, Survives, IsUnchanged, IsRolledBack};
 ghost use Rattle.desk_rows.specs.Faults.{is_odd};
-ghost use Rattle.desk_rows.specs.Meta.{HasMeta, TellsMeta, TellsRow};
+ghost use Rattle.desk_rows.specs.Meta.{HasMeta, TellsMeta};
+ghost use Rattle.desk_rows.specs.steps.Meta.{TellsRow};
 
 use crate::faults::{RowFault, fault_of};
 use radio_core::Name;

@@ -5,9 +5,9 @@ ghost use Rattle.sqlite.specs.Values.{bound};
 ghost use Rattle.sqlite.specs.declared.error.Error.{Error};
 ghost use Rattle.sqlite_value.specs.Order.{Row};
 ghost use Rattle.sqlite_value.specs.declared.value.Value.{Value};
-ghost use Rattle.desk_rows.specs.Faults.{Decodes, found_of, known_of};
+ghost use Rattle.desk_rows.specs.steps.Errors.{Decodes, found_of, known_of};
 ghost use Rattle.desk_rows.specs.Rows.{number};
-ghost use Rattle.desk_rows.specs.Queries.{Finds, HasRun, IsReadOf, Knows};
+ghost use Rattle.desk_rows.specs.steps.Queries.{Finds, HasRun, IsReadOf, Knows};
 
 use crate::columns::number_at;
 use crate::faults::{RowFault, found};

@@ -4,7 +4,7 @@ use crate::{
     insert_booking, insert_copy, insert_device, insert_gateway, insert_owner, insert_reply,
     insert_sender, insert_session, insert_settings, insert_uplink, is_answered, last_booking,
     last_counter, last_nonce, last_reply, last_session, last_uplink, next_down, owner_is_known,
-    role_of, session, session_with, texts_of, uplink, uplink_with,
+    read_settings, role_of, session, session_with, texts_of, uplink, uplink_with,
 };
 use duty_core::Span;
 use radio_core::{Band, DataRate, Eui, Name, Octets, Rate};
@@ -24,6 +24,10 @@ fn name(text: &str) -> Result<Name, &'static str> {
 
 fn whole(number: u64) -> Result<Whole, &'static str> {
     Whole::new(number).ok_or("no whole number")
+}
+
+fn town_config() -> Result<Config, &'static str> {
+    Config::new(name("desk")?, name("office")?, 0x01a0_0000, 65536).ok_or("no block")
 }
 
 fn town_device() -> Result<Device, &'static str> {
@@ -111,7 +115,7 @@ fn filled(conn: &mut Conn) -> Result<(), Fail> {
     if !conn.is_autocommit() {
         return Err(Fail::new(format_args!("in a transaction")));
     }
-    let config = Config::new(name("desk")?, name("office")?, 0x01a0_0000, 65536).ok_or("no block")?;
+    let config = town_config()?;
     let mut tx = conn.transaction();
     made(&mut tx, &config).or(Err("not made"))?;
     all_added(&mut tx)?;
@@ -280,15 +284,13 @@ fn refused(conn: &mut Conn) -> Result<bool, Fail> {
     Ok(again && beyond && made)
 }
 
-fn settings_are_kept(conn: &mut Conn) -> Result<bool, Fail> {
-    let row = conn.query_row(
-        "SELECT version, receiver, operator, base, addresses FROM meta",
-        &[],
-    )?;
-    let numbers = row.get::<i64>(0)? == 1 && row.get::<i64>(3)? == 0x01a0_0000;
-    let names = row.get::<String>(1)?.as_str() == "desk"
-        && row.get::<String>(2)?.as_str() == "office";
-    Ok(numbers && names && row.get::<i64>(4)? == 65536)
+fn settings_are_read(conn: &mut Conn) -> Result<bool, &'static str> {
+    Ok(read_settings(conn) == Ok((1, town_config()?)))
+}
+
+fn index_is_taken(conn: &mut Conn) -> bool {
+    conn.execute_batch("CREATE INDEX booking_uplink ON booking (uplink)")
+        .is_err()
 }
 
 #[test]
@@ -296,6 +298,7 @@ fn taken_keys_are_refused(rt: HostRuntime) -> Result<(), Fail> {
     let mut conn = Connection::open_in_memory(rt.alloc())?;
     filled(&mut conn)?;
     assert!(rt; refused(&mut conn)?);
-    assert!(rt; settings_are_kept(&mut conn)?);
+    assert!(rt; settings_are_read(&mut conn)?);
+    assert!(rt; index_is_taken(&mut conn));
     Ok(())
 }

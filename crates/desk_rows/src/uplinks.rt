@@ -7,7 +7,7 @@ ghost use Rattle.registry_core.specs.declared.facts.Uplink.{Uplink};
 ghost use Rattle.registry_core.specs.Derived.{last_counter};
 ghost use Rattle.registry_core.specs.Numbered.{first_that, item_at};
 ghost use Rattle.desk_rows.specs.Rows.{IsUplink, is_uplink, last_number, number};
-ghost use Rattle.desk_rows.specs.Shown.{uplink_shown};
+ghost use Rattle.desk_rows.specs.steps.Shown.{uplink_shown};
 
 use crate::columns::{band_at, frame_at, kind_at, number_at, whole_at, word_at};
 use crate::faults::RowFault;

@@ -2,7 +2,7 @@
 ghost use Rattle.std.specs.Prelude.{◌≡◌};
 ghost use Rattle.sqlite.specs.Held.{state};
 ghost use Rattle.sqlite.specs.Values.{bound};
-ghost use Rattle.desk_rows.specs.Statements.{HasWritten};
+ghost use Rattle.desk_rows.specs.steps.Statements.{HasWritten};
 
 use crate::faults::{RowFault, fault_of};
 use sqlite::{Alter, Transaction};

@@ -4,15 +4,15 @@ use Rattle.std.specs.List.{AllByRecursion}
 use Rattle.std.specs.Option.{option_map_or}
 use Rattle.std.specs.Cmp.{both_ways as same_tests}
 use Rattle.std.proofs.lemmas.Bool.{and_from, and_parts, and_right, both_ways, cases_order, eq-eqb, eqb-true, false_from_ne_true}
+use Rattle.std.proofs.Math.Bool.{and_assoc}
 use Rattle.registry_core.specs.declared.facts.Kind.{Kind}
 use Rattle.registry_core.specs.declared.facts.Kind.TheVariants.{Join, Data}
 use Rattle.registry_core.specs.declared.facts.Session.{Session}
 use Rattle.registry_core.specs.declared.facts.Uplink.{Uplink}
 use Rattle.registry_core.specs.Derived.{data_with, is_data, is_data_of, is_data_with, is_join, is_join_with, is_of_device, is_session_of, join_with}
 use Rattle.registry_core.specs.Numbered.{first_from, first_that}
-use Rattle.desk_rows.specs.Rows.{Rows, SessionRow, kind_number, is_session}
+use Rattle.desk_rows.specs.Rows.{Rows, SessionRow, kind_number, is_session, is_uplink}
 use Rattle.desk_rows.specs.order.Facts.{sessions_in}
-use Rattle.desk_rows.specs.order.Keys.{is_uplink_row}
 use Rattle.desk_rows.specs.order.LookUps.{is_data_row, row_with, uplink_joined}
 use Rattle.desk_rows.specs.order.RowsOf.{IsKeyed, IsOfSession, NamesRows, same_join}
 use Rattle.desk_rows.proofs.OrderLemmas.Each.{apart_at}
@@ -80,10 +80,11 @@ pub always : {X : Type 0} (xs : List X) → AllByRecursion (λ x. Unit {0}) xs
 always [] = tt
 always (x ∷ xs) = (tt, always xs)
 
-pub data_found : (uplinks : List Uplink) (n counter : ℕ) → row_with (is_uplink_row n Data counter) uplinks ≡ data_with uplinks n counter
-data_found uplinks n counter = first_zipped (is_uplink_row n Data counter) 1 uplinks ∙
-    first_alike (λ u. Unit {0}) (is_uplink_row n Data counter) (is_data_with n counter)
-    (λ u done. ap (λ b. b && u.counter == counter) (data_row_alike n u u.kind refl)) 1 uplinks (always uplinks)
+pub data_found : (uplinks : List Uplink) (n counter : ℕ) → row_with (is_uplink n Data counter) uplinks ≡ data_with uplinks n counter
+data_found uplinks n counter = first_zipped (is_uplink n Data counter) 1 uplinks ∙
+    first_alike (λ u. Unit {0}) (is_uplink n Data counter) (is_data_with n counter)
+    (λ u done. sym (and_assoc (u.session == n) (kind_number u.kind == 1) (u.counter == counter))
+    ∙ ap (λ b. b && u.counter == counter) (data_row_alike n u u.kind refl)) 1 uplinks (always uplinks)
 
 -- ---- joins
 
@@ -147,39 +148,39 @@ module _ (r : Rows) (names : NamesRows r) (keyed : IsKeyed r) (dev_eui nonce : �
               (and_from _ _ (eq-eqb _ _ device) (eq-eqb _ _ number)))
         ]
 
-    is_joined : (u : Uplink) → IsOfSession sessions u → is_uplink_row (suc k) Join nonce u ≡ true → is_join_with sessions dev_eui nonce u ≡ true
+    is_joined : (u : Uplink) → IsOfSession sessions u → is_uplink (suc k) Join nonce u ≡ true → is_join_with sessions dev_eui nonce u ≡ true
     is_joined u of is =
-        let outer = and_parts (u.session == suc k && kind_number u.kind == 0) (u.counter == nonce) is in
-        let inner = and_parts (u.session == suc k) (kind_number u.kind == 0) outer.0 in
-        let number : u.session ≡ suc k = eqb-true u.session (suc k) inner.0 in
+        let outer = and_parts (u.session == suc k) (kind_number u.kind == 0 && u.counter == nonce) is in
+        let inner = and_parts (kind_number u.kind == 0) (u.counter == nonce) outer.1 in
+        let number : u.session ≡ suc k = eqb-true u.session (suc k) outer.0 in
         let own : is_of_device sessions dev_eui u.session ≡ true =
         ap (is_of_device sessions dev_eui) number ∙ ap (λ found. option_map_or (is_session_of dev_eui) found false) shown_at
         ∙ (and_parts (s.session.device == dev_eui) (s.session.nonce == nonce) has).0 in
-        and_from _ _ (and_from _ _ (ap is_join (kind_by u.kind inner.1)) own) outer.1
+        and_from _ _ (and_from _ _ (ap is_join (kind_by u.kind inner.0)) own) inner.1
 
-    has_row : (u : Uplink) → IsOfSession sessions u → is_join_with sessions dev_eui nonce u ≡ true → is_uplink_row (suc k) Join nonce u ≡ true
+    has_row : (u : Uplink) → IsOfSession sessions u → is_join_with sessions dev_eui nonce u ≡ true → is_uplink (suc k) Join nonce u ≡ true
     has_row u of is =
         let outer = and_parts (is_join u.kind && is_of_device sessions dev_eui u.session) (u.counter == nonce) is in
         let inner = and_parts (is_join u.kind) (is_of_device sessions dev_eui u.session) outer.0 in
         let row = joined_row u of is in
         let number : u.session ≡ suc k = row.2 ∙ ap suc (same_place row.0 row.1 row.3 row.5) in
-        and_from _ _ (and_from _ _ (eq-eqb u.session (suc k) number) (ap (λ kind. kind_number kind == 0) (join_by u.kind inner.0))) outer.1
+        and_from _ _ (eq-eqb u.session (suc k) number) (and_from _ _ (ap (λ kind. kind_number kind == 0) (join_by u.kind inner.0)) outer.1)
 
-    some_joined : first_that (is_uplink_row (suc k) Join nonce) r.uplinks ≡ join_with r.uplinks sessions dev_eui nonce
-    some_joined = first_alike (IsOfSession sessions) (is_uplink_row (suc k) Join nonce) (is_join_with sessions dev_eui nonce)
+    some_joined : first_that (is_uplink (suc k) Join nonce) r.uplinks ≡ join_with r.uplinks sessions dev_eui nonce
+    some_joined = first_alike (IsOfSession sessions) (is_uplink (suc k) Join nonce) (is_join_with sessions dev_eui nonce)
         (λ u of. same_tests _ _ (is_joined u of) (has_row u of)) 1 r.uplinks names.uplinks
 
   joined_by : (found : Option (ℕ × SessionRow)) → first_that (is_session dev_eui nonce) r.sessions ≡ found
-      → option_and_then (λ (n : ℕ). first_that (is_uplink_row n Join nonce) r.uplinks) (option_map (λ (f : ℕ × SessionRow). f.0) found)
+      → option_and_then (λ (n : ℕ). first_that (is_uplink n Join nonce) r.uplinks) (option_map (λ (f : ℕ × SessionRow). f.0) found)
       ≡ join_with r.uplinks sessions dev_eui nonce
   joined_by None is = sym (none_joined is)
   joined_by (Some f) is =
       let found = found_from (is_session dev_eui nonce) 1 r.sessions f.0 f.1 is in
       let number : f.0 ≡ suc found.0 = omega (arith, found.1) in
-      ap (λ n. first_that (is_uplink_row n Join nonce) r.uplinks) number ∙ some_joined f.1 found.0 found.2 found.3
+      ap (λ n. first_that (is_uplink n Join nonce) r.uplinks) number ∙ some_joined f.1 found.0 found.2 found.3
 
   pub join_found : uplink_joined r dev_eui nonce ≡ join_with r.uplinks sessions dev_eui nonce
   join_found =
-      (λ i. option_and_then (λ (n : ℕ). first_zipped (is_uplink_row n Join nonce) 1 r.uplinks i)
+      (λ i. option_and_then (λ (n : ℕ). first_zipped (is_uplink n Join nonce) 1 r.uplinks i)
       (option_map (λ (f : ℕ × SessionRow). f.0) (first_zipped (is_session dev_eui nonce) 1 r.sessions i)))
       ∙ joined_by (first_that (is_session dev_eui nonce) r.sessions) refl

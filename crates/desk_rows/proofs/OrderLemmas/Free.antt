@@ -12,9 +12,9 @@ use Rattle.registry_core.specs.declared.facts.Uplink.{Uplink}
 use Rattle.registry_core.specs.Derived.{is_above, is_data, is_data_of, last_counter}
 use Rattle.registry_core.specs.Fits.{Fits}
 use Rattle.registry_core.specs.Heard.{most_heard}
-use Rattle.desk_rows.specs.Rows.{Rows, CopyRow, DeviceRow, SenderRow, SessionRow, kind_number, is_copy, is_device, is_sender}
+use Rattle.desk_rows.specs.Rows.{Rows, CopyRow, DeviceRow, SenderRow, SessionRow, kind_number, is_copy, is_device, is_sender, is_uplink}
 use Rattle.desk_rows.specs.order.Facts.{facts_in, sessions_in}
-use Rattle.desk_rows.specs.order.Keys.{HasRoom, IsFreeFor, KeysAreFree, is_uplink_row}
+use Rattle.desk_rows.specs.order.Keys.{HasRoom, IsFreeFor, KeysAreFree}
 use Rattle.desk_rows.specs.order.RowsOf.{IsFew, IsOfSession, same_join}
 use Rattle.desk_rows.proofs.OrderLemmas.Counting.{above_each}
 use Rattle.desk_rows.proofs.OrderLemmas.Each.{all_so, none_found}
@@ -38,27 +38,27 @@ none_of_shown f p (x ∷ xs) each = or_from (p (f x)) _ each.0 (none_of_shown f 
 
 -- an uplink of a session that isn't there
 session_free : (sessions : List Session) (uplinks : List Uplink) → AllByRecursion (IsOfSession sessions) uplinks → (session : ℕ) (kind : Kind) (counter : ℕ)
-    → length sessions < session → list_any (is_uplink_row session kind counter) uplinks ≡ false
-session_free sessions uplinks each session kind counter past = none_any (is_uplink_row session kind counter) uplinks
-    (all_so (IsOfSession sessions) (λ u. is_uplink_row session kind counter u ≡ false)
+    → length sessions < session → list_any (is_uplink session kind counter) uplinks ≡ false
+session_free sessions uplinks each session kind counter past = none_any (is_uplink session kind counter) uplinks
+    (all_so (IsOfSession sessions) (λ u. is_uplink session kind counter u ≡ false)
     (λ u of. let within = item_within sessions u.session of.session of.there in
-    and_left _ (u.counter == counter) (and_left _ (kind_number u.kind == kind_number kind) (ne_eqb u.session session (λ same. omega (arith, within.1)))))
+    and_left _ (kind_number u.kind == kind_number kind && u.counter == counter) (ne_eqb u.session session (λ same. omega (arith, within.1))))
     uplinks each)
 
 -- a data uplink with a counter above the session's last
 module _ (uplinks : List Uplink) (session counter : ℕ) (above : IsTrue (is_above counter (last_counter uplinks session))) where
   counter_by : (u : Uplink) (k : Kind) → u.kind ≡ k → (b : Bool) → (u.session == session) ≡ b → (is_data_of session u ≡ true → u.counter < counter)
-      → is_uplink_row session Data counter u ≡ false
-  counter_by u Join is b own below = and_left _ (u.counter == counter) (and_right (u.session == session) _ (ap (λ k. kind_number k == 1) is))
+      → is_uplink session Data counter u ≡ false
+  counter_by u Join is b own below = and_right (u.session == session) _ (and_left _ (u.counter == counter) (ap (λ k. kind_number k == 1) is))
   counter_by u Data is true own below =
       let less : u.counter < counter = below (ap₂ (λ k c. is_data k && c) is own) in
-      and_right _ (u.counter == counter) (ne_eqb u.counter counter (λ same. omega arith))
-  counter_by u Data is false own below = and_left _ (u.counter == counter) (and_left _ (kind_number u.kind == 1) own)
+      and_right (u.session == session) _ (and_right (kind_number u.kind == 1) _ (ne_eqb u.counter counter (λ same. omega arith)))
+  counter_by u Data is false own below = and_left _ (kind_number u.kind == 1 && u.counter == counter) own
 
-  counter_free : list_any (is_uplink_row session Data counter) uplinks ≡ false
-  counter_free = none_any (is_uplink_row session Data counter) uplinks
+  counter_free : list_any (is_uplink session Data counter) uplinks ≡ false
+  counter_free = none_any (is_uplink session Data counter) uplinks
       (all_so (λ u. is_data_of session u ≡ true
-      → u.counter < counter) (λ u. is_uplink_row session Data counter u
+      → u.counter < counter) (λ u. is_uplink session Data counter u
       ≡ false) (λ u below. counter_by u u.kind refl (u.session == session) refl below) uplinks
       (above_each (λ (u : Uplink). u.counter) (is_data_of session) counter uplinks above))
 
@@ -95,7 +95,7 @@ free_for r (AddsSession session uplink gateway reception) named few fits below =
 )
 free_for r (AddsUplink uplink gateway reception) named few fits below = (
   record {
-    key = subst (λ k. list_any (is_uplink_row uplink.session k uplink.counter) r.uplinks ≡ false) (sym fits.kind)
+    key = subst (λ k. list_any (is_uplink uplink.session k uplink.counter) r.uplinks ≡ false) (sym fits.kind)
         (counter_free r.uplinks uplink.session uplink.counter fits.counter);
     room = room r.uplinks r.replies (omega (arith, few.uplinks)) below;
   },

@@ -15,15 +15,12 @@ use Rattle.registry_core.specs.Numbered.{item_at, item_changed}
 use Rattle.registry_core.specs.Settings.{Settings}
 use Rattle.registry_core.specs.State.{State}
 use Rattle.sqlite_keyed.specs.Lists.{update_where}
-use Rattle.desk_rows.specs.Rows.{Rows, BookingRow, DeviceRow, SessionRow, kind_number, is_copy, is_device, is_sender, is_session}
+use Rattle.desk_rows.specs.Rows.{Rows, BookingRow, DeviceRow, SessionRow, kind_number, is_copy, is_device, is_sender, is_session, is_uplink}
 use Rattle.desk_rows.specs.order.Changes.{booking_row, devices_raised, kind_at, session_at, sessions_counted}
 use Rattle.desk_rows.specs.order.Facts.{is_name_row}
 use Rattle.desk_rows.specs.order.RowsOf.{AreRowsOf}
 
 -- ---- rows that are added
-
-abbrev pub is_uplink_row : ℕ → Kind → ℕ → Uplink → Bool
-is_uplink_row session kind counter u = u.session == session && kind_number u.kind == kind_number kind && u.counter == counter
 
 -- there is a rowid for one row more
 abbrev pub HasRoom : {X : Type 0} → List X → Type 0
@@ -43,9 +40,9 @@ IsFreeFor (AddsGateway name) r = IsFree (is_name_row name) r.gateways
 IsFreeFor (AddsDevice dev_eui device) r = IsFree (is_device dev_eui) r.devices
 IsFreeFor (MovesDevice dev_eui owner) r = Unit {0}
 IsFreeFor (AddsSession session uplink gateway reception) r = IsFree (is_session session.device session.nonce) r.sessions
-    × IsFree (is_uplink_row uplink.session uplink.kind uplink.counter) r.uplinks × IsFree (is_copy (length r.uplinks + 1) gateway) r.copies
+    × IsFree (is_uplink uplink.session uplink.kind uplink.counter) r.uplinks × IsFree (is_copy (length r.uplinks + 1) gateway) r.copies
 IsFreeFor (AddsUplink uplink gateway reception) r =
-    IsFree (is_uplink_row uplink.session uplink.kind uplink.counter) r.uplinks × IsFree (is_copy (length r.uplinks + 1) gateway) r.copies
+    IsFree (is_uplink uplink.session uplink.kind uplink.counter) r.uplinks × IsFree (is_copy (length r.uplinks + 1) gateway) r.copies
 IsFreeFor (AddsCopy number gateway reception) r = IsFree (is_copy number gateway) r.copies
 IsFreeFor (AddsBooking booking) r = HasRoom r.bookings
 IsFreeFor (EndsBooking number sent) r = Unit {0}

@@ -12,8 +12,7 @@ use Rattle.registry_core.specs.Numbered.{first_that, item_at}
 use Rattle.registry_core.specs.Settings.{Settings}
 use Rattle.registry_core.specs.State.{State}
 use Rattle.sqlite_keyed.specs.Lists.{sort_by}
-use Rattle.desk_rows.specs.Rows.{Rows, BookingRow, DeviceRow, SessionRow, kind_number, is_device, is_session}
-use Rattle.desk_rows.specs.order.Keys.{is_uplink_row}
+use Rattle.desk_rows.specs.Rows.{Rows, BookingRow, DeviceRow, SessionRow, kind_number, is_device, is_session, is_uplink}
 use Rattle.desk_rows.specs.order.RowsOf.{AreRowsOf}
 use Rattle.std.specs.Prelude.{find}
 
@@ -74,7 +73,7 @@ session_joined sessions dev_eui nonce = option_map (λ (found : ℕ × SessionRo
 
 -- the join uplink of that session with that counter
 abbrev pub uplink_joined : Rows → ℕ → ℕ → Option (ℕ × Uplink)
-uplink_joined r dev_eui nonce = option_and_then (λ (n : ℕ). row_with (is_uplink_row n Join nonce) r.uplinks) (session_joined r.sessions dev_eui nonce)
+uplink_joined r dev_eui nonce = option_and_then (λ (n : ℕ). row_with (is_uplink n Join nonce) r.uplinks) (session_joined r.sessions dev_eui nonce)
 
 -- ---- laws, of rows that are those of facts
 
@@ -115,7 +114,7 @@ pub record CountsTell (facts : State) (r : Rows) : Type 0 where
 -- a frame is found by its session, kind and counter
 pub record FramesTell (facts : State) (r : Rows) : Type 0 where
   pub join : (dev_eui nonce : ℕ) → uplink_joined r dev_eui nonce ≡ join_with facts.uplinks facts.sessions dev_eui nonce
-  pub data_up : (n counter : ℕ) → row_with (is_uplink_row n Data counter) r.uplinks ≡ data_with facts.uplinks n counter
+  pub data_up : (n counter : ℕ) → row_with (is_uplink n Data counter) r.uplinks ≡ data_with facts.uplinks n counter
 
 abbrev pub LookUpsTell : Type 0
 LookUpsTell = (c : Settings) (facts : State) (r : Rows) → AreRowsOf c facts r

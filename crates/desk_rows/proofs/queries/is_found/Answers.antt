@@ -1,5 +1,5 @@
 use Rattle.std.proofs.Common.{ap, ◌∙◌}
-use Rattle.desk_rows.specs.Faults.{known_of}
+use Rattle.desk_rows.specs.steps.Errors.{known_of}
 use Rattle.desk_rows.proofs.queries.is_found.Goals as goal
 
 pub returns : goal.returns

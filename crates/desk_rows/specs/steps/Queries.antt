@@ -5,7 +5,8 @@ use Rattle.sqlite_value.specs.Order.{Row}
 use Rattle.sqlite_trees.specs.View.{doubt}
 use Rattle.sqlite.specs.declared.error.Error.{Error}
 use Rattle.sqlite.specs.State.{State, HasCleanDisk, Survives, CommitsShowing, QueriesRow}
-use Rattle.desk_rows.specs.Faults.{IsEven, found_of, known_of}
+use Rattle.desk_rows.specs.Faults.{IsEven}
+use Rattle.desk_rows.specs.steps.Errors.{found_of, known_of}
 use Rattle.desk_rows.specs.declared.faults.RowFault.{RowFault}
 
 -- the query was run, and its first row is the answer

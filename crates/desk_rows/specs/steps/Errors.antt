@@ -1,0 +1,46 @@
+-- How an error of a statement is told, and what is read of a row.
+use Rattle.std.specs.Prelude.{◌≡◌, ◌<◌, ℕ, length, Option, Some, None, Result, Ok, Err, Bool, true, false}
+use Rattle.desk_rows.specs.Faults.{IsEven}
+use Rattle.sqlite_value.specs.Order.{Row, column}
+use Rattle.sqlite_value.specs.declared.value.Value.{Value}
+use Rattle.sqlite.specs.declared.error.Error.{Error}
+use Rattle.sqlite.specs.declared.error.Error.TheVariants.{SqliteFailure, QueryReturnedNoRows}
+use Rattle.sqlite.specs.declared.error.ErrorCode.TheVariants as code
+use Rattle.desk_rows.specs.declared.faults.RowFault.{RowFault}
+use Rattle.desk_rows.specs.declared.faults.RowFault.TheVariants.{Memory, Disk, Size, Row as OutOfRange, Refused}
+
+abbrev pub fault_of : Error → RowFault
+fault_of (SqliteFailure code.OutOfMemory) = Memory
+fault_of (SqliteFailure code.SystemIoFailure) = Disk
+fault_of (SqliteFailure code.DatabaseCorrupt) = Disk
+fault_of (SqliteFailure code.DiskFull) = Disk
+fault_of (SqliteFailure code.Closed) = Disk
+fault_of (SqliteFailure code.TooBig) = Size
+fault_of _ = Refused
+
+-- the row that a query showed, if it showed one
+abbrev pub found_of : Result Row Error → Result (Option Row) RowFault
+found_of (Ok row) = Ok (Some row)
+found_of (Err QueryReturnedNoRows) = Ok None
+found_of (Err e) = Err (fault_of e)
+
+-- whether a row was found
+abbrev pub known_of : Result (Option Row) RowFault → Result Bool RowFault
+known_of (Ok (Some row)) = Ok true
+known_of (Ok None) = Ok false
+known_of (Err fault) = Err fault
+
+-- ---- reading a row
+
+abbrev pub read_fault : Error → RowFault
+read_fault (SqliteFailure code.OutOfMemory) = Memory
+read_fault _ = OutOfRange
+
+-- a value in its range that stands at a place of a row is read
+abbrev pub ReadsAt : {T : Type 0} → (T → Value) → (T → Type 0) → Row → ℕ → Result T RowFault → Type 0
+ReadsAt {T} shows InRange row at result = (x : T) → InRange x → column row at ≡ shows x → at < length row → result ≡ Ok x
+
+-- What is read of a row that shows a value in its range is that value, and such a row is read while memory lasts.
+abbrev pub Decodes : {T Seen : Type 0} → (T → Seen) → (Seen → Row) → (Seen → Type 0) → Row → Result T RowFault → Type 0
+Decodes {Seen = Seen} seen shows InRange row (Ok x) = (y : Seen) → InRange y → row ≡ shows y → seen x ≡ y
+Decodes {Seen = Seen} seen shows InRange row (Err fault) = (y : Seen) → InRange y → row ≡ shows y → IsEven fault
