@@ -135,7 +135,7 @@ unfolding understood everything
 floor_lookup = record { names = _; compiled = _; means = refl; command = refl; plain = (refl, refl); whole = omega arith; given = refl; unlisted = refl }
 
 -- the octets are those of the EUI
-abbrev has_eui : ℕ → DeviceRow → Bool
+abbrev pub has_eui : ℕ → DeviceRow → Bool
 has_eui dev_eui d = same (eui d.dev_eui) (eui dev_eui)
 
 by_eui : (dev_eui : ℕ) → IsEui dev_eui → (db : Database) (r : Rows) → Holds db r → find (has_eui dev_eui) r.devices ≡ find (is_device dev_eui) r.devices

@@ -20,7 +20,6 @@ use Rattle.sqlite_schema.specs.declared.schema.Keys.TheVariants.{Enforced}
 use Rattle.sqlite_schema.specs.declared.schema.Constraint.TheVariants.{Datatype, NotNull, Check, PrimaryKey, Unique, ForeignKey}
 use Rattle.sqlite_schema.specs.Rules.{Keeps, clashes, differ, agree, passes}
 use Rattle.sqlite_resolve.specs.declared.compiled.Compiled.{Compiled}
-use Rattle.sqlite_resolve.specs.declared.error.CompileError.{CompileError}
 use Rattle.sqlite_rules.specs.declared.error.Refusal.{Refusal}
 use Rattle.sqlite_rules.specs.declared.error.Refusal.TheVariants.{Violates, Mismatch, NoRowid, BadReference, TooDeep}
 use Rattle.sqlite_rules.specs.declared.error.Rowids.TheVariants.{Chosen}
@@ -35,7 +34,7 @@ use Rattle.sqlite.specs.Source.TheVariants.{Values}
 use Rattle.sqlite.specs.Effect.{IsDatabase, value_rows}
 use Rattle.sqlite.specs.Listing.{understood}
 use Rattle.sqlite.specs.declared.error.Error.{Error}
-use Rattle.sqlite.specs.State.{State, Executes, ExecutesInside, EndsScope}
+use Rattle.sqlite.specs.State.{State, Executes, ExecutesInside, text_of}
 use Rattle.sqlite.proofs.Callers.{IsPlain, command_of}
 use Rattle.desk_rows.specs.Schema.{desk_schema, desk_tables}
 use Rattle.desk_rows.specs.steps.Change.{KeepsOthers}
@@ -43,15 +42,13 @@ use Rattle.desk_rows.specs.Rows.{Rows, Holds, InRange, numbered_from, table_of}
 use Rattle.desk_rows.specs.Calls.{Changes}
 use Rattle.desk_rows.specs.steps.Statements.{HasWritten}
 use Rattle.desk_rows.proofs.Tables.{tables, with_table, holds_with}
-use Rattle.desk_rows.specs.Faults.{is_odd}
+use Rattle.desk_rows.specs.Faults.{IsEven}
 use Rattle.desk_rows.specs.steps.Errors.{fault_of}
 use Rattle.desk_rows.specs.declared.faults.RowFault.{RowFault}
-use Rattle.desk_rows.specs.declared.faults.RowFault.TheVariants.{Memory, Disk, Size, Row as OutOfShape, Refused}
-use Rattle.desk_rows.proofs.FaultLemmas.{not_row}
 use Rattle.desk_rows.proofs.InsertLemmas.{uncounted, inserted}
 use Rattle.desk_rows.proofs.NumberedLemmas.{ints_rise, next_is, put_next}
 use Rattle.desk_rows.proofs.ReadLemmas.{truth_again}
-use Rattle.desk_rows.proofs.RefusedLemmas.{refused}
+use Rattle.desk_rows.proofs.RefusedLemmas.{in_order_unless, insert_cause, insert_writes}
 
 -- the text is an INSERT of one row, with so many parameters
 pub record IsInsert (sql : List ℕ) (many at : ℕ) (terms : List Term) (width : ℕ) : Type 0 where
@@ -94,7 +91,7 @@ not_taken : (n m : ℕ) (xs : List Row) (cells : Row) → n + length xs ≤ m �
 not_taken n m [] cells low = refl
 not_taken n m (x ∷ xs) cells low = ap₂ (λ o b. is_eq o || b) (ints_rise n m (omega (arith, low))) (not_taken (n + 1) m xs cells (omega (arith, low)))
 
-differ_same : (n : ℕ) → differ (Int (pos n)) (Int (pos n)) ≡ false
+pub differ_same : (n : ℕ) → differ (Int (pos n)) (Int (pos n)) ≡ false
 unfolding binary
 differ_same n = truth_again _ ∙ ap is_ne (tied_itself value_cmp_total (Int (pos n)))
 
@@ -106,7 +103,7 @@ first_false : (a b : Bool) → (a || b) ≡ false → (a ≡ false) × (b ≡ fa
 first_false false b h = (refl, h)
 first_false true b h = absurd (true≢false h)
 
-other_tree : (db : Trees) (tree : ℕ) (rows : List Row) (t : ℕ) → t ≢ tree → with_tree db tree rows t ≡ db t
+pub other_tree : (db : Trees) (tree : ℕ) (rows : List Row) (t : ℕ) → t ≢ tree → with_tree db tree rows t ≡ db t
 other_tree db tree rows t other = rw (false_from_ne_true _ (λ e. other (eqb-true _ _ e))) refl
 
 -- no row but the new one has its key
@@ -200,32 +197,13 @@ module _ {sql : List ℕ} {many at : ℕ} {terms : List Term} {width : ℕ} (tex
   edit_is = ap (λ (r : Row). record { table = uncounted bare; gone = []; news = r ∷ [] })
       (ap (λ v. with_rowid Chosen (old.now.trees bare.tree) v) casts ∙ ap (λ n. Int n ∷ cells x) (ap next_rowid stored ∙ next_is (map cells xs)))
 
-  not_ended : EndsScope 0 sql params old → ⊥
-  unfolding EndsScope
-  not_ended h =
-      let both : ◌≡◌ {A = Result Compiled CompileError} (Ok h.0) (Ok text.compiled) = sym h.1.is ∙ ap (λ s. understood s sql) has ∙ text.means in
-      let same : h.0 ≡ text.compiled = cc in
-      let cmd : h.0.command ≡ Insert at (Values terms width) = ap (λ (c : Compiled). c.command) same ∙ text.command in
-      elim h.2 [
-        | inl ends ↦ elim ends [ inl a ↦ cc | inr a ↦ cc ]
-        | inr marks ↦ elim marks.1 [ inl a ↦ cc | inr a ↦ cc ]
-      ]
-
-  pub never_refused : Passes old.now.trees (uncounted bare) listed cells xs x stored keeps small → (e : Error) → fault_of e ≡ Refused → ExecutesInside 0 sql params old new (Err e) → ⊥
-  never_refused passes e told (inl ran) =
-      let cause = refused sql params old new has at terms width text.compiled text.means text.command text.plain text.whole (many_is ∙ text.given) bare there source one typed unlimited e told ran.0 in
-      not_refused old.now.trees (uncounted bare) listed cells xs x stored keeps small passes cause.0 (subst (λ ed. IsRefused desk_schema Enforced old.now.trees ed cause.0) edit_is cause.1)
-  never_refused passes e told (inr ends) = not_ended ends.0
-
   -- where no key is taken, it is never refused
   pub insert_in_order : Passes old.now.trees (uncounted bare) listed cells xs x stored keeps small → (r : Result (Unit {0}) RowFault)
-      → IfErr r (λ fault. (e : Error) × (fault ≡ fault_of e) × ExecutesInside 0 sql params old new (Err e)) → IfErr r (λ fault. is_odd fault ≡ false)
-  insert_in_order passes (Ok done) h = tt
-  insert_in_order passes (Err Memory) h = refl
-  insert_in_order passes (Err Disk) h = refl
-  insert_in_order passes (Err Size) h = refl
-  insert_in_order passes (Err OutOfShape) h = absurd (not_row h.0 (sym h.1))
-  insert_in_order passes (Err Refused) h = absurd (never_refused passes h.0 (sym h.1) h.2)
+      → IfErr r (λ fault. (e : Error) × (fault ≡ fault_of e) × ExecutesInside 0 sql params old new (Err e)) → IfErr r IsEven
+  insert_in_order passes =
+      in_order_unless sql params old new has (Insert at (Values terms width)) (insert_writes at (Values terms width)) text.compiled text.means text.command text.plain text.whole (many_is ∙ text.given) (λ e turned.
+      let cause = insert_cause old params at terms width bare there source one typed unlimited (text_of sql text.compiled) e turned in
+      not_refused old.now.trees (uncounted bare) listed cells xs x stored keeps small passes cause.0 (subst (λ ed. IsRefused desk_schema Enforced old.now.trees ed cause.0) edit_is cause.1))
 
 -- ---- what an INSERT does to the rows
 

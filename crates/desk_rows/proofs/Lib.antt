@@ -20,3 +20,6 @@ pub mod SchemaTexts
 pub mod Tables
 pub mod Terms
 pub mod Unrefused
+pub mod UpdateLemmas
+pub mod Updates
+pub mod Updating

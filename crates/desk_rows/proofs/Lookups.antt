@@ -1,7 +1,7 @@
 -- Look-ups: what the first row of a query over one table tells, and that it never tells Row nor Refused of tables in order.
 use Rattle.std.proofs.Common.{◌≡◌, inl, inr, ℕ, ◌≤◌, List, [], ◌∷◌, length, find, Bool, true, false, Option, Some, None, option_map, Ok, Err, Result, IfOk, refl, sym, ap, subst, ◌∙◌, append-nil, subst₂, true≢false, IfErr}
 use Rattle.std.specs.List.{list_all, AllByRecursion}
-use Rattle.std.specs.Prelude.{IsSome, Any, IfSome, is_some}
+use Rattle.std.specs.Prelude.{Any, IfSome, is_some}
 use Rattle.std.specs.Result.{is_ok}
 use Rattle.sqlite_value.specs.declared.value.Value.TheVariants.{Null}
 use Rattle.sqlite_value.specs.Order.{Row}
@@ -34,7 +34,7 @@ use Rattle.desk_rows.specs.declared.faults.RowFault.{RowFault}
 use Rattle.desk_rows.specs.declared.faults.RowFault.TheVariants.{Memory, Disk, Size, Row as OutOfShape, Refused}
 use Rattle.desk_rows.proofs.QueryLemmas.{shows_none, found_leaves}
 use Rattle.desk_rows.proofs.FaultLemmas.{not_row}
-use Rattle.desk_rows.proofs.RefusedLemmas.{told_else}
+use Rattle.desk_rows.proofs.RefusedLemmas.{told_else, unset}
 
 -- the text is one such query, with so many parameters
 pub record IsLookup (sql : List ℕ) (many : ℕ) (a : Asked) : Type 0 where
@@ -49,7 +49,7 @@ pub record IsLookup (sql : List ℕ) (many : ℕ) (a : Asked) : Type 0 where
 
 -- ---- a call of query_row
 
-fold_stays : (db : Trees) (params : Row) (tree : ℕ) → FoldOverflows db (inner tree end) (params ∷ []) → ⊥
+pub fold_stays : (db : Trees) (params : Row) (tree : ℕ) → FoldOverflows db (inner tree end) (params ∷ []) → ⊥
 fold_stays db params tree h = none (db tree) h
   where
     none : (rows : List Row) → Any (λ r. ⊥) rows → ⊥
@@ -93,10 +93,6 @@ module _ {sql : List ℕ} {many : ℕ} {a : Asked} (text : IsLookup sql many a) 
         | inr (inl count) ↦ count.0 (sym many_is ∙ text.given ∙ ap (λ (c : Compiled). length c.names) (sym same))
         | inr (inr clock) ↦ clock.0 (ap (λ (c : Compiled). c.formats) same ∙ text.plain.1)
       ]
-
-  unset : (o : Option ℕ) → o ≡ None → IsSome o → ⊥
-  unset None e h = let x = h in cc
-  unset (Some n) e h = cc
 
   -- with parameters of the right types and no limit on steps it is never refused
   pub never_refused : many ≡ length params → accepts_program desk_schema [] (query_of a) params ≡ true → old.step_limit ≡ None

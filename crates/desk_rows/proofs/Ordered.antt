@@ -77,18 +77,18 @@ zip_from n (x ∷ xs) = (n, x) ∷ zip_from (n + 1) xs
 abbrev pub encode : {X : Type 0} → (X → Row) → ℕ × X → Row
 encode cells b = Int (pos b.0) ∷ cells b.1
 
-abbrev rowid : {A : Type 0} → ℕ × A → ℤ
-rowid b = pos b.0
+abbrev pub number_of : {A : Type 0} → ℕ × A → ℤ
+number_of b = pos b.0
 
-encoded : {X : Type 0} (cells : X → Row) (n : ℕ) (xs : List X) → numbered_from n (map cells xs) ≡ map (encode cells) (zip_from n xs)
+pub encoded : {X : Type 0} (cells : X → Row) (n : ℕ) (xs : List X) → numbered_from n (map cells xs) ≡ map (encode cells) (zip_from n xs)
 encoded cells n [] = refl
 encoded cells n (x ∷ xs) = ap (λ l. encode cells (n, x) ∷ l) (encoded cells (n + 1) xs)
 
-past : {X : Type 0} (n m : ℕ) (xs : List X) → n < m → AllByRecursion (λ (b : ℕ × X). pos n <ℤ rowid b) (zip_from m xs)
+past : {X : Type 0} (n m : ℕ) (xs : List X) → n < m → AllByRecursion (λ (b : ℕ × X). pos n <ℤ number_of b) (zip_from m xs)
 past n m [] low = tt
 past n m (x ∷ xs) low = (omega (ints, arith, low), past n (m + 1) xs (omega (arith, low)))
 
-rises : {X : Type 0} (n : ℕ) (xs : List X) → IsKeyedBy (rowid {A = X}) (zip_from n xs)
+pub rises : {X : Type 0} (n : ℕ) (xs : List X) → IsKeyedBy (number_of {A = X}) (zip_from n xs)
 rises n [] = tt
 rises n (x ∷ xs) = (past n (n + 1) xs (omega arith), rises (n + 1) xs)
 
@@ -97,7 +97,7 @@ then_equal Less = refl
 then_equal Equal = refl
 then_equal Greater = refl
 
-find_head : {X : Type 0} (p : X → Bool) (xs : List X) → head (filter p xs) ≡ find p xs
+pub find_head : {X : Type 0} (p : X → Bool) (xs : List X) → head (filter p xs) ≡ find p xs
 find_head p [] = refl
 find_head p (x ∷ xs) = go (p x) (find_head p xs)
   where
@@ -114,14 +114,14 @@ module _ {X : Type 0} (a : Asked) (db : Trees) (cells : X → Row) (xs : List X)
   q = query_of a
 
   abbrev source : Source db (inner a.tree end) (ℕ × X)
-  source = last_table db a.tree (encode cells) (rowid {A = X}) (zip_from 1 xs) (stored ∙ encoded cells 1 xs) (rises 1 xs) (at_end db)
+  source = last_table db a.tree (encode cells) (number_of {A = X}) (zip_from 1 xs) (stored ∙ encoded cells 1 xs) (rises 1 xs) (at_end db)
 
   -- the order in which the query shows two rows
   abbrev OrdersBy : (ℕ × X → ℕ × X → Ordering) → Type 0
   OrdersBy cmp = (b c : ℕ × X) → output_cmp q (output q (params ∷ encode cells b ∷ [])) (output q (params ∷ encode cells c ∷ [])) ≡ cmp b c
 
-  by_rowids : a.order ≡ (col 1 0, rising) ∷ [] → OrdersBy (λ b c. int_cmp (rowid b) (rowid c))
-  by_rowids is b c = rw is (ap (λ o. ordering_then o Equal) (value_cmp-Int (pos b.0) (pos c.0)) ∙ then_equal (int_cmp (rowid b) (rowid c)))
+  by_rowids : a.order ≡ (col 1 0, rising) ∷ [] → OrdersBy (λ b c. int_cmp (number_of b) (number_of c))
+  by_rowids is b c = rw is (ap (λ o. ordering_then o Equal) (value_cmp-Int (pos b.0) (pos c.0)) ∙ then_equal (int_cmp (number_of b) (number_of c)))
 
   pub rows_by_rowid : a.order ≡ (col 1 0, rising) ∷ [] → (rows : List Row) → IsAnswer q db params rows → rows ≡ page q params (map show (filter p (zip_from 1 xs)))
   rows_by_rowid is rows answer = sym (map-id rows) ∙ answer_by_keys q db params source p tests (λ r. r) show shows refl refl (by_rowids is) rows answer
@@ -130,7 +130,7 @@ module _ {X : Type 0} (a : Asked) (db : Trees) (cells : X → Row) (xs : List X)
   first_by_rowid is rows answer =
       ap head (rows_by_rowid is rows answer) ∙ page_head a params _ ∙ head_map show (filter p (zip_from 1 xs)) ∙ ap (option_map show) (find_head p (zip_from 1 xs))
 
-  module _ (cmp : ℕ × X → ℕ × X → Ordering) (untied : (b c : ℕ × X) → int_cmp (rowid b) (rowid c) ≡ Less → IsNoTie (cmp b c)) (orders : OrdersBy cmp) where
+  module _ (cmp : ℕ × X → ℕ × X → Ordering) (untied : (b c : ℕ × X) → int_cmp (number_of b) (number_of c) ≡ Less → IsNoTie (cmp b c)) (orders : OrdersBy cmp) where
     pub rows_sorted : (rows : List Row) → IsAnswer q db params rows → rows ≡ page q params (map show (sort_by cmp (filter p (zip_from 1 xs))))
     rows_sorted rows answer = sym (map-id rows) ∙ answer_sorted q db params source p tests (λ r. r) show shows refl refl cmp untied orders rows answer
 
@@ -192,10 +192,10 @@ pub every : {X : Type 0} (xs : List X) → AllByRecursion (λ x. Unit {0}) xs
 every [] = tt
 every (x ∷ xs) = (tt, every xs)
 
-apart_below : (n m : ℕ) → n < m → (m == n) ≡ false
+pub apart_below : (n m : ℕ) → n < m → (m == n) ≡ false
 apart_below n m low = false_from_ne_true _ (λ e. let same : m ≡ n = eqb-true m n e in omega (arith, low, same))
 
-apart_above : (n m : ℕ) → m < n → (m == n) ≡ false
+pub apart_above : (n m : ℕ) → m < n → (m == n) ≡ false
 apart_above n m low = false_from_ne_true _ (λ e. let same : m ≡ n = eqb-true m n e in omega (arith, low, same))
 
 -- by its number

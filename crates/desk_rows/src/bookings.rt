@@ -1,14 +1,16 @@
 //! Bookings of downlinks.
-ghost use Rattle.std.specs.Prelude.{◌≡◌, ◌+◌, ◌<◌, ◌^◌, ◌++◌, [], ◌∷◌, length, option_map};
+ghost use Rattle.std.specs.Prelude.{◌≡◌, ◌+◌, ◌<◌, ◌^◌, ◌++◌, [], ◌∷◌, length, Some, option_map, if◌then◌else◌};
 ghost use Rattle.std.specs.List.{list_any};
 ghost use Rattle.duty_core.specs.Range.{IsStart};
 ghost use Rattle.registry_core.specs.declared.facts.Booking.{Booking};
+ghost use Rattle.registry_core.specs.declared.facts.Standing.TheVariants.{Dropped, Sent};
 ghost use Rattle.registry_core.specs.Bookings.{is_answer_to};
-ghost use Rattle.registry_core.specs.Numbered.{item_at};
+ghost use Rattle.registry_core.specs.Numbered.{item_at, item_changed};
 ghost use Rattle.registry_core.specs.Ranges.{IsName};
 ghost use Rattle.desk_rows.specs.steps.Shown.{booking_shown};
 ghost use Rattle.sqlite.specs.Held.{state};
-ghost use Rattle.desk_rows.specs.Rows.{last_number};
+ghost use Rattle.desk_rows.specs.Rows.{BookingRow, last_number};
+ghost use Rattle.desk_rows.specs.order.Changes.{ended_row};
 ghost use Rattle.desk_rows.specs.Calls.{Changes, Reads};
 
 use crate::columns::{band_at, name_at, number_at, span_at, standing_at};
@@ -16,7 +18,7 @@ use crate::faults::RowFault;
 use crate::queries::{FromRow, find, is_found};
 use crate::values::{band, kind, len, number, standing, start, text, whole};
 use crate::writes::write;
-use registry_core::{Booking, Kind, Whole};
+use registry_core::{Booking, Kind, Standing, Whole};
 use sqlite::{Alter, Connection, Row, Transaction};
 
 impl FromRow for Booking {
@@ -105,5 +107,34 @@ pub fn insert_booking<S: Alter>(
             len(booking.span),
             standing(booking.standing),
         ],
+    )
+}
+
+/// How a booking stands that has ended.
+fn ended(sent: bool) -> Standing
+    ensures { result ≡ (if sent then Sent else Dropped) }
+{
+    if sent {
+        Standing::Sent
+    } else {
+        Standing::Dropped
+    }
+}
+
+/// Ends the booking with this number: it is sent, or dropped.
+pub fn end_booking<S: Alter>(
+    tx: &mut Transaction<'_, S>,
+    number: Whole,
+    sent: bool,
+) -> Result<(), RowFault>
+    ensures same_reference { tx.new.conn.ghost_name ≡ tx.old.conn.ghost_name }
+    ensures changes { Changes (state S.Store tx.old.conn.now) (state S.Store tx.new.conn.now) result (Unit {0})
+        (λ r. (row : BookingRow) × (item_at r.bookings number ≡ Some row))
+        (λ r. record r { bookings = item_changed (ended_row sent) r.bookings number }) }
+{
+    write(
+        tx,
+        "UPDATE booking SET state = ?2 WHERE number = ?1",
+        &[whole(number), standing(ended(sent))],
     )
 }

@@ -2,19 +2,22 @@
 ghost use Rattle.std.specs.Prelude.{◌≡◌, ◌+◌, ◌<◌, ◌^◌, ◌++◌, [], ◌∷◌, ℕ, Option, length, false, None, find, option_map};
 ghost use Rattle.std.specs.List.{list_any};
 ghost use Rattle.sqlite.specs.Held.{state};
+ghost use Rattle.sqlite_keyed.specs.Lists.{update_where};
 ghost use Rattle.desk_rows.specs.Calls.{Changes, Reads};
 ghost use Rattle.sqlite_value.specs.declared.value.Value.TheVariants.{Text};
 ghost use Rattle.registry_core.specs.declared.facts.Device.{Device};
 ghost use Rattle.registry_core.specs.Ranges.{IsEui, IsName};
 ghost use Rattle.desk_rows.specs.Rows.{eui, is_device, number, or_null};
+ghost use Rattle.desk_rows.specs.order.Changes.{moved};
+ghost use Rattle.desk_rows.specs.order.Keys.{HasOnly, floor_set};
 
 use crate::columns::{eui_at, name_at, number_at};
 use crate::faults::RowFault;
 use crate::queries::{FromRow, find};
-use crate::values::{blob, octets_of, text};
+use crate::values::{blob, octets_of, text, whole};
 use crate::writes::write;
-use radio_core::Eui;
-use registry_core::Device;
+use radio_core::{Eui, Name};
+use registry_core::{Device, Whole};
 use sqlite::{Alter, Connection, Row, Transaction};
 use sqlite_value::value::ValueRef;
 
@@ -96,5 +99,43 @@ pub fn insert_device<S: Alter>(
         tx,
         "INSERT INTO device (eui, join_eui, owner) VALUES (?1, ?2, ?3)",
         &[blob(&eui), blob(&join_eui), text(&device.owner)],
+    )
+}
+
+/// Gives the device with this DevEUI to another owner.
+pub fn move_device<S: Alter>(
+    tx: &mut Transaction<'_, S>,
+    dev_eui: Eui,
+    owner: &Name,
+) -> Result<(), RowFault>
+    ensures same_reference { tx.new.conn.ghost_name ≡ tx.old.conn.ghost_name }
+    ensures changes { Changes (state S.Store tx.old.conn.now) (state S.Store tx.new.conn.now) result (Unit {0})
+        (λ r. HasOnly (is_device dev_eui) r.devices × (length r.devices < 2 ^ 63))
+        (λ r. record r { devices = update_where (is_device dev_eui) (moved owner.now) r.devices }) }
+{
+    let eui = octets_of(dev_eui);
+    write(
+        tx,
+        "UPDATE device SET owner = ?2 WHERE eui = ?1",
+        &[blob(&eui), text(owner)],
+    )
+}
+
+/// Sets the greatest number of a session of the device that has a data uplink.
+pub fn set_floor<S: Alter>(
+    tx: &mut Transaction<'_, S>,
+    dev_eui: Eui,
+    session: Whole,
+) -> Result<(), RowFault>
+    ensures same_reference { tx.new.conn.ghost_name ≡ tx.old.conn.ghost_name }
+    ensures changes { Changes (state S.Store tx.old.conn.now) (state S.Store tx.new.conn.now) result (Unit {0})
+        (λ r. HasOnly (is_device dev_eui) r.devices × (length r.devices < 2 ^ 63))
+        (λ r. record r { devices = update_where (is_device dev_eui) (floor_set session) r.devices }) }
+{
+    let eui = octets_of(dev_eui);
+    write(
+        tx,
+        "UPDATE device SET floor = ?2 WHERE eui = ?1",
+        &[blob(&eui), whole(session)],
     )
 }

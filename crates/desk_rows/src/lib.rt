@@ -22,9 +22,9 @@ mod uplinks;
 mod values;
 mod writes;
 
-pub use bookings::{booking, insert_booking, is_answered, last_booking};
+pub use bookings::{booking, end_booking, insert_booking, is_answered, last_booking};
 pub use copies::{copy_at, insert_copy};
-pub use devices::{device, floor_of, insert_device};
+pub use devices::{device, floor_of, insert_device, move_device, set_floor};
 pub use faults::RowFault;
 pub use gateways::{gateway_is_known, insert_gateway};
 pub use making::{create_tables, insert_settings};
@@ -32,5 +32,7 @@ pub use meta::read_settings;
 pub use owners::{insert_owner, owner_is_known};
 pub use replies::{Texts, insert_reply, last_reply, texts_of};
 pub use senders::{insert_sender, role_of};
-pub use sessions::{insert_session, last_nonce, last_session, next_down, session, session_with};
+pub use sessions::{
+    insert_session, last_nonce, last_session, next_down, session, session_with, set_next_down,
+};
 pub use uplinks::{insert_uplink, last_counter, last_uplink, uplink, uplink_with};

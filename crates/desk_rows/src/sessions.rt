@@ -1,12 +1,13 @@
 //! Sessions.
-ghost use Rattle.std.specs.Prelude.{◌≡◌, ◌==◌, ℕ, filter, map, ◌+◌, ◌<◌, ◌^◌, ◌++◌, [], ◌∷◌, length, false, option_map};
+ghost use Rattle.std.specs.Prelude.{◌≡◌, ◌==◌, ℕ, filter, map, ◌+◌, ◌<◌, ◌^◌, ◌++◌, [], ◌∷◌, length, false, Some, option_map};
 ghost use Rattle.std.specs.List.{list_any};
 ghost use Rattle.sqlite.specs.Held.{state};
 ghost use Rattle.desk_rows.specs.Calls.{Changes, Reads};
 ghost use Rattle.registry_core.specs.declared.facts.Session.{Session};
-ghost use Rattle.registry_core.specs.Numbered.{first_that, greatest, item_at};
+ghost use Rattle.registry_core.specs.Numbered.{first_that, greatest, item_at, item_changed};
 ghost use Rattle.registry_core.specs.Ranges.{IsEui};
-ghost use Rattle.desk_rows.specs.Rows.{eui, is_session, last_number, number};
+ghost use Rattle.desk_rows.specs.Rows.{SessionRow, eui, is_session, last_number, number};
+ghost use Rattle.desk_rows.specs.order.Keys.{next_down_set};
 
 use crate::columns::{eui_at, short_at};
 use crate::faults::RowFault;
@@ -127,5 +128,23 @@ pub fn insert_session<S: Alter>(
         tx,
         "INSERT INTO session (device, nonce, next_down) VALUES (?1, ?2, 0)",
         &[blob(&device), short(session.nonce)],
+    )
+}
+
+/// Sets how many bookings answer the data uplinks of the session with this number.
+pub fn set_next_down<S: Alter>(
+    tx: &mut Transaction<'_, S>,
+    session: Whole,
+    next_down: Whole,
+) -> Result<(), RowFault>
+    ensures same_reference { tx.new.conn.ghost_name ≡ tx.old.conn.ghost_name }
+    ensures changes { Changes (state S.Store tx.old.conn.now) (state S.Store tx.new.conn.now) result (Unit {0})
+        (λ r. (row : SessionRow) × (item_at r.sessions session ≡ Some row))
+        (λ r. record r { sessions = item_changed (next_down_set next_down) r.sessions session }) }
+{
+    write(
+        tx,
+        "UPDATE session SET next_down = ?2 WHERE number = ?1",
+        &[whole(session), whole(next_down)],
     )
 }
