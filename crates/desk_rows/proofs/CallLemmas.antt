@@ -16,7 +16,7 @@ read_weaker old new a ok then_ok read = record { clean = read.clean; mode = read
     go false false h left = left
     go false true h left = absurd (true≢false (sym (h refl)))
 
-back_then : (a b c : State) → IsUnchanged a b → IsRolledBack b c → IsRolledBack a c
+pub back_then : (a b c : State) → IsUnchanged a b → IsRolledBack b c → IsRolledBack a c
 back_then a b c p q = record {
   was_open = λ up. p.0.was_open;
   undone = λ up. ((q.undone up).0 ∙ p.0.committed_is, (q.undone up).1 ∙ p.0.committed_is);

@@ -1,3 +1,4 @@
+pub mod AllRows
 pub mod BatchLemmas
 pub mod ByKey
 pub mod CallLemmas
@@ -5,6 +6,7 @@ pub mod FaultLemmas
 pub mod InsertLemmas
 pub mod Insertions
 pub mod Inserts
+pub mod LaterLemmas
 pub mod Latest
 pub mod Lookups
 pub mod MakingLemmas

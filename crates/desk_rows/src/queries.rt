@@ -1,4 +1,4 @@
-//! One query of one row.
+//! Queries of one row and of many.
 ghost use Rattle.std.specs.Prelude.{◌≡◌, ℕ, List, [], ◌∷◌, Result};
 ghost use Rattle.sqlite.specs.Held.{state};
 ghost use Rattle.sqlite.specs.Values.{bound};
@@ -7,12 +7,13 @@ ghost use Rattle.sqlite_value.specs.Order.{Row};
 ghost use Rattle.sqlite_value.specs.declared.value.Value.{Value};
 ghost use Rattle.desk_rows.specs.steps.Errors.{Decodes, found_of, known_of};
 ghost use Rattle.desk_rows.specs.Rows.{number};
-ghost use Rattle.desk_rows.specs.steps.Queries.{Finds, HasRun, IsReadOf, Knows};
+ghost use Rattle.desk_rows.specs.steps.Queries.{Finds, FindsAll, HasRun, IsReadOf, Knows};
 
 use crate::columns::number_at;
 use crate::faults::{RowFault, found};
 use sqlite::{Alter, Connection, Row};
 use sqlite_value::value::ValueRef;
+use std::alloc::Global;
 
 /// What a row of an answer shows.
 pub(crate) trait FromRow: Sized {
@@ -95,4 +96,25 @@ pub(crate) fn is_found<S: Alter>(
     ensures { Knows sql.now (bound params.now) (state S.Store conn.old) (state S.Store conn.new) result }
 {
     known(first_row(conn, sql, params))
+}
+
+/// What each row shows, read one after another to the end of the answer. A fault before that is the answer, and never a part.
+pub(crate) fn find_all<S: Alter, T: FromRow + Drop>(
+    alloc: Global,
+    conn: &mut Connection<S>,
+    sql: &str,
+    params: &[ValueRef<'_>],
+) -> Result<Vec<T>, RowFault>
+    ensures { FindsAll sql.now (bound params.now) (state S.Store conn.old) (state S.Store conn.new) T.seen T.shows T.InRange result }
+{
+    let mut all = Vec::new(alloc);
+    let mut rows = conn.query(sql, params)?;
+    'rows: for _ in 0..u64::MAX {
+        let Some(row) = rows.next()? else {
+            return Ok(all);
+        };
+        all.push(T::from_row(row)?)?;
+    }
+    // More rows than a list can have.
+    Err(RowFault::Memory)
 }
