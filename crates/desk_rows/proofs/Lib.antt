@@ -16,9 +16,11 @@ pub mod NumberedLemmas
 pub mod OrderLemmas
 pub mod Ordered
 pub mod QueryLemmas
+pub mod Ranges
 pub mod ReadLemmas
 pub mod RefusedLemmas
 pub mod SchemaTexts
+pub mod SpanQueries
 pub mod Tables
 pub mod Terms
 pub mod Unrefused

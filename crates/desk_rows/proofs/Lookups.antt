@@ -1,5 +1,5 @@
 -- Look-ups: what the first row of a query over one table tells, and that it never tells Row nor Refused of tables in order.
-use Rattle.std.proofs.Common.{◌≡◌, inl, inr, ℕ, ◌≤◌, List, [], ◌∷◌, length, find, Bool, true, false, Option, Some, None, option_map, Ok, Err, Result, IfOk, refl, sym, ap, subst, ◌∙◌, append-nil, subst₂, true≢false, IfErr}
+use Rattle.std.proofs.Common.{◌≡◌, inl, inr, ℕ, ◌≤◌, List, [], ◌∷◌, ◌++◌, length, find, Bool, true, false, Option, Some, None, option_map, Ok, Err, Result, IfOk, refl, sym, ap, subst, ◌∙◌, append-nil, subst₂, true≢false, IfErr}
 use Rattle.std.specs.List.{list_all, AllByRecursion}
 use Rattle.std.specs.Prelude.{Any, IfSome, is_some}
 use Rattle.std.specs.Result.{is_ok}
@@ -19,8 +19,8 @@ use Rattle.sqlite.specs.Effect.{RefusesToRead}
 use Rattle.sqlite.specs.Listing.{understood, reads_listing, IsSourceOf}
 use Rattle.sqlite.specs.Program.{overlay}
 use Rattle.sqlite.specs.Clock.{timed}
-use Rattle.sqlite.specs.State.{State, HasCleanDisk, Survives, QueriesRow, CommitsShowing, FailsToQuery, FailsToShow, IsNotRun, IsNoStatement}
-use Rattle.sqlite.proofs.Callers.{IsPlain, command_of, first_as, reads_as, never_commits}
+use Rattle.sqlite.specs.State.{State, Begins, HasCleanDisk, Shown, Survives, QueriesRow, CommitsShowing, FailsToQuery, FailsToShow, IsNotRun, IsNoStatement}
+use Rattle.sqlite.proofs.Callers.{IsPlain, begins_as, command_of, first_as, reads_as, never_commits}
 use Rattle.sqlite.proofs.StateLemmas.{survives_weaker}
 use Rattle.desk_rows.specs.Schema.{desk_schema}
 use Rattle.desk_rows.specs.Rows.{Rows, Holds, table_of}
@@ -82,6 +82,14 @@ module _ {sql : List ℕ} {many : ℕ} {a : Asked} (text : IsLookup sql many a) 
   found_answers (Err (InvalidColumnType at t)) h = tt
   found_answers (Err (IntegralValueOutOfRange at)) h = tt
   found_answers (Err (Utf8Error at)) h = tt
+
+  -- the rows that were all shown are an answer
+  pub shown_answers : (rows : List Row) → Shown sql params old new rows → IsAnswer (query_of a) (overlay old.now.trees []) params rows
+  shown_answers rows h = (reads_as sql params old new desk_schema has _ is plain text.unlisted rows h).answer Null
+
+  -- the rows that were shown so far begin one
+  pub begun_answers : (rows : List Row) → Begins sql params old rows → (tail : List Row) × IsAnswer (query_of a) (overlay old.now.trees []) params (rows ++ tail)
+  begun_answers rows h = let got = (begins_as sql params old new desk_schema has _ is plain text.unlisted rows h).1 in (got.0, got.1 Null)
 
   no_statement : many ≡ length params → (e : Error) → IsNoStatement old sql params e → ⊥
   no_statement many_is e (inl h) = let a = sym (ap (λ s. understood s sql) has ∙ text.means) ∙ h.1 in cc

@@ -18,6 +18,7 @@ use Rattle.sqlite_keyed.specs.Keyed.{IsKeyedBy}
 use Rattle.sqlite_keyed.specs.Lists.{sort_by}
 use Rattle.sqlite_typed.proofs.AnswerLemmas.{Source, IsNoTie, at_end, last_table, answer_by_keys, answer_sorted}
 use Rattle.desk_rows.specs.Rows.{numbered_from, table_of}
+pub use Rattle.desk_rows.specs.order.LookUps.{zip_from}
 
 -- ---- queries over one table
 
@@ -69,10 +70,6 @@ head_map f [] = refl
 head_map f (x ∷ xs) = refl
 
 -- ---- numbered rows
-
-abbrev pub zip_from : {X : Type 0} → ℕ → List X → List (ℕ × X)
-zip_from n [] = []
-zip_from n (x ∷ xs) = (n, x) ∷ zip_from (n + 1) xs
 
 abbrev pub encode : {X : Type 0} → (X → Row) → ℕ × X → Row
 encode cells b = Int (pos b.0) ∷ cells b.1

@@ -2,6 +2,7 @@
 use Rattle.std.specs.Prelude.{ℕ, [], ◌∷◌}
 use Rattle.radio_core.specs.Bands.{band_number}
 use Rattle.radio_core.specs.DataRates.{dr_number}
+use Rattle.duty_core.specs.Use.{Interval}
 use Rattle.registry_core.specs.declared.facts.Booking.{Booking}
 use Rattle.registry_core.specs.declared.facts.Reception.{Reception}
 use Rattle.registry_core.specs.declared.facts.Uplink.{Uplink}
@@ -18,3 +19,6 @@ copy_shown c = number c.end ∷ number c.rate.freq ∷ number (dr_number c.rate.
 
 abbrev pub booking_shown : Booking → Row
 booking_shown b = number b.uplink ∷ Text b.gateway ∷ number (band_number b.band) ∷ Int b.span.start ∷ number b.span.len ∷ number (standing_number b.standing) ∷ []
+
+abbrev pub span_shown : Interval → Row
+span_shown span = Int span.start ∷ number span.len ∷ []

@@ -1,0 +1,51 @@
+//! When downlinks are on the air.
+ghost use Rattle.std.specs.Prelude.{◌≡◌, ◌<◌, ◌^◌};
+ghost use Rattle.sqlite.specs.Held.{state};
+ghost use Rattle.duty_core.specs.Range.{IsStart};
+ghost use Rattle.duty_core.specs.Use.{Interval};
+ghost use Rattle.registry_core.specs.Bookings.{stands_in};
+ghost use Rattle.desk_rows.specs.Calls.{Reads};
+ghost use Rattle.desk_rows.specs.order.Arranged.{booking_span, by_start, spans_by};
+ghost use Rattle.desk_rows.specs.steps.Shown.{span_shown};
+
+use crate::columns::span_at;
+use crate::faults::RowFault;
+use crate::queries::{FromRow, find_all};
+use crate::values::{band, text};
+use duty_core::Span;
+use radio_core::{Band, Name};
+use sqlite::{Alter, Connection, Row};
+use std::alloc::Global;
+
+impl FromRow for Span {
+    ghost Seen = { Interval };
+
+    ghost seen = { λ span. span };
+
+    ghost shows = { span_shown };
+
+    ghost InRange = { λ span. IsStart span.start × (span.len < 2 ^ 32) };
+
+    fn from_row(row: &Row) -> Result<Span, RowFault> {
+        span_at(row, 0)
+    }
+}
+
+/// When the gateway's bookings in the band that aren't dropped are on the air, in order of start: equal starts in order of
+/// number.
+pub fn bookings_of<S: Alter>(
+    alloc: Global,
+    conn: &mut Connection<S>,
+    gateway: &Name,
+    of: Band,
+) -> Result<Vec<Span>, RowFault>
+    ensures { Reads (state S.Store conn.old) (state S.Store conn.new) result
+        (λ r spans. spans.items ≡ spans_by booking_span (by_start (λ b. (booking_span b).start)) (λ b. stands_in gateway.now of b.booking) r.bookings) }
+{
+    find_all(
+        alloc,
+        conn,
+        "SELECT start, airtime FROM booking WHERE gateway = ?1 AND band = ?2 AND state <> 2 ORDER BY start, number",
+        &[text(gateway), band(of)],
+    )
+}
