@@ -35,6 +35,7 @@ use Rattle.desk_rows.specs.declared.faults.RowFault.{RowFault}
 use Rattle.desk_rows.specs.declared.faults.RowFault.TheVariants.{Memory, Disk, Size, Row as OutOfShape, Refused}
 use Rattle.desk_rows.proofs.FaultLemmas.{not_row}
 use Rattle.desk_rows.proofs.Lookups.{IsLookup, begun_answers, never_refused, plain_now, says_so, shown_answers}
+use Rattle.desk_rows.proofs.OrderLemmas.Counting.{filter_alike}
 use Rattle.desk_rows.proofs.OrderLemmas.Each.{all_kept, all_map, all_so}
 use Rattle.desk_rows.proofs.OrderLemmas.Sorting.{all_sorted}
 use Rattle.desk_rows.proofs.Ordered.{Asked, query_of, encode, zip_all, zip_from, rows_sorted}
@@ -118,6 +119,12 @@ all_told {sql} text params {old} {new} many_is typed {seen = seen} {shows = show
 
 untied : {X : Type 0} (start : X → ℤ) (b c : ℕ × X) → int_cmp (pos b.0) (pos c.0) ≡ Less → IsNoTie (by_start start b c)
 untied start b c less = no_tie_after (int_cmp (start b.1) (start c.1)) (no_tie (ap (λ o. ordering_then o Equal) less))
+
+-- two tests that tell the rows of a list alike give the same
+pub spans_alike : {X : Type 0} (span : X → Interval) (order : ℕ × X → ℕ × X → Ordering) (P : X → Type 0) (p q : X → Bool) → ((x : X) → P x → p x ≡ q x) → (xs : List X) → AllByRecursion P xs
+    → spans_by span order p xs ≡ spans_by span order q xs
+spans_alike {X} span order P p q same xs all = ap (λ l. map (λ (b : ℕ × X). span b.1) (sort_by order l))
+    (filter_alike (λ (b : ℕ × X). P b.1) (λ b. p b.1) (λ b. q b.1) (λ b. same b.1) (zip_from 1 xs) (zip_all P 1 xs all))
 
 abbrev pub IsSpan : Interval → Type 0
 IsSpan span = IsStart span.start × (span.len < 2 ^ 32)

@@ -1,29 +1,38 @@
--- Queries of spans: a gateway's bookings.
-use Rattle.std.proofs.Common.{◌≡◌, ◌==◌, ◌&&◌, ℕ, pos, List, [], ◌∷◌, codes, Vec, Bool, true, false, not, Result, bytes_eq, refl, ap, ap₂, ◌∙◌, arith}
+-- Queries of spans: a gateway's bookings in a band, and those near a start.
+use Rattle.std.proofs.Common.{◌≡◌, ◌==◌, ◌&&◌, ℕ, pos, List, [], ◌∷◌, codes, Vec, Bool, true, false, cond, not, Option, Some, None, Result, bytes_eq, refl, sym, ap, ap₂, ◌∙◌, arith, Ordering, Less, Equal, Greater, int_cmp}
 use Rattle.std.specs.declared.alloc.Global.{Global}
-use Rattle.std.specs.Ordering.{ordering_then}
-use Rattle.std.specs.declared.cmp.Ordering.TheVariants.{Equal}
+use Rattle.std.specs.List.{AllByRecursion}
+use Rattle.std.specs.Ordering.{is_gt, is_lt, ordering_then}
+use Rattle.std.specs.Prelude.{ℤ, int_lt}
 use Rattle.sqlite_value.specs.declared.keys.Key.{Key}
 use Rattle.sqlite_value.specs.declared.value.Value.TheVariants.{Int, Text}
 use Rattle.sqlite_value.proofs.OrderLemmas.{value_cmp-Int}
-use Rattle.sqlite_sql.specs.Term.{Term, col}
+use Rattle.sqlite_value.specs.declared.keys.Collation.TheVariants.{Binary}
+use Rattle.sqlite_sql.specs.declared.ops.BinaryOp.TheVariants.{Compare}
+use Rattle.sqlite_sql.specs.declared.ops.CompareOp.TheVariants.{Gt, Lt}
+use Rattle.sqlite_sql.specs.Ops.{is_true, binary}
+use Rattle.sqlite_sql.specs.Term.{Term, col, op2}
 use Rattle.sqlite.specs.Listing.{understood}
 use Rattle.sqlite.specs.State.{State}
 use Rattle.sqlite_tied.specs.Compute.{everything}
+use Rattle.duty_core.specs.Near.{is_near, starts_between}
+use Rattle.duty_core.specs.Range.{IsStart}
 use Rattle.duty_core.specs.Use.{Interval}
 use Rattle.radio_core.specs.declared.bands.Band.{Band}
 use Rattle.radio_core.specs.Bands.{band_number}
-use Rattle.registry_core.specs.Bookings.{is_dropped, stands_in}
+use Rattle.registry_core.specs.Bookings.{is_dropped, stands_at, stands_in}
 use Rattle.desk_rows.specs.Calls.{Reads}
-use Rattle.desk_rows.specs.Rows.{BookingRow, IsBooking, booking_cells, number}
-use Rattle.desk_rows.specs.order.Arranged.{booking_span, by_start, spans_by}
+use Rattle.desk_rows.specs.Rows.{Rows, Holds, BookingRow, IsBooking, booking_cells, number}
+use Rattle.desk_rows.specs.order.Arranged.{booking_span, by_start, is_near_at, spans_by}
 use Rattle.desk_rows.specs.steps.Queries.{FindsAll}
 use Rattle.desk_rows.specs.steps.Shown.{span_shown}
 use Rattle.desk_rows.specs.declared.faults.RowFault.{RowFault}
 use Rattle.desk_rows.proofs.ByKey.{undropped, stands}
-use Rattle.desk_rows.proofs.Lookups.{IsLookup}
+use Rattle.desk_rows.proofs.Lookups.{IsLookup, says_so}
+use Rattle.desk_rows.proofs.OrderLemmas.Orders.{not_both}
 use Rattle.desk_rows.proofs.Ordered.{rising}
-use Rattle.desk_rows.proofs.Ranges.{IsSpan, all_by, spans_told}
+use Rattle.desk_rows.proofs.Ranges.{IsSpan, all_by, spans_alike, spans_told}
+use Rattle.desk_rows.proofs.ReadLemmas.{truth_again}
 use Rattle.desk_rows.proofs.Terms.{is, and_true, text_equal, number_equal}
 
 -- by the columns of start and number
@@ -56,3 +65,98 @@ module _ {old new : State} (gateway : List ℕ) where
       booking_span (λ b. refl)
       (λ b c. ap₂ (λ u v. ordering_then u (ordering_then v Equal)) (value_cmp-Int (booking_span b.1).start (booking_span c.1).start) (value_cmp-Int (pos b.0) (pos c.0)))
       IsBooking (λ r has. has.in_range.bookings) (λ b fits. (fits.start, fits.len)) found
+
+-- ---- between two starts
+
+abbrev pub above : ℕ → ℕ → Term
+above place param = op2 (Compare Gt Binary) (col 1 place) (col 0 param)
+
+abbrev pub below : ℕ → ℕ → Term
+below place param = op2 (Compare Lt Binary) (col 1 place) (col 0 param)
+
+gt_lt : (a b : ℤ) → is_gt (int_cmp a b) ≡ int_lt b a
+gt_lt a b = by (int_lt a b) (int_lt b a) refl refl
+  where
+    by : (p q : Bool) → int_lt a b ≡ p → int_lt b a ≡ q → is_gt (cond p Less (cond q Greater Equal)) ≡ q
+    by true q is js = sym (not_both a b is) ∙ js
+    by false true is js = refl
+    by false false is js = refl
+
+lt_lt : (a b : ℤ) → is_lt (int_cmp a b) ≡ int_lt a b
+lt_lt a b = by (int_lt a b) (int_lt b a)
+  where
+    by : (p q : Bool) → is_lt (cond p Less (cond q Greater Equal)) ≡ p
+    by true q = refl
+    by false true = refl
+    by false false = refl
+
+pub int_above : (a b : ℤ) → is_true (binary (Compare Gt Binary) (Int a) (Int b)) ≡ int_lt b a
+unfolding binary
+int_above a b = truth_again _ ∙ ap is_gt (value_cmp-Int a b) ∙ gt_lt a b
+
+pub int_below : (a b : ℤ) → is_true (binary (Compare Lt Binary) (Int a) (Int b)) ≡ int_lt a b
+unfolding binary
+int_below a b = truth_again _ ∙ ap is_lt (value_cmp-Int a b) ∙ lt_lt a b
+
+-- ---- near a start
+
+abbrev all_text : List ℕ
+all_text = codes "SELECT start, airtime FROM booking WHERE gateway = ?1 AND start > ?2 AND start < ?3 AND state <> 2 ORDER BY start, number"
+
+all_lookup : IsLookup all_text 3 (all_by 17 (is 3 0 ∷ above 7 1 ∷ below 7 2 ∷ undropped ∷ []) booking_project booking_order)
+unfolding understood everything
+all_lookup = record { names = _; compiled = _; means = refl; command = refl; plain = (refl, refl); whole = omega arith; given = refl; unlisted = refl }
+
+abbrev one_text : List ℕ
+one_text = codes "SELECT start, airtime FROM booking WHERE gateway = ?1 AND start > ?2 AND start < ?3 AND band = ?4 AND state <> 2 ORDER BY start, number"
+
+one_lookup : IsLookup one_text 4 (all_by 17 (is 3 0 ∷ above 7 1 ∷ below 7 2 ∷ is 6 3 ∷ undropped ∷ []) booking_project booking_order)
+unfolding understood everything
+one_lookup = record { names = _; compiled = _; means = refl; command = refl; plain = (refl, refl); whole = omega arith; given = refl; unlisted = refl }
+
+in_all : (g a b s : Bool) → (g && (a && (b && s))) ≡ ((g && s) && (a && b))
+in_all false a b s = refl
+in_all true false b true = refl
+in_all true false b false = refl
+in_all true true false true = refl
+in_all true true false false = refl
+in_all true true true true = refl
+in_all true true true false = refl
+
+in_one : (g a b n s : Bool) → (g && (a && (b && (n && s)))) ≡ (((g && s) && n) && (a && b))
+in_one g a b n s = in_all g a b (n && s) ∙ ap (λ t. t && (a && b)) (moved g n s)
+
+module _ {old new : State} (gateway : List ℕ) (after before : ℤ) where
+  pub all_near : {result : Result (Vec Interval Global) RowFault} → FindsAll all_text (Text gateway ∷ Int after ∷ Int before ∷ []) old new (λ s. s) span_shown IsSpan result
+      → Reads old new result (λ r spans. spans.items ≡ spans_by booking_span (by_start (λ (b : BookingRow). (booking_span b).start))
+      (λ b. stands_at gateway b.booking && starts_between after before (booking_span b)) r.bookings)
+  all_near found = spans_told all_lookup (Text gateway ∷ Int after ∷ Int before ∷ []) refl refl booking_cells (λ r. r.bookings) (λ r has. has.booking)
+      (λ b. stands_at gateway b.booking && starts_between after before (booking_span b))
+      (λ b. ap₂ (λ s t. s && t) (text_equal b.1.booking.gateway gateway) (ap₂ (λ s t. s && t) (int_above (booking_span b.1).start after)
+          (ap₂ (λ s t. s && t) (int_below (booking_span b.1).start before) (and_true _ ∙ stands b.1.booking.standing)))
+          ∙ in_all (bytes_eq b.1.booking.gateway gateway) (int_lt after (booking_span b.1).start) (int_lt (booking_span b.1).start before) (not (is_dropped b.1.booking.standing)))
+      booking_span (λ b. refl)
+      (λ b c. ap₂ (λ u v. ordering_then u (ordering_then v Equal)) (value_cmp-Int (booking_span b.1).start (booking_span c.1).start) (value_cmp-Int (pos b.0) (pos c.0)))
+      IsBooking (λ r has. has.in_range.bookings) (λ b fits. (fits.start, fits.len)) found
+
+  pub one_near : (band : Band) {result : Result (Vec Interval Global) RowFault}
+      → FindsAll one_text (Text gateway ∷ Int after ∷ Int before ∷ number (band_number band) ∷ []) old new (λ s. s) span_shown IsSpan result
+      → Reads old new result (λ r spans. spans.items ≡ spans_by booking_span (by_start (λ (b : BookingRow). (booking_span b).start))
+      (λ b. stands_in gateway band b.booking && starts_between after before (booking_span b)) r.bookings)
+  one_near band found = spans_told one_lookup (Text gateway ∷ Int after ∷ Int before ∷ number (band_number band) ∷ []) refl refl booking_cells (λ r. r.bookings) (λ r has. has.booking)
+      (λ b. stands_in gateway band b.booking && starts_between after before (booking_span b))
+      (λ b. ap₂ (λ s t. s && t) (text_equal b.1.booking.gateway gateway) (ap₂ (λ s t. s && t) (int_above (booking_span b.1).start after)
+          (ap₂ (λ s t. s && t) (int_below (booking_span b.1).start before)
+          (ap₂ (λ s t. s && t) (number_equal (band_number b.1.booking.band) (band_number band)) (and_true _ ∙ stands b.1.booking.standing))))
+          ∙ in_one (bytes_eq b.1.booking.gateway gateway) (int_lt after (booking_span b.1).start) (int_lt (booking_span b.1).start before)
+          (band_number b.1.booking.band == band_number band) (not (is_dropped b.1.booking.standing)))
+      booking_span (λ b. refl)
+      (λ b c. ap₂ (λ u v. ordering_then u (ordering_then v Equal)) (value_cmp-Int (booking_span b.1).start (booking_span c.1).start) (value_cmp-Int (pos b.0) (pos c.0)))
+      IsBooking (λ r has. has.in_range.bookings) (λ b fits. (fits.start, fits.len)) found
+
+-- what lies between the two starts is what is near the one
+pub near_told : {old new : State} (after before start : ℤ) → ((a : Interval) → IsStart a.start → is_near start a ≡ starts_between after before a) → (test : BookingRow → Bool) {result : Result (Vec Interval Global) RowFault}
+    → Reads old new result (λ r spans. spans.items ≡ spans_by booking_span (by_start (λ (b : BookingRow). (booking_span b).start)) (λ b. test b && starts_between after before (booking_span b)) r.bookings)
+    → Reads old new result (λ r spans. spans.items ≡ spans_by booking_span (by_start (λ (b : BookingRow). (booking_span b).start)) (λ b. test b && is_near start (booking_span b)) r.bookings)
+near_told after before start near test reads = says_so reads (λ r has spans is. is ∙ spans_alike booking_span (by_start (λ (b : BookingRow). (booking_span b).start)) IsBooking
+    (λ b. test b && starts_between after before (booking_span b)) (λ b. test b && is_near start (booking_span b)) (λ b fits. ap (λ t. test b && t) (sym (near (booking_span b) fits.start))) r.bookings has.in_range.bookings)

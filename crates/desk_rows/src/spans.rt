@@ -1,18 +1,19 @@
 //! When downlinks are on the air.
-ghost use Rattle.std.specs.Prelude.{◌≡◌, ◌<◌, ◌^◌};
+ghost use Rattle.std.specs.Prelude.{◌≡◌, ◌&&◌, ◌<◌, ◌^◌, pos};
 ghost use Rattle.sqlite.specs.Held.{state};
+ghost use Rattle.duty_core.specs.Near.{starts_between};
 ghost use Rattle.duty_core.specs.Range.{IsStart};
 ghost use Rattle.duty_core.specs.Use.{Interval};
-ghost use Rattle.registry_core.specs.Bookings.{stands_in};
+ghost use Rattle.registry_core.specs.Bookings.{stands_at, stands_in};
 ghost use Rattle.desk_rows.specs.Calls.{Reads};
-ghost use Rattle.desk_rows.specs.order.Arranged.{booking_span, by_start, spans_by};
+ghost use Rattle.desk_rows.specs.order.Arranged.{booking_span, by_start, is_near_at, spans_by};
 ghost use Rattle.desk_rows.specs.steps.Shown.{span_shown};
 
 use crate::columns::span_at;
 use crate::faults::RowFault;
 use crate::queries::{FromRow, find_all};
-use crate::values::{band, text};
-use duty_core::Span;
+use crate::values::{band, integer, text};
+use duty_core::{NearRange, Span, near_range};
 use radio_core::{Band, Name};
 use sqlite::{Alter, Connection, Row};
 use std::alloc::Global;
@@ -48,4 +49,63 @@ pub fn bookings_of<S: Alter>(
         "SELECT start, airtime FROM booking WHERE gateway = ?1 AND band = ?2 AND state <> 2 ORDER BY start, number",
         &[text(gateway), band(of)],
     )
+}
+
+fn near_in_all<S: Alter>(
+    alloc: Global,
+    conn: &mut Connection<S>,
+    gateway: &Name,
+    range: NearRange,
+) -> Result<Vec<Span>, RowFault>
+    ensures { Reads (state S.Store conn.old) (state S.Store conn.new) result (λ r spans. spans.items ≡ spans_by booking_span (by_start (λ b. (booking_span b).start))
+        (λ b. stands_at gateway.now b.booking && starts_between range.after range.before (booking_span b)) r.bookings) }
+{
+    find_all(
+        alloc,
+        conn,
+        "SELECT start, airtime FROM booking WHERE gateway = ?1 AND start > ?2 AND start < ?3 AND state <> 2 ORDER BY start, number",
+        &[text(gateway), integer(range.after), integer(range.before)],
+    )
+}
+
+fn near_in_one<S: Alter>(
+    alloc: Global,
+    conn: &mut Connection<S>,
+    gateway: &Name,
+    of: Band,
+    range: NearRange,
+) -> Result<Vec<Span>, RowFault>
+    ensures { Reads (state S.Store conn.old) (state S.Store conn.new) result (λ r spans. spans.items ≡ spans_by booking_span (by_start (λ b. (booking_span b).start))
+        (λ b. stands_in gateway.now of b.booking && starts_between range.after range.before (booking_span b)) r.bookings) }
+{
+    find_all(
+        alloc,
+        conn,
+        "SELECT start, airtime FROM booking WHERE gateway = ?1 AND start > ?2 AND start < ?3 AND band = ?4 AND state <> 2 ORDER BY start, number",
+        &[
+            text(gateway),
+            integer(range.after),
+            integer(range.before),
+            band(of),
+        ],
+    )
+}
+
+/// When the gateway's bookings that aren't dropped and start near the given start are on the air, of one band or of all, in
+/// order of start: equal starts in order of number.
+pub fn near<S: Alter>(
+    alloc: Global,
+    conn: &mut Connection<S>,
+    gateway: &Name,
+    of: Option<Band>,
+    start: u64,
+) -> Result<Vec<Span>, RowFault>
+    ensures { Reads (state S.Store conn.old) (state S.Store conn.new) result
+        (λ r spans. spans.items ≡ spans_by booking_span (by_start (λ b. (booking_span b).start)) (is_near_at gateway.now of (pos start)) r.bookings) }
+{
+    let range = near_range(i128::from(start));
+    match of {
+        Some(of) => near_in_one(alloc, conn, gateway, of, range),
+        None => near_in_all(alloc, conn, gateway, range),
+    }
 }

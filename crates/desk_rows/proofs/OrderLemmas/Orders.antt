@@ -10,7 +10,7 @@ use Rattle.desk_rows.specs.order.Arranged.{FallsFirst, OrdersHold, PutsByStart, 
 
 -- ---- by start
 
-not_both : (a b : ℤ) → int_lt a b ≡ true → int_lt b a ≡ false
+pub not_both : (a b : ℤ) → int_lt a b ≡ true → int_lt b a ≡ false
 not_both a b ab = grind (arith, ints)
 
 below : (m n : ℕ) → m < n → int_lt (pos m) (pos n) ≡ true

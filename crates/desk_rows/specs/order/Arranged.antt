@@ -11,7 +11,7 @@ use Rattle.duty_core.specs.Near.{is_near, near_ones}
 use Rattle.duty_core.specs.Use.{Interval}
 use Rattle.registry_core.specs.declared.facts.Booking.{Booking}
 use Rattle.registry_core.specs.declared.facts.Uplink.{Uplink}
-use Rattle.registry_core.specs.Bookings.{downlinks_in, stands_in}
+use Rattle.registry_core.specs.Bookings.{downlinks_in, stands_at, stands_in}
 use Rattle.registry_core.specs.Numbered.{item_at}
 use Rattle.registry_core.specs.Ranges.{IsEui}
 use Rattle.registry_core.specs.Reports.{IsNextDevice, in_band, interval_of, is_after, is_in_band, uplinks_from}
@@ -33,6 +33,10 @@ spans_by span order test rows = map (λ row. span row.1) (rows_by order test row
 
 abbrev pub booking_span : BookingRow → Interval
 booking_span b = b.booking.span
+
+-- the booking stands at the gateway, in the band if one is given, and is near the start
+abbrev pub is_near_at : List ℕ → Option Band → ℤ → BookingRow → Bool
+is_near_at gateway band start b = option_map_or (λ band. stands_in gateway band b.booking) band (stands_at gateway b.booking) && is_near start (booking_span b)
 
 -- the uplink is one of the device's in the band, and starts from the one time on and before the other
 abbrev pub is_uplink_of : List SessionRow → ℕ → Band → ℤ → ℤ → Uplink → Bool
