@@ -1,14 +1,13 @@
 -- A map with one more key is the look-up with one more fact, and a value that is written is its fact changed.
-use Rattle.std.proofs.Common.{◌≡◌, ℕ, Bool, true, false, List, Option, Some, option_map, cond, refl, sym, ◌∙◌, ap}
+use Rattle.std.proofs.Common.{◌≡◌, ℕ, Bool, true, false, List, Option, Some, cond, refl, ◌∙◌, ap}
 use Rattle.std.specs.Prelude.{◌==◌, ◌&&◌, bytes_eq, nat_eq}
 use Rattle.std.specs.Cmp.{nat_eq_equiv}
 use Rattle.std.specs.Cmp.Lexicographic.{nat_list_eq_equiv}
 use Rattle.std.proofs.lemmas.Bool.{eqb-true, eq-eqb}
 use Rattle.indexmap.specs.IndexMap.{IndexMap, Updates, get}
-use Rattle.registry_core.specs.declared.facts.Device.{Device}
 use Rattle.registry_core.specs.declared.facts.Reception.{Reception}
-use Rattle.registry_core.specs.State.{at_name, at_number, copies_with, devices_with_move, owned_by}
-use Rattle.desk_store.specs.Facts.{copies_of, devices_of, same_copy}
+use Rattle.registry_core.specs.State.{at_name, at_number, copies_with}
+use Rattle.desk_store.specs.Facts.{copies_of, same_copy}
 
 -- functions with one value at each argument are one
 at_each : {X Y : Type 0} {f g : X → Y} → ((x : X) → f x ≡ g x) → f ≡ g
@@ -34,11 +33,3 @@ module _ {S : Type 0} where
       → copies_of new ≡ copies_with (copies_of old) number gateway reception
   copies_with-updated old new number gateway reception updates = at_each (λ n. at_each (λ at.
       updates.0 (n, at) ∙ copy_key (copies_of old) number gateway reception n at (n == number) refl))
-
--- ---- a device moved
-
-pub devices_with_move-written : {S : Type 0} (old new : IndexMap ℕ Device S) (dev_eui : ℕ) (owner : List ℕ) (device : Device) → devices_of old dev_eui ≡ Some device
-    → Updates nat_eq old new dev_eui (Some (owned_by owner device)) → devices_of new ≡ devices_with_move (devices_of old) dev_eui owner
-devices_with_move-written old new dev_eui owner device there updates =
-    at_number-updated old new dev_eui (owned_by owner device) updates
-    ∙ ap (λ found. at_number (devices_of old) dev_eui (option_map (owned_by owner) found)) (sym there)

@@ -1,50 +1,106 @@
--- The next of an owner's devices is the least of those numbers that count.
-use Rattle.std.proofs.Common.{◌≡◌, ℕ, Bool, true, false, List, [], ◌∷◌, Option, refl, sym, ◌∙◌, ap}
-use Rattle.std.specs.Prelude.{◌&&◌, ◌||◌, ◌==◌, bytes_eq, nat_eq}
-use Rattle.std.specs.List.{list_any}
-use Rattle.std.specs.Map.{keys_of, lookup}
-use Rattle.std.specs.Option.{option_map_or}
-use Rattle.std.proofs.lemmas.Bool.{and_parts, eqb-true, eq-eqb}
+-- The devices with their owners in order: what one device more changes.
+use Rattle.std.proofs.Common.{◌≡◌, ℕ, Bool, true, false, cond, List, Some, None, refl, sym, ◌∙◌, ap}
+use Rattle.std.specs.Prelude.{◌&&◌, bytes_eq, nat_eq}
+use Rattle.std.specs.BTreeSet.{BTreeSet, contains}
+use Rattle.std.specs.Cmp.{both_tied, unsigned_ties}
+use Rattle.std.specs.Cmp.Lexicographic.{nat_list_eq_equiv, texts_ties}
+use Rattle.std.specs.Ordering.{is_eq}
+use Rattle.std.proofs.lemmas.Bool.{eqb-true}
 use Rattle.registry_core.specs.declared.facts.Device.{Device}
-use Rattle.registry_core.specs.Reports.{IsNextDevice, is_after, is_owned}
-use Rattle.registry_core.specs.State.{State}
-use Rattle.desk_store.specs.declared.facts.Facts.{Facts}
-use Rattle.desk_store.specs.Facts.{facts_of}
-use Rattle.desk_store.proofs.Least.{least_that, least_passes, least_below}
+use Rattle.desk_store.specs.declared.devices.Owned.{Owned}
+use Rattle.desk_store.specs.Devices.{devices_of}
+use Rattle.desk_store.specs.steps.Devices.{AreOwned, has_owner, owned_cmp}
 
-or_true : (b : Bool) → (b || true) ≡ true
-or_true true = refl
-or_true false = refl
+and_false : (b : Bool) → (b && false) ≡ false
+and_false true = refl
+and_false false = refl
 
--- the device is one of the owner's, and above the other
-abbrev pub counts : State → List ℕ → Option ℕ → ℕ → Bool
-counts s owner after dev_eui = is_owned s owner dev_eui && is_after after dev_eui
+and_true : (b : Bool) → (b && true) ≡ b
+and_true true = refl
+and_true false = refl
 
-abbrev pub numbers : Facts → List ℕ
-numbers facts = keys_of facts.devices.entries
+same_pair : (a b : Owned) → is_eq (owned_cmp a b) ≡ (bytes_eq a.owner b.owner && nat_eq a.dev_eui b.dev_eui)
+same_pair a b = sym (both_tied _ _ _ _ (texts_ties a.owner b.owner) (unsigned_ties a.dev_eui b.dev_eui))
 
-abbrev owner_is : List ℕ → Option Device → Bool
-owner_is owner found = option_map_or (λ (device : Device). bytes_eq device.owner owner) found false
+-- pairs of two devices are two
+apart_pair : (a b : Owned) → nat_eq a.dev_eui b.dev_eui ≡ false → is_eq (owned_cmp a b) ≡ false
+apart_pair a b apart = same_pair a b ∙ ap (λ d. bytes_eq a.owner b.owner && d) apart ∙ and_false (bytes_eq a.owner b.owner)
 
-owned_by : (e : ℕ × Device) (es : List (ℕ × Device)) (owner : List ℕ) (d : ℕ) (b : Bool) → nat_eq d e.0 ≡ b
-    → (owner_is owner (lookup (nat_eq d) es) ≡ true → list_any (λ n. n == d) (keys_of es) ≡ true)
-    → owner_is owner (lookup (nat_eq d) (e ∷ es)) ≡ true → list_any (λ n. n == d) (keys_of (e ∷ es)) ≡ true
-owned_by e es owner d true same others owned = rw (eqb-true d e.0 same, eq-eqb e.0 e.0 refl) refl
-owned_by e es owner d false apart others owned =
-    let there : list_any (λ n. n == d) (keys_of es) ≡ true = others (rw apart at owned) in
-    ap (λ b. (e.0 == d) || b) there ∙ or_true (e.0 == d)
+-- pairs of one device are one where their owners are
+owners_pair : (a b : Owned) → nat_eq a.dev_eui b.dev_eui ≡ true → is_eq (owned_cmp a b) ≡ bytes_eq a.owner b.owner
+owners_pair a b same = same_pair a b ∙ ap (λ d. bytes_eq a.owner b.owner && d) same ∙ and_true (bytes_eq a.owner b.owner)
 
--- a device that an owner has is among the numbers
-owned_among : (es : List (ℕ × Device)) (owner : List ℕ) (d : ℕ) → owner_is owner (lookup (nat_eq d) es) ≡ true → list_any (λ n. n == d) (keys_of es) ≡ true
-owned_among [] owner d owned = cc
-owned_among (e ∷ es) owner d owned = owned_by e es owner d (nat_eq d e.0) refl (owned_among es owner d) owned
+or_nothing : (b : Bool) → cond b true false ≡ b
+or_nothing true = refl
+or_nothing false = refl
 
-pub next_is : (facts : Facts) (owner : List ℕ) (after next : Option ℕ) → next ≡ least_that (counts (facts_of facts) owner after) (numbers facts)
-    → IsNextDevice (facts_of facts) owner after next
-next_is facts owner after next found = record {
-  owned = λ dev_eui told. least_passes (counts (facts_of facts) owner after) (numbers facts) dev_eui (sym found ∙ told);
-  least = λ dev_eui passes.
-      let among = owned_among facts.devices.entries owner dev_eui (and_parts _ _ passes).0 in
-      let below = least_below (counts (facts_of facts) owner after) (numbers facts) dev_eui among passes in
-      (below.0, found ∙ below.1, below.2);
-}
+or_itself : (b : Bool) → cond b true b ≡ b
+or_itself true = refl
+or_itself false = refl
+
+-- of two owners one leaves and the other one comes
+exchanged : (before now owner : List ℕ) (p q : Bool) → bytes_eq before owner ≡ p → bytes_eq now owner ≡ q → bytes_eq before now ≡ false
+    → cond p false (cond q true p) ≡ q
+exchanged before now owner true true left came apart =
+    let one : bytes_eq before now ≡ true = nat_list_eq_equiv.congr before owner now left ∙ nat_list_eq_equiv.symm owner now ∙ came in
+    let no : true ≡ false = sym one ∙ apart in cc
+exchanged before now owner true false left came apart = refl
+exchanged before now owner false true left came apart = refl
+exchanged before now owner false false left came apart = refl
+
+module _ (old new : List (ℕ × Device)) (dev_eui : ℕ) (device : Device) (was noted : BTreeSet Owned) (are : AreOwned old was)
+    (put : (n : ℕ) → devices_of new n ≡ cond (nat_eq dev_eui n) (Some device) (devices_of old n))
+    (with_pair : (pair : Owned) → contains owned_cmp noted pair
+    ≡ cond (is_eq (owned_cmp (record { owner = device.owner; dev_eui = dev_eui }) pair)) true (contains owned_cmp was pair)) where
+  other : (pair : Owned) → nat_eq dev_eui pair.dev_eui ≡ false → contains owned_cmp noted pair ≡ has_owner pair.owner (devices_of new pair.dev_eui)
+  other pair apart = with_pair pair
+      ∙ ap (λ b. cond b true (contains owned_cmp was pair)) (apart_pair (record { owner = device.owner; dev_eui = dev_eui }) pair apart)
+      ∙ are.has pair
+      ∙ ap (has_owner pair.owner) (sym (put pair.dev_eui ∙ ap (λ b. cond b (Some device) (devices_of old pair.dev_eui)) apart))
+
+  its_owner : (pair : Owned) → nat_eq dev_eui pair.dev_eui ≡ true → has_owner pair.owner (devices_of new pair.dev_eui) ≡ bytes_eq device.owner pair.owner
+  its_owner pair same = ap (has_owner pair.owner) (put pair.dev_eui ∙ ap (λ b. cond b (Some device) (devices_of old pair.dev_eui)) same)
+
+  its_pair : (pair : Owned) → nat_eq dev_eui pair.dev_eui ≡ true
+      → contains owned_cmp noted pair ≡ cond (bytes_eq device.owner pair.owner) true (has_owner pair.owner (devices_of old dev_eui))
+  its_pair pair same = with_pair pair
+      ∙ ap (λ b. cond b true (contains owned_cmp was pair)) (owners_pair (record { owner = device.owner; dev_eui = dev_eui }) pair same)
+      ∙ ap (cond (bytes_eq device.owner pair.owner) true) (are.has pair
+      ∙ ap (λ n. has_owner pair.owner (devices_of old n)) (sym (eqb-true dev_eui pair.dev_eui same)))
+
+  put_by : ((owner : List ℕ) → cond (bytes_eq device.owner owner) true (has_owner owner (devices_of old dev_eui)) ≡ bytes_eq device.owner owner)
+      → (pair : Owned) (b : Bool) → nat_eq dev_eui pair.dev_eui ≡ b → contains owned_cmp noted pair ≡ has_owner pair.owner (devices_of new pair.dev_eui)
+  put_by kept pair true same = its_pair pair same ∙ kept pair.owner ∙ sym (its_owner pair same)
+  put_by kept pair false apart = other pair apart
+
+  -- a new device
+  pub put_new : None ≡ devices_of old dev_eui → AreOwned new noted
+  put_new none = record {
+    has = λ pair. put_by (λ owner. ap (λ d. cond (bytes_eq device.owner owner) true (has_owner owner d)) (sym none) ∙ or_nothing (bytes_eq device.owner owner))
+        pair _ refl;
+  }
+
+  -- a device that keeps its owner
+  pub put_kept : (before : Device) → Some before ≡ devices_of old dev_eui → before.owner ≡ device.owner → AreOwned new noted
+  put_kept before there same = record {
+    has = λ pair. put_by (λ owner. ap (λ d. cond (bytes_eq device.owner owner) true (has_owner owner d)) (sym there)
+        ∙ ap (λ o. cond (bytes_eq device.owner owner) true (bytes_eq o owner)) same ∙ or_itself (bytes_eq device.owner owner)) pair _ refl;
+  }
+
+  module _ (before : Device) (there : Some before ≡ devices_of old dev_eui) (apart : bytes_eq before.owner device.owner ≡ false) (left : BTreeSet Owned)
+      (without : (pair : Owned) → contains owned_cmp left pair
+      ≡ cond (is_eq (owned_cmp (record { owner = before.owner; dev_eui = dev_eui }) pair)) false (contains owned_cmp noted pair)) where
+    moved_by : (pair : Owned) (b : Bool) → nat_eq dev_eui pair.dev_eui ≡ b → contains owned_cmp left pair ≡ has_owner pair.owner (devices_of new pair.dev_eui)
+    moved_by pair true same = without pair
+        ∙ ap (λ b. cond b false (contains owned_cmp noted pair)) (owners_pair (record { owner = before.owner; dev_eui = dev_eui }) pair same)
+        ∙ ap (cond (bytes_eq before.owner pair.owner) false) (its_pair pair same
+        ∙ ap (λ d. cond (bytes_eq device.owner pair.owner) true (has_owner pair.owner d)) (sym there))
+        ∙ exchanged before.owner device.owner pair.owner _ _ refl refl apart
+        ∙ sym (its_owner pair same)
+    moved_by pair false other_device = without pair
+        ∙ ap (λ b. cond b false (contains owned_cmp noted pair)) (apart_pair (record { owner = before.owner; dev_eui = dev_eui }) pair other_device)
+        ∙ other pair other_device
+
+    -- a device that leaves one owner for another
+    pub put_moved : AreOwned new left
+    put_moved = record { has = λ pair. moved_by pair _ refl }

@@ -2,23 +2,18 @@
 use Rattle.std.specs.Prelude.{ℕ, ◌&&◌, Bool, List, Option, bytes_eq, nat_eq}
 use Rattle.indexmap.specs.IndexMap.{IndexMap, get}
 use Rattle.indexmap.specs.IndexSet.{contains}
-use Rattle.registry_core.specs.declared.facts.Device.{Device}
 use Rattle.registry_core.specs.declared.facts.Reception.{Reception}
 use Rattle.registry_core.specs.State.{State}
 use Rattle.desk_store.specs.declared.facts.Facts.{Facts}
+use Rattle.desk_store.specs.Devices.{devices_of}
 
 -- two pairs of an uplink's number and a gateway's name are the same
 abbrev pub same_copy : ℕ × List ℕ → ℕ × List ℕ → Bool
 same_copy a b = nat_eq a.0 b.0 && bytes_eq a.1 b.1
 
-module _ {S : Type 0} where
-  -- the devices by their DevEUIs
-  abbrev pub devices_of : IndexMap ℕ Device S → ℕ → Option Device
-  devices_of devices = get nat_eq devices
-
-  -- the copies by their uplinks' numbers and their gateways
-  abbrev pub copies_of : IndexMap (ℕ × List ℕ) Reception S → ℕ → List ℕ → Option Reception
-  copies_of copies number gateway = get same_copy copies (number, gateway)
+-- the copies by their uplinks' numbers and their gateways
+abbrev pub copies_of : {S : Type 0} → IndexMap (ℕ × List ℕ) Reception S → ℕ → List ℕ → Option Reception
+copies_of copies number gateway = get same_copy copies (number, gateway)
 
 abbrev pub facts_of : Facts → State
 facts_of facts = record {

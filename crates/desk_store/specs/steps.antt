@@ -2,6 +2,7 @@
 pub mod Answers
 pub mod BookingPlaces
 pub mod ByKey
+pub mod Devices
 pub mod Downlinks
 pub mod Parts
 pub mod Sessions

@@ -1,14 +1,15 @@
 //! The registry's facts in the plain form: what has a key in maps and sets, and what is numbered in lists.
 ghost use Rattle.std.specs.Prelude.{◌≡◌, ◌+◌, [], ◌∷◌, ◌++◌, length, IfOk, OnOk, OnErr};
-ghost use Rattle.registry_core.specs.State.{copies_with, devices_with_move, opening, state_with};
+ghost use Rattle.registry_core.specs.State.{copies_with, opening, state_with};
 ghost use Rattle.registry_core.specs.declared.effects.Effect.TheVariants.{AddsCopy, AddsSession, AddsUplink};
-ghost use Rattle.desk_store.specs.Facts.{copies_of, devices_of, facts_of};
+ghost use Rattle.desk_store.specs.Facts.{copies_of, facts_of};
 
+use crate::devices::Devices;
 use crate::sessions::Sessions;
 use crate::traffic::Traffic;
 use indexmap::{IndexMap, IndexSet};
-use radio_core::{Eui, Name};
-use registry_core::{Config, Device, Effect, Reception, Role, Session, Uplink};
+use radio_core::Name;
+use registry_core::{Config, Effect, Reception, Role, Session, Uplink};
 use std::alloc::{AllocError, Global};
 
 /// The registry's facts. Contracts see what they are by `facts_of`.
@@ -17,7 +18,7 @@ pub(crate) struct Facts {
     pub(crate) senders: IndexMap<Name, Role>,
     pub(crate) owners: IndexSet<Name>,
     pub(crate) gateways: IndexSet<Name>,
-    pub(crate) devices: IndexMap<Eui, Device>,
+    pub(crate) devices: Devices,
     pub(crate) sessions: Sessions,
     pub(crate) traffic: Traffic,
     /// By the uplink's number and the gateway.
@@ -35,7 +36,7 @@ impl Facts {
             senders,
             owners: IndexSet::new(alloc),
             gateways: IndexSet::new(alloc),
-            devices: IndexMap::new(alloc),
+            devices: Devices::new(alloc),
             sessions: Sessions::new(alloc),
             traffic: Traffic::new(alloc),
             copies: IndexMap::new(alloc),
@@ -58,10 +59,8 @@ impl Facts {
             Effect::AddsGateway { name } => {
                 self.gateways.insert(name)?;
             }
-            Effect::AddsDevice { dev_eui, device } => {
-                self.devices.insert(dev_eui, device)?;
-            }
-            Effect::MovesDevice { dev_eui, owner } => move_in(&mut self.devices, dev_eui, owner),
+            Effect::AddsDevice { dev_eui, device } => self.devices.put(dev_eui, device)?,
+            Effect::MovesDevice { dev_eui, owner } => self.devices.move_to(dev_eui, owner)?,
             Effect::AddsSession {
                 session,
                 uplink,
@@ -155,13 +154,4 @@ fn put_uplink(
     traffic.push_uplink(uplink)?;
     copies.insert((number, gateway), reception)?;
     Ok(())
-}
-
-/// The device has this owner, and all else stays.
-fn move_in(devices: &mut IndexMap<Eui, Device>, dev_eui: Eui, owner: Name)
-    ensures { devices_of devices.new ≡ devices_with_move (devices_of devices.old) dev_eui owner }
-{
-    if let Some(device) = devices.get_mut(&dev_eui) {
-        device.owner = owner;
-    }
 }

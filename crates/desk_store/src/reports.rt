@@ -1,8 +1,7 @@
 //! What reports ask of the facts: an owner's devices in order, and when a device's uplinks were on the air.
-ghost use Rattle.std.specs.Prelude.{◌≡◌, IfOk, IsPermutation, Some, min};
-ghost use Rattle.std.specs.Option.{option_map_or};
+ghost use Rattle.std.specs.Prelude.{◌≡◌, IfOk, IsPermutation};
 ghost use Rattle.duty_core.specs.InOrder.{IsByStart};
-ghost use Rattle.registry_core.specs.Reports.{in_band, is_after, is_owned, uplinks_from, IsNextDevice};
+ghost use Rattle.registry_core.specs.Reports.{in_band, uplinks_from, IsNextDevice};
 ghost use Rattle.desk_store.specs.Facts.{facts_of};
 ghost use Rattle.desk_store.specs.steps.UplinkPlaces.{places_from};
 
@@ -15,50 +14,11 @@ use radio_core::{Band, Eui, Name};
 use std::alloc::{AllocError, Global};
 
 impl Facts {
-    /// The device's owner is this one now.
-    fn is_owned(&self, owner: &Name, dev_eui: Eui) -> bool
-        ensures { result ≡ is_owned (facts_of self.now) owner.now dev_eui }
-    {
-        match self.devices.get(&dev_eui) {
-            Some(device) => device.owner.get() == owner.get(),
-            None => false,
-        }
-    }
-
     /// The least DevEUI of the owner's devices, above `after` where it is given.
     pub(crate) fn next_device(&self, owner: &Name, after: Option<Eui>) -> Option<Eui>
         ensures { IsNextDevice (facts_of self.now) owner.now after result }
     {
-        let mut next = None;
-        for dev_eui in self.devices.keys() {
-            let owned = self.is_owned(owner, *dev_eui);
-            let above = is_after(&after, *dev_eui);
-            next = match owned && above {
-                true => lower(*dev_eui, next),
-                false => next,
-            };
-        }
-        next
-    }
-}
-
-/// It is above the other, or there is no other.
-fn is_after(after: &Option<Eui>, dev_eui: Eui) -> bool
-    ensures { result ≡ is_after after.now dev_eui }
-{
-    match after {
-        Some(after) => after.get() < dev_eui.get(),
-        None => true,
-    }
-}
-
-/// The lower of the two, where there is another.
-fn lower(dev_eui: Eui, next: Option<Eui>) -> Option<Eui>
-    ensures { result ≡ Some (option_map_or (min dev_eui) next dev_eui) }
-{
-    match next {
-        Some(next) if next.get() <= dev_eui.get() => Some(next),
-        _ => Some(dev_eui),
+        self.devices.next_of(owner, after)
     }
 }
 

@@ -39,6 +39,19 @@ static NEXT: [(&str, Option<u64>, Option<u64>); 8] = [
     ("city", None, None),
 ];
 
+/// Moves, and their new owners: the second one to the owner that it has, the last one of no device.
+static MOVES: [(u64, &str); 3] = [(7, "port"), (9, "town"), (4, "port")];
+
+/// An owner, the device that is asked after, and the one that follows after those moves.
+static NEXT_MOVED: [(&str, Option<u64>, Option<u64>); 6] = [
+    ("town", None, Some(5)),
+    ("town", Some(5), Some(9)),
+    ("town", Some(9), None),
+    ("port", None, Some(3)),
+    ("port", Some(3), Some(7)),
+    ("port", Some(7), None),
+];
+
 /// A device, a band, a period, and when the uplinks that are told of start, each after the first.
 static TOLD: [(u64, Band, i64, i64, &[i64]); 8] = [
     (5, Band::B3, 0, 31, &[0, 0, 5, 10, 20, 30]),
@@ -139,6 +152,27 @@ fn owners_gateways_and_devices_are_told(rt: HostRuntime) -> Result<(), Fail> {
     assert!(rt; !lists.has_owner(&name("gw-a")?)? && lists.has_gateway(&name("gw-a")?)?);
     assert!(rt; !lists.has_gateway(&name("town")?)?);
     for (owner, after, found) in &NEXT {
+        assert!(rt;
+            next(&mut *lists, owner, *after)? == found.map(Eui::new),
+            "{owner} {after:?}"
+        );
+    }
+    Ok(())
+}
+
+#[test]
+fn a_device_that_moves_is_its_new_owners(rt: HostRuntime) -> Result<(), Fail> {
+    let mut lists = used(rt.alloc())?;
+    for (transaction, (dev_eui, owner)) in (101..).zip(&MOVES) {
+        let dev_eui = Eui::new(*dev_eui);
+        let owner = name(owner)?;
+        keep(
+            &mut *lists,
+            transaction,
+            &Effect::MovesDevice { dev_eui, owner },
+        )?;
+    }
+    for (owner, after, found) in &NEXT_MOVED {
         assert!(rt;
             next(&mut *lists, owner, *after)? == found.map(Eui::new),
             "{owner} {after:?}"

@@ -1,9 +1,10 @@
 use Rattle.std.proofs.Common.{◌∙◌, Some}
-use Rattle.std.specs.Prelude.{bytes_eq, nat_eq}
+use Rattle.std.specs.Prelude.{bytes_eq}
 use Rattle.std.specs.List.{list_any}
 use Rattle.std.specs.Map.{lookup}
 use Rattle.registry_core.specs.declared.messages.Role.TheVariants.{Operator}
 use Rattle.registry_core.specs.State.{at_name}
+use Rattle.desk_store.specs.Devices.{devices_of}
 use Rattle.desk_store.specs.Facts.{same_copy}
 use Rattle.desk_store.proofs.Keyed.{at_name-updated}
 use Rattle.desk_store.proofs.facts.Facts.opening.Goals as goal
@@ -16,7 +17,7 @@ returns c =
       senders = senders i;
       owners = λ name. list_any (bytes_eq name) (c.new.ensures.empty i);
       gateways = λ name. list_any (bytes_eq name) (c.new-2.ensures.empty i);
-      devices = λ dev_eui. lookup (nat_eq dev_eui) (c.new-3.ensures.empty i);
+      devices = λ dev_eui. devices_of (c.new-3.ensures i) dev_eui;
       sessions = c.new-4.ensures i;
       uplinks = c.new-5.ensures.uplinks i;
       copies = λ number gateway. lookup (same_copy (number, gateway)) (c.new-6.ensures.empty i);
