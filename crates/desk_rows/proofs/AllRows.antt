@@ -1,17 +1,16 @@
 -- Reading a query's rows one after another.
-use Rattle.std.proofs.Common.{◌≡◌, inl, inr, ℕ, ◌≤◌, List, [], ◌∷◌, ◌++◌, Vec, Option, Some, None, Ok, Err, Result, false, refl, sym, ap, subst, ◌∙◌, arith, IfErr}
+use Rattle.std.proofs.Common.{◌≡◌, inl, inr, ℕ, List, [], ◌∷◌, ◌++◌, Vec, Some, None, Ok, Err, Result, false, refl, sym, subst, arith}
 use Rattle.std.specs.declared.alloc.Global.{Global}
 use Rattle.sqlite_value.specs.Order.{Row}
 use Rattle.sqlite_trees.specs.declared.store.Store.{Ghosts}
 use Rattle.sqlite.specs.declared.error.Error.{Error}
-use Rattle.sqlite.specs.Given.{Advances, FailsToAdvance, HasBegun, HasGiven, IsPlain}
+use Rattle.sqlite.specs.Given.{Advances, FailsToAdvance, HasBegun}
 use Rattle.sqlite.specs.Held.{Held, state}
-use Rattle.sqlite.specs.Listing.{understood}
-use Rattle.sqlite.specs.State.{State, Begins, HasCleanDisk, IsUnchanged, Survives, CommitsShowing}
+use Rattle.sqlite.specs.State.{Begins, HasCleanDisk, IsUnchanged, Survives, CommitsShowing}
 use Rattle.sqlite.proofs.Callers.{begun_plain, given_begin, unchanged_then}
 use Rattle.sqlite.proofs.StateLemmas.{survives_then}
-use Rattle.desk_rows.specs.Faults.{IsEven}
-use Rattle.desk_rows.specs.steps.Errors.{Decodes, fault_of}
+use Rattle.desk_rows.specs.Faults.{fault_of, IsEven}
+use Rattle.desk_rows.specs.steps.Errors.{Decodes}
 use Rattle.desk_rows.specs.steps.Queries.{AreRead, EndsIn, FindsAll, IsGiving}
 use Rattle.desk_rows.specs.declared.faults.RowFault.{RowFault}
 use Rattle.desk_rows.specs.declared.faults.RowFault.TheVariants.{Memory}
@@ -26,12 +25,14 @@ read_then seen shows InRange (r ∷ rows) [] row x before now = absurd before
 
 module _ {S : Type 0} (g : Ghosts S) (sql : List ℕ) (params : Row) (first : Held S) where
   -- it goes on from one row to the next, or fails
-  survives_on : (mid new : Held S) → Survives (state g first) (state g mid) (CommitsShowing sql params (state g first)) → Survives (state g mid) (state g new) (λ _. ⊥)
+  survives_on : (mid new : Held S) → Survives (state g first) (state g mid) (CommitsShowing sql params (state g first)) → Survives (state g mid) (state g new)
+      (λ _. ⊥)
       → Survives (state g first) (state g new) (CommitsShowing sql params (state g first))
   survives_on mid new one two = survives_then (state g first) (state g mid) (state g new) _ _ _ (λ _ db may. may) (λ _ db none. absurd none) one two
 
   pub begins : (now : Held S) {Given : List Row → Type 0} → Given [] → (first.in_transaction ≡ false → now.in_transaction ≡ false)
-      → Survives (state g first) (state g now) (CommitsShowing sql params (state g first)) → (HasCleanDisk (state g now) → HasBegun g sql params first now) → IsGiving g sql params first now Given
+      → Survives (state g first) (state g now) (CommitsShowing sql params (state g first)) → (HasCleanDisk (state g now) → HasBegun g sql params first now)
+      → IsGiving g sql params first now Given
   begins now nothing mode survives begun = record {
     mode = mode;
     survives = survives;
@@ -48,7 +49,8 @@ module _ {S : Type 0} (g : Ghosts S) (sql : List ℕ) (params : Row) (first : He
       early clean = omega (arith, survives.clean, clean)
 
       -- the next row
-      pub moves : (row : Row) → (HasCleanDisk (state g new) → Advances g mid new (Some row)) → (HasCleanDisk (state g new) → IsUnchanged (state g mid) (state g new))
+      pub moves : (row : Row) → (HasCleanDisk (state g new) → Advances g mid new (Some row))
+          → (HasCleanDisk (state g new) → IsUnchanged (state g mid) (state g new))
           → IsGiving g sql params first new (EndsIn (λ given. AreRead seen shows InRange given items) row)
       moves row next same = record {
         mode = λ idle. mode (at.mode idle);
@@ -64,8 +66,11 @@ module _ {S : Type 0} (g : Ghosts S) (sql : List ℕ) (params : Row) (first : He
         mode = λ idle. mode (at.mode idle);
         survives = survives_on mid new at.survives survives;
         ends = λ plain clean.
-            let was = at.gives plain (early clean) in
-            (was.1.0, shown_later sql params (state g first) (state g mid) (state g new) plain was.0 was.1.0 (next clean sql params was.1.0 was.1.1), subst (AreRead seen shows InRange was.1.0) (sym is) was.1.2);
+            let was = at.gives plain (early clean) in (
+              was.1.0,
+              shown_later sql params (state g first) (state g mid) (state g new) plain was.0 was.1.0 (next clean sql params was.1.0 was.1.1),
+              subst (AreRead seen shows InRange was.1.0) (sym is) was.1.2,
+            );
       }
 
       pub fails : (e : Error) (fault : RowFault) → fault ≡ fault_of e → (HasCleanDisk (state g new) → FailsToAdvance g mid new e) → Ends new (Err fault)
@@ -74,7 +79,12 @@ module _ {S : Type 0} (g : Ghosts S) (sql : List ℕ) (params : Row) (first : He
         survives = survives_on mid new at.survives survives;
         ends = λ plain clean.
             let was = at.gives plain (early clean) in
-            inl (e, is, fails_later sql params (state g first) (state g mid) (state g new) plain was.0 at.survives.counts at.survives.limit e (next clean sql params was.1.0 was.1.1));
+            inl (
+              e,
+              is,
+              fails_later sql params (state g first) (state g mid) (state g new) plain was.0 at.survives.counts at.survives.limit e
+                  (next clean sql params was.1.0 was.1.1),
+            );
       }
 
     module _ (now : Held S) where
@@ -92,11 +102,19 @@ module _ {S : Type 0} (g : Ghosts S) (sql : List ℕ) (params : Row) (first : He
               inr (was.0, inr (was.1.2.0, row, subst (Begins sql params (state g now)) was.1.2.1 (given_begin g sql params now was.1.0 was.1.1), why));
         }
 
-        pub read : (x : T) → Decodes seen shows InRange row (Ok x) → IsGiving g sql params first now (λ given. AreRead seen shows InRange given (items ++ x ∷ []))
+        pub read : (x : T) → Decodes seen shows InRange row (Ok x) → IsGiving g sql params first now
+            (λ given. AreRead seen shows InRange given (items ++ x ∷ []))
         read x is = record {
           mode = at.mode;
           survives = at.survives;
           gives = λ plain clean.
-              let was = at.gives plain clean in
-              (was.0, (was.1.0, was.1.1, subst (λ rows. AreRead seen shows InRange rows (items ++ x ∷ [])) (sym was.1.2.1) (read_then seen shows InRange was.1.2.0 items row x was.1.2.2 is)));
+              let was = at.gives plain clean in (
+                was.0,
+                (
+                  was.1.0,
+                  was.1.1,
+                  subst (λ rows. AreRead seen shows InRange rows (items ++ x ∷ [])) (sym was.1.2.1)
+                      (read_then seen shows InRange was.1.2.0 items row x was.1.2.2 is),
+                ),
+              );
         }

@@ -1,5 +1,5 @@
 -- What a batch of CREATEs makes.
-use Rattle.std.proofs.Common.{◌≡◌, ◌≢◌, inl, inr, ℕ, zero, suc, List, [], ◌∷◌, ◌++◌, take, drop, slice_get, true, false, Some, None, Ok, refl, sym, ap, subst, subst₂, ◌∙◌}
+use Rattle.std.proofs.Common.{◌≡◌, ◌≢◌, inl, inr, ℕ, zero, suc, List, [], ◌∷◌, ◌++◌, take, drop, slice_get, true, false, IsTrue, Some, None, Ok, refl, sym, ap, subst, subst₂, ◌∙◌}
 use Rattle.std.specs.List.{AllByRecursion}
 use Rattle.std.proofs.lemmas.Bool.{cases_Bool}
 use Rattle.sqlite_trees.specs.Tree.{Trees}
@@ -35,10 +35,10 @@ module _ (sql : List ℕ) (old new : State) (schema : Schema) (has : old.now.sch
       ] in
       subst₂ (λ k t. Runs old new None k t [] count) (ap command_of known ∙ is) (ap (statement_of sql) known) (rw (bare.0, bare.1) at ran)
 
--- from tables that are all empty, of the one schema, to such tables of the other
+-- from tables that are all empty, of the one schema, to such tables of the other, over a store that is open
 abbrev pub Leads : List ℕ → Schema → Schema → Type 1
 Leads sql before after = (old new : State) (count : ℕ) → old.now.schema ≡ before → IsEmptied old.now → ExecutesIn true sql [] old new (Ok count)
-    → (new.now.schema ≡ after) × IsEmptied new.now × IsDatabase new.now
+    → (new.now.schema ≡ after) × IsEmptied new.now × IsDatabase new.now × IsTrue new.is_open
 
 still_empty : (old new : Trees) (tables : List Table) → KeepsRows tables old new → AllByRecursion (λ t. old t.tree ≡ []) tables → AllByRecursion (λ t. new t.tree ≡ []) tables
 still_empty old new [] kept all = tt
@@ -65,7 +65,7 @@ table_leads sql before table is plain means counted old new count has empty h =
     let new_one = subst (λ s. first.0.trees (next_tree s) ≡ []) has made.empty in
     let every : AllByRecursion (λ t. first.0.trees t.tree ≡ []) (created before table).tables = one_more first.0.trees (record table { tree = next_tree before }) before.tables listed new_one in
     let emptied : IsEmptied first.0 = subst (λ (s : Schema). AllByRecursion (λ t. first.0.trees t.tree ≡ []) s.tables) (sym schema) every in
-    (ap (λ (d : Database). d.schema) now ∙ schema, subst IsEmptied (sym now) emptied, w.sound)
+    (ap (λ (d : Database). d.schema) now ∙ schema, subst IsEmptied (sym now) emptied, w.sound, w.shown.is_open)
 
 pub index_leads : (sql : List ℕ) (before : Schema) (at : ℕ) (table : Table) (index : Index) → command_of (understood before sql) ≡ CreateIndex at → slice_get before.tables at ≡ Some table
     → IsPlain (understood before sql) → index_defined_by table (statement_of sql (understood before sql)) ≡ Ok index → Leads sql before (indexed before table index)
@@ -84,7 +84,7 @@ index_leads sql before at table index is there plain means old new count has emp
     let listed = subst (λ (s : Schema). AllByRecursion (λ t. old.now.trees t.tree ≡ []) s.tables) has empty in
     let every = still_empty old.now.trees all.0.trees before.tables made.rows listed in
     let emptied : IsEmptied all.0 = subst (λ (s : Schema). AllByRecursion (λ t. all.0.trees t.tree ≡ []) s.tables) (sym schema) every in
-    (ap (λ (d : Database). d.schema) now ∙ schema, subst IsEmptied (sym now) emptied, w.sound)
+    (ap (λ (d : Database). d.schema) now ∙ schema, subst IsEmptied (sym now) emptied, w.sound, w.shown.is_open)
 
 -- ---- one after the other
 
@@ -103,27 +103,31 @@ module _ {S : Type 0} (g : Ghosts S) where
   one_ran (suc most) (b ∷ more) first rest old new begins (inr ran) =
       (ran.0, ran.1, most, subst (λ t. ExecutesIn true t [] (state g old) (state g ran.0) (Ok ran.1)) begins.first_is ran.2.runs, subst (λ t. RunInTurn g (Some 0) most t ran.0 new (Ok tt)) begins.rest_is ran.3)
 
+-- empty tables of the schema, over a store that is open
+abbrev pub IsLeft : {S : Type 0} → Ghosts S → Schema → Held S → Type 0
+IsLeft g schema h = ((state g h).now.schema ≡ schema) × IsEmptied (state g h).now × IsDatabase (state g h).now × IsTrue (state g h).is_open
+
 -- run in turn, the statements of the text lead from the one schema to the other
 abbrev pub Through : List ℕ → Schema → Schema → Type 1
 Through text before after = (S : Type 0) (g : Ghosts S) (most : ℕ) (old new : Held S) → (state g old).now.schema ≡ before → IsEmptied (state g old).now → IsDatabase (state g old).now
-    → RunInTurn g (Some 0) most text old new (Ok tt) → ((state g new).now.schema ≡ after) × IsEmptied (state g new).now × IsDatabase (state g new).now
+    → IsTrue (state g old).is_open → RunInTurn g (Some 0) most text old new (Ok tt) → IsLeft g after new
 
 pub through : (text first rest : List ℕ) (before mid after : Schema) → Begins text first rest → Leads first before mid → Through rest mid after → Through text before after
-through text first rest before mid after begins leads later S g most old new has empty sound h =
+through text first rest before mid after begins leads later S g most old new has empty sound up h =
     let ran = one_ran g most text first rest old new begins h in
     let did = leads (state g old) (state g ran.0) ran.1 has empty ran.3 in
-    later S g ran.2 ran.0 new did.0 did.1 did.2 ran.4
+    later S g ran.2 ran.0 new did.0 did.1 did.2 did.3 ran.4
 
 pub no_more : (schema : Schema) → Through [] schema schema
-no_more schema S g most old new has empty sound h = let same = h.1 in (rw same has, rw same empty, rw same sound)
+no_more schema S g most old new has empty sound up h = let same = h.1 in (rw same has, rw same empty, rw same sound, rw same up)
 
 -- the same from a database of which nothing more is known
 abbrev pub Starts : List ℕ → Schema → Schema → Type 1
 Starts text before after = (S : Type 0) (g : Ghosts S) (most : ℕ) (old new : Held S) → (state g old).now.schema ≡ before → IsEmptied (state g old).now
-    → RunInTurn g (Some 0) most text old new (Ok tt) → ((state g new).now.schema ≡ after) × IsEmptied (state g new).now × IsDatabase (state g new).now
+    → RunInTurn g (Some 0) most text old new (Ok tt) → IsLeft g after new
 
 pub starts : (text first rest : List ℕ) (before mid after : Schema) → Begins text first rest → Leads first before mid → Through rest mid after → Starts text before after
 starts text first rest before mid after begins leads later S g most old new has empty h =
     let ran = one_ran g most text first rest old new begins h in
     let did = leads (state g old) (state g ran.0) ran.1 has empty ran.3 in
-    later S g ran.2 ran.0 new did.0 did.1 did.2 ran.4
+    later S g ran.2 ran.0 new did.0 did.1 did.2 did.3 ran.4

@@ -42,8 +42,7 @@ use Rattle.desk_rows.specs.Rows.{Rows, Holds, InRange, numbered_from, table_of}
 use Rattle.desk_rows.specs.Calls.{Changes}
 use Rattle.desk_rows.specs.steps.Statements.{HasWritten}
 use Rattle.desk_rows.proofs.Tables.{tables, with_table, holds_with}
-use Rattle.desk_rows.specs.Faults.{IsEven}
-use Rattle.desk_rows.specs.steps.Errors.{fault_of}
+use Rattle.desk_rows.specs.Faults.{IsEven, fault_of}
 use Rattle.desk_rows.specs.declared.faults.RowFault.{RowFault}
 use Rattle.desk_rows.proofs.InsertLemmas.{uncounted, inserted}
 use Rattle.desk_rows.proofs.NumberedLemmas.{ints_rise, next_is, put_next}
@@ -201,9 +200,11 @@ module _ {sql : List ℕ} {many at : ℕ} {terms : List Term} {width : ℕ} (tex
   pub insert_in_order : Passes old.now.trees (uncounted bare) listed cells xs x stored keeps small → (r : Result (Unit {0}) RowFault)
       → IfErr r (λ fault. (e : Error) × (fault ≡ fault_of e) × ExecutesInside 0 sql params old new (Err e)) → IfErr r IsEven
   insert_in_order passes =
-      in_order_unless sql params old new has (Insert at (Values terms width)) (insert_writes at (Values terms width)) text.compiled text.means text.command text.plain text.whole (many_is ∙ text.given) (λ e turned.
+      in_order_unless sql params old new has (Insert at (Values terms width)) (insert_writes at (Values terms width)) text.compiled text.means text.command
+      text.plain text.whole (many_is ∙ text.given) (λ e turned.
       let cause = insert_cause old params at terms width bare there source one typed unlimited (text_of sql text.compiled) e turned in
-      not_refused old.now.trees (uncounted bare) listed cells xs x stored keeps small passes cause.0 (subst (λ ed. IsRefused desk_schema Enforced old.now.trees ed cause.0) edit_is cause.1))
+      not_refused old.now.trees (uncounted bare) listed cells xs x stored keeps small passes cause.0
+      (subst (λ ed. IsRefused desk_schema Enforced old.now.trees ed cause.0) edit_is cause.1))
 
 -- ---- what an INSERT does to the rows
 

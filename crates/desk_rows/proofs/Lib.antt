@@ -1,7 +1,8 @@
 pub mod AllRows
 pub mod BatchLemmas
 pub mod ByKey
-pub mod CallLemmas
+pub mod ChangedRows
+pub mod DeviceUpdates
 pub mod FaultLemmas
 pub mod InsertLemmas
 pub mod Insertions
@@ -12,7 +13,9 @@ pub mod Lookups
 pub mod MakingLemmas
 pub mod MetaLemmas
 pub mod MetaTexts
+pub mod NextDevice
 pub mod NumberedLemmas
+pub mod NumberedUpdates
 pub mod OrderLemmas
 pub mod Ordered
 pub mod QueryLemmas
@@ -25,5 +28,5 @@ pub mod Tables
 pub mod Terms
 pub mod Unrefused
 pub mod UpdateLemmas
-pub mod Updates
+pub mod UpdateRefusals
 pub mod Updating

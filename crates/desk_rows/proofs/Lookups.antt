@@ -25,11 +25,11 @@ use Rattle.sqlite.proofs.StateLemmas.{survives_weaker}
 use Rattle.desk_rows.specs.Schema.{desk_schema}
 use Rattle.desk_rows.specs.Rows.{Rows, Holds, table_of}
 use Rattle.desk_rows.specs.steps.Queries.{HasRun, IsReadOf, Finds, Knows}
-use Rattle.desk_rows.proofs.CallLemmas.{read_weaker}
+use Rattle.desk_rows.specs.CallLaws.{read_weaker}
 use Rattle.desk_rows.proofs.Ordered.{Asked, query_of, by_rowid, head, zip_from, encode, first_by_rowid, some_map, map_twice, found_holds, zip_all, mapped_holds}
 use Rattle.desk_rows.specs.Calls.{IsRead, Reads}
-use Rattle.desk_rows.specs.Faults.{is_odd, IsEven}
-use Rattle.desk_rows.specs.steps.Errors.{fault_of, found_of, known_of}
+use Rattle.desk_rows.specs.Faults.{is_odd, IsEven, fault_of}
+use Rattle.desk_rows.specs.steps.Errors.{found_of, known_of}
 use Rattle.desk_rows.specs.declared.faults.RowFault.{RowFault}
 use Rattle.desk_rows.specs.declared.faults.RowFault.TheVariants.{Memory, Disk, Size, Row as OutOfShape, Refused}
 use Rattle.desk_rows.proofs.QueryLemmas.{shows_none, found_leaves}

@@ -26,12 +26,12 @@ use Rattle.desk_rows.proofs.InsertLemmas.{cast_null, cast_int, uncounted}
 use Rattle.desk_rows.proofs.Insertions.{IsInsert, row_added, insert_in_order, ran_well}
 use Rattle.desk_rows.proofs.SchemaTexts.{from_meta, makes_all}
 
-pub tables_made : {S : Type 0} (g : Ghosts S) (old new : Held S) → ExecutesAllInside g 0 from_meta old new (Ok tt) → (state g old).now.schema ≡ no_schema → IsBare (state g new).now
+pub tables_made : {S : Type 0} (g : Ghosts S) (old new : Held S) → ExecutesAllInside g 0 from_meta old new (Ok tt) → (state g old).now.schema ≡ no_schema → IsBare (state g new).now × IsTrue (state g new).is_open
 unfolding ExecutesAllInside
 tables_made {S} g old new ran has =
     let none : IsEmptied (state g old).now = subst (λ (s : Schema). AllByRecursion (λ t. (state g old).now.trees t.tree ≡ []) s.tables) (sym has) tt in
     let all = makes_all S g (length from_meta) old new has none ran in
-    record { schema = all.0; sound = all.2; empty = all.1 }
+    (record { schema = all.0; sound = all.2; empty = all.1 }, all.3)
 
 abbrev meta_text : List ℕ
 meta_text = codes "INSERT INTO meta (version, receiver, operator, base, addresses) VALUES (1, ?1, ?2, ?3, ?4)"

@@ -25,8 +25,7 @@ use Rattle.desk_rows.specs.declared.faults.RowFault.TheVariants.{Memory, Disk, S
 use Rattle.desk_rows.specs.declared.faults.RowFault.{RowFault}
 use Rattle.desk_rows.proofs.FaultLemmas.{not_row}
 use Rattle.desk_rows.specs.Schema.{meta_table}
-use Rattle.desk_rows.specs.Faults.{is_odd}
-use Rattle.desk_rows.specs.steps.Errors.{fault_of}
+use Rattle.desk_rows.specs.Faults.{is_odd, fault_of}
 use Rattle.desk_rows.specs.Meta.{HasMeta, TellsMeta}
 use Rattle.desk_rows.specs.steps.Meta.{TellsRow}
 use Rattle.desk_rows.proofs.MetaTexts.{find_text, find_query, find_is, find_plain, find_whole, find_typed, names, beside}

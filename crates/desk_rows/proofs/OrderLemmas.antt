@@ -2,6 +2,7 @@ pub mod Arranging
 pub mod Counters
 pub mod Counting
 pub mod Each
+pub mod Euis
 pub mod Few
 pub mod Finding
 pub mod Following

@@ -1,5 +1,6 @@
 -- Queries of many rows: what is told of all rows of an answer, and of those that show spans in order of start.
-use Rattle.std.proofs.Common.{◌≡◌, inl, inr, ℕ, pos, List, [], ◌∷◌, ◌++◌, map, filter, length, Bool, true, false, Vec, None, Ok, Err, Result, IfOk, IfErr, refl, sym, ap, subst, ◌∙◌, map-id, ◌<◌, ◌^◌, Ordering, Less, Equal, int_cmp}
+use Rattle.std.proofs.Common.{◌≡◌, inl, inr, ℕ, pos, List, [], ◌∷◌, ◌++◌, map, filter, length, Bool, true, false, Vec, None, Ok, Err, Result, IfOk, IfErr, refl}
+use Rattle.std.proofs.Common.{sym, ap, subst, ◌∙◌, map-id, ◌<◌, ◌^◌, Ordering, Less, Equal, int_cmp}
 use Rattle.std.specs.declared.alloc.Global.{Global}
 use Rattle.std.specs.List.{list_all, AllByRecursion}
 use Rattle.std.specs.Ordering.{ordering_then}
@@ -9,7 +10,7 @@ use Rattle.sqlite_value.specs.declared.keys.Key.{Key}
 use Rattle.sqlite_value.specs.Order.{Row}
 use Rattle.sqlite_trees.specs.Tree.{Trees}
 use Rattle.sqlite_sql.specs.Term.{Term, holds, eval_all}
-use Rattle.sqlite_sql.specs.Query.{IsAnswer, output, output_cmp, page}
+use Rattle.sqlite_sql.specs.Query.{IsAnswer, output, output_cmp}
 use Rattle.sqlite_trees.proofs.ListLemmas.{map-map}
 use Rattle.sqlite_keyed.specs.Lists.{sort_by}
 use Rattle.sqlite_typed.proofs.AnswerLemmas.{IsNoTie, no_tie, no_tie_after}
@@ -17,19 +18,18 @@ use Rattle.sqlite_typing.specs.Types.{accepts_program}
 use Rattle.sqlite.specs.declared.error.Error.{Error}
 use Rattle.sqlite.specs.Effect.{Database}
 use Rattle.sqlite.specs.Program.{overlay}
-use Rattle.sqlite.specs.State.{State, Begins, HasCleanDisk, FailsToQuery, IsUnchanged}
+use Rattle.sqlite.specs.State.{State, Begins, FailsToQuery}
 use Rattle.sqlite.proofs.Callers.{never_commits}
 use Rattle.sqlite.proofs.StateLemmas.{survives_weaker}
 use Rattle.duty_core.specs.Range.{IsStart}
 use Rattle.duty_core.specs.Use.{Interval}
-use Rattle.desk_rows.specs.Calls.{IsRead, Leaves, Reads}
-use Rattle.desk_rows.specs.Faults.{is_odd, IsEven}
+use Rattle.desk_rows.specs.Calls.{Leaves, Reads}
+use Rattle.desk_rows.specs.Faults.{fault_of, is_odd, IsEven}
 use Rattle.desk_rows.specs.Rows.{Rows, Holds, table_of}
 use Rattle.desk_rows.specs.Schema.{desk_schema}
 use Rattle.desk_rows.specs.order.Arranged.{by_start, spans_by}
 use Rattle.desk_rows.specs.order.LookUps.{rows_by}
-use Rattle.desk_rows.specs.steps.Errors.{fault_of}
-use Rattle.desk_rows.specs.steps.Queries.{AreRead, EndsWith, FindsAll, HasFailed, IsGivenUp}
+use Rattle.desk_rows.specs.steps.Queries.{AreRead, EndsWith, FindsAll}
 use Rattle.desk_rows.specs.steps.Shown.{span_shown}
 use Rattle.desk_rows.specs.declared.faults.RowFault.{RowFault}
 use Rattle.desk_rows.specs.declared.faults.RowFault.TheVariants.{Memory, Disk, Size, Row as OutOfShape, Refused}
@@ -55,11 +55,13 @@ module _ {T Seen : Type 0} (seen : T → Seen) (shows : Seen → Row) (Fits : Se
   read_are (y ∷ want) [] fit h = absurd h
 
   -- a row among them shows one that is wanted
-  shown_among : (want : List Seen) (given : List Row) (row : Row) (tail : List Row) → AllByRecursion Fits want → (given ++ row ∷ []) ++ tail ≡ map shows want → (y : Seen) × Fits y × (row ≡ shows y)
+  shown_among : (want : List Seen) (given : List Row) (row : Row) (tail : List Row) → AllByRecursion Fits want → (given ++ row ∷ []) ++ tail ≡ map shows want
+      → (y : Seen) × Fits y × (row ≡ shows y)
   shown_among [] [] row tail fit is = absurd cc
   shown_among [] (r ∷ given) row tail fit is = absurd cc
   shown_among (y ∷ want) [] row tail fit is = (y, fit.0, let same : row ≡ shows y = cc in same)
-  shown_among (y ∷ want) (r ∷ given) row tail fit is = let rest : (given ++ row ∷ []) ++ tail ≡ map shows want = cc in shown_among want given row tail fit.1 rest
+  shown_among (y ∷ want) (r ∷ given) row tail fit is = let rest : (given ++ row ∷ []) ++ tail ≡ map shows want = cc in
+      shown_among want given row tail fit.1 rest
 
 -- all rows of an answer are those that are wanted
 abbrev pub AreAll : {Seen : Type 0} → Asked → Row → Trees → (Seen → Row) → (Seen → Type 0) → List Seen → Type 0
@@ -100,9 +102,12 @@ module _ {sql : List ℕ} {many : ℕ} {a : Asked} (text : IsLookup sql many a) 
           let shown = shown_among seen shows Fits want up.0 up.1 got.0 are.0 (are.1 _ got.1) in
           up.3 shown.0 shown.1 shown.2
 
-pub all_told : {sql : List ℕ} {many : ℕ} {a : Asked} (text : IsLookup sql many a) (params : Row) {old new : State} → many ≡ length params → accepts_program desk_schema [] (query_of a) params ≡ true
-    → {T Seen : Type 0} {seen : T → Seen} {shows : Seen → Row} {Fits : Seen → Type 0} {result : Result (Vec T Global) RowFault} → FindsAll sql params old new seen shows Fits result
-    → (want : Rows → List Seen) → ((r : Rows) → Holds old.now r → AreAll a params (overlay old.now.trees []) shows Fits (want r)) → Reads old new result (λ r all. map seen all.items ≡ want r)
+pub all_told : {sql : List ℕ} {many : ℕ} {a : Asked} (text : IsLookup sql many a) (params : Row) {old new : State} → many ≡ length params
+    → accepts_program desk_schema [] (query_of a) params ≡ true
+    → {T Seen : Type 0} {seen : T → Seen} {shows : Seen → Row} {Fits : Seen → Type 0} {result : Result (Vec T Global) RowFault}
+    → FindsAll sql params old new seen shows Fits result
+    → (want : Rows → List Seen) → ((r : Rows) → Holds old.now r → AreAll a params (overlay old.now.trees []) shows Fits (want r)) → Reads old new result
+    (λ r all. map seen all.items ≡ want r)
 all_told {sql} text params {old} {new} many_is typed {seen = seen} {shows = shows} {Fits = Fits} {result = result} found want are = record {
   read = record {
     clean = found.survives.clean;
@@ -110,40 +115,56 @@ all_told {sql} text params {old} {new} many_is typed {seen = seen} {shows = show
     survives = λ has up sure. survives_weaker _ _ _ _ (λ _ db. never_commits sql params old db (plain_now text params old new has)) found.survives;
     leaves = λ has up sure. left text params old new has seen shows Fits result (found.ends (plain_now text params old new has) sure);
   };
-  told = λ sure r has. told text params old new has.schema seen shows Fits (want r) (are r has) result (found.ends (plain_now text params old new has.schema) sure);
+  told = λ sure r has. told text params old new has.schema seen shows Fits (want r) (are r has) result
+      (found.ends (plain_now text params old new has.schema) sure);
   in_order = λ sure unlimited r has.
-      even text params old new has.schema seen shows Fits (want r) (are r has) many_is typed unlimited result (found.ends (plain_now text params old new has.schema) sure);
+      even text params old new has.schema seen shows Fits (want r) (are r has) many_is typed unlimited result
+      (found.ends (plain_now text params old new has.schema) sure);
 }
+
+-- ---- rows in an order
+
+-- what holds of each that passes
+pub rows_all : {X : Type 0} (P Q : X → Type 0) (order : ℕ × X → ℕ × X → Ordering) (p : X → Bool) → ((x : X) → P x → p x ≡ true → Q x) → (xs : List X)
+    → AllByRecursion P xs
+    → AllByRecursion (λ (b : ℕ × X). Q b.1) (rows_by order p xs)
+rows_all {X} P Q order p so xs all = all_sorted order (λ (b : ℕ × X). Q b.1) (filter (λ (b : ℕ × X). p b.1) (zip_from 1 xs))
+    (all_kept (λ (b : ℕ × X). Q b.1) (λ b. p b.1) (zip_from 1 xs)
+    (all_so (λ (b : ℕ × X). P b.1) (λ b. p b.1 ≡ true → Q b.1) (λ b. so b.1) (zip_from 1 xs) (zip_all P 1 xs all)))
+
+-- two tests that tell the rows of a list alike give the same
+pub rows_alike : {X : Type 0} (order : ℕ × X → ℕ × X → Ordering) (P : X → Type 0) (p q : X → Bool) → ((x : X) → P x → p x ≡ q x) → (xs : List X)
+    → AllByRecursion P xs
+    → rows_by order p xs ≡ rows_by order q xs
+rows_alike {X} order P p q same xs all = ap (sort_by order) (filter_alike (λ (b : ℕ × X). P b.1) (λ b. p b.1) (λ b. q b.1) (λ b. same b.1) (zip_from 1 xs)
+    (zip_all P 1 xs all))
 
 -- ---- spans in order of start, then of number
 
 untied : {X : Type 0} (start : X → ℤ) (b c : ℕ × X) → int_cmp (pos b.0) (pos c.0) ≡ Less → IsNoTie (by_start start b c)
 untied start b c less = no_tie_after (int_cmp (start b.1) (start c.1)) (no_tie (ap (λ o. ordering_then o Equal) less))
 
--- two tests that tell the rows of a list alike give the same
-pub spans_alike : {X : Type 0} (span : X → Interval) (order : ℕ × X → ℕ × X → Ordering) (P : X → Type 0) (p q : X → Bool) → ((x : X) → P x → p x ≡ q x) → (xs : List X) → AllByRecursion P xs
-    → spans_by span order p xs ≡ spans_by span order q xs
-spans_alike {X} span order P p q same xs all = ap (λ l. map (λ (b : ℕ × X). span b.1) (sort_by order l))
-    (filter_alike (λ (b : ℕ × X). P b.1) (λ b. p b.1) (λ b. q b.1) (λ b. same b.1) (zip_from 1 xs) (zip_all P 1 xs all))
-
 abbrev pub IsSpan : Interval → Type 0
 IsSpan span = IsStart span.start × (span.len < 2 ^ 32)
 
-module _ {sql : List ℕ} {many tree : ℕ} {terms project : List Term} {order : List (Term × Key)} (text : IsLookup sql many (all_by tree terms project order)) (params : Row) {old new : State}
+module _ {sql : List ℕ} {many tree : ℕ} {terms project : List Term} {order : List (Term × Key)} (text : IsLookup sql many (all_by tree terms project order))
+    (params : Row) {old new : State}
     (many_is : many ≡ length params) (typed : accepts_program desk_schema [] (query_of (all_by tree terms project order)) params ≡ true)
     {X : Type 0} (cells : X → Row) (xs : Rows → List X) (stored : (r : Rows) → Holds old.now r → overlay old.now.trees [] tree ≡ table_of cells (xs r))
     (p : X → Bool) (tests : (b : ℕ × X) → list_all (holds (params ∷ encode cells b ∷ [])) terms ≡ p b.1)
     (span : X → Interval) (shown : (b : ℕ × X) → eval_all project (params ∷ encode cells b ∷ []) ≡ span_shown (span b.1))
-    (orders : (b c : ℕ × X) → output_cmp (query_of (all_by tree terms project order)) (output (query_of (all_by tree terms project order)) (params ∷ encode cells b ∷ []))
+    (orders : (b c : ℕ × X) → output_cmp (query_of (all_by tree terms project order))
+    (output (query_of (all_by tree terms project order)) (params ∷ encode cells b ∷ []))
     (output (query_of (all_by tree terms project order)) (params ∷ encode cells c ∷ [])) ≡ by_start (λ x. (span x).start) b c)
     (P : X → Type 0) (ranges : (r : Rows) → Holds old.now r → AllByRecursion P (xs r)) (fits : (x : X) → P x → IsSpan (span x)) where
   pub spans_told : {result : Result (Vec Interval Global) RowFault} → FindsAll sql params old new (λ s. s) span_shown IsSpan result
       → Reads old new result (λ r spans. spans.items ≡ spans_by span (by_start (λ x. (span x).start)) p (xs r))
   spans_told found = says_so (all_told text params many_is typed found (λ r. spans_by span (by_start (λ x. (span x).start)) p (xs r))
       (λ r has. (
-        all_map (λ (b : ℕ × X). P b.1) IsSpan (λ b. span b.1) (λ b. fits b.1) (rows_by (by_start (λ x. (span x).start)) p (xs r)) (all_sorted (by_start (λ x. (span x).start)) (λ (b : ℕ × X). P b.1) (filter (λ (b : ℕ × X). p b.1) (zip_from 1 (xs r)))
-            (all_kept (λ (b : ℕ × X). P b.1) (λ b. p b.1) (zip_from 1 (xs r)) (all_so (λ (b : ℕ × X). P b.1) (λ b. p b.1 ≡ true → P b.1) (λ b fit done. fit) (zip_from 1 (xs r)) (zip_all P 1 (xs r) (ranges r has))))),
-        λ rows answer. rows_sorted (all_by tree terms project order) (overlay old.now.trees []) cells (xs r) (stored r has) params (λ b. p b.1) tests (λ b. span_shown (span b.1)) shown
+        all_map (λ (b : ℕ × X). P b.1) IsSpan (λ b. span b.1) (λ b. fits b.1) _
+            (rows_all P P (by_start (λ x. (span x).start)) p (λ x fit passes. fit) (xs r) (ranges r has)),
+        λ rows answer. rows_sorted (all_by tree terms project order) (overlay old.now.trees []) cells (xs r) (stored r has) params (λ b. p b.1) tests
+            (λ b. span_shown (span b.1)) shown
             (by_start (λ x. (span x).start)) (untied (λ x. (span x).start)) orders rows answer
             ∙ sym (map-map span_shown (λ (b : ℕ × X). span b.1) (rows_by (by_start (λ x. (span x).start)) p (xs r))),
       )))

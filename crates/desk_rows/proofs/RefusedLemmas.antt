@@ -33,8 +33,7 @@ use Rattle.sqlite.specs.Listing.{understood}
 use Rattle.sqlite.specs.Clock.{timed}
 use Rattle.sqlite.specs.State.{State, mode_of, Executes, ExecutesIn, ExecutesInside, EndsScope, Escapes, IsMisplaced, IsNoStatement, IsNotRun, IsUnchanged, RunsCommand, is_pragma, text_of, shows_rows, store_error}
 use Rattle.desk_rows.specs.Schema.{desk_schema, desk_tables}
-use Rattle.desk_rows.specs.Faults.{IsEven}
-use Rattle.desk_rows.specs.steps.Errors.{fault_of}
+use Rattle.desk_rows.specs.Faults.{IsEven, fault_of}
 use Rattle.desk_rows.specs.declared.faults.RowFault.{RowFault}
 use Rattle.desk_rows.specs.declared.faults.RowFault.TheVariants.{Memory, Disk, Size, Row as OutOfShape, Refused}
 use Rattle.desk_rows.proofs.FaultLemmas.{not_row}
@@ -66,7 +65,8 @@ unset None e h = let x = h in cc
 unset (Some n) e h = cc
 
 -- a row that cannot be stored is told otherwise
-pub not_oversized : {A B : Type 0} (why : Option Refusal) (s stop : Option Error) (e : Error) → ◌≡◌ {A = Result A (Option Refusal)} (Err why) (Err None) → s ≡ option_map edit_error why
+pub not_oversized : {A B : Type 0} (why : Option Refusal) (s stop : Option Error) (e : Error)
+    → ◌≡◌ {A = Result A (Option Refusal)} (Err why) (Err None) → s ≡ option_map edit_error why
     → ◌≡◌ {A = Result B (Option Error)} (Err stop) (Err s) → stop ≡ Some e → ⊥
 not_oversized why s stop e big is same some = cc
 
@@ -107,7 +107,8 @@ module _ (sql : List ℕ) (params : Row) (old new : State) (has : old.now.schema
 
   runs : (e : Error) → fault_of e ≡ Refused → (c : Compiled) → c ≡ compiled → RunsCommand old new sql c params (Err e) → IsTurnedDown e
   runs e told c same (inr fails) = absurd (told_else fails.0 (ap fault_of (sym fails.1) ∙ told))
-  runs e told c same (inl (inl misplaced, unchanged)) = absurd (writes.placed old e (subst (λ k. IsMisplaced old k e) (ap (λ (x : Compiled). x.command) same ∙ is) misplaced))
+  runs e told c same (inl (inl misplaced, unchanged)) =
+      absurd (writes.placed old e (subst (λ k. IsMisplaced old k e) (ap (λ (x : Compiled). x.command) same ∙ is) misplaced))
   runs e told c same (inl (inr wrote, unchanged)) =
       let does : Does old.step_limit (mode_of old) params old.now (text_of sql compiled) compiled.returning compiled.command (Err (Some e)) =
       subst (λ (x : Compiled). Does old.step_limit (mode_of old) params old.now (text_of sql x) x.returning x.command (Err (Some e))) same wrote.1 in
@@ -138,7 +139,8 @@ module _ (sql : List ℕ) (params : Row) (old new : State) (has : old.now.schema
       let none : h.0.returning ≡ None = ap (λ (x : Compiled). x.returning) same ∙ plain.0 in
       let still : h.0.formats ≡ [] = ap (λ (x : Compiled). x.formats) same ∙ plain.1 in
       let silent : shows_rows false h.0 ≡ false = rw (cmd, none, writes.silent.0, writes.silent.1) refl in
-      let ran = subst (λ b. MatchBool b ((◌≡◌ {A = Result ℕ Error} (Err e) (Err ExecuteReturnedResults)) × IsUnchanged old new) (RunsCommand old new sql h.0 (timed params h.0.formats h.1.now) (Err e))) silent h.2 in
+      let ran = subst (λ b. MatchBool b ((◌≡◌ {A = Result ℕ Error} (Err e) (Err ExecuteReturnedResults)) × IsUnchanged old new)
+      (RunsCommand old new sql h.0 (timed params h.0.formats h.1.now) (Err e))) silent h.2 in
       runs e told h.0 same (rw (still, append-nil params) at ran)
 
   not_ended : EndsScope 0 sql params old → ⊥
@@ -162,7 +164,8 @@ module _ (sql : List ℕ) (params : Row) (old new : State) (has : old.now.schema
 -- ---- an INSERT of one row
 
 module _ (old : State) (params : Row) (at : ℕ) (terms : List Term) (width : ℕ) (bare : Table) (there : slice_get desk_tables at ≡ Some (uncounted bare))
-    (source : Row) (one : value_rows params width (length terms / width) terms ≡ source ∷ []) (typed : accepts_terms terms params ≡ true) (unlimited : old.step_limit ≡ None) where
+    (source : Row) (one : value_rows params width (length terms / width) terms ≡ source ∷ [])
+    (typed : accepts_terms terms params ≡ true) (unlimited : old.step_limit ≡ None) where
   abbrev table : Table
   table = uncounted bare
 
@@ -174,13 +177,15 @@ module _ (old : State) (params : Row) (at : ℕ) (terms : List Term) (width : �
 
   inserts : (stop : Option Error) (e : Error) → stop ≡ Some e → Inserts task (Values terms width) old.now.trees (Err stop) → Cause
   inserts stop e some (inl (None, src, eq)) = absurd src
-  inserts stop e some (inl (Some s, inl mistyped, eq)) = absurd (let a : accepts_terms terms params ≡ false = subst (λ p. accepts_terms terms p ≡ false) (append-nil params) mistyped.1 in cc)
+  inserts stop e some (inl (Some s, inl mistyped, eq)) =
+      absurd (let a : accepts_terms terms params ≡ false = subst (λ p. accepts_terms terms p ≡ false) (append-nil params) mistyped.1 in cc)
   inserts stop e some (inl (Some s, inr limited, eq)) = absurd (unset old.step_limit unlimited limited.1)
   inserts stop e some (inr (rows, given, inl (s, counter, eq))) = absurd cc
   inserts stop e some (inr (rows, given, inr (counter, none, inl (s, edited, eq)))) =
       let same : rows ≡ source ∷ [] = given.1 ∙ ap (λ p. value_rows p width (length terms / width) terms) (append-nil params) ∙ one in
       elim edited.1 [
-        | inl refused ↦ (refused.0, subst (λ rs. IsRefused desk_schema Enforced old.now.trees (edit_of old.now.trees table [] Chosen 0 rs) refused.0) same refused.1)
+        | inl refused ↦
+            (refused.0, subst (λ rs. IsRefused desk_schema Enforced old.now.trees (edit_of old.now.trees table [] Chosen 0 rs) refused.0) same refused.1)
         | inr (inl big) ↦ absurd (not_oversized edited.0 s stop e big.3 edited.2 eq some)
         | inr (inr went) ↦ absurd (no_work went.2.0 went.0 edited.0 went.2.1)
       ]
@@ -196,4 +201,6 @@ module _ (old : State) (params : Row) (at : ℕ) (terms : List Term) (width : �
   -- what refused it is one of the rules
   pub insert_cause : (text : List ℕ) (e : Error)
       → Does old.step_limit (mode_of old) params (record old.now { schema = desk_schema }) text None (Insert at (Values terms width)) (Err (Some e)) → Cause
-  insert_cause text e h = does e (subst (λ o. AtPlace (λ t. OnRows (record task { table = t }) (mode_of old) None (Insert at (Values terms width)) old.now.trees) o (Err (Some e))) there h)
+  insert_cause text e h =
+      let command = Insert at (Values terms width) in
+      does e (subst (λ o. AtPlace (λ t. OnRows (record task { table = t }) (mode_of old) None command old.now.trees) o (Err (Some e))) there h)

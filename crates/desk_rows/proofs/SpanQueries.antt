@@ -1,7 +1,7 @@
 -- Queries of spans: a gateway's bookings in a band, and those near a start.
-use Rattle.std.proofs.Common.{◌≡◌, ◌==◌, ◌&&◌, ℕ, pos, List, [], ◌∷◌, codes, Vec, Bool, true, false, cond, not, Option, Some, None, Result, bytes_eq, refl, sym, ap, ap₂, ◌∙◌, arith, Ordering, Less, Equal, Greater, int_cmp}
+use Rattle.std.proofs.Common.{◌≡◌, ◌==◌, ◌&&◌, ℕ, pos, List, [], ◌∷◌, map, codes, Vec, Bool, true, false, cond, not, Result, bytes_eq, refl, sym, ap, ap₂, ◌∙◌}
+use Rattle.std.proofs.Common.{arith, Less, Equal, Greater, int_cmp}
 use Rattle.std.specs.declared.alloc.Global.{Global}
-use Rattle.std.specs.List.{AllByRecursion}
 use Rattle.std.specs.Ordering.{is_gt, is_lt, ordering_then}
 use Rattle.std.specs.Prelude.{ℤ, int_lt}
 use Rattle.sqlite_value.specs.declared.keys.Key.{Key}
@@ -22,8 +22,8 @@ use Rattle.radio_core.specs.declared.bands.Band.{Band}
 use Rattle.radio_core.specs.Bands.{band_number}
 use Rattle.registry_core.specs.Bookings.{is_dropped, stands_at, stands_in}
 use Rattle.desk_rows.specs.Calls.{Reads}
-use Rattle.desk_rows.specs.Rows.{Rows, Holds, BookingRow, IsBooking, booking_cells, number}
-use Rattle.desk_rows.specs.order.Arranged.{booking_span, by_start, is_near_at, spans_by}
+use Rattle.desk_rows.specs.Rows.{BookingRow, IsBooking, booking_cells, number}
+use Rattle.desk_rows.specs.order.Arranged.{booking_span, by_start, spans_by}
 use Rattle.desk_rows.specs.steps.Queries.{FindsAll}
 use Rattle.desk_rows.specs.steps.Shown.{span_shown}
 use Rattle.desk_rows.specs.declared.faults.RowFault.{RowFault}
@@ -31,7 +31,7 @@ use Rattle.desk_rows.proofs.ByKey.{undropped, stands}
 use Rattle.desk_rows.proofs.Lookups.{IsLookup, says_so}
 use Rattle.desk_rows.proofs.OrderLemmas.Orders.{not_both}
 use Rattle.desk_rows.proofs.Ordered.{rising}
-use Rattle.desk_rows.proofs.Ranges.{IsSpan, all_by, spans_alike, spans_told}
+use Rattle.desk_rows.proofs.Ranges.{IsSpan, all_by, rows_alike, spans_told}
 use Rattle.desk_rows.proofs.ReadLemmas.{truth_again}
 use Rattle.desk_rows.proofs.Terms.{is, and_true, text_equal, number_equal}
 
@@ -57,13 +57,18 @@ moved true false false = refl
 moved false b c = refl
 
 module _ {old new : State} (gateway : List ℕ) where
-  pub of_told : (band : Band) {result : Result (Vec Interval Global) RowFault} → FindsAll of_text (Text gateway ∷ number (band_number band) ∷ []) old new (λ s. s) span_shown IsSpan result
-      → Reads old new result (λ r spans. spans.items ≡ spans_by booking_span (by_start (λ (b : BookingRow). (booking_span b).start)) (λ b. stands_in gateway band b.booking) r.bookings)
-  of_told band found = spans_told of_lookup (Text gateway ∷ number (band_number band) ∷ []) refl refl booking_cells (λ r. r.bookings) (λ r has. has.booking) (λ b. stands_in gateway band b.booking)
-      (λ b. ap₂ (λ s t. s && t) (text_equal b.1.booking.gateway gateway) (ap₂ (λ s t. s && t) (number_equal (band_number b.1.booking.band) (band_number band)) (and_true _ ∙ stands b.1.booking.standing))
-          ∙ moved (bytes_eq b.1.booking.gateway gateway) (band_number b.1.booking.band == band_number band) (not (is_dropped b.1.booking.standing)))
+  pub of_told : (band : Band) {result : Result (Vec Interval Global) RowFault} → FindsAll of_text (Text gateway ∷ number (band_number band) ∷ []) old new
+      (λ s. s) span_shown IsSpan result
+      → Reads old new result (λ r spans. spans.items ≡ spans_by booking_span (by_start (λ (b : BookingRow). (booking_span b).start))
+      (λ b. stands_in gateway band b.booking) r.bookings)
+  of_told band found = spans_told of_lookup (Text gateway ∷ number (band_number band) ∷ []) refl refl booking_cells (λ r. r.bookings) (λ r has. has.booking)
+      (λ b. stands_in gateway band b.booking)
+      (λ b. ap₂ (λ s t. s && t) (text_equal b.1.booking.gateway gateway)
+      (ap₂ (λ s t. s && t) (number_equal (band_number b.1.booking.band) (band_number band)) (and_true _ ∙ stands b.1.booking.standing))
+      ∙ moved (bytes_eq b.1.booking.gateway gateway) (band_number b.1.booking.band == band_number band) (not (is_dropped b.1.booking.standing)))
       booking_span (λ b. refl)
-      (λ b c. ap₂ (λ u v. ordering_then u (ordering_then v Equal)) (value_cmp-Int (booking_span b.1).start (booking_span c.1).start) (value_cmp-Int (pos b.0) (pos c.0)))
+      (λ b c. ap₂ (λ u v. ordering_then u (ordering_then v Equal)) (value_cmp-Int (booking_span b.1).start (booking_span c.1).start)
+      (value_cmp-Int (pos b.0) (pos c.0)))
       IsBooking (λ r has. has.in_range.bookings) (λ b fits. (fits.start, fits.len)) found
 
 -- ---- between two starts
@@ -127,36 +132,47 @@ in_one : (g a b n s : Bool) → (g && (a && (b && (n && s)))) ≡ (((g && s) && 
 in_one g a b n s = in_all g a b (n && s) ∙ ap (λ t. t && (a && b)) (moved g n s)
 
 module _ {old new : State} (gateway : List ℕ) (after before : ℤ) where
-  pub all_near : {result : Result (Vec Interval Global) RowFault} → FindsAll all_text (Text gateway ∷ Int after ∷ Int before ∷ []) old new (λ s. s) span_shown IsSpan result
+  pub all_near : {result : Result (Vec Interval Global) RowFault} → FindsAll all_text (Text gateway ∷ Int after ∷ Int before ∷ []) old new
+      (λ s. s) span_shown IsSpan result
       → Reads old new result (λ r spans. spans.items ≡ spans_by booking_span (by_start (λ (b : BookingRow). (booking_span b).start))
       (λ b. stands_at gateway b.booking && starts_between after before (booking_span b)) r.bookings)
   all_near found = spans_told all_lookup (Text gateway ∷ Int after ∷ Int before ∷ []) refl refl booking_cells (λ r. r.bookings) (λ r has. has.booking)
       (λ b. stands_at gateway b.booking && starts_between after before (booking_span b))
       (λ b. ap₂ (λ s t. s && t) (text_equal b.1.booking.gateway gateway) (ap₂ (λ s t. s && t) (int_above (booking_span b.1).start after)
-          (ap₂ (λ s t. s && t) (int_below (booking_span b.1).start before) (and_true _ ∙ stands b.1.booking.standing)))
-          ∙ in_all (bytes_eq b.1.booking.gateway gateway) (int_lt after (booking_span b.1).start) (int_lt (booking_span b.1).start before) (not (is_dropped b.1.booking.standing)))
+      (ap₂ (λ s t. s && t) (int_below (booking_span b.1).start before) (and_true _ ∙ stands b.1.booking.standing)))
+      ∙ in_all (bytes_eq b.1.booking.gateway gateway) (int_lt after (booking_span b.1).start) (int_lt (booking_span b.1).start before)
+      (not (is_dropped b.1.booking.standing)))
       booking_span (λ b. refl)
-      (λ b c. ap₂ (λ u v. ordering_then u (ordering_then v Equal)) (value_cmp-Int (booking_span b.1).start (booking_span c.1).start) (value_cmp-Int (pos b.0) (pos c.0)))
+      (λ b c. ap₂ (λ u v. ordering_then u (ordering_then v Equal)) (value_cmp-Int (booking_span b.1).start (booking_span c.1).start)
+      (value_cmp-Int (pos b.0) (pos c.0)))
       IsBooking (λ r has. has.in_range.bookings) (λ b fits. (fits.start, fits.len)) found
 
   pub one_near : (band : Band) {result : Result (Vec Interval Global) RowFault}
       → FindsAll one_text (Text gateway ∷ Int after ∷ Int before ∷ number (band_number band) ∷ []) old new (λ s. s) span_shown IsSpan result
       → Reads old new result (λ r spans. spans.items ≡ spans_by booking_span (by_start (λ (b : BookingRow). (booking_span b).start))
       (λ b. stands_in gateway band b.booking && starts_between after before (booking_span b)) r.bookings)
-  one_near band found = spans_told one_lookup (Text gateway ∷ Int after ∷ Int before ∷ number (band_number band) ∷ []) refl refl booking_cells (λ r. r.bookings) (λ r has. has.booking)
+  one_near band found = spans_told one_lookup (Text gateway ∷ Int after ∷ Int before ∷ number (band_number band) ∷ []) refl refl booking_cells
+      (λ r. r.bookings) (λ r has. has.booking)
       (λ b. stands_in gateway band b.booking && starts_between after before (booking_span b))
       (λ b. ap₂ (λ s t. s && t) (text_equal b.1.booking.gateway gateway) (ap₂ (λ s t. s && t) (int_above (booking_span b.1).start after)
-          (ap₂ (λ s t. s && t) (int_below (booking_span b.1).start before)
-          (ap₂ (λ s t. s && t) (number_equal (band_number b.1.booking.band) (band_number band)) (and_true _ ∙ stands b.1.booking.standing))))
-          ∙ in_one (bytes_eq b.1.booking.gateway gateway) (int_lt after (booking_span b.1).start) (int_lt (booking_span b.1).start before)
-          (band_number b.1.booking.band == band_number band) (not (is_dropped b.1.booking.standing)))
+      (ap₂ (λ s t. s && t) (int_below (booking_span b.1).start before)
+      (ap₂ (λ s t. s && t) (number_equal (band_number b.1.booking.band) (band_number band)) (and_true _ ∙ stands b.1.booking.standing))))
+      ∙ in_one (bytes_eq b.1.booking.gateway gateway) (int_lt after (booking_span b.1).start) (int_lt (booking_span b.1).start before)
+      (band_number b.1.booking.band == band_number band) (not (is_dropped b.1.booking.standing)))
       booking_span (λ b. refl)
-      (λ b c. ap₂ (λ u v. ordering_then u (ordering_then v Equal)) (value_cmp-Int (booking_span b.1).start (booking_span c.1).start) (value_cmp-Int (pos b.0) (pos c.0)))
+      (λ b c. ap₂ (λ u v. ordering_then u (ordering_then v Equal)) (value_cmp-Int (booking_span b.1).start (booking_span c.1).start)
+      (value_cmp-Int (pos b.0) (pos c.0)))
       IsBooking (λ r has. has.in_range.bookings) (λ b fits. (fits.start, fits.len)) found
 
 -- what lies between the two starts is what is near the one
-pub near_told : {old new : State} (after before start : ℤ) → ((a : Interval) → IsStart a.start → is_near start a ≡ starts_between after before a) → (test : BookingRow → Bool) {result : Result (Vec Interval Global) RowFault}
-    → Reads old new result (λ r spans. spans.items ≡ spans_by booking_span (by_start (λ (b : BookingRow). (booking_span b).start)) (λ b. test b && starts_between after before (booking_span b)) r.bookings)
-    → Reads old new result (λ r spans. spans.items ≡ spans_by booking_span (by_start (λ (b : BookingRow). (booking_span b).start)) (λ b. test b && is_near start (booking_span b)) r.bookings)
-near_told after before start near test reads = says_so reads (λ r has spans is. is ∙ spans_alike booking_span (by_start (λ (b : BookingRow). (booking_span b).start)) IsBooking
-    (λ b. test b && starts_between after before (booking_span b)) (λ b. test b && is_near start (booking_span b)) (λ b fits. ap (λ t. test b && t) (sym (near (booking_span b) fits.start))) r.bookings has.in_range.bookings)
+pub near_told : {old new : State} (after before start : ℤ) → ((a : Interval) → IsStart a.start → is_near start a ≡ starts_between after before a) →
+    (test : BookingRow → Bool) {result : Result (Vec Interval Global) RowFault}
+    → Reads old new result (λ r spans. spans.items ≡ spans_by booking_span (by_start (λ (b : BookingRow). (booking_span b).start))
+    (λ b. test b && starts_between after before (booking_span b)) r.bookings)
+    → Reads old new result (λ r spans. spans.items ≡ spans_by booking_span (by_start (λ (b : BookingRow). (booking_span b).start))
+    (λ b. test b && is_near start (booking_span b)) r.bookings)
+near_told after before start near test reads = says_so reads
+    (λ r has spans is. is ∙ ap (map (λ (row : ℕ × BookingRow). booking_span row.1))
+    (rows_alike (by_start (λ (b : BookingRow). (booking_span b).start)) IsBooking
+    (λ b. test b && starts_between after before (booking_span b)) (λ b. test b && is_near start (booking_span b))
+    (λ b fits. ap (λ t. test b && t) (sym (near (booking_span b) fits.start))) r.bookings has.in_range.bookings))

@@ -10,7 +10,7 @@ use Rattle.sqlite.specs.Listing.{understood, reads_listing, IsSourceOf}
 use Rattle.sqlite.specs.State.{State, FailsToQuery, FailsToShow, IsNotRun, IsNoStatement}
 use Rattle.sqlite.specs.Clock.{timed}
 use Rattle.desk_rows.specs.declared.faults.RowFault.TheVariants.{Refused}
-use Rattle.desk_rows.specs.steps.Errors.{fault_of}
+use Rattle.desk_rows.specs.Faults.{fault_of}
 use Rattle.desk_rows.proofs.RefusedLemmas.{told_else}
 
 module _ (sql : List ℕ) (params : Row) (old new : State) (schema : Schema) (has : old.now.schema ≡ schema) (compiled : Compiled) (means : understood schema sql ≡ Ok compiled)

@@ -1,4 +1,6 @@
+pub mod CallLaws
 pub mod Calls
+pub mod Decode
 pub mod Faults
 pub mod Making
 pub mod Meta

@@ -1,6 +1,5 @@
 -- What the clauses of private functions and the proofs say.
 pub mod Change
-pub mod Decode
 pub mod Errors
 pub mod Meta
 pub mod Queries

@@ -1,5 +1,5 @@
 //! Devices.
-ghost use Rattle.std.specs.Prelude.{◌≡◌, ◌+◌, ◌<◌, ◌^◌, ◌++◌, [], ◌∷◌, ℕ, Option, length, false, None, find, option_map};
+ghost use Rattle.std.specs.Prelude.{◌≡◌, ◌+◌, ◌<◌, ◌^◌, ◌++◌, [], ◌∷◌, ℕ, Option, length, false, None, Some, IfOk, IfSome, IsTrue, find, option_map};
 ghost use Rattle.std.specs.List.{list_any};
 ghost use Rattle.sqlite.specs.Held.{state};
 ghost use Rattle.sqlite_keyed.specs.Lists.{update_where};
@@ -7,6 +7,10 @@ ghost use Rattle.desk_rows.specs.Calls.{Changes, Reads};
 ghost use Rattle.sqlite_value.specs.declared.value.Value.TheVariants.{Text};
 ghost use Rattle.registry_core.specs.declared.facts.Device.{Device};
 ghost use Rattle.registry_core.specs.Ranges.{IsEui, IsName};
+ghost use Rattle.registry_core.specs.Reports.{is_after};
+ghost use Rattle.desk_rows.specs.order.Arranged.{by_eui, is_next_of};
+ghost use Rattle.desk_rows.specs.order.LookUps.{first_by};
+ghost use Rattle.desk_rows.specs.steps.Queries.{above_only};
 ghost use Rattle.desk_rows.specs.Rows.{eui, is_device, number, or_null};
 ghost use Rattle.desk_rows.specs.order.Changes.{moved};
 ghost use Rattle.desk_rows.specs.order.Keys.{HasOnly, floor_set};
@@ -80,6 +84,88 @@ pub fn floor_of<S: Alter>(
         "SELECT floor FROM device WHERE eui = ?1 ORDER BY rowid",
         &[blob(&eui)],
     )
+}
+
+impl FromRow for Eui {
+    ghost Seen = { ℕ };
+
+    ghost seen = { λ dev_eui. dev_eui };
+
+    ghost shows = { λ dev_eui. eui dev_eui ∷ [] };
+
+    ghost InRange = { IsEui };
+
+    fn from_row(row: &Row) -> Result<Eui, RowFault> {
+        eui_at(row, 0)
+    }
+}
+
+/// The first of the owner's devices by DevEUI.
+fn first_device<S: Alter>(conn: &mut Connection<S>, owner: &Name) -> Result<Option<Eui>, RowFault>
+    ensures { Reads (state S.Store conn.old) (state S.Store conn.new) result (λ r next. next ≡ first_by (λ d. d.dev_eui) by_eui (is_next_of owner.now None) r.devices) }
+{
+    find(
+        conn,
+        "SELECT eui FROM device WHERE owner = ?1 ORDER BY eui, rowid LIMIT 1",
+        &[text(owner)],
+    )
+}
+
+/// The first of them above that one.
+fn device_after<S: Alter>(
+    conn: &mut Connection<S>,
+    owner: &Name,
+    after: Eui,
+) -> Result<Option<Eui>, RowFault>
+    ensures { Reads (state S.Store conn.old) (state S.Store conn.new) result (λ r next. next ≡ first_by (λ d. d.dev_eui) by_eui (is_next_of owner.now (Some after)) r.devices) }
+{
+    let octets = octets_of(after);
+    find(
+        conn,
+        "SELECT eui FROM device WHERE owner = ?1 AND eui > ?2 ORDER BY eui, rowid LIMIT 1",
+        &[text(owner), blob(&octets)],
+    )
+}
+
+fn is_after(next: Eui, after: Option<Eui>) -> bool
+    ensures { result ≡ is_after after next }
+{
+    match after {
+        Some(last) => last < next,
+        None => true,
+    }
+}
+
+/// What was found, if it is above the one that is given.
+fn above(found: Result<Option<Eui>, RowFault>, after: Option<Eui>) -> Result<Option<Eui>, RowFault>
+    ensures { result ≡ above_only after found }
+{
+    match found {
+        Ok(Some(next)) => {
+            if is_after(next, after) {
+                Ok(Some(next))
+            } else {
+                Err(RowFault::Row)
+            }
+        }
+        Ok(None) => Ok(None),
+        Err(fault) => Err(fault),
+    }
+}
+
+/// The first of the owner's devices by DevEUI above that one, if one is given. It is above it whatever the database shows.
+pub fn next_device<S: Alter>(
+    conn: &mut Connection<S>,
+    owner: &Name,
+    after: Option<Eui>,
+) -> Result<Option<Eui>, RowFault>
+    ensures reads { Reads (state S.Store conn.old) (state S.Store conn.new) result (λ r next. next ≡ first_by (λ d. d.dev_eui) by_eui (is_next_of owner.now after) r.devices) }
+    ensures rises { IfOk result (λ next. IfSome next (λ dev_eui. IsTrue (is_after after dev_eui))) }
+{
+    match after {
+        Some(last) => above(device_after(conn, owner, last), after),
+        None => first_device(conn, owner),
+    }
 }
 
 /// Adds a device, none of whose sessions has a data uplink.

@@ -25,8 +25,8 @@ mod writes;
 
 pub use bookings::{booking, end_booking, insert_booking, is_answered, last_booking};
 pub use copies::{copy_at, insert_copy};
-pub use devices::{device, floor_of, insert_device, move_device, set_floor};
-pub use faults::RowFault;
+pub use devices::{device, floor_of, insert_device, move_device, next_device, set_floor};
+pub use faults::{RowFault, fault_of};
 pub use gateways::{gateway_is_known, insert_gateway};
 pub use making::{create_tables, insert_settings};
 pub use meta::read_settings;

@@ -1,10 +1,14 @@
 //! Each call over a connection in memory, in a function of its own: a proof that carries the clauses of many takes minutes.
+mod ranges;
+mod refusals;
+mod updates;
+
 use crate::{
     RowFault, Texts, booking, copy_at, create_tables, device, floor_of, gateway_is_known,
     insert_booking, insert_copy, insert_device, insert_gateway, insert_owner, insert_reply,
     insert_sender, insert_session, insert_settings, insert_uplink, is_answered, last_booking,
     last_counter, last_nonce, last_reply, last_session, last_uplink, next_down, owner_is_known,
-    read_settings, role_of, session, session_with, texts_of, uplink, uplink_with,
+    role_of, session, session_with, texts_of, uplink, uplink_with,
 };
 use duty_core::Span;
 use radio_core::{Band, DataRate, Eui, Name, Octets, Rate};
@@ -14,11 +18,11 @@ use registry_core::{
 use sqlite::{Connection, MemStore, Transaction};
 use std::test::Fail;
 
-type Conn = Connection<MemStore>;
+pub(crate) type Conn = Connection<MemStore>;
 
 type Tx<'a> = Transaction<'a, MemStore>;
 
-fn name(text: &str) -> Result<Name, &'static str> {
+pub(crate) fn name(text: &str) -> Result<Name, &'static str> {
     Name::new(text.as_bytes()).ok_or("no name")
 }
 
@@ -111,7 +115,7 @@ fn all_added(tx: &mut Tx<'_>) -> Result<(), &'static str> {
     booking_added(tx)
 }
 
-fn filled(conn: &mut Conn) -> Result<(), Fail> {
+pub(crate) fn filled(conn: &mut Conn) -> Result<(), Fail> {
     if !conn.is_autocommit() {
         return Err(Fail::new(format_args!("in a transaction")));
     }
@@ -121,15 +125,6 @@ fn filled(conn: &mut Conn) -> Result<(), Fail> {
     all_added(&mut tx)?;
     tx.commit()?;
     Ok(())
-}
-
-fn copied(tx: &mut Tx<'_>, uplink: u64) -> Result<bool, &'static str> {
-    let again = insert_copy(tx, uplink, &name("gw-a")?, &copy()?);
-    Ok(again == Err(RowFault::Refused))
-}
-
-fn made_again(tx: &mut Tx<'_>) -> bool {
-    create_tables(tx) == Err(RowFault::Refused)
 }
 
 // ---- reading
@@ -269,36 +264,5 @@ fn the_last_are_found_and_rows_out_of_range_told(rt: HostRuntime) -> Result<(), 
     assert!(rt; last_counters_are(&mut conn)?);
     assert!(rt; is_answered_as(&mut conn, 1, false)?);
     assert!(rt; rows_are_out_of_range(&mut conn)?);
-    Ok(())
-}
-
-fn refused(conn: &mut Conn) -> Result<bool, Fail> {
-    if !conn.is_autocommit() {
-        return Err(Fail::new(format_args!("in a transaction")));
-    }
-    let mut tx = conn.transaction();
-    let again = copied(&mut tx, 1)?;
-    let beyond = copied(&mut tx, u64::MAX)?;
-    let made = made_again(&mut tx);
-    tx.commit()?;
-    Ok(again && beyond && made)
-}
-
-fn settings_are_read(conn: &mut Conn) -> Result<bool, &'static str> {
-    Ok(read_settings(conn) == Ok((1, town_config()?)))
-}
-
-fn index_is_taken(conn: &mut Conn) -> bool {
-    conn.execute_batch("CREATE INDEX booking_uplink ON booking (uplink)")
-        .is_err()
-}
-
-#[test]
-fn taken_keys_are_refused(rt: HostRuntime) -> Result<(), Fail> {
-    let mut conn = Connection::open_in_memory(rt.alloc())?;
-    filled(&mut conn)?;
-    assert!(rt; refused(&mut conn)?);
-    assert!(rt; settings_are_read(&mut conn)?);
-    assert!(rt; index_is_taken(&mut conn));
     Ok(())
 }

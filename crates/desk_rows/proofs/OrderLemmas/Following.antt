@@ -18,15 +18,15 @@ use Rattle.registry_core.specs.Numbered.{greatest, item_at}
 use Rattle.registry_core.specs.State.{state_with}
 use Rattle.sqlite_keyed.specs.Lists.{update_where}
 use Rattle.desk_rows.specs.Rows.{Rows, DeviceRow, ReplyRow, SessionRow, is_device}
-use Rattle.desk_rows.specs.order.Changes.{RowsFollowFacts, booking_row, device_row, kind_at, moved, raised, rows_with, session_at, session_row, sessions_counted}
+use Rattle.desk_rows.specs.order.Changes.{RowsFollowFacts, booking_row, copy_row, device_row, kind_at, moved, raised, rows_with, session_at, session_row, sessions_counted}
 use Rattle.desk_rows.specs.order.Facts.{bookings_in, facts_in, sessions_in}
-use Rattle.desk_rows.specs.order.RowsOf.{AnswersUplink, IsCounted, IsKeyed, IsOfSession, NamesRows, floor_of, is_data_from, same_join}
+use Rattle.desk_rows.specs.order.RowsOf.{AnswersUplink, IsCounted, IsKeyed, IsOfSession, IsOfUplink, NamesRows, floor_of, is_data_from, same_join}
 use Rattle.desk_rows.proofs.OrderLemmas.Counters.{HasDowns, HasFloor, answers_ended, answers_new, answers_with, downs_with, floor_join, floor_session, floors_raised, kind_found, next_down_ended, next_down_kept, next_down_none, session_found}
 use Rattle.desk_rows.proofs.OrderLemmas.Counting.{filter_none}
 use Rattle.desk_rows.proofs.OrderLemmas.Each.{all_at, all_map, all_so, all_with}
 use Rattle.desk_rows.proofs.OrderLemmas.Few.{few_with}
 use Rattle.desk_rows.proofs.OrderLemmas.Keys.{devices_with, sessions_with}
-use Rattle.desk_rows.proofs.OrderLemmas.Named.{HasDevice, device_changed, device_with, session_kept, session_new, session_there}
+use Rattle.desk_rows.proofs.OrderLemmas.Named.{HasDevice, copies_with, device_changed, device_with, session_kept, session_new, session_there}
 use Rattle.desk_rows.proofs.OrderLemmas.Numbering.{item_end, item_past, item_there, item_with}
 use Rattle.desk_rows.proofs.OrderLemmas.Telling.{counted_shown, device_told, euis_changed, facts_with, there_changed}
 
@@ -140,17 +140,26 @@ counted_with r (EndsBooking number sent) reply names fits counted = record {
 -- ---- what rows name
 
 names_with : (r : Rows) (effect : Effect) (reply : ReplyRow) → Fits effect (facts_in r) → NamesRows r → NamesRows (rows_with effect reply r)
-names_with r Nothing reply fits names = record { sessions = names.sessions; uplinks = names.uplinks }
-names_with r (AddsSender name role) reply fits names = record { sessions = names.sessions; uplinks = names.uplinks }
-names_with r (AddsOwner name) reply fits names = record { sessions = names.sessions; uplinks = names.uplinks }
-names_with r (AddsGateway name) reply fits names = record { sessions = names.sessions; uplinks = names.uplinks }
-names_with r (AddsCopy number gateway reception) reply fits names = record { sessions = names.sessions; uplinks = names.uplinks }
-names_with r (EndsBooking number sent) reply fits names = record { sessions = names.sessions; uplinks = names.uplinks }
+names_with r Nothing reply fits names = record { sessions = names.sessions; uplinks = names.uplinks; copies = names.copies }
+names_with r (AddsSender name role) reply fits names = record { sessions = names.sessions; uplinks = names.uplinks; copies = names.copies }
+names_with r (AddsOwner name) reply fits names = record { sessions = names.sessions; uplinks = names.uplinks; copies = names.copies }
+names_with r (AddsGateway name) reply fits names = record { sessions = names.sessions; uplinks = names.uplinks; copies = names.copies }
+names_with r (AddsCopy number gateway reception) reply fits names = record {
+  sessions = names.sessions;
+  uplinks = names.uplinks;
+  copies = all_with (IsOfUplink r.uplinks) r.copies (copy_row number gateway reception) names.copies fits.uplink;
+}
+names_with r (EndsBooking number sent) reply fits names = record { sessions = names.sessions; uplinks = names.uplinks; copies = names.copies }
 names_with r (AddsDevice dev_eui device) reply fits names =
-    record { sessions = device_with r.devices (device_row dev_eui device ∷ []) (sessions_in r.sessions) names.sessions; uplinks = names.uplinks }
+    record {
+      sessions = device_with r.devices (device_row dev_eui device ∷ []) (sessions_in r.sessions) names.sessions;
+      uplinks = names.uplinks;
+      copies = names.copies;
+    }
 names_with r (MovesDevice dev_eui owner) reply fits names = record {
   sessions = device_changed r.devices _ (there_changed (is_device dev_eui) (moved owner) (λ d. refl) r.devices) (sessions_in r.sessions) names.sessions;
   uplinks = names.uplinks;
+  copies = names.copies;
 }
 names_with r (AddsSession session uplink gateway reception) reply fits names =
     let more = sym (sessions_more r.sessions session) in
@@ -161,6 +170,7 @@ names_with r (AddsSession session uplink gateway reception) reply fits names =
           (all_with (IsOfSession (old ++ session ∷ [])) r.uplinks uplink
           (all_so (IsOfSession old) (IsOfSession (old ++ session ∷ [])) (session_kept old (session ∷ [])) r.uplinks names.uplinks)
           (session_new old session uplink (length old + 1) fits.number (item_end old session) fits.counter));
+      copies = copies_with r.uplinks uplink r.copies gateway reception names.copies;
     }
 names_with r (AddsUplink uplink gateway reception) reply fits names = record {
   sessions = device_changed r.devices _
@@ -168,12 +178,14 @@ names_with r (AddsUplink uplink gateway reception) reply fits names = record {
       (sessions_in r.sessions) names.sessions;
   uplinks = all_with (IsOfSession (sessions_in r.sessions)) r.uplinks uplink names.uplinks
       (session_there (sessions_in r.sessions) uplink (item_at (sessions_in r.sessions) uplink.session) refl fits.session fits.kind);
+  copies = copies_with r.uplinks uplink r.copies gateway reception names.copies;
 }
 names_with r (AddsBooking booking) reply fits names =
     let same = counted_shown (kind_at r.uplinks booking.uplink) (session_at r.uplinks booking.uplink) r.sessions in
     record {
       sessions = subst (AllByRecursion (HasDevice r.devices)) same names.sessions;
       uplinks = subst (λ sessions. AllByRecursion (IsOfSession sessions) r.uplinks) same names.uplinks;
+      copies = names.copies;
     }
 
 -- ---- keys

@@ -1,15 +1,17 @@
 -- What rows name is there with each effect.
-use Rattle.std.proofs.Common.{◌≡◌, ℕ, true, List, [], ◌∷◌, ◌++◌, Option, Some, None, is_some, sym, ap, ◌∙◌}
+use Rattle.std.proofs.Common.{◌≡◌, ℕ, ◌+◌, true, List, [], ◌∷◌, ◌++◌, length, Option, Some, None, is_some, refl, sym, ap, ◌∙◌}
 use Rattle.std.specs.Prelude.{IsTrue}
 use Rattle.std.specs.List.{AllByRecursion}
 use Rattle.registry_core.specs.declared.facts.Kind.TheVariants.{Data}
+use Rattle.registry_core.specs.declared.facts.Reception.{Reception}
 use Rattle.registry_core.specs.declared.facts.Session.{Session}
 use Rattle.registry_core.specs.declared.facts.Uplink.{Uplink}
 use Rattle.registry_core.specs.Numbered.{item_at}
-use Rattle.desk_rows.specs.Rows.{DeviceRow}
-use Rattle.desk_rows.specs.order.RowsOf.{IsOfSession}
-use Rattle.desk_rows.proofs.OrderLemmas.Each.{all_so}
-use Rattle.desk_rows.proofs.OrderLemmas.Numbering.{item_kept}
+use Rattle.desk_rows.specs.Rows.{CopyRow, DeviceRow}
+use Rattle.desk_rows.specs.order.Changes.{copy_row}
+use Rattle.desk_rows.specs.order.RowsOf.{IsOfSession, IsOfUplink}
+use Rattle.desk_rows.proofs.OrderLemmas.Each.{all_so, all_with}
+use Rattle.desk_rows.proofs.OrderLemmas.Numbering.{item_end, item_kept}
 use Rattle.desk_rows.proofs.OrderLemmas.Finding.{still_shown}
 use Rattle.desk_rows.proofs.OrderLemmas.Telling.{device_told}
 
@@ -45,3 +47,20 @@ pub session_there : (sessions : List Session) (u : Uplink) (found : Option Sessi
     → u.kind ≡ Data → IsOfSession sessions u
 session_there sessions u None at some is = let none : is_some {T = Session} None ≡ true = some in cc
 session_there sessions u (Some s) at some is = record { session = s; there = at; nonce = λ join. cc }
+
+-- ---- uplinks of copies
+
+uplink_kept : (uplinks more : List Uplink) (copy : CopyRow) (found : Option Uplink) → item_at uplinks copy.uplink ≡ found → is_some found ≡ true
+    → IsOfUplink (uplinks ++ more) copy
+uplink_kept uplinks more copy None at some = let none : is_some {T = Uplink} None ≡ true = some in cc
+uplink_kept uplinks more copy (Some u) at some = ap is_some (item_kept uplinks more copy.uplink u at)
+
+-- one uplink more, with its first copy
+pub copies_with : (uplinks : List Uplink) (uplink : Uplink) (copies : List CopyRow) (gateway : List ℕ) (reception : Reception)
+    → AllByRecursion (IsOfUplink uplinks) copies
+    → AllByRecursion (IsOfUplink (uplinks ++ uplink ∷ [])) (copies ++ copy_row (length uplinks + 1) gateway reception ∷ [])
+copies_with uplinks uplink copies gateway reception each =
+    all_with (IsOfUplink (uplinks ++ uplink ∷ [])) copies (copy_row (length uplinks + 1) gateway reception)
+    (all_so (IsOfUplink uplinks) (IsOfUplink (uplinks ++ uplink ∷ []))
+    (λ copy there. uplink_kept uplinks (uplink ∷ []) copy (item_at uplinks copy.uplink) refl there) copies each)
+    (ap is_some (item_end uplinks uplink))

@@ -24,7 +24,7 @@ opening_told c = record {
         ∙ one_sender c.operator name (bytes_eq c.operator name)) i;
   };
   counted = record { floors = tt; next_downs = λ n s at. absurd (none_at n s at); bookings = tt };
-  names = record { sessions = tt; uplinks = tt };
+  names = record { sessions = tt; uplinks = tt; copies = tt };
   keyed = record { devices = tt; sessions = tt };
   few = record { senders = omega arith; owners = omega arith; gateways = omega arith; devices = omega arith; sessions = omega arith; uplinks = omega arith; copies = omega arith; bookings = omega arith };
 }

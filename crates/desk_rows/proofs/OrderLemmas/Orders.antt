@@ -1,4 +1,4 @@
--- Orders by columns: by start and then by number, and by a key that falls.
+-- Orders by columns: by start and then by number, by DevEUI, and by a key that falls.
 use Rattle.std.proofs.Common.{◌≡◌, ℕ, ◌<◌, ◌≤◌, Bool, true, false, cond, refl, sym, ap, ◌∙◌, arith, Ordering, Less, Equal, Greater}
 use Rattle.std.specs.Prelude.{ℤ, pos, int_lt}
 use Rattle.std.specs.Ordering.{int_cmp, is_gt, ordering_then}
@@ -7,6 +7,7 @@ use Rattle.registry_core.specs.declared.facts.Uplink.{Uplink}
 use Rattle.registry_core.specs.Reports.{interval_of}
 use Rattle.desk_rows.specs.Rows.{BookingRow, SessionRow}
 use Rattle.desk_rows.specs.order.Arranged.{FallsFirst, OrdersHold, PutsByStart, booking_span, by_start}
+use Rattle.desk_rows.proofs.OrderLemmas.Euis.{rises_by_eui}
 
 -- ---- by start
 
@@ -59,6 +60,7 @@ pub orders_hold : OrdersHold
 orders_hold = record {
   bookings = puts_by_start (λ (b : BookingRow). (booking_span b).start);
   uplinks = puts_by_start (λ (u : Uplink). (interval_of u).start);
+  devices = rises_by_eui;
   nonces = falls_first (λ (s : ℕ × SessionRow). s.1.session.nonce);
   counters = falls_first (λ (u : ℕ × Uplink). u.1.counter);
   session_numbers = falls_first (λ (s : ℕ × SessionRow). s.0);

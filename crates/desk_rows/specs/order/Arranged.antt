@@ -4,7 +4,9 @@ use Rattle.std.specs.declared.cmp.Ordering.{Ordering}
 use Rattle.std.specs.declared.cmp.Ordering.TheVariants.{Equal}
 use Rattle.std.specs.List.{AllByRecursion}
 use Rattle.std.specs.Option.{option_map_or}
-use Rattle.std.specs.Ordering.{int_cmp, is_gt, ordering_then}
+use Rattle.std.specs.Cmp.Lexicographic.{slice_cmp}
+use Rattle.std.specs.Int.{to_be_bytes, w64}
+use Rattle.std.specs.Ordering.{int_cmp, is_gt, nat_cmp, ordering_then}
 use Rattle.radio_core.specs.declared.bands.Band.{Band}
 use Rattle.duty_core.specs.InOrder.{IsByStart}
 use Rattle.duty_core.specs.Near.{is_near, near_ones}
@@ -80,6 +82,10 @@ ArrangedRowsTell = (c : Settings) (facts : State) (r : Rows) → AreRowsOf c fac
 abbrev pub by_start : {X : Type 0} → (X → ℤ) → ℕ × X → ℕ × X → Ordering
 by_start start a b = ordering_then (int_cmp (start a.1) (start b.1)) (ordering_then (int_cmp (pos a.0) (pos b.0)) Equal)
 
+-- by DevEUI, octet by octet, then by number
+abbrev pub by_eui : ℕ × DeviceRow → ℕ × DeviceRow → Ordering
+by_eui a b = ordering_then (slice_cmp nat_cmp (to_be_bytes w64 a.1.dev_eui) (to_be_bytes w64 b.1.dev_eui)) (ordering_then (int_cmp (pos a.0) (pos b.0)) Equal)
+
 -- an order by the key, falling, and then by anything, falls
 abbrev pub FallsFirst : {A : Type 0} → (A → ℕ) → Type 0
 FallsFirst {A} key = (rest : A → A → Ordering) → Falls key (λ a b. ordering_then (int_cmp (pos (key b)) (pos (key a))) (rest a b))
@@ -88,6 +94,7 @@ FallsFirst {A} key = (rest : A → A → Ordering) → Falls key (λ a b. orderi
 pub record OrdersHold : Type 0 where
   pub bookings : PutsByStart (λ (b : BookingRow). (booking_span b).start) (by_start (λ (b : BookingRow). (booking_span b).start))
   pub uplinks : PutsByStart (λ (u : Uplink). (interval_of u).start) (by_start (λ (u : Uplink). (interval_of u).start))
+  pub devices : RisesByEui by_eui
   pub nonces : FallsFirst (λ (s : ℕ × SessionRow). s.1.session.nonce)
   pub counters : FallsFirst (λ (u : ℕ × Uplink). u.1.counter)
   pub session_numbers : FallsFirst (λ (s : ℕ × SessionRow). s.0)

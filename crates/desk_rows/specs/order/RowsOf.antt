@@ -10,7 +10,7 @@ use Rattle.registry_core.specs.Derived.{is_data, is_of_device}
 use Rattle.registry_core.specs.Numbered.{item_at, greatest}
 use Rattle.registry_core.specs.Settings.{Settings}
 use Rattle.registry_core.specs.State.{State}
-use Rattle.desk_rows.specs.Rows.{Rows, DeviceRow, SessionRow, BookingRow}
+use Rattle.desk_rows.specs.Rows.{Rows, DeviceRow, SessionRow, CopyRow, BookingRow}
 use Rattle.desk_rows.specs.order.Facts.{bookings_in, facts_in, sessions_in}
 
 -- ---- kept counters
@@ -44,10 +44,15 @@ pub record IsOfSession (sessions : List Session) (uplink : Uplink) : Type 0 wher
   pub there : item_at sessions uplink.session ≡ Some session
   pub nonce : uplink.kind ≡ Join → session.nonce ≡ uplink.counter
 
--- the device of each session is there, and the session of each uplink
+-- the uplink of a copy is there
+abbrev pub IsOfUplink : List Uplink → CopyRow → Type 0
+IsOfUplink uplinks copy = IsTrue (is_some (item_at uplinks copy.uplink))
+
+-- the device of each session is there, the session of each uplink, and the uplink of each copy
 pub record NamesRows (r : Rows) : Type 0 where
   pub sessions : AllByRecursion (λ (s : Session). IsTrue (is_some ((facts_in r).devices s.device))) (sessions_in r.sessions)
   pub uplinks : AllByRecursion (IsOfSession (sessions_in r.sessions)) r.uplinks
+  pub copies : AllByRecursion (IsOfUplink r.uplinks) r.copies
 
 -- ---- keys
 

@@ -1,22 +1,13 @@
--- How an error of a statement is told, and what is read of a row.
+-- What a query showed, and what is read of a row.
 use Rattle.std.specs.Prelude.{◌≡◌, ◌<◌, ℕ, length, Option, Some, None, Result, Ok, Err, Bool, true, false}
-use Rattle.desk_rows.specs.Faults.{IsEven}
+use Rattle.desk_rows.specs.Faults.{IsEven, fault_of}
 use Rattle.sqlite_value.specs.Order.{Row, column}
 use Rattle.sqlite_value.specs.declared.value.Value.{Value}
 use Rattle.sqlite.specs.declared.error.Error.{Error}
 use Rattle.sqlite.specs.declared.error.Error.TheVariants.{SqliteFailure, QueryReturnedNoRows}
 use Rattle.sqlite.specs.declared.error.ErrorCode.TheVariants as code
 use Rattle.desk_rows.specs.declared.faults.RowFault.{RowFault}
-use Rattle.desk_rows.specs.declared.faults.RowFault.TheVariants.{Memory, Disk, Size, Row as OutOfRange, Refused}
-
-abbrev pub fault_of : Error → RowFault
-fault_of (SqliteFailure code.OutOfMemory) = Memory
-fault_of (SqliteFailure code.SystemIoFailure) = Disk
-fault_of (SqliteFailure code.DatabaseCorrupt) = Disk
-fault_of (SqliteFailure code.DiskFull) = Disk
-fault_of (SqliteFailure code.Closed) = Disk
-fault_of (SqliteFailure code.TooBig) = Size
-fault_of _ = Refused
+use Rattle.desk_rows.specs.declared.faults.RowFault.TheVariants.{Memory, Row as OutOfRange}
 
 -- the row that a query showed, if it showed one
 abbrev pub found_of : Result Row Error → Result (Option Row) RowFault

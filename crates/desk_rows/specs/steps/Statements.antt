@@ -5,7 +5,7 @@ use Rattle.sqlite_value.specs.Order.{Row}
 use Rattle.sqlite.specs.declared.error.Error.{Error}
 use Rattle.sqlite.specs.State.{State, HasCleanDisk, Executes, ExecutesInside}
 use Rattle.desk_rows.specs.Calls.{IsWrite}
-use Rattle.desk_rows.specs.steps.Errors.{fault_of}
+use Rattle.desk_rows.specs.Faults.{fault_of}
 use Rattle.desk_rows.specs.declared.faults.RowFault.{RowFault}
 
 -- the statement was run inside the transaction

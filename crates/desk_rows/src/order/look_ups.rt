@@ -14,7 +14,8 @@ pub fn arranged_rows_tell()
     ensures { ArrangedRowsTell }
 {}
 
-/// An order by start and then by number puts rows by start, and an order by a key that falls, and then by anything, falls.
+/// An order by start and then by number puts rows by start, one by the octets of DevEUIs rises, and an order by a key that
+/// falls, and then by anything, falls.
 pub fn orders_hold()
     ensures { OrdersHold }
 {}

@@ -1,4 +1,4 @@
-use Rattle.desk_rows.proofs.Updates.{booking_ended}
+use Rattle.desk_rows.proofs.NumberedUpdates.{booking_ended}
 use Rattle.desk_rows.proofs.bookings.end_booking.Goals as goal
 
 pub returns-clause-changes : goal.returns-clause-changes

@@ -1,4 +1,4 @@
-use Rattle.desk_rows.proofs.Updates.{device_moved}
+use Rattle.desk_rows.proofs.DeviceUpdates.{device_moved}
 use Rattle.desk_rows.proofs.devices.move_device.Goals as goal
 
 pub returns-clause-changes : goal.returns-clause-changes

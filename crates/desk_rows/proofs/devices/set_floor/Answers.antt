@@ -1,4 +1,4 @@
-use Rattle.desk_rows.proofs.Updates.{device_floored}
+use Rattle.desk_rows.proofs.DeviceUpdates.{device_floored}
 use Rattle.desk_rows.proofs.devices.set_floor.Goals as goal
 
 pub returns-clause-changes : goal.returns-clause-changes

@@ -1,5 +1,5 @@
 use Rattle.std.proofs.Common.{◌∙◌, sym}
-use Rattle.desk_rows.specs.steps.Decode.{held_again}
+use Rattle.desk_rows.specs.Decode.{held_again}
 use Rattle.desk_rows.proofs.laws.rows_are_told.Goals as goal
 
 pub returns : goal.returns

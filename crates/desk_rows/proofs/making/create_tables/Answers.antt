@@ -2,4 +2,7 @@ use Rattle.desk_rows.proofs.MakingLemmas.{tables_made}
 use Rattle.desk_rows.proofs.making.create_tables.Goals as goal
 
 pub returns-in-Ok-clause-made : goal.returns-in-Ok-clause-made
-returns-in-Ok-clause-made g c clean has = tables_made g.S.Store c.args.tx.now.conn.now c.execute_batch.new.self.conn.now (c.in-Ok.ensures.ran clean) has
+returns-in-Ok-clause-made g c clean has = (tables_made g.S.Store c.args.tx.now.conn.now c.execute_batch.new.self.conn.now (c.in-Ok.ensures.ran clean) has).0
+
+pub returns-in-Ok-clause-open : goal.returns-in-Ok-clause-open
+returns-in-Ok-clause-open g c clean has = (tables_made g.S.Store c.args.tx.now.conn.now c.execute_batch.new.self.conn.now (c.in-Ok.ensures.ran clean) has).1

@@ -6,4 +6,5 @@ use Rattle.desk_rows.proofs.queries.find_all.Given as goal
 abbrev pub invariant-rows : goal.invariant-rows
 invariant-rows g l =
     (l.rows.conn.ghost_name ≡ l.initial.rows.conn.ghost_name)
-    × IsGiving g.S.Store l.sql (bound l.params) l.fn.conn l.rows.conn.now (λ given. AreRead g.T.FromRow.seen g.T.FromRow.shows g.T.FromRow.InRange given l.all.items)
+    × IsGiving g.S.Store l.sql (bound l.params) l.fn.conn l.rows.conn.now
+    (λ given. AreRead g.T.FromRow.seen g.T.FromRow.shows g.T.FromRow.InRange given l.all.items)

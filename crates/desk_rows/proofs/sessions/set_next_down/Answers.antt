@@ -1,4 +1,4 @@
-use Rattle.desk_rows.proofs.Updates.{next_down_changed}
+use Rattle.desk_rows.proofs.NumberedUpdates.{next_down_changed}
 use Rattle.desk_rows.proofs.sessions.set_next_down.Goals as goal
 
 pub returns-clause-changes : goal.returns-clause-changes

@@ -10,7 +10,8 @@ pub returns-in-Some : goal.returns-in-Some
 returns-in-Some g c =
     let range = c.near_range-range.result in
     let near : (a : Interval) → IsStart a.start → is_near (pos c.args.start) a ≡ starts_between range.after range.before a = search rules in
-    rw c.in-Some.is (near_told range.after range.before (pos c.args.start) near (λ b. stands_in c.args.gateway.now c.in-Some.of b.booking) c.near_in_one.ensures)
+    rw c.in-Some.is (near_told range.after range.before (pos c.args.start) near
+    (λ b. stands_in c.args.gateway.now c.in-Some.of b.booking) c.near_in_one.ensures)
 
 pub returns-in-None : goal.returns-in-None
 returns-in-None g c =

@@ -1,6 +1,6 @@
 use Rattle.std.proofs.Common.{inl, inr}
 use Rattle.sqlite.specs.Held.{state}
-use Rattle.desk_rows.proofs.CallLemmas.{on_or_undone}
+use Rattle.desk_rows.specs.CallLaws.{on_or_undone}
 use Rattle.desk_rows.proofs.writes.write.Goals as goal
 
 pub returns-in-Err-clause-written : goal.returns-in-Err-clause-written

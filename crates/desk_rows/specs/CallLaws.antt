@@ -1,4 +1,5 @@
--- Reading calls in a row.
+-- Laws of calls in a row, for whoever makes several: what one reading call leaves so do several, and what one statement in a
+-- transaction does.
 use Rattle.std.proofs.Common.{◌≡◌, ◌⊎◌, inl, inr, Bool, true, false, true≢false, refl, IsTrue, arith, sym, subst, ◌∙◌}
 use Rattle.sqlite.specs.State.{State, HasCleanDisk, IsUnchanged, IsRolledBack}
 use Rattle.sqlite.proofs.Callers.{unchanged_then}
