@@ -1,0 +1,39 @@
+-- The entries that reply rows tell.
+use Rattle.std.proofs.Common.{◌≡◌, ◌&&◌, ◌==◌, Bool, true, false, cond, List, [], ◌∷◌, map, find, Option, Some, None, option_map, refl, ap, ap₂, ◌∙◌}
+use Rattle.std.specs.Prelude.{bytes_eq}
+use Rattle.std.specs.Cmp.{nat_eq_equiv}
+use Rattle.std.specs.Cmp.Lexicographic.{nat_list_eq_equiv}
+use Rattle.registry_core.specs.declared.messages.Envelope.{Envelope}
+use Rattle.desk_store.specs.Kept.{entry_of, is_entry_of, texts_of}
+use Rattle.desk_rows.specs.Replies.{reply_texts}
+use Rattle.desk_rows.specs.Rows.{ReplyRow, is_reply}
+use Rattle.desk_tables.specs.InOrder.{entry_in}
+
+swapped : (a b : Bool) → (a && b) ≡ (b && a)
+swapped true true = refl
+swapped true false = refl
+swapped false true = refl
+swapped false false = refl
+
+same_entry : (e : Envelope) (y : ReplyRow) → is_entry_of e (entry_in y) ≡ is_reply e.sender e.transaction y
+same_entry e y = ap₂ (λ a b. a && b) (nat_eq_equiv.symm e.transaction y.number) (nat_list_eq_equiv.symm e.sender y.sender)
+    ∙ swapped (y.number == e.transaction) (bytes_eq y.sender e.sender)
+
+-- the entry of an envelope is that of the row with its pair
+pub entry_found : (e : Envelope) (ys : List ReplyRow) → entry_of e (map entry_in ys) ≡ option_map entry_in (find (is_reply e.sender e.transaction) ys)
+entry_found e [] = refl
+entry_found e (y ∷ ys) =
+    ap (λ b. cond b (Some (entry_in y)) (entry_of e (map entry_in ys))) (same_entry e y) ∙ go (is_reply e.sender e.transaction y) (entry_found e ys)
+  where
+    go : (b : Bool) → entry_of e (map entry_in ys) ≡ option_map entry_in (find (is_reply e.sender e.transaction) ys)
+        → cond b (Some (entry_in y)) (entry_of e (map entry_in ys)) ≡ option_map entry_in (cond b (Some y) (find (is_reply e.sender e.transaction) ys))
+    go true later = refl
+    go false later = later
+
+pub heard_texts : (e : Envelope) (ys : List ReplyRow)
+    → option_map texts_of (entry_of e (map entry_in ys)) ≡ option_map reply_texts (find (is_reply e.sender e.transaction) ys)
+heard_texts e ys = ap (option_map texts_of) (entry_found e ys) ∙ twice (find (is_reply e.sender e.transaction) ys)
+  where
+    twice : (o : Option ReplyRow) → option_map texts_of (option_map entry_in o) ≡ option_map reply_texts o
+    twice None = refl
+    twice (Some y) = refl

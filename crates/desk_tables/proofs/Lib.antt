@@ -1,0 +1,11 @@
+pub mod Absent
+pub mod CallLemmas
+pub mod CommitLemmas
+pub mod EffectLemmas
+pub mod Entries
+pub mod LookUps
+pub mod OpeningLemmas
+pub mod Reading
+pub mod ShapeLemmas
+pub mod Telling
+pub mod WholeLemmas

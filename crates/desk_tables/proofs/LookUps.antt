@@ -1,0 +1,215 @@
+-- What stands after a look-up, and what it tells.
+use Rattle.std.proofs.Common.{◌≡◌, ◌⊎◌, inl, inr, Bool, true, false, true≢false, IsTrue, Option, None, Some, List, Result, Ok, Err, refl, sym, ap, subst, ◌∙◌, arith}
+use Rattle.std.specs.Prelude.{◌||◌, IfOk}
+use Rattle.sqlite_trees.specs.declared.store.Store.{Ghosts}
+use Rattle.sqlite.specs.State.{State, HasCleanDisk, IsUnchanged, IsRolledBack, Survives}
+use Rattle.sqlite.specs.Held.{Held, state}
+use Rattle.sqlite.proofs.StateLemmas.{survives_then}
+use Rattle.desk_store.specs.declared.faults.StoreFault.{StoreFault}
+use Rattle.desk_store.specs.declared.faults.StoreFault.TheVariants as told_as
+use Rattle.desk_store.specs.Calls.{IsOfReading, IsUnavailability, Tells, fault_in, is_disk, is_foreign}
+use Rattle.desk_store.specs.Calls as calls
+use Rattle.desk_store.specs.Kept.{Kept}
+use Rattle.desk_store.specs.Meaning.{Meaning}
+use Rattle.desk_rows.specs.declared.faults.RowFault.{RowFault}
+use Rattle.desk_rows.specs.declared.faults.RowFault.TheVariants.{Memory, Disk, Size, Row as OutOfRange, Refused}
+use Rattle.desk_rows.specs.Calls.{IsRead, Reads}
+use Rattle.desk_rows.specs.Faults.{IsEven}
+use Rattle.desk_rows.specs.Rows.{Holds, Rows}
+use Rattle.desk_tables.specs.InOrder.{IsInOrder}
+use Rattle.desk_tables.specs.Store.{IsSettled, Leaves, Stands, meaning_of}
+use Rattle.desk_tables.specs.declared.tables.Tables.{Tables}
+use Rattle.desk_tables.specs.steps.LookUps.{OfKept}
+use Rattle.desk_tables.specs.steps.Faults.{store_fault}
+use Rattle.desk_tables.specs.steps.Settling.{IsTold, Settles, reading_fault}
+
+-- ---- a connection after a look-up
+
+-- the tables are as they were, and all is committed
+record IsAsBefore (old new : State) : Type 0 where
+  pub open_still : IsTrue new.is_open
+  pub mode : new.in_transaction ≡ false
+  pub now_is : new.now ≡ old.now
+  pub committed_is : new.committed ≡ old.committed
+  pub limit : new.step_limit ≡ old.step_limit
+
+unchanged_before : (old new : State) → IsSettled old → Survives old new (λ _. ⊥) → IsUnchanged old new → IsAsBefore old new
+unchanged_before old new was survives same = record {
+  open_still = same.0.is_open;
+  mode = same.0.mode ∙ was.autocommit;
+  now_is = same.0.now_is;
+  committed_is = same.0.committed_is;
+  limit = survives.limit;
+}
+
+-- it left all as it was or rolled back
+mid_is : (old mid : State) → IsUnchanged old mid ⊎ IsRolledBack old mid → old.now ≡ old.committed → IsTrue mid.is_open
+    → (mid.now ≡ old.now) × (mid.committed ≡ old.committed) × (mid.now ≡ mid.committed)
+mid_is old mid (inl same) was up = (same.0.now_is, same.0.committed_is, same.0.now_is ∙ was ∙ sym same.0.committed_is)
+mid_is old mid (inr back) was up =
+    let parts = back.undone up in (parts.0 ∙ sym was, parts.1, parts.0 ∙ sym parts.1)
+
+failed_before : (old mid new : State) (fault : RowFault) (told : StoreFault) → IsSettled old → IsRead old mid false
+    → Survives old mid (λ _. ⊥) → IsUnchanged old mid ⊎ IsRolledBack old mid → Settles mid new fault told → HasCleanDisk new → is_disk (Some told) ≡ false
+    → IsAsBefore old new
+failed_before old mid new fault told was read survives left settles clean not_disk =
+    let stays = settles.stands clean not_disk in
+    let at = mid_is old mid left was.committed stays.was_open in
+    let on = stays.kept at.2 in
+    record {
+      open_still = stays.open_still;
+      mode = settles.mode (read.mode was.autocommit);
+      now_is = on.0 ∙ at.0;
+      committed_is = on.1 ∙ at.1;
+      limit = settles.survives.limit ∙ survives.limit;
+    }
+
+-- ---- a store after a look-up
+
+module _ {S : Type 0} (g : Ghosts S) (old : Tables S) (conn : Held S) (down foreign : Bool) where
+  abbrev later : Tables S
+  later = record old { conn = conn; down = down; foreign = foreign }
+
+  stands_on : (kept : Kept) → IsAsBefore (state g old.conn) (state g conn) → Stands g old kept → Stands g later kept
+  stands_on kept same it = record {
+    settled = record {
+      open_still = same.open_still;
+      autocommit = same.mode;
+      committed = same.now_is ∙ it.settled.committed ∙ sym same.committed_is;
+      unlimited = same.limit ∙ it.settled.unlimited;
+    };
+    in_order = subst (λ d. IsInOrder old.config d kept) (sym same.now_is) it.in_order;
+    heard = it.heard;
+    few = it.few;
+    counts = it.counts;
+  }
+
+  leaves_on : (all : List Kept) → HasCleanDisk (state g conn) → Survives (state g old.conn) (state g conn) (λ _. ⊥) → Leaves g old all → Leaves g later all
+  leaves_on all clean survives left = λ db may. elim (survives.crash clean db may) [ inl before ↦ left db before | inr none ↦ absurd none ]
+
+-- ---- faults
+
+even_told : (fault : RowFault) → IsEven fault → IsUnavailability (store_fault (reading_fault fault))
+even_told Memory even = tt
+even_told Disk even = tt
+even_told Size even = tt
+even_told OutOfRange even = absurd (true≢false even)
+even_told Refused even = absurd (true≢false even)
+
+disk_or_as : (told other : StoreFault) (P : StoreFault → Type 0) → P told_as.Disk → P other → (is_disk (Some told) ≡ false → told ≡ other) → P told
+disk_or_as told_as.Disk other P disk same not = disk
+disk_or_as told_as.Memory other P disk same not = subst P (sym (not refl)) same
+disk_or_as told_as.Size other P disk same not = subst P (sym (not refl)) same
+disk_or_as told_as.NotADesk other P disk same not = subst P (sym (not refl)) same
+disk_or_as told_as.SchemaVersion other P disk same not = subst P (sym (not refl)) same
+disk_or_as told_as.Exists other P disk same not = subst P (sym (not refl)) same
+
+of_reading : (fault : RowFault) → IsOfReading (Some (store_fault (reading_fault fault)))
+of_reading Memory = tt
+of_reading Disk = tt
+of_reading Size = tt
+of_reading OutOfRange = tt
+of_reading Refused = tt
+
+-- ---- a look-up that answered, and one that failed
+
+module _ {S : Type 0} (g : Ghosts S) (old : Tables S) (mid : Held S) (up : old.down ≡ false) where
+  asked : Tables S
+  asked = record old { conn = mid }
+
+  answered : IsRead (state g old.conn) (state g mid) true → calls.IsRead (meaning_of g) old (record old { conn = mid }) None
+  answered read = record {
+    same = refl;
+    was_sound = λ clean. omega (arith, read.clean, clean);
+    shut = refl;
+    strange = refl;
+    reading = tt;
+    held = λ kept clean holds _.
+        let stands = holds up in
+        let has = stands.in_order.held.schema in
+        let open_was = stands.settled.open_still in
+        stands_on g old mid old.down old.foreign kept
+        (unchanged_before (state g old.conn) (state g mid) stands.settled (read.survives has open_was clean) (read.leaves has open_was clean)) stands;
+    left = λ kept all clean holds left.
+        let stands = holds up in
+        leaves_on g old mid old.down old.foreign all clean (read.survives stands.in_order.held.schema stands.settled.open_still clean) left;
+    unavailable = λ kept clean holds. tt;
+  }
+
+  module _ (new : Held S) (fault : RowFault) (told : StoreFault) (read : IsRead (state g old.conn) (state g mid) false)
+      (settles : Settles (state g mid) (state g new) (reading_fault fault) told)
+      (in_order : HasCleanDisk (state g mid) → (state g old.conn).step_limit ≡ None → (r : Rows) → Holds (state g old.conn).now r → IsEven fault) where
+    abbrev after : Tables S
+    after = record old { conn = new; down = is_disk (Some told) || old.down; foreign = is_foreign (Some told) || old.foreign }
+
+    early : HasCleanDisk (state g new) → HasCleanDisk (state g mid)
+    early clean = omega (arith, settles.survives.clean, clean)
+
+    not_disk : (is_disk (Some told) || old.down) ≡ false → is_disk (Some told) ≡ false
+    not_disk still = go (is_disk (Some told)) still
+      where
+        go : (b : Bool) → (b || old.down) ≡ false → b ≡ false
+        go false is = refl
+        go true is = absurd (true≢false is)
+
+    failed : calls.IsRead (meaning_of g) old after (Some told)
+    failed = record {
+      same = refl;
+      was_sound = λ clean. omega (arith, read.clean, settles.survives.clean, clean);
+      shut = refl;
+      strange = refl;
+      reading = disk_or_as told (store_fault (reading_fault fault)) (λ f. IsOfReading (Some f)) tt (of_reading fault) settles.same;
+      held = λ kept clean holds still.
+          let stands = holds up in
+          let has = stands.in_order.held.schema in
+          let open_was = stands.settled.open_still in
+          stands_on g old new (is_disk (Some told) || old.down) (is_foreign (Some told) || old.foreign) kept
+          (failed_before (state g old.conn) (state g mid) (state g new) (reading_fault fault) told stands.settled read
+          (read.survives has open_was (early clean)) (read.leaves has open_was (early clean)) settles clean (not_disk still)) stands;
+      left = λ kept all clean holds left.
+          let stands = holds up in
+          let first = read.survives stands.in_order.held.schema stands.settled.open_still (early clean) in
+          leaves_on g old new (is_disk (Some told) || old.down) (is_foreign (Some told) || old.foreign) all clean
+          (survives_then (state g old.conn) (state g mid) (state g new) (λ _. ⊥) (λ _. ⊥) (λ _. ⊥) (λ _ db none. none) (λ _ db none. none) first settles.survives) left;
+      unavailable = λ kept clean holds.
+          let stands = holds up in
+          let even = in_order (early clean) stands.settled.unlimited stands.in_order.rows stands.in_order.held in
+          disk_or_as told (store_fault (reading_fault fault)) IsUnavailability tt (even_told fault even) settles.same;
+    }
+
+-- ---- what a look-up of a store tells
+
+module _ {S T : Type 0} (g : Ghosts S) (old : Tables S) (mid : Held S) (new : Tables S) where
+  pub read_told : (answer : Result T RowFault) (result : Result T StoreFault) (Says : Rows → T → Type 0) → old.down ≡ false
+      → Reads (state g old.conn) (state g mid) answer Says → IsTold g (record old { conn = mid }) new answer result
+      → calls.IsRead (meaning_of g) old new (fault_in result)
+  read_told (Ok x) result Says up reads told = subst (λ r. calls.IsRead (meaning_of g) old new (fault_in r)) (sym told.0)
+      (subst (λ k. calls.IsRead (meaning_of g) old k None) (sym told.1) (answered g old mid up reads.read))
+  read_told (Err fault) result Says up reads (t, is, fails) = subst (λ r. calls.IsRead (meaning_of g) old new (fault_in r)) (sym is)
+      (subst (λ k. calls.IsRead (meaning_of g) old k (Some t)) (sym fails.same)
+      (failed g old mid up new.conn fault t reads.read fails.settles reads.in_order))
+
+  pub kept_told : (answer : Result T RowFault) (result : Result T StoreFault) (P : Kept → T → Type 0) → old.down ≡ false
+      → Reads (state g old.conn) (state g mid) answer (OfKept P) → IsTold g (record old { conn = mid }) new answer result
+      → Tells (meaning_of g) old new result P
+  kept_told (Ok x) result P up reads told = λ kept clean holds.
+      let stands = holds up in
+      let clean_mid : HasCleanDisk (state g mid) = subst (λ (k : Tables S). HasCleanDisk (state g k.conn)) told.1 clean in
+      let says = reads.told clean_mid stands.in_order.rows stands.in_order.held in
+      subst (λ r. IfOk r (P kept)) (sym told.0)
+      (says old.config kept (record { are = stands.in_order.are; entries = stands.in_order.entries; in_range = stands.in_order.held.in_range; few = stands.few }))
+  kept_told (Err fault) result P up reads (t, is, fails) = λ kept clean holds. subst (λ r. IfOk r (P kept)) (sym is) tt
+
+-- ---- look-ups in a row
+
+pub read_then : {K : Type 0} (m : Meaning K) (a b c : K) (fault : Option StoreFault) → calls.IsRead m a b None → calls.IsRead m b c fault → calls.IsRead m a c fault
+read_then m a b c fault one two = record {
+  same = two.same ∙ one.same;
+  was_sound = λ sound. one.was_sound (two.was_sound sound);
+  shut = two.shut ∙ ap (λ down. is_disk fault || down) one.shut;
+  strange = two.strange ∙ ap (λ foreign. is_foreign fault || foreign) one.strange;
+  reading = two.reading;
+  held = λ kept sound holds. two.held kept sound (one.held kept (two.was_sound sound) holds);
+  left = λ kept all sound holds left. two.left kept all sound (one.held kept (two.was_sound sound) holds) (one.left kept all (two.was_sound sound) holds left);
+  unavailable = λ kept sound holds. two.unavailable kept sound (one.held kept (two.was_sound sound) holds);
+}

@@ -1,0 +1,36 @@
+-- Look-ups that say the same in other words.
+use Rattle.std.proofs.Common.{inl, Result, Ok, Err, refl, arith}
+use Rattle.sqlite.specs.State.{State}
+use Rattle.desk_rows.specs.declared.faults.RowFault.{RowFault}
+use Rattle.desk_rows.specs.Calls.{Reads}
+use Rattle.desk_rows.specs.Rows.{Rows}
+
+pub says_also : {X : Type 0} (old new : State) (result : Result X RowFault) (P Q : Rows → X → Type 0) → ((r : Rows) (x : X) → P r x → Q r x)
+    → Reads old new result P → Reads old new result Q
+says_also old new (Ok x) P Q so reads = record { read = reads.read; told = λ clean r holds. so r x (reads.told clean r holds); in_order = reads.in_order }
+says_also old new (Err e) P Q so reads = record { read = reads.read; told = λ clean r holds. tt; in_order = reads.in_order }
+
+-- what was told is shown as something else
+pub shows : {X Y : Type 0} (old new : State) (x : X) (y : Y) (P : Rows → X → Type 0) (Q : Rows → Y → Type 0) → ((r : Rows) → P r x → Q r y)
+    → Reads old new (Ok x) P → Reads old new (Ok y) Q
+shows old new x y P Q so reads = record { read = reads.read; told = λ clean r holds. so r (reads.told clean r holds); in_order = λ clean limit r holds. tt }
+
+-- what needs no question
+pub unasked : {X : Type 0} (s : State) (x : X) (P : Rows → X → Type 0) → ((r : Rows) → P r x) → Reads s s (Ok x) P
+unasked s x P so = record {
+  read = record {
+    clean = omega arith;
+    mode = λ idle. idle;
+    survives = λ has up clean. record {
+      clean = omega arith;
+      shield = λ h. h;
+      counts = omega arith;
+      limit = refl;
+      closes = λ clean up. inl up;
+      crash = λ clean db may. inl may;
+    };
+    leaves = λ has up clean. (record { was_open = up; is_open = up; now_is = refl; committed_is = refl; mode = refl }, record { changes = refl; last_rowid = refl }, refl);
+  };
+  told = λ clean r holds. so r;
+  in_order = λ clean limit r holds. tt;
+}

@@ -1,0 +1,19 @@
+-- Lists that are compared item by item.
+use Rattle.std.proofs.Common.{◌≡◌, List, [], ◌∷◌, map, length, Option, get_or, arith, ap, sym}
+use Rattle.std.specs.Iterator.{AlwaysYields}
+use Rattle.std.proofs.lemmas.Iterator.{YieldsList}
+
+module _ {S A B C : Type 0} (steps : S → Option A → S → Type 0) (v : A → B) (f : B → C) where
+  always_shaped : (ys : List B) (s : S) → AlwaysYields steps v s ys → AlwaysYields steps (λ a. f (v a)) s (map f ys)
+  always_shaped [] s e = e
+  always_shaped (y ∷ ys) s e = (e.0, λ x j p. let m = e.1 x j p in (ap f m.0, always_shaped ys j m.1))
+
+-- items that are each seen by what it stands for
+pub shaped_list : {S A B C : Type 0} {steps : S → Option A → S → Type 0} {v : A → B} {s : S} {ys : List B} (f : B → C)
+    → YieldsList steps v s ys → YieldsList steps (λ a. f (v a)) s (map f ys)
+shaped_list {steps = steps} {v = v} {s} {ys} f e = record { runs = always_shaped steps v f ys s e.runs }
+
+pub one_item : {X : Type 0} (xs : List X) (x : X) → x ≡ get_or xs 0 x → length xs ≡ 1 → xs ≡ x ∷ []
+one_item [] x is one = absurd (omega (arith, one))
+one_item (y ∷ []) x is one = ap (λ z. z ∷ []) (sym is)
+one_item (y ∷ z ∷ more) x is one = absurd (omega (arith, one))

@@ -1,0 +1,32 @@
+-- What the rows tell of the facts, as look-ups ask for it.
+use Rattle.std.proofs.Common.{◌≡◌, ℕ, Bool, true, false, cond, List, [], ◌∷◌, map, filter, Option, Some, None, option_map, refl, ap}
+use Rattle.std.specs.Prelude.{option_and_then, unwrap_or}
+use Rattle.std.specs.Option.{option_map_or}
+use Rattle.registry_core.specs.Derived.{is_session_of}
+use Rattle.desk_rows.specs.Rows.{DeviceRow, SessionRow}
+use Rattle.desk_rows.specs.order.Facts.{sessions_in}
+use Rattle.desk_rows.specs.order.LookUps.{is_row_of_device}
+
+-- the nonces of a device
+pub nonces_told : (dev_eui : ℕ) (rows : List SessionRow)
+    → map (λ (s : SessionRow). s.session.nonce) (filter (is_row_of_device dev_eui) rows)
+    ≡ map (λ session. session.nonce) (filter (is_session_of dev_eui) (sessions_in rows))
+nonces_told dev_eui [] = refl
+nonces_told dev_eui (x ∷ xs) = go (is_row_of_device dev_eui x) (nonces_told dev_eui xs)
+  where
+    go : (b : Bool)
+        → map (λ (s : SessionRow). s.session.nonce) (filter (is_row_of_device dev_eui) xs)
+        ≡ map (λ session. session.nonce) (filter (is_session_of dev_eui) (sessions_in xs))
+        → map (λ (s : SessionRow). s.session.nonce) (cond b (x ∷ filter (is_row_of_device dev_eui) xs) (filter (is_row_of_device dev_eui) xs))
+        ≡ map (λ session. session.nonce) (cond b (x.session ∷ filter (is_session_of dev_eui) (sessions_in xs)) (filter (is_session_of dev_eui) (sessions_in xs)))
+    go true later = ap (λ ns. x.session.nonce ∷ ns) later
+    go false later = later
+
+pub or_zero : {X : Type 0} (f : X → ℕ) (o : Option X) → unwrap_or (option_map f o) 0 ≡ option_map_or f o 0
+or_zero f None = refl
+or_zero f (Some x) = refl
+
+-- the floor of a device's row, if there is one
+pub floor_told : (o : Option DeviceRow) → option_and_then (λ floor. floor) (option_map (λ (d : DeviceRow). d.floor) o) ≡ option_and_then (λ (d : DeviceRow). d.floor) o
+floor_told None = refl
+floor_told (Some d) = refl

@@ -1,0 +1,29 @@
+use Rattle.std.proofs.Common.{◌∙◌, refl, arith}
+use Rattle.desk_rows.specs.order.Changes.{opening_rows}
+use Rattle.desk_tables.proofs.tables.Tables.create.Goals as goal
+
+pub returns-in-Ok-clause-made : goal.returns-in-Ok-clause-made
+returns-in-Ok-clause-made g c clean = record {
+  configuration = refl;
+  up = refl;
+  holds = λ up. record {
+    settled = record {
+      open_still = c.in-Ok.ensures.open clean;
+      autocommit = c.make_desk.ensures.idle;
+      committed = c.make_desk.ensures.settled clean (c.in-Ok.ensures.open clean);
+      unlimited = c.make_desk.ensures.crash.limit ∙ c.requires.unlimited;
+    };
+    in_order = record {
+      rows = opening_rows c.args.config;
+      held = c.in-Ok.ensures.made clean;
+      are = c.opening_rows_tell.ensures c.args.config;
+      entries = refl;
+    };
+    heard = refl;
+    few = omega arith;
+    counts = record { sessions = refl; uplinks = refl; bookings = refl };
+  };
+}
+
+pub returns-in-Err-clause-stranger : goal.returns-in-Err-clause-stranger
+returns-in-Err-clause-stranger g c other free = let told = c.in-Err.ensures.stranger other free in cc

@@ -1,0 +1,24 @@
+-- A connection becomes a store, or is given back.
+use Rattle.std.specs.Prelude.{◌≡◌, false, [], IsTrue}
+use Rattle.registry_core.specs.Settings.{Settings}
+use Rattle.registry_core.specs.State.{opening}
+use Rattle.sqlite_trees.specs.Tree.{Trees}
+use Rattle.sqlite.specs.State.{State, HasCleanDisk, Survives}
+use Rattle.desk_store.specs.Kept.{Kept}
+use Rattle.desk_store.specs.Meaning.{Meaning}
+
+-- a store of this configuration, which is up and holds this
+pub record IsStore {K : Type 0} (m : Meaning K) (k : K) (c : Settings) (kept : Kept) : Type 0 where
+  pub configuration : m.configuration k ≡ c
+  pub up : m.down k ≡ false
+  pub holds : m.holds k kept
+
+-- what a desk of this configuration holds that has heard nothing
+abbrev pub opening_kept : Settings → Kept
+opening_kept c = record { facts = opening c; entries = [] }
+
+-- the connection that is given back: all is as it was, and a crash leaves what it left before, or trees that are Made
+pub record IsGivenBack (old new : State) (Made : Trees → Type 0) : Type 0 where
+  pub undone : HasCleanDisk new → IsTrue new.is_open → (new.now ≡ old.now) × (new.committed ≡ old.committed)
+  pub idle : new.in_transaction ≡ false
+  pub crash : Survives old new Made

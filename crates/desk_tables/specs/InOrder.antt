@@ -1,0 +1,28 @@
+-- Tables in order: the ten tables hold exactly the rows of a configuration, of facts and of entries.
+use Rattle.std.specs.Prelude.{◌≡◌, map}
+use Rattle.registry_core.specs.Settings.{Settings}
+use Rattle.sqlite_trees.specs.Tree.{Trees}
+use Rattle.sqlite.specs.Effect.{Database}
+use Rattle.desk_store.specs.Kept.{Entry, Kept}
+use Rattle.desk_rows.specs.Rows.{Rows, ReplyRow, Holds}
+use Rattle.desk_rows.specs.Schema.{desk_schema}
+use Rattle.desk_rows.specs.order.Facts.{facts_in}
+use Rattle.desk_rows.specs.order.RowsOf.{AreRowsOf}
+
+abbrev pub entry_in : ReplyRow → Entry
+entry_in r = record { sender = r.sender; transaction = r.number; message = r.message; answer = r.answer }
+
+-- what the rows tell
+abbrev pub kept_in : Rows → Kept
+kept_in r = record { facts = facts_in r; entries = map entry_in r.replies }
+
+-- the database holds these facts and entries under this configuration, and nothing else
+pub record IsInOrder (c : Settings) (db : Database) (kept : Kept) : Type 0 where
+  pub rows : Rows
+  pub held : Holds db rows
+  pub are : AreRowsOf c kept.facts rows
+  pub entries : kept.entries ≡ map entry_in rows.replies
+
+-- the same of what a crash leaves: the schema is the desk's
+abbrev pub IsTreesInOrder : Settings → Trees → Kept → Type 0
+IsTreesInOrder c trees kept = IsInOrder c (record { schema = desk_schema; trees = trees }) kept

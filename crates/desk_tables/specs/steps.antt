@@ -1,0 +1,7 @@
+-- What the clauses of private functions and the proofs say.
+pub mod Calls
+pub mod Effects
+pub mod Faults
+pub mod LookUps
+pub mod Settling
+pub mod Shape

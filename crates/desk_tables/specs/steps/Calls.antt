@@ -1,0 +1,49 @@
+-- What several statements in a row do: those that ask, those that write inside a transaction, and a whole transaction.
+use Rattle.std.specs.Prelude.{◌≡◌, ◌≤◌, false, Result, IsTrue, IfOk, IfErr, OnOk, OnErr, None}
+use Rattle.std.specs.Result.{is_ok}
+use Rattle.sqlite_trees.specs.View.{doubt}
+use Rattle.sqlite.specs.State.{State, HasCleanDisk, Survives}
+use Rattle.desk_rows.specs.Calls.{IsRead, IsWrite}
+use Rattle.desk_rows.specs.Faults.{IsEven}
+use Rattle.desk_rows.specs.Rows.{Rows, Holds}
+use Rattle.desk_rows.specs.Schema.{desk_schema}
+use Rattle.desk_rows.specs.declared.faults.RowFault.{RowFault}
+
+-- Look-ups in a row change nothing, and what they answer is so of the rows that are held, of which Of says which they are. Over
+-- rows that they may ask for, with no limit on steps, they fail only for memory, the disk or a size.
+pub record Asks {X : Type 0} (old new : State) (result : Result X RowFault) (Of May : Rows → Type 0) (Says : Rows → X → Type 0) : Type 0 where
+  pub read : IsRead old new (is_ok result)
+  pub told : HasCleanDisk new → IsTrue old.is_open → (r : Rows) → Holds old.now r → Of r → IfOk result (Says r)
+  pub in_order : HasCleanDisk new → IsTrue old.is_open → old.step_limit ≡ None → (r : Rows) → Holds old.now r → Of r → May r → IfErr result IsEven
+
+-- inside a transaction of a connection that is open
+pub record IsInside (s : State) : Type 0 where
+  pub within : IsTrue s.in_transaction
+  pub is_open : IsTrue s.is_open
+
+-- Statements in a row inside a transaction make these rows of the rows that are held, of which Of says which they are. Over
+-- rows that they may change, with no limit on steps, they fail only for memory, the disk or a size.
+pub record Makes {X : Type 0} (old new : State) (result : Result X RowFault) (Of May : Rows → Type 0) (after : Rows → Rows) : Type 0 where
+  pub write : IsWrite old new (is_ok result)
+  pub schema : HasCleanDisk new → IsInside old → old.now.schema ≡ desk_schema → OnOk result (new.now.schema ≡ desk_schema)
+  pub made : HasCleanDisk new → IsInside old → (r : Rows) → Holds old.now r → Of r → OnOk result (Holds new.now (after r))
+  pub in_order : HasCleanDisk new → IsInside old → old.step_limit ≡ None → (r : Rows) → Holds old.now r → Of r → May r → IfErr result IsEven
+
+-- the connection is open, its tables are a desk's, and all of them is committed
+pub record IsReady (s : State) : Type 0 where
+  pub is_open : IsTrue s.is_open
+  pub schema : s.now.schema ≡ desk_schema
+  pub committed : s.now ≡ s.committed
+
+-- A transaction from its beginning to its end, on a connection that is ready: it makes these rows of the rows that are held,
+-- and then it is ready again, or it leaves what was there. A crash leaves what it left before, or these rows.
+pub record Commits {X : Type 0} (old new : State) (result : Result X RowFault) (Of May : Rows → Type 0) (after : Rows → Rows) : Type 0 where
+  pub clean : doubt old.is_clean ≤ doubt new.is_clean
+  pub mode : new.in_transaction ≡ false
+  pub limit : HasCleanDisk new → IsReady old → new.step_limit ≡ old.step_limit
+  pub ready : HasCleanDisk new → IsReady old → OnOk result (IsReady new)
+  pub made : HasCleanDisk new → IsReady old → (r : Rows) → Holds old.now r → Of r → OnOk result (Holds new.now (after r))
+  pub neither : HasCleanDisk new → IsReady old → IsTrue new.is_open → OnErr result ((new.now ≡ old.now) × (new.committed ≡ old.committed))
+  pub crash : HasCleanDisk new → IsReady old → (r : Rows) → Holds old.now r → Of r
+      → Survives old new (λ trees. Holds (record { schema = desk_schema; trees = trees }) (after r))
+  pub in_order : HasCleanDisk new → IsReady old → old.step_limit ≡ None → (r : Rows) → Holds old.now r → Of r → May r → IfErr result IsEven

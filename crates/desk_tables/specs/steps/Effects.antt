@@ -1,0 +1,96 @@
+-- What an effect is written by, beside itself: what is read of the rows that stand before it.
+use Rattle.std.specs.Prelude.{◌≡◌, ℕ, ◌+◌, List, length, Option, Some, MatchOption, Result}
+use Rattle.registry_core.specs.declared.effects.Effect.{Effect}
+use Rattle.registry_core.specs.declared.effects.Effect.TheVariants.{MovesDevice, AddsSession, AddsUplink, AddsCopy, AddsBooking, EndsBooking}
+use Rattle.registry_core.specs.declared.facts.Booking.{Booking}
+use Rattle.registry_core.specs.declared.facts.Uplink.{Uplink}
+use Rattle.registry_core.specs.declared.messages.Envelope.{Envelope}
+use Rattle.registry_core.specs.Numbered.{item_at, item_changed}
+use Rattle.registry_core.specs.Wholes.{IsWhole}
+use Rattle.sqlite_keyed.specs.Lists.{update_where}
+use Rattle.desk_rows.specs.Rows.{Rows, ReplyRow, SessionRow, is_device, is_reply}
+use Rattle.desk_rows.specs.order.Changes.{booking_row, devices_raised, kind_at, rows_changed, session_at, sessions_counted}
+use Rattle.desk_rows.specs.order.Keys.{HasOnly, IsFree, IsFreeFor, IsThereFor, floor_set, next_down_set}
+use Rattle.desk_rows.specs.declared.faults.RowFault.{RowFault}
+use Rattle.sqlite.specs.State.{State}
+use Rattle.desk_tables.specs.steps.Calls.{Makes}
+use Rattle.desk_tables.specs.declared.effects.basis.Basis.{Basis}
+use Rattle.desk_tables.specs.declared.effects.basis.Basis.TheVariants as basis
+
+-- the message that was heard, with its answer
+abbrev pub reply_row : Envelope → List ℕ → List ℕ → ReplyRow
+reply_row e message answer = record { sender = e.sender; number = e.transaction; message = message; answer = answer }
+
+-- ---- what is read
+
+-- this is the device whose floor rises to the session, or none rises
+abbrev pub IsRaised : ℕ → Rows → Option ℕ → Type 0
+IsRaised session r raises = MatchOption raises (devices_raised r.sessions session r.devices ≡ r.devices)
+    (λ dev_eui. HasOnly (is_device dev_eui) r.devices
+    × (devices_raised r.sessions session r.devices ≡ update_where (is_device dev_eui) (floor_set session) r.devices))
+
+-- there is a session with this number
+abbrev pub HasSession : ℕ → Rows → Type 0
+HasSession number r = (row : SessionRow) × (item_at r.sessions number ≡ Some row)
+
+-- this is the next downlink counter of the session that the booking counts in, or it counts in none
+abbrev pub IsCounted : Booking → Rows → ℕ → Option ℕ → Type 0
+IsCounted booking r session counter =
+    let counted = sessions_counted (kind_at r.uplinks booking.uplink) (session_at r.uplinks booking.uplink) r.sessions in
+    MatchOption counter (counted ≡ r.sessions) (λ n. HasSession session r × (counted ≡ item_changed (next_down_set n) r.sessions session))
+
+-- the next downlink counter of the session, with one downlink more
+abbrev pub IsNextDown : ℕ → Rows → ℕ → Type 0
+IsNextDown number r counter = (row : SessionRow) × (item_at r.sessions number ≡ Some row) × (counter ≡ row.next_down + 1)
+
+abbrev pub IsBasisOfSession : Rows → Basis → Type 0
+IsBasisOfSession r (basis.Session number) = number ≡ length r.uplinks + 1
+IsBasisOfSession r _ = ⊥
+
+abbrev pub IsBasisOfUplink : Uplink → Rows → Basis → Type 0
+IsBasisOfUplink uplink r (basis.Uplink number raises) = (number ≡ length r.uplinks + 1) × IsRaised uplink.session r raises
+IsBasisOfUplink uplink r _ = ⊥
+
+abbrev pub IsBasisOfBooking : Booking → Rows → Basis → Type 0
+IsBasisOfBooking booking r (basis.Booking session kind counter) =
+    (booking_row r.uplinks booking ≡ record { booking = booking; session = session; kind = kind }) × IsCounted booking r session counter
+IsBasisOfBooking booking r _ = ⊥
+
+-- what was read is what the effect needs of the rows
+abbrev pub IsBasis : Effect → Rows → Basis → Type 0
+IsBasis (AddsSession session uplink gateway reception) r basis = IsBasisOfSession r basis
+IsBasis (AddsUplink uplink gateway reception) r basis = IsBasisOfUplink uplink r basis
+IsBasis (AddsBooking booking) r basis = IsBasisOfBooking booking r basis
+IsBasis effect r basis = Unit {0}
+
+-- ---- which rows it may be written to
+
+-- the session of the uplink that a booking answers has a whole number, and so has its next downlink counter
+abbrev pub CountsInWholes : Booking → Rows → Type 0
+CountsInWholes booking r = (uplink : Uplink) → item_at r.uplinks booking.uplink ≡ Some uplink
+    → IsWhole uplink.session × ((session : SessionRow) → item_at r.sessions uplink.session ≡ Some session → IsWhole (session.next_down + 1))
+
+-- the numbers that the effect names or gives, and those of the rows that it changes, are whole numbers
+abbrev pub AreWhole : Effect → Rows → Type 0
+AreWhole (MovesDevice dev_eui owner) r = IsWhole (length r.devices)
+AreWhole (AddsSession session uplink gateway reception) r = IsWhole uplink.session × IsWhole (length r.uplinks + 1)
+AreWhole (AddsUplink uplink gateway reception) r = IsWhole uplink.session × IsWhole (length r.uplinks + 1) × IsWhole (length r.devices)
+AreWhole (AddsCopy number gateway reception) r = IsWhole number
+AreWhole (AddsBooking booking) r = IsWhole booking.uplink × CountsInWholes booking r
+AreWhole (EndsBooking number sent) r = IsWhole number
+AreWhole effect r = Unit {0}
+
+-- the keys that the effect adds are free, the rows that it changes are there, and its numbers are in range
+pub record IsOpenTo (effect : Effect) (r : Rows) : Type 0 where
+  pub free : IsFreeFor effect r
+  pub there : IsThereFor effect r
+  pub whole : AreWhole effect r
+
+-- and the key of the message that was heard is free
+pub record IsOpenToBoth (effect : Effect) (e : Envelope) (r : Rows) : Type 0 where
+  pub change : IsOpenTo effect r
+  pub reply : IsFree (is_reply e.sender e.transaction) r.replies
+
+-- the effect is written, by what was read for it
+abbrev pub WritesEffect : State → State → Result (Unit {0}) RowFault → Effect → Basis → Type 0
+WritesEffect old new result effect basis = Makes old new result (λ r. IsBasis effect r basis) (IsOpenTo effect) (rows_changed effect)

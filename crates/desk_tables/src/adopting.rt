@@ -1,0 +1,65 @@
+//! A connection becomes a store, and is given back.
+ghost use Rattle.std.specs.Prelude.{◌≡◌, ◌≢◌, ◌↔◌, false, None, IfOk, IfErr, IsTrue};
+ghost use Rattle.sqlite.specs.Held.{state};
+ghost use Rattle.desk_store.specs.Kept.{Kept};
+ghost use Rattle.desk_store.specs.declared.faults.StoreFault.TheVariants.{Exists, NotADesk};
+ghost use Rattle.desk_rows.specs.Schema.{no_schema};
+ghost use Rattle.desk_rows.specs.order.Changes.{opening_rows};
+ghost use Rattle.desk_tables.specs.Adopting.{IsGivenBack, IsStore, opening_kept};
+ghost use Rattle.desk_tables.specs.InOrder.{IsInOrder};
+ghost use Rattle.desk_tables.specs.Opening.{IsTaken, TreesHold};
+ghost use Rattle.desk_tables.specs.Store.{meaning_of};
+
+use crate::making::make_desk;
+use crate::tables::Tables;
+use desk_rows::order::opening_rows_tell;
+use desk_store::{Counts, StoreFault};
+use registry_core::Config;
+use sqlite::{Alter, Connection};
+use std::alloc::Global;
+
+impl<S: Alter> Tables<S> {
+    /// A new desk in a database that has no table, index or view; or the connection, beside why there is none: `Exists` where
+    /// one of the desk's names is taken, else `NotADesk` where there are others.
+    pub fn create(
+        alloc: Global,
+        conn: Connection<S>,
+        config: Config,
+    ) -> Result<Tables<S>, (StoreFault, Connection<S>)>
+        requires idle { conn.in_transaction ≡ false }
+        requires unlimited { conn.step_limit ≡ None }
+        ensures made { IfOk result (λ t. (meaning_of S.Store).sound t → IsStore (meaning_of S.Store) t config (opening_kept config)) }
+        ensures blank { IfOk result (λ t. conn.schema ≡ no_schema) }
+        ensures exists { IfErr result (λ back. (back.0 ≡ Exists) ↔ IsTaken conn.schema) }
+        ensures stranger { conn.schema ≢ no_schema → ¬ IsTaken conn.schema → IfErr result (λ back. back.0 ≡ NotADesk) }
+        ensures given_back { IfErr result (λ back. IsGivenBack (state S.Store conn) (state S.Store back.1) (λ trees. TreesHold trees (opening_rows config))) }
+    {
+        opening_rows_tell();
+        let mut conn = conn;
+        match make_desk(&mut conn, &config) {
+            Ok(()) => Ok(Tables {
+                conn,
+                alloc,
+                config,
+                down: false,
+                foreign: false,
+                sized: false,
+                heard: 0,
+                counts: Counts {
+                    sessions: 0,
+                    uplinks: 0,
+                    bookings: 0,
+                },
+            }),
+            Err(fault) => Err((fault, conn)),
+        }
+    }
+
+    /// The connection: of a store that holds something its tables are in order for that, and all of it is committed.
+    pub fn close(self) -> Connection<S>
+        ensures { (kept : Kept) → (meaning_of S.Store).sound self → (meaning_of S.Store).down self ≡ false → (meaning_of S.Store).holds self kept
+            → IsInOrder ((meaning_of S.Store).configuration self) (state S.Store result).now kept × ((state S.Store result).now ≡ (state S.Store result).committed) }
+    {
+        self.conn
+    }
+}

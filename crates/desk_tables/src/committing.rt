@@ -1,0 +1,67 @@
+//! One transaction: an effect, and the message that was heard with its answer.
+ghost use Rattle.std.specs.Prelude.{◌≡◌, false};
+ghost use Rattle.sqlite.specs.Held.{state};
+ghost use Rattle.desk_rows.specs.order.Changes.{rows_with};
+ghost use Rattle.desk_rows.specs.order.Keys.{IsThereFor};
+ghost use Rattle.desk_tables.specs.steps.Calls.{Commits, Makes};
+ghost use Rattle.desk_tables.specs.steps.Effects.{IsBasis, IsOpenToBoth, reply_row};
+
+use crate::effects::basis::{Basis, basis_of};
+use crate::effects::writing::write_effect;
+use desk_rows::{RowFault, fault_of, insert_reply};
+use registry_core::{Effect, Envelope};
+use sqlite::{Alter, Connection, Transaction};
+
+/// Writes the rows of the effect and that of the reply.
+fn write_all<S: Alter>(
+    tx: &mut Transaction<'_, S>,
+    envelope: &Envelope,
+    message: &[u8],
+    effect: &Effect,
+    answer: &[u8],
+    basis: Basis,
+) -> Result<(), RowFault>
+    ensures same_reference { tx.new.conn.ghost_name ≡ tx.old.conn.ghost_name }
+    ensures makes { Makes (state S.Store tx.old.conn.now) (state S.Store tx.new.conn.now) result (λ r. IsBasis effect.now r basis)
+        (IsOpenToBoth effect.now envelope.now) (rows_with effect.now (reply_row envelope.now message.now answer.now)) }
+{
+    write_effect(tx, effect, basis)?;
+    insert_reply(tx, &envelope.sender, envelope.transaction, message, answer)
+}
+
+/// A transaction over what was read before it.
+fn transact<S: Alter>(
+    conn: &mut Connection<S>,
+    envelope: &Envelope,
+    message: &[u8],
+    effect: &Effect,
+    answer: &[u8],
+    basis: Basis,
+) -> Result<(), RowFault>
+    requires { conn.old.in_transaction ≡ false }
+    ensures { Commits (state S.Store conn.old) (state S.Store conn.new) result (λ r. IsBasis effect.now r basis)
+        (IsOpenToBoth effect.now envelope.now) (rows_with effect.now (reply_row envelope.now message.now answer.now)) }
+{
+    let mut tx = conn.transaction();
+    write_all(&mut tx, envelope, message, effect, answer, basis)?;
+    match tx.commit() {
+        Ok(()) => Ok(()),
+        Err(error) => Err(fault_of(error)),
+    }
+}
+
+/// Adds the effect and the reply, or neither.
+pub(crate) fn commit_rows<S: Alter>(
+    conn: &mut Connection<S>,
+    envelope: &Envelope,
+    message: &[u8],
+    effect: &Effect,
+    answer: &[u8],
+) -> Result<(), RowFault>
+    requires { conn.old.in_transaction ≡ false }
+    ensures { Commits (state S.Store conn.old) (state S.Store conn.new) result (IsThereFor effect.now)
+        (IsOpenToBoth effect.now envelope.now) (rows_with effect.now (reply_row envelope.now message.now answer.now)) }
+{
+    let basis = basis_of(conn, effect)?;
+    transact(conn, envelope, message, effect, answer, basis)
+}

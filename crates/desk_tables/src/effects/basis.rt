@@ -1,0 +1,190 @@
+//! What an effect is written by, read of the rows that stand before it.
+ghost use Rattle.std.specs.Prelude.{◌≡◌, ◌+◌, find, length, option_map, MatchOption, MatchResult};
+ghost use Rattle.registry_core.specs.declared.facts.Uplink.{Uplink};
+ghost use Rattle.registry_core.specs.Derived.{is_above};
+ghost use Rattle.registry_core.specs.Numbered.{item_at};
+ghost use Rattle.registry_core.specs.Wholes.{IsWhole};
+ghost use Rattle.sqlite.specs.Held.{state};
+ghost use Rattle.desk_rows.specs.Rows.{SessionRow, is_device};
+ghost use Rattle.desk_rows.specs.order.Keys.{CountsOne, HasOnly, IsThereFor, RaisesOne};
+ghost use Rattle.desk_tables.specs.steps.Calls.{Asks};
+ghost use Rattle.desk_tables.specs.steps.Effects.{AreWhole, HasSession, IsBasis, IsBasisOfBooking, IsBasisOfUplink, IsNextDown, IsRaised};
+
+use desk_rows::{RowFault, floor_of, last_uplink, next_down, session, uplink};
+use radio_core::Eui;
+use registry_core::{Booking, Effect, Kind, Session, Uplink, Whole};
+use sqlite::{Alter, Connection};
+
+/// What an effect is written by, beside itself.
+#[derive(Clone, Copy, Debug)]
+pub(crate) enum Basis {
+    Nothing,
+    /// The number of the session's join uplink.
+    Session {
+        number: Whole,
+    },
+    /// The number of the uplink, and the device whose floor rises, if one does.
+    Uplink {
+        number: Whole,
+        raises: Option<Eui>,
+    },
+    /// The session and the kind of the uplink that is answered, and the session's next downlink counter, where it counts one more.
+    Booking {
+        session: Whole,
+        kind: Kind,
+        counter: Option<Whole>,
+    },
+}
+
+/// The number as messages have it.
+pub(crate) fn whole(number: u64) -> Result<Whole, RowFault>
+    ensures { MatchResult result (λ n. (n ≡ number) × IsWhole number) (λ fault. ¬ IsWhole number) }
+{
+    match Whole::new(number) {
+        Some(number) => Ok(number),
+        None => Err(RowFault::Row),
+    }
+}
+
+/// The number of the next uplink.
+fn next_uplink<S: Alter>(conn: &mut Connection<S>) -> Result<Whole, RowFault>
+    ensures { Asks (state S.Store conn.old) (state S.Store conn.new) result (λ r. Unit {0})
+        (λ r. IsWhole (length r.uplinks + 1)) (λ r number. number ≡ length r.uplinks + 1) }
+{
+    match last_uplink(conn)? {
+        Some(last) => whole(last.saturating_add(1)),
+        None => whole(1),
+    }
+}
+
+// ---- floors
+
+fn session_at<S: Alter>(conn: &mut Connection<S>, number: u64) -> Result<Session, RowFault>
+    ensures { Asks (state S.Store conn.old) (state S.Store conn.new) result (λ r. Unit {0}) (λ r. IsWhole number × HasSession number r)
+        (λ r found. option_map (λ row. row.session) (item_at r.sessions number) ≡ Some found) }
+{
+    let number = whole(number)?;
+    match session(conn, number)? {
+        Some(found) => Ok(found),
+        None => Err(RowFault::Row),
+    }
+}
+
+fn floor_at<S: Alter>(conn: &mut Connection<S>, dev_eui: Eui) -> Result<Option<u64>, RowFault>
+    ensures { Asks (state S.Store conn.old) (state S.Store conn.new) result (λ r. Unit {0}) (λ r. HasOnly (is_device dev_eui) r.devices)
+        (λ r floor. option_map (λ row. row.floor) (find (is_device dev_eui) r.devices) ≡ Some floor) }
+{
+    match floor_of(conn, dev_eui)? {
+        Some(floor) => Ok(floor),
+        None => Err(RowFault::Row),
+    }
+}
+
+fn is_above(number: u64, floor: Option<u64>) -> bool
+    ensures { result ≡ is_above number floor }
+{
+    match floor {
+        Some(floor) => number > floor,
+        None => true,
+    }
+}
+
+/// The device whose floor rises to the uplink's session, if one does.
+fn raised_by<S: Alter>(conn: &mut Connection<S>, uplink: &Uplink) -> Result<Option<Eui>, RowFault>
+    ensures { Asks (state S.Store conn.old) (state S.Store conn.new) result (RaisesOne uplink.now) (λ r. IsWhole uplink.now.session)
+        (λ r raises. IsRaised uplink.now.session r raises) }
+{
+    let device = session_at(conn, uplink.session)?.device;
+    let floor = floor_at(conn, device)?;
+    if is_above(uplink.session, floor) {
+        Ok(Some(device))
+    } else {
+        Ok(None)
+    }
+}
+
+// ---- downlink counters
+
+fn uplink_at<S: Alter>(conn: &mut Connection<S>, number: u64) -> Result<Uplink, RowFault>
+    ensures { Asks (state S.Store conn.old) (state S.Store conn.new) result (λ r. Unit {0})
+        (λ r. IsWhole number × ((found : Uplink) × (item_at r.uplinks number ≡ Some found)))
+        (λ r found. item_at r.uplinks number ≡ Some found) }
+{
+    let number = whole(number)?;
+    match uplink(conn, number)? {
+        Some((_, found)) => Ok(found),
+        None => Err(RowFault::Row),
+    }
+}
+
+/// The next downlink counter of a session, with one downlink more.
+fn next_counter<S: Alter>(conn: &mut Connection<S>, number: Whole) -> Result<Whole, RowFault>
+    ensures { Asks (state S.Store conn.old) (state S.Store conn.new) result (λ r. Unit {0})
+        (λ r. HasSession number r × ((row : SessionRow) → item_at r.sessions number ≡ Some row → IsWhole (row.next_down + 1)))
+        (λ r counter. IsNextDown number r counter) }
+{
+    match next_down(conn, number)? {
+        Some(counter) => whole(counter.saturating_add(1)),
+        None => Err(RowFault::Row),
+    }
+}
+
+/// The same where an uplink of this kind counts its answers.
+fn counter_for<S: Alter>(
+    conn: &mut Connection<S>,
+    number: Whole,
+    kind: Kind,
+) -> Result<Option<Whole>, RowFault>
+    ensures { Asks (state S.Store conn.old) (state S.Store conn.new) result (λ r. Unit {0})
+        (λ r. HasSession number r × ((row : SessionRow) → item_at r.sessions number ≡ Some row → IsWhole (row.next_down + 1)))
+        (λ r counter. MatchOption counter (kind ≡ Kind.Join) (λ n. (kind ≡ Kind.Data) × IsNextDown number r n)) }
+{
+    match kind {
+        Kind::Join => Ok(None),
+        Kind::Data => Ok(Some(next_counter(conn, number)?)),
+    }
+}
+
+fn basis_of_booking<S: Alter>(
+    conn: &mut Connection<S>,
+    booking: &Booking,
+) -> Result<Basis, RowFault>
+    ensures { Asks (state S.Store conn.old) (state S.Store conn.new) result (CountsOne booking.now) (AreWhole (Effect.AddsBooking booking.now))
+        (IsBasisOfBooking booking.now) }
+{
+    let found = uplink_at(conn, booking.uplink)?;
+    let session = whole(found.session)?;
+    let counter = counter_for(conn, session, found.kind)?;
+    Ok(Basis::Booking {
+        session,
+        kind: found.kind,
+        counter,
+    })
+}
+
+fn basis_of_uplink<S: Alter>(conn: &mut Connection<S>, uplink: &Uplink) -> Result<Basis, RowFault>
+    ensures { Asks (state S.Store conn.old) (state S.Store conn.new) result (RaisesOne uplink.now)
+        (λ r. IsWhole uplink.now.session × IsWhole (length r.uplinks + 1))
+        (IsBasisOfUplink uplink.now) }
+{
+    let raises = raised_by(conn, uplink)?;
+    let number = next_uplink(conn)?;
+    Ok(Basis::Uplink { number, raises })
+}
+
+/// What the effect is written by.
+pub(crate) fn basis_of<S: Alter>(
+    conn: &mut Connection<S>,
+    effect: &Effect,
+) -> Result<Basis, RowFault>
+    ensures { Asks (state S.Store conn.old) (state S.Store conn.new) result (IsThereFor effect.now) (AreWhole effect.now) (IsBasis effect.now) }
+{
+    match effect {
+        Effect::AddsSession { .. } => Ok(Basis::Session {
+            number: next_uplink(conn)?,
+        }),
+        Effect::AddsUplink { uplink, .. } => basis_of_uplink(conn, uplink),
+        Effect::AddsBooking { booking } => basis_of_booking(conn, booking),
+        _ => Ok(Basis::Nothing),
+    }
+}

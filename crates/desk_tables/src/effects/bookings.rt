@@ -1,0 +1,64 @@
+//! A new booking, with its session's downlink counter, and a booking that ends.
+ghost use Rattle.std.specs.Prelude.{◌≡◌};
+ghost use Rattle.sqlite.specs.Held.{state};
+ghost use Rattle.desk_rows.specs.order.Changes.{kind_at, session_at, sessions_counted};
+ghost use Rattle.desk_tables.specs.steps.Calls.{Makes};
+ghost use Rattle.desk_tables.specs.steps.Effects.{IsCounted, WritesEffect};
+
+use crate::effects::basis::{Basis, whole};
+use desk_rows::{RowFault, end_booking, insert_booking, set_next_down};
+use registry_core::{Booking, Effect, Whole};
+use sqlite::{Alter, Transaction};
+
+/// Sets the next downlink counter that was found for it, if one was.
+fn count_down<S: Alter>(
+    tx: &mut Transaction<'_, S>,
+    booking: &Booking,
+    session: Whole,
+    counter: Option<Whole>,
+) -> Result<(), RowFault>
+    ensures same_reference { tx.new.conn.ghost_name ≡ tx.old.conn.ghost_name }
+    ensures makes { Makes (state S.Store tx.old.conn.now) (state S.Store tx.new.conn.now) result
+        (λ r. IsCounted booking.now r session counter) (λ r. Unit {0})
+        (λ r. record r { sessions = sessions_counted (kind_at r.uplinks booking.now.uplink) (session_at r.uplinks booking.now.uplink) r.sessions }) }
+{
+    match counter {
+        Some(next_down) => set_next_down(tx, session, next_down),
+        None => Ok(()),
+    }
+}
+
+/// Writes the booking, and the counter that it raises.
+pub(crate) fn add_booking<S: Alter>(
+    tx: &mut Transaction<'_, S>,
+    booking: &Booking,
+    basis: Basis,
+) -> Result<(), RowFault>
+    ensures same_reference { tx.new.conn.ghost_name ≡ tx.old.conn.ghost_name }
+    ensures writes { WritesEffect (state S.Store tx.old.conn.now) (state S.Store tx.new.conn.now) result (Effect.AddsBooking booking.now) basis }
+{
+    let Basis::Booking {
+        session,
+        kind,
+        counter,
+    } = basis
+    else {
+        return Err(RowFault::Row);
+    };
+    whole(booking.uplink)?;
+    count_down(tx, booking, session, counter)?;
+    insert_booking(tx, booking, session.get(), kind)
+}
+
+/// Writes that the booking with this number was sent, or that it is dropped.
+pub(crate) fn end<S: Alter>(
+    tx: &mut Transaction<'_, S>,
+    number: u64,
+    sent: bool,
+    basis: Basis,
+) -> Result<(), RowFault>
+    ensures same_reference { tx.new.conn.ghost_name ≡ tx.old.conn.ghost_name }
+    ensures writes { WritesEffect (state S.Store tx.old.conn.now) (state S.Store tx.new.conn.now) result (Effect.EndsBooking number sent) basis }
+{
+    end_booking(tx, whole(number)?, sent)
+}

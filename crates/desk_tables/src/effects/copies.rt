@@ -1,0 +1,26 @@
+//! A copy more of an uplink.
+ghost use Rattle.std.specs.Prelude.{◌≡◌};
+ghost use Rattle.sqlite.specs.Held.{state};
+ghost use Rattle.desk_tables.specs.steps.Effects.{WritesEffect};
+
+use crate::effects::basis::{Basis, whole};
+use desk_rows::{RowFault, insert_copy};
+use radio_core::Name;
+use registry_core::{Effect, Reception};
+use sqlite::{Alter, Transaction};
+
+/// Writes the copy of the uplink with this number.
+pub(crate) fn add_copy<S: Alter>(
+    tx: &mut Transaction<'_, S>,
+    uplink: u64,
+    gateway: &Name,
+    reception: &Reception,
+    basis: Basis,
+) -> Result<(), RowFault>
+    ensures same_reference { tx.new.conn.ghost_name ≡ tx.old.conn.ghost_name }
+    ensures writes { WritesEffect (state S.Store tx.old.conn.now) (state S.Store tx.new.conn.now) result
+        (Effect.AddsCopy uplink gateway.now reception.now) basis }
+{
+    whole(uplink)?;
+    insert_copy(tx, uplink, gateway, reception)
+}

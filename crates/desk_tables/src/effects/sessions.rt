@@ -1,0 +1,32 @@
+//! A new session, with its join uplink.
+ghost use Rattle.std.specs.Prelude.{◌≡◌};
+ghost use Rattle.sqlite.specs.Held.{state};
+ghost use Rattle.desk_tables.specs.steps.Effects.{WritesEffect};
+
+use crate::effects::basis::{Basis, whole};
+use crate::effects::uplinks::add_with_copy;
+use desk_rows::{RowFault, insert_session};
+use radio_core::Name;
+use registry_core::{Effect, Reception, Session, Uplink};
+use sqlite::{Alter, Transaction};
+
+/// Writes the session, its join uplink and the copy of that.
+pub(crate) fn add_session<S: Alter>(
+    tx: &mut Transaction<'_, S>,
+    session: Session,
+    uplink: &Uplink,
+    gateway: &Name,
+    reception: &Reception,
+    basis: Basis,
+) -> Result<(), RowFault>
+    ensures same_reference { tx.new.conn.ghost_name ≡ tx.old.conn.ghost_name }
+    ensures writes { WritesEffect (state S.Store tx.old.conn.now) (state S.Store tx.new.conn.now) result
+        (Effect.AddsSession session uplink.now gateway.now reception.now) basis }
+{
+    let Basis::Session { number } = basis else {
+        return Err(RowFault::Row);
+    };
+    whole(uplink.session)?;
+    insert_session(tx, session)?;
+    add_with_copy(tx, uplink, number, gateway, reception)
+}

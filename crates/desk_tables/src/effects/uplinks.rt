@@ -1,0 +1,68 @@
+//! A new uplink, with its copy and its device's floor.
+ghost use Rattle.std.specs.Prelude.{◌≡◌, ◌+◌, length};
+ghost use Rattle.registry_core.specs.Wholes.{IsWhole};
+ghost use Rattle.sqlite.specs.Held.{state};
+ghost use Rattle.desk_rows.specs.Rows.{is_copy, is_uplink};
+ghost use Rattle.desk_rows.specs.order.Changes.{devices_raised, with_uplink_row};
+ghost use Rattle.desk_rows.specs.order.Keys.{IsFree};
+ghost use Rattle.desk_tables.specs.steps.Calls.{Makes};
+ghost use Rattle.desk_tables.specs.steps.Effects.{IsRaised, WritesEffect};
+
+use crate::effects::basis::{Basis, whole};
+use desk_rows::{RowFault, insert_copy, insert_uplink, set_floor};
+use radio_core::{Eui, Name};
+use registry_core::{Effect, Reception, Uplink, Whole};
+use sqlite::{Alter, Transaction};
+
+/// Writes the uplink, and the copy of it, which has its number.
+pub(crate) fn add_with_copy<S: Alter>(
+    tx: &mut Transaction<'_, S>,
+    uplink: &Uplink,
+    number: Whole,
+    gateway: &Name,
+    reception: &Reception,
+) -> Result<(), RowFault>
+    ensures same_reference { tx.new.conn.ghost_name ≡ tx.old.conn.ghost_name }
+    ensures makes { Makes (state S.Store tx.old.conn.now) (state S.Store tx.new.conn.now) result
+        (λ r. (number ≡ length r.uplinks + 1) × IsWhole uplink.now.session)
+        (λ r. IsFree (is_uplink uplink.now.session uplink.now.kind uplink.now.counter) r.uplinks × IsFree (is_copy number gateway.now) r.copies)
+        (with_uplink_row uplink.now gateway.now reception.now) }
+{
+    insert_uplink(tx, uplink)?;
+    insert_copy(tx, number.get(), gateway, reception)
+}
+
+/// Sets the floor of the device that was found for it, if one was.
+fn raise_floor<S: Alter>(
+    tx: &mut Transaction<'_, S>,
+    raises: Option<Eui>,
+    session: Whole,
+) -> Result<(), RowFault>
+    ensures same_reference { tx.new.conn.ghost_name ≡ tx.old.conn.ghost_name }
+    ensures makes { Makes (state S.Store tx.old.conn.now) (state S.Store tx.new.conn.now) result
+        (λ r. IsRaised session r raises) (λ r. IsWhole (length r.devices)) (λ r. record r { devices = devices_raised r.sessions session r.devices }) }
+{
+    match raises {
+        Some(dev_eui) => set_floor(tx, dev_eui, session),
+        None => Ok(()),
+    }
+}
+
+/// Writes the data uplink and the copy of it, and the floor that it raises.
+pub(crate) fn add_uplink<S: Alter>(
+    tx: &mut Transaction<'_, S>,
+    uplink: &Uplink,
+    gateway: &Name,
+    reception: &Reception,
+    basis: Basis,
+) -> Result<(), RowFault>
+    ensures same_reference { tx.new.conn.ghost_name ≡ tx.old.conn.ghost_name }
+    ensures writes { WritesEffect (state S.Store tx.old.conn.now) (state S.Store tx.new.conn.now) result
+        (Effect.AddsUplink uplink.now gateway.now reception.now) basis }
+{
+    let Basis::Uplink { number, raises } = basis else {
+        return Err(RowFault::Row);
+    };
+    raise_floor(tx, raises, whole(uplink.session)?)?;
+    add_with_copy(tx, uplink, number, gateway, reception)
+}

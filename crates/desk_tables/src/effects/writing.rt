@@ -1,0 +1,52 @@
+//! The rows of any effect.
+ghost use Rattle.std.specs.Prelude.{◌≡◌};
+ghost use Rattle.sqlite.specs.Held.{state};
+ghost use Rattle.desk_tables.specs.steps.Effects.{WritesEffect};
+
+use crate::effects::basis::Basis;
+use crate::effects::bookings::{add_booking, end};
+use crate::effects::copies::add_copy;
+use crate::effects::sessions::add_session;
+use crate::effects::uplinks::add_uplink;
+use desk_rows::{
+    RowFault, insert_device, insert_gateway, insert_owner, insert_sender, move_device,
+};
+use registry_core::Effect;
+use sqlite::{Alter, Transaction};
+
+/// Writes the rows of the effect, by what was read for it.
+pub(crate) fn write_effect<S: Alter>(
+    tx: &mut Transaction<'_, S>,
+    effect: &Effect,
+    basis: Basis,
+) -> Result<(), RowFault>
+    ensures same_reference { tx.new.conn.ghost_name ≡ tx.old.conn.ghost_name }
+    ensures writes { WritesEffect (state S.Store tx.old.conn.now) (state S.Store tx.new.conn.now) result effect.now basis }
+{
+    match effect {
+        Effect::Nothing => Ok(()),
+        Effect::AddsSender { name, role } => insert_sender(tx, name, *role),
+        Effect::AddsOwner { name } => insert_owner(tx, name),
+        Effect::AddsGateway { name } => insert_gateway(tx, name),
+        Effect::AddsDevice { dev_eui, device } => insert_device(tx, *dev_eui, device),
+        Effect::MovesDevice { dev_eui, owner } => move_device(tx, *dev_eui, owner),
+        Effect::AddsSession {
+            session,
+            uplink,
+            gateway,
+            reception,
+        } => add_session(tx, *session, uplink, gateway, reception, basis),
+        Effect::AddsUplink {
+            uplink,
+            gateway,
+            reception,
+        } => add_uplink(tx, uplink, gateway, reception, basis),
+        Effect::AddsCopy {
+            uplink,
+            gateway,
+            reception,
+        } => add_copy(tx, *uplink, gateway, reception, basis),
+        Effect::AddsBooking { booking } => add_booking(tx, booking, basis),
+        Effect::EndsBooking { booking, sent } => end(tx, *booking, *sent, basis),
+    }
+}

@@ -1,0 +1,18 @@
+//! A store over the ten tables.
+#![tactic(auto)]
+
+mod adopting;
+mod committing;
+mod desk_shape;
+mod effects;
+mod faults;
+mod looks;
+mod making;
+mod opening;
+mod settle;
+mod shape;
+mod tables;
+#[cfg(test)]
+mod tests;
+
+pub use tables::Tables;

@@ -1,0 +1,63 @@
+//! What is asked of a session. A number above the greatest whole one is no session's.
+ghost use Rattle.std.specs.Prelude.{◌≡◌};
+ghost use Rattle.sqlite.specs.Held.{state};
+ghost use Rattle.registry_core.specs.Bookings.{next_down};
+ghost use Rattle.registry_core.specs.Derived.{data_with, last_counter};
+ghost use Rattle.registry_core.specs.Numbered.{item_at};
+ghost use Rattle.desk_rows.specs.Calls.{Reads};
+ghost use Rattle.desk_tables.specs.steps.LookUps.{OfKept};
+
+use desk_rows::order::look_ups_tell;
+use desk_rows::{RowFault, uplink_with};
+use registry_core::{Kind, Session, Uplink, Whole};
+use sqlite::{Alter, Connection};
+
+pub(crate) fn session<S: Alter>(
+    conn: &mut Connection<S>,
+    number: u64,
+) -> Result<Option<Session>, RowFault>
+    ensures { Reads (state S.Store conn.old) (state S.Store conn.new) result (OfKept (λ kept session. session ≡ item_at kept.facts.sessions number)) }
+{
+    look_ups_tell();
+    match Whole::new(number) {
+        Some(number) => desk_rows::session(conn, number),
+        None => Ok(None),
+    }
+}
+
+pub(crate) fn last_counter<S: Alter>(
+    conn: &mut Connection<S>,
+    session: u64,
+) -> Result<Option<u32>, RowFault>
+    ensures { Reads (state S.Store conn.old) (state S.Store conn.new) result (OfKept (λ kept counter. counter ≡ last_counter kept.facts.uplinks session)) }
+{
+    match Whole::new(session) {
+        Some(session) => desk_rows::last_counter(conn, session),
+        None => Ok(None),
+    }
+}
+
+pub(crate) fn data_with<S: Alter>(
+    conn: &mut Connection<S>,
+    session: u64,
+    counter: u32,
+) -> Result<Option<(u64, Uplink)>, RowFault>
+    ensures { Reads (state S.Store conn.old) (state S.Store conn.new) result (OfKept (λ kept found. found ≡ data_with kept.facts.uplinks session counter)) }
+{
+    look_ups_tell();
+    match Whole::new(session) {
+        Some(session) => uplink_with(conn, session, Kind::Data, counter),
+        None => Ok(None),
+    }
+}
+
+pub(crate) fn next_down<S: Alter>(conn: &mut Connection<S>, session: u64) -> Result<u64, RowFault>
+    ensures { Reads (state S.Store conn.old) (state S.Store conn.new) result
+        (OfKept (λ kept counter. counter ≡ next_down kept.facts.bookings kept.facts.uplinks session)) }
+{
+    look_ups_tell();
+    match Whole::new(session) {
+        Some(session) => Ok(desk_rows::next_down(conn, session)?.unwrap_or(0)),
+        None => Ok(0),
+    }
+}

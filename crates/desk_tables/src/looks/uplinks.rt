@@ -1,0 +1,100 @@
+//! What is asked of an uplink. A number above the greatest whole one is no uplink's.
+ghost use Rattle.std.specs.Prelude.{◌≡◌, option_and_then, option_map};
+ghost use Rattle.sqlite.specs.Held.{state};
+ghost use Rattle.registry_core.specs.declared.facts.Kind.TheVariants.{Join};
+ghost use Rattle.registry_core.specs.Bookings.{is_answered};
+ghost use Rattle.registry_core.specs.Derived.{join_with};
+ghost use Rattle.registry_core.specs.Numbered.{first_that, item_at};
+ghost use Rattle.desk_rows.specs.Calls.{Reads};
+ghost use Rattle.desk_rows.specs.Rows.{is_uplink};
+ghost use Rattle.desk_tables.specs.steps.LookUps.{OfKept};
+
+use desk_rows::order::look_ups_tell;
+use desk_rows::{RowFault, session_with, uplink_with};
+use radio_core::{Eui, Name};
+use registry_core::{Booking, Kind, Reception, Uplink, Whole};
+use sqlite::{Alter, Connection};
+
+/// The number of the session that has the join uplink of the device with this nonce.
+pub(crate) fn session_joined<S: Alter>(
+    conn: &mut Connection<S>,
+    device: Eui,
+    nonce: u16,
+) -> Result<Option<u64>, RowFault>
+    ensures { Reads (state S.Store conn.old) (state S.Store conn.new) result
+        (OfKept (λ kept session. join_with kept.facts.uplinks kept.facts.sessions device nonce
+        ≡ option_and_then (λ n. first_that (is_uplink n Join nonce) kept.facts.uplinks) session)) }
+{
+    look_ups_tell();
+    session_with(conn, device, nonce)
+}
+
+/// The join uplink of the session with this nonce.
+pub(crate) fn join_of<S: Alter>(
+    conn: &mut Connection<S>,
+    session: u64,
+    nonce: u16,
+) -> Result<Option<(u64, Uplink)>, RowFault>
+    ensures { Reads (state S.Store conn.old) (state S.Store conn.new) result
+        (OfKept (λ kept found. found ≡ first_that (is_uplink session Join nonce) kept.facts.uplinks)) }
+{
+    match Whole::new(session) {
+        Some(session) => uplink_with(conn, session, Kind::Join, u32::from(nonce)),
+        None => Ok(None),
+    }
+}
+
+fn unnumbered(found: Option<(u64, Uplink)>) -> Option<Uplink>
+    ensures { result ≡ option_map (λ found. found.1) found }
+{
+    let (_, uplink) = found?;
+    Some(uplink)
+}
+
+pub(crate) fn uplink<S: Alter>(
+    conn: &mut Connection<S>,
+    number: u64,
+) -> Result<Option<Uplink>, RowFault>
+    ensures { Reads (state S.Store conn.old) (state S.Store conn.new) result (OfKept (λ kept uplink. uplink ≡ item_at kept.facts.uplinks number)) }
+{
+    match Whole::new(number) {
+        Some(number) => Ok(unnumbered(desk_rows::uplink(conn, number)?)),
+        None => Ok(None),
+    }
+}
+
+pub(crate) fn copy_at<S: Alter>(
+    conn: &mut Connection<S>,
+    uplink: u64,
+    gateway: &Name,
+) -> Result<Option<Reception>, RowFault>
+    ensures { Reads (state S.Store conn.old) (state S.Store conn.new) result (OfKept (λ kept copy. copy ≡ kept.facts.copies uplink gateway.now)) }
+{
+    match Whole::new(uplink) {
+        Some(uplink) => desk_rows::copy_at(conn, uplink, gateway),
+        None => Ok(None),
+    }
+}
+
+pub(crate) fn is_answered<S: Alter>(conn: &mut Connection<S>, uplink: u64) -> Result<bool, RowFault>
+    ensures { Reads (state S.Store conn.old) (state S.Store conn.new) result (OfKept (λ kept answered. answered ≡ is_answered kept.facts.bookings uplink)) }
+{
+    look_ups_tell();
+    match Whole::new(uplink) {
+        Some(uplink) => desk_rows::is_answered(conn, uplink),
+        None => Ok(false),
+    }
+}
+
+pub(crate) fn booking<S: Alter>(
+    conn: &mut Connection<S>,
+    number: u64,
+) -> Result<Option<Booking>, RowFault>
+    ensures { Reads (state S.Store conn.old) (state S.Store conn.new) result (OfKept (λ kept booking. booking ≡ item_at kept.facts.bookings number)) }
+{
+    look_ups_tell();
+    match Whole::new(number) {
+        Some(number) => desk_rows::booking(conn, number),
+        None => Ok(None),
+    }
+}

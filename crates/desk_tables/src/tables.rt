@@ -1,0 +1,61 @@
+//! The store over tables.
+ghost use Rattle.std.specs.Prelude.{◌≡◌, true, false, OnOk, IfErr};
+ghost use Rattle.desk_store.specs.declared.faults.StoreFault.TheVariants.{Disk};
+ghost use Rattle.desk_tables.specs.steps.Settling.{Fails, IsTold};
+
+use crate::settle::{is_disk, is_foreign, reading_fault, settle};
+use desk_rows::RowFault;
+use desk_store::{Counts, StoreFault};
+use registry_core::Config;
+use sqlite::{Alter, Connection};
+use std::alloc::Global;
+
+/// A store over the ten tables. After a fault of the disk it is down for good.
+#[derive(Drop)]
+pub struct Tables<S: Alter> {
+    pub(crate) conn: Connection<S>,
+    pub(crate) alloc: Global,
+    pub(crate) config: Config,
+    /// A fault of the disk was told.
+    pub(crate) down: bool,
+    /// It was told that what is stored is no desk's.
+    pub(crate) foreign: bool,
+    /// The medium named its own size in the last call that wrote.
+    pub(crate) sized: bool,
+    /// How many messages were heard.
+    pub(crate) heard: u64,
+    pub(crate) counts: Counts,
+}
+
+impl<S: Alter> Tables<S> {
+    /// A store that is down is asked nothing.
+    pub(crate) fn up(&self) -> Result<(), StoreFault>
+        ensures up { OnOk result (self.now.down ≡ false) }
+        ensures down { IfErr result (λ fault. (fault ≡ Disk) × (self.now.down ≡ true)) }
+    {
+        if self.down {
+            return Err(StoreFault::Disk);
+        }
+        Ok(())
+    }
+
+    /// What a fault of the connection is told as.
+    pub(crate) fn fail(&mut self, fault: RowFault) -> StoreFault
+        ensures { Fails S.Store self.old self.new fault result }
+    {
+        let told = settle(&mut self.conn, fault);
+        self.down = is_disk(told) || self.down;
+        self.foreign = is_foreign(told) || self.foreign;
+        told
+    }
+
+    /// What a look-up tells of an answer of the connection.
+    pub(crate) fn tell<T>(&mut self, answer: Result<T, RowFault>) -> Result<T, StoreFault>
+        ensures { IsTold S.Store self.old self.new answer result }
+    {
+        match answer {
+            Ok(found) => Ok(found),
+            Err(fault) => Err(self.fail(reading_fault(fault))),
+        }
+    }
+}

@@ -1,0 +1,3 @@
+//! Tests over a connection in memory.
+mod committing;
+mod opening;
