@@ -1,5 +1,6 @@
 -- What the clauses of private functions and the proofs say.
 pub mod Calls
+pub mod Counting
 pub mod Effects
 pub mod Faults
 pub mod LookUps

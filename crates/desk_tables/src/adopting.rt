@@ -1,16 +1,23 @@
 //! A connection becomes a store, and is given back.
-ghost use Rattle.std.specs.Prelude.{◌≡◌, ◌≢◌, ◌↔◌, false, None, IfOk, IfErr, IsTrue};
+ghost use Rattle.std.specs.Prelude.{◌≡◌, ◌≢◌, ◌↔◌, ℤ, pos, None, false, IfErr, IfOk};
+ghost use Rattle.registry_core.specs.Settings.{Settings};
 ghost use Rattle.sqlite.specs.Held.{state};
+ghost use Rattle.sqlite.specs.State.{HasCleanDisk};
+ghost use Rattle.desk_store.specs.Calls.{IsUnavailability};
 ghost use Rattle.desk_store.specs.Kept.{Kept};
-ghost use Rattle.desk_store.specs.declared.faults.StoreFault.TheVariants.{Exists, NotADesk};
-ghost use Rattle.desk_rows.specs.Schema.{no_schema};
+ghost use Rattle.desk_store.specs.declared.faults.StoreFault.TheVariants.{Exists, NotADesk, SchemaVersion};
+ghost use Rattle.desk_rows.specs.Meta.{HasMeta, TellsMeta};
+ghost use Rattle.desk_rows.specs.Schema.{desk_schema, no_schema};
 ghost use Rattle.desk_rows.specs.order.Changes.{opening_rows};
-ghost use Rattle.desk_tables.specs.Adopting.{IsGivenBack, IsStore, opening_kept};
+ghost use Rattle.desk_tables.specs.Adopting.{IsGivenBack, IsOfDesk, IsStore, opening_kept};
 ghost use Rattle.desk_tables.specs.InOrder.{IsInOrder};
 ghost use Rattle.desk_tables.specs.Opening.{IsTaken, TreesHold};
 ghost use Rattle.desk_tables.specs.Store.{meaning_of};
 
+use crate::counting::counted;
+use crate::faults::store_fault;
 use crate::making::make_desk;
+use crate::opening::open_desk;
 use crate::tables::Tables;
 use desk_rows::order::opening_rows_tell;
 use desk_store::{Counts, StoreFault};
@@ -52,6 +59,47 @@ impl<S: Alter> Tables<S> {
                 },
             }),
             Err(fault) => Err((fault, conn)),
+        }
+    }
+
+    /// The desk that the database holds; or the connection, beside why there is none: `NotADesk` where the schema or the row of
+    /// meta isn't a desk's, `SchemaVersion` where that row tells another version, whatever tables there are beside it.
+    pub fn open(
+        alloc: Global,
+        conn: Connection<S>,
+    ) -> Result<Tables<S>, (StoreFault, Connection<S>)>
+        requires idle { conn.in_transaction ≡ false }
+        requires unlimited { conn.step_limit ≡ None }
+        ensures desk { IfOk result (λ t. (meaning_of S.Store).sound t → (conn.schema ≡ desk_schema)
+            × TellsMeta (state S.Store conn).now.trees (pos 1) ((meaning_of S.Store).configuration t)) }
+        ensures in_order { (c : Settings) (kept : Kept) → IsOfDesk c kept (state S.Store conn).now
+            → IfOk result (λ t. (meaning_of S.Store).sound t → IsStore (meaning_of S.Store) t c kept) }
+        ensures unavailable { (c : Settings) (kept : Kept) → IsOfDesk c kept (state S.Store conn).now
+            → IfErr result (λ back. HasCleanDisk (state S.Store back.1) → IsUnavailability back.0) }
+        ensures version { IfErr result (λ back. HasCleanDisk (state S.Store back.1) → back.0 ≡ SchemaVersion → HasMeta conn.schema
+            × ((version : ℤ) × (c : Settings) × TellsMeta (state S.Store conn).now.trees version c × (version ≢ pos 1))) }
+        ensures other_version { HasMeta conn.schema → (version : ℤ) (c : Settings) → TellsMeta (state S.Store conn).now.trees version c → version ≢ pos 1
+            → IfErr result (λ back. HasCleanDisk (state S.Store back.1) → back.0 ≢ NotADesk) }
+        ensures never { IfErr result (λ back. back.0 ≢ Exists) }
+        ensures given_back { IfErr result (λ back. IsGivenBack (state S.Store conn) (state S.Store back.1) (λ _. ⊥)) }
+    {
+        let mut conn = conn;
+        let config = match open_desk(&mut conn) {
+            Ok(config) => config,
+            Err(fault) => return Err((fault, conn)),
+        };
+        match counted(&mut conn) {
+            Ok((heard, counts)) => Ok(Tables {
+                conn,
+                alloc,
+                config,
+                down: false,
+                foreign: false,
+                sized: false,
+                heard,
+                counts,
+            }),
+            Err(fault) => Err((store_fault(fault), conn)),
         }
     }
 

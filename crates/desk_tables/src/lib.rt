@@ -3,6 +3,7 @@
 
 mod adopting;
 mod committing;
+mod counting;
 mod desk_shape;
 mod effects;
 mod faults;

@@ -67,11 +67,23 @@ fn created(alloc: Global, conn: Conn) -> Result<Tables<MemStore>, StoreFault> {
     }
 }
 
+fn reopened(alloc: Global, conn: Conn) -> Result<Tables<MemStore>, StoreFault> {
+    let mut conn = conn;
+    conn.set_step_limit(None);
+    if conn.is_autocommit() {
+        Tables::open(alloc, conn).map_err(|back| back.0)
+    } else {
+        Err(StoreFault::Size)
+    }
+}
+
 #[test]
 fn a_desk_that_is_closed_is_opened(rt: HostRuntime) -> Result<(), Fail> {
     let conn = Connection::open_in_memory(rt.alloc())?;
-    let mut conn = created(rt.alloc(), conn).or(Err("not made"))?.close();
-    assert!(rt; opened(&mut conn).ok() == town());
+    let conn = created(rt.alloc(), conn).or(Err("not made"))?.close();
+    let tables = reopened(rt.alloc(), conn).or(Err("not opened"))?;
+    assert!(rt; town() == Some(tables.config));
+    assert!(rt; tables.heard == 0);
     Ok(())
 }
 
