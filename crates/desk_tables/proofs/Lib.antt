@@ -7,5 +7,6 @@ pub mod LookUps
 pub mod OpeningLemmas
 pub mod Reading
 pub mod ShapeLemmas
+pub mod SpanLookUps
 pub mod Telling
 pub mod WholeLemmas

@@ -1,9 +1,11 @@
 -- What the rows tell of the facts, as look-ups ask for it.
 use Rattle.std.proofs.Common.{◌≡◌, ℕ, Bool, true, false, cond, List, [], ◌∷◌, map, filter, Option, Some, None, option_map, refl, ap}
 use Rattle.std.specs.Prelude.{option_and_then, unwrap_or}
+use Rattle.std.specs.List.{AllByRecursion}
 use Rattle.std.specs.Option.{option_map_or}
 use Rattle.registry_core.specs.Derived.{is_session_of}
-use Rattle.desk_rows.specs.Rows.{DeviceRow, SessionRow}
+use Rattle.registry_core.specs.Ranges.{IsEui}
+use Rattle.desk_rows.specs.Rows.{DeviceRow, IsDevice, SessionRow}
 use Rattle.desk_rows.specs.order.Facts.{sessions_in}
 use Rattle.desk_rows.specs.order.LookUps.{is_row_of_device}
 
@@ -30,3 +32,8 @@ or_zero f (Some x) = refl
 pub floor_told : (o : Option DeviceRow) → option_and_then (λ floor. floor) (option_map (λ (d : DeviceRow). d.floor) o) ≡ option_and_then (λ (d : DeviceRow). d.floor) o
 floor_told None = refl
 floor_told (Some d) = refl
+
+-- the DevEUIs are those of 64 bits
+pub euis_in : (devices : List DeviceRow) → AllByRecursion IsDevice devices → AllByRecursion (λ (d : DeviceRow). IsEui d.dev_eui) devices
+euis_in [] each = tt
+euis_in (d ∷ devices) each = (each.0.dev_eui, euis_in devices each.1)

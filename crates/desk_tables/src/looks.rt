@@ -10,6 +10,7 @@ ghost use Rattle.desk_tables.specs.Store.{meaning_of};
 mod devices;
 mod names;
 mod sessions;
+mod spans;
 mod uplinks;
 
 use crate::tables::Tables;

@@ -1,0 +1,12 @@
+use Rattle.std.proofs.Common.{subst, sym}
+use Rattle.registry_core.specs.Reports.{IsNextDevice}
+use Rattle.desk_rows.specs.order.Arranged.{by_eui}
+use Rattle.desk_tables.proofs.Reading.{says_also}
+use Rattle.desk_tables.proofs.Telling.{euis_in}
+use Rattle.desk_tables.proofs.looks.devices.next_device.Goals as goal
+
+pub returns-clause-reads : goal.returns-clause-reads
+returns-clause-reads g c = says_also _ _ _ _ _ (λ r next is config kept tell.
+    subst (IsNextDevice kept.facts c.args.owner.now c.args.after) (sym is)
+    ((c.arranged_rows_tell.ensures config kept.facts r tell.are).next_device c.args.owner.now c.args.after by_eui c.orders_hold.ensures.devices
+    (euis_in r.devices tell.in_range.devices))) c.next_device.ensures.reads

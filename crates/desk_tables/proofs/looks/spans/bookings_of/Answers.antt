@@ -1,0 +1,13 @@
+use Rattle.std.proofs.Common.{subst, sym}
+use Rattle.duty_core.specs.InOrder.{IsByStart}
+use Rattle.registry_core.specs.Bookings.{downlinks_in}
+use Rattle.desk_rows.specs.Rows.{BookingRow}
+use Rattle.desk_rows.specs.order.Arranged.{booking_span, by_start}
+use Rattle.desk_tables.proofs.Reading.{says_also}
+use Rattle.desk_tables.proofs.looks.spans.bookings_of.Goals as goal
+
+pub returns : goal.returns
+returns g c = says_also _ _ _ _ _ (λ r spans is config kept tell.
+    subst (IsByStart (downlinks_in kept.facts.bookings c.args.gateway.now c.args.band)) (sym is)
+    ((c.arranged_rows_tell.ensures config kept.facts r tell.are).bookings c.args.gateway.now c.args.band
+    (by_start (λ (b : BookingRow). (booking_span b).start)) c.orders_hold.ensures.bookings)) c.bookings_of.ensures
