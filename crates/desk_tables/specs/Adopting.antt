@@ -12,10 +12,11 @@ use Rattle.desk_store.specs.Meaning.{Meaning}
 use Rattle.desk_rows.specs.Meta.{IsConfig}
 use Rattle.desk_tables.specs.InOrder.{IsInOrder}
 
--- a store of this configuration, which is up and holds this
+-- a store of this configuration, which is up, has told nothing of another's database, and holds this
 pub record IsStore {K : Type 0} (m : Meaning K) (k : K) (c : Settings) (kept : Kept) : Type 0 where
   pub configuration : m.configuration k ≡ c
   pub up : m.down k ≡ false
+  pub known : m.foreign k ≡ false
   pub holds : m.holds k kept
 
 -- what a desk of this configuration holds that has heard nothing

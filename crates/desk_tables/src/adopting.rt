@@ -7,6 +7,7 @@ ghost use Rattle.desk_store.specs.Calls.{IsUnavailability};
 ghost use Rattle.desk_store.specs.Kept.{Kept};
 ghost use Rattle.desk_store.specs.declared.faults.StoreFault.TheVariants.{Exists, NotADesk, SchemaVersion};
 ghost use Rattle.desk_rows.specs.Meta.{HasMeta, TellsMeta};
+ghost use Rattle.desk_rows.specs.Rows.{Holds, Rows};
 ghost use Rattle.desk_rows.specs.Schema.{desk_schema, no_schema};
 ghost use Rattle.desk_rows.specs.order.Changes.{opening_rows};
 ghost use Rattle.desk_tables.specs.Adopting.{IsGivenBack, IsOfDesk, IsStore, opening_kept};
@@ -76,6 +77,8 @@ impl<S: Alter> Tables<S> {
             → IfOk result (λ t. (meaning_of S.Store).sound t → IsStore (meaning_of S.Store) t c kept) }
         ensures unavailable { (c : Settings) (kept : Kept) → IsOfDesk c kept (state S.Store conn).now
             → IfErr result (λ back. HasCleanDisk (state S.Store back.1) → IsUnavailability back.0) }
+        ensures stranger { IfErr result (λ back. HasCleanDisk (state S.Store back.1) → back.0 ≡ NotADesk → conn.schema ≡ desk_schema
+            → (c : Settings) → TellsMeta (state S.Store conn).now.trees (pos 1) c → (r : Rows) → ¬ Holds (state S.Store conn).now r) }
         ensures version { IfErr result (λ back. HasCleanDisk (state S.Store back.1) → back.0 ≡ SchemaVersion → HasMeta conn.schema
             × ((version : ℤ) × (c : Settings) × TellsMeta (state S.Store conn).now.trees version c × (version ≢ pos 1))) }
         ensures other_version { HasMeta conn.schema → (version : ℤ) (c : Settings) → TellsMeta (state S.Store conn).now.trees version c → version ≢ pos 1

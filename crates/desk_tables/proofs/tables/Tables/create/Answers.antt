@@ -6,6 +6,7 @@ pub returns-in-Ok-clause-made : goal.returns-in-Ok-clause-made
 returns-in-Ok-clause-made g c clean = record {
   configuration = refl;
   up = refl;
+  known = refl;
   holds = λ up. record {
     settled = record {
       open_still = c.in-Ok.ensures.open clean;

@@ -27,6 +27,7 @@ returns-in-Ok-counted-clause-in_order g c settings kept is clean =
     record {
       configuration = config;
       up = refl;
+      known = refl;
       holds = λ up. record {
         settled = record {
           open_still = read.0.is_open;
