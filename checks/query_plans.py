@@ -5,8 +5,9 @@
 
 It takes the texts of the statements from `crates/desk_rows/src/*.rt`, makes the tables and indexes in a file by those that begin
 with CREATE, and asks `EXPLAIN QUERY PLAN` of each SELECT and UPDATE. A plan that scans a table or sorts rows fails, but for a look
-at the first row in the order of the rowid, which SQLite calls a scan too and ends after one row, and for meta, which has one row. It prints a line for each
-statement and at the end how many there were, and by which key or index.
+at the first row in the order of the rowid, which SQLite calls a scan too and ends after one row, for meta, which has one row, and
+for the sort of a device's uplinks in a range of time. It prints a line for each statement and at the end how many there were, and
+by which key or index.
 """
 
 import re
@@ -21,6 +22,8 @@ TEXT = re.compile(r'"((?:SELECT|UPDATE|CREATE) [^"]*)"')
 # The first row in the order of the rowid, or the last; and the table of one row.
 ENDS = re.compile(r"^SELECT (\w+) FROM \w+ ORDER BY \1( DESC)? LIMIT 1$")
 ONE_ROW = re.compile(r"^SELECT [^?]* FROM meta$")
+# The uplinks are found by an index session by session, and those of several sessions have to be put in order: as many as are told.
+OF_SESSIONS = re.compile(r"^SELECT [^?]* FROM session JOIN uplink ON uplink\.session = session\.number ")
 
 
 def statements():
@@ -34,7 +37,7 @@ def is_bad(text, step):
     """Whether a step of the plan looks through a table, or puts rows in order."""
     if ENDS.match(text) or ONE_ROW.match(text):
         return False
-    return step.startswith("SCAN") or "TEMP B-TREE" in step
+    return step.startswith("SCAN") or ("TEMP B-TREE" in step and not OF_SESSIONS.match(text))
 
 
 def main():

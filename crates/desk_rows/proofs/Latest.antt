@@ -38,8 +38,8 @@ use Rattle.desk_rows.proofs.Ordered.{Asked, query_of, falling, encode, zip_from,
 use Rattle.desk_rows.proofs.Terms.{is, same, and_true, number_equal, eui_equal}
 
 -- the first of those that pass, by falling keys
-abbrev pub latest : ℕ → List Term → List Term → List (Term × Key) → Asked
-latest tree terms project order = record { tree = tree; terms = terms; project = project; order = order; one = true }
+abbrev pub latest : (tree : ℕ) → List Term → List Term → List (Term × Key) → Asked (tree ∷ [])
+latest tree terms project order = record { terms = terms; project = project; order = order; one = true }
 
 -- ---- the first in a falling order is the greatest
 

@@ -1,5 +1,6 @@
 pub mod AllRows
 pub mod BatchLemmas
+pub mod Beside
 pub mod ByKey
 pub mod ChangedRows
 pub mod DeviceUpdates
@@ -7,6 +8,7 @@ pub mod FaultLemmas
 pub mod InsertLemmas
 pub mod Insertions
 pub mod Inserts
+pub mod Joined
 pub mod LaterLemmas
 pub mod Latest
 pub mod Lookups
@@ -30,3 +32,4 @@ pub mod Unrefused
 pub mod UpdateLemmas
 pub mod UpdateRefusals
 pub mod Updating
+pub mod UplinkQueries

@@ -1,14 +1,14 @@
 -- Look-ups: what the first row of a query over one table tells, and that it never tells Row nor Refused of tables in order.
 use Rattle.std.proofs.Common.{◌≡◌, inl, inr, ℕ, ◌≤◌, List, [], ◌∷◌, ◌++◌, length, find, Bool, true, false, Option, Some, None, option_map, Ok, Err, Result, IfOk, refl, sym, ap, subst, ◌∙◌, append-nil, subst₂, true≢false, IfErr}
 use Rattle.std.specs.List.{list_all, AllByRecursion}
-use Rattle.std.specs.Prelude.{Any, IfSome, is_some}
+use Rattle.std.specs.Prelude.{IfSome, is_some}
 use Rattle.std.specs.Result.{is_ok}
 use Rattle.sqlite_value.specs.declared.value.Value.TheVariants.{Null}
 use Rattle.sqlite_value.specs.Order.{Row}
 use Rattle.sqlite_trees.specs.Tree.{Trees}
 use Rattle.sqlite_trees.specs.View.{doubt}
-use Rattle.sqlite_sql.specs.Term.{Term, holds, eval_all}
-use Rattle.sqlite_sql.specs.Query.{inner, end, IsAnswer, FoldOverflows}
+use Rattle.sqlite_sql.specs.Term.{Env, Term, holds, eval_all}
+use Rattle.sqlite_sql.specs.Query.{IsAnswer, FoldOverflows}
 use Rattle.sqlite_typing.specs.Types.{accepts_program}
 use Rattle.sqlite_resolve.specs.declared.compiled.Compiled.{Compiled}
 use Rattle.sqlite_resolve.specs.declared.error.CompileError.{CompileError}
@@ -26,7 +26,7 @@ use Rattle.desk_rows.specs.Schema.{desk_schema}
 use Rattle.desk_rows.specs.Rows.{Rows, Holds, table_of}
 use Rattle.desk_rows.specs.steps.Queries.{HasRun, IsReadOf, Finds, Knows}
 use Rattle.desk_rows.specs.CallLaws.{read_weaker}
-use Rattle.desk_rows.proofs.Ordered.{Asked, query_of, by_rowid, head, zip_from, encode, first_by_rowid, some_map, map_twice, found_holds, zip_all, mapped_holds}
+use Rattle.desk_rows.proofs.Ordered.{Asked, joined, query_of, by_rowid, head, zip_from, encode, first_by_rowid, some_map, map_twice, found_holds, zip_all, mapped_holds}
 use Rattle.desk_rows.specs.Calls.{IsRead, Reads}
 use Rattle.desk_rows.specs.Faults.{is_odd, IsEven, fault_of}
 use Rattle.desk_rows.specs.steps.Errors.{found_of, known_of}
@@ -37,7 +37,7 @@ use Rattle.desk_rows.proofs.FaultLemmas.{not_row}
 use Rattle.desk_rows.proofs.RefusedLemmas.{told_else, unset}
 
 -- the text is one such query, with so many parameters
-pub record IsLookup (sql : List ℕ) (many : ℕ) (a : Asked) : Type 0 where
+pub record IsLookup (sql : List ℕ) (many : ℕ) {trees : List ℕ} (a : Asked trees) : Type 0 where
   pub names : List (List ℕ)
   pub compiled : Compiled
   pub means : understood desk_schema sql ≡ Ok compiled
@@ -49,13 +49,11 @@ pub record IsLookup (sql : List ℕ) (many : ℕ) (a : Asked) : Type 0 where
 
 -- ---- a call of query_row
 
-pub fold_stays : (db : Trees) (params : Row) (tree : ℕ) → FoldOverflows db (inner tree end) (params ∷ []) → ⊥
-fold_stays db params tree h = none (db tree) h
-  where
-    none : (rows : List Row) → Any (λ r. ⊥) rows → ⊥
-    none rows h = h.4
+pub fold_stays : (db : Trees) (trees : List ℕ) (env : Env) → FoldOverflows db (joined trees) env → ⊥
+fold_stays db [] env h = h
+fold_stays db (tree ∷ trees) env h = fold_stays db trees (env ++ h.1 ∷ []) h.4
 
-module _ {sql : List ℕ} {many : ℕ} {a : Asked} (text : IsLookup sql many a) (params : Row) (old new : State) (has : old.now.schema ≡ desk_schema) where
+module _ {sql : List ℕ} {many : ℕ} {trees : List ℕ} {a : Asked trees} (text : IsLookup sql many a) (params : Row) (old new : State) (has : old.now.schema ≡ desk_schema) where
   is : command_of (understood desk_schema sql) ≡ Select (record { lets = []; body = query_of a }) text.names
   is = ap command_of text.means ∙ text.command
 
@@ -121,7 +119,7 @@ module _ {sql : List ℕ} {many : ℕ} {a : Asked} (text : IsLookup sql many a) 
       elim why [
         | inl mistyped ↦ let no : accepts_program desk_schema [] (query_of a) params ≡ false = subst (λ s. accepts_program s [] (query_of a) params ≡ false) has mistyped.1 in
             true≢false (sym typed ∙ no)
-        | inr (inl over) ↦ elim over.1 [ inl none ↦ none | inr folds ↦ fold_stays (overlay old.now.trees []) params a.tree folds ]
+        | inr (inl over) ↦ elim over.1 [ inl none ↦ none | inr folds ↦ fold_stays (overlay old.now.trees []) trees (params ∷ []) folds ]
         | inr (inr limited) ↦ unset old.step_limit unlimited limited.1
       ]
 
@@ -159,7 +157,7 @@ module _ {sql : List ℕ} {many : ℕ} {a : Asked} (text : IsLookup sql many a) 
   found_in_order many_is typed unlimited (Err (SqliteFailure code)) (inr h) = absurd (let x = h.0 in cc)
 
 -- a call of query_row changes nothing
-pub lookup_reads : {sql : List ℕ} {many : ℕ} {a : Asked} (text : IsLookup sql many a) (params : Row) (old new : State) (r : Result Row Error)
+pub lookup_reads : {sql : List ℕ} {many : ℕ} {trees : List ℕ} {a : Asked trees} (text : IsLookup sql many a) (params : Row) (old new : State) (r : Result Row Error)
     → (doubt old.is_clean ≤ doubt new.is_clean) → (old.in_transaction ≡ false → new.in_transaction ≡ false)
     → Survives old new (CommitsShowing sql params old) → (HasCleanDisk new → QueriesRow sql params old new r) → IsRead old new (is_ok (found_of r))
 lookup_reads {sql} text params old new r clean mode survives ran = record {
@@ -171,7 +169,7 @@ lookup_reads {sql} text params old new r clean mode survives ran = record {
 
 -- ---- what a look-up tells
 
-module _ {sql : List ℕ} {many : ℕ} {a : Asked} (text : IsLookup sql many a) (params : Row) (old new : State) (answer : Result Row Error) (run : HasRun sql params old new answer)
+module _ {sql : List ℕ} {many : ℕ} {trees : List ℕ} {a : Asked trees} (text : IsLookup sql many a) (params : Row) (old new : State) (answer : Result Row Error) (run : HasRun sql params old new answer)
     (many_is : many ≡ length params) (typed : accepts_program desk_schema [] (query_of a) params ≡ true) where
   has_read : IsRead old new (is_ok (found_of answer))
   has_read = lookup_reads text params old new answer run.clean run.mode run.survives run.ran

@@ -44,7 +44,7 @@ use Rattle.desk_rows.proofs.Terms.{is, and_true, text_equal}
 abbrev first_text : List ℕ
 first_text = codes "SELECT eui FROM device WHERE owner = ?1 ORDER BY eui, rowid LIMIT 1"
 
-abbrev first_asked : Asked
+abbrev first_asked : Asked (9 ∷ [])
 first_asked = latest 9 (is 3 0 ∷ []) (col 1 1 ∷ []) ((col 1 1, rising) ∷ (col 1 0, rising) ∷ [])
 
 first_lookup : IsLookup first_text 1 first_asked
@@ -54,7 +54,7 @@ first_lookup = record { names = _; compiled = _; means = refl; command = refl; p
 abbrev after_text : List ℕ
 after_text = codes "SELECT eui FROM device WHERE owner = ?1 AND eui > ?2 ORDER BY eui, rowid LIMIT 1"
 
-abbrev after_asked : Asked
+abbrev after_asked : Asked (9 ∷ [])
 after_asked = latest 9 (is 3 0 ∷ above 1 1 ∷ []) (col 1 1 ∷ []) ((col 1 1, rising) ∷ (col 1 0, rising) ∷ [])
 
 after_lookup : IsLookup after_text 2 after_asked

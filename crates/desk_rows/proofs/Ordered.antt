@@ -1,4 +1,4 @@
--- A query over one table: its first row, in the order of the rowids or in another that leaves no tie.
+-- Queries over tables that are joined, and of those the ones over one table: the first row, in the order of the rowids or in another that leaves no tie.
 use Rattle.std.proofs.Common.{◌≡◌, ◌==◌, ℕ, zero, suc, slice_get, eqb-true, ◌+◌, ◌<◌, ℤ, ◌<ℤ◌, pos, negsuc, List, [], ◌∷◌, map, filter, find, Bool, true, false, cond, ◌||◌, Option, Some, None, option_map, refl, sym, ap, ◌∙◌, arith, Ordering, Less, Equal, Greater, int_cmp, map-id}
 use Rattle.std.specs.List.{list_all, list_any, AllByRecursion}
 use Rattle.std.specs.Prelude.{IfSome, is_some}
@@ -13,26 +13,30 @@ use Rattle.sqlite_value.specs.Order.{Row}
 use Rattle.sqlite_value.proofs.OrderLemmas.{value_cmp-Int}
 use Rattle.sqlite_trees.specs.Tree.{Trees}
 use Rattle.sqlite_sql.specs.Term.{Term, lit, col, holds, eval_all}
-use Rattle.sqlite_sql.specs.Query.{Query, inner, end, IsAnswer, output, output_cmp, page}
+use Rattle.sqlite_sql.specs.Query.{Query, Join, inner, end, IsAnswer, output, output_cmp, page}
 use Rattle.sqlite_keyed.specs.Keyed.{IsKeyedBy}
 use Rattle.sqlite_keyed.specs.Lists.{sort_by}
 use Rattle.sqlite_typed.proofs.AnswerLemmas.{Source, IsNoTie, at_end, last_table, answer_by_keys, answer_sorted}
 use Rattle.desk_rows.specs.Rows.{numbered_from, table_of}
 pub use Rattle.desk_rows.specs.order.LookUps.{zip_from}
 
--- ---- queries over one table
+-- ---- queries
 
--- which rows pass, what is shown of them, in which order, and whether the first alone is asked for
-pub record Asked : Type 0 where
-  pub tree : ℕ
+-- each row of a table beside each of the next
+abbrev pub joined : List ℕ → Join
+joined [] = end
+joined (tree ∷ trees) = inner tree (joined trees)
+
+-- of these tables which rows pass, what is shown of them, in which order, and whether the first alone is asked for
+pub record Asked (trees : List ℕ) : Type 0 where
   pub terms : List Term
   pub project : List Term
   pub order : List (Term × Key)
   pub one : Bool
 
-abbrev pub query_of : Asked → Query
-query_of a = record {
-  from = inner a.tree end;
+abbrev pub query_of : {trees : List ℕ} → Asked trees → Query
+query_of {trees} a = record {
+  from = joined trees;
   filter = a.terms;
   group = None;
   project = a.project;
@@ -50,14 +54,14 @@ abbrev pub falling : Key
 falling = record { collation = Binary; descending = true }
 
 -- all that pass, in the order of their rowids
-abbrev pub by_rowid : ℕ → List Term → List Term → Asked
-by_rowid tree terms project = record { tree = tree; terms = terms; project = project; order = (col 1 0, rising) ∷ []; one = false }
+abbrev pub by_rowid : (tree : ℕ) → List Term → List Term → Asked (tree ∷ [])
+by_rowid tree terms project = record { terms = terms; project = project; order = (col 1 0, rising) ∷ []; one = false }
 
 abbrev pub head : {X : Type 0} → List X → Option X
 head [] = None
 head (x ∷ xs) = Some x
 
-pub page_head : (a : Asked) (params : Row) (l : List Row) → head (page (query_of a) params l) ≡ head l
+pub page_head : {trees : List ℕ} (a : Asked trees) (params : Row) (l : List Row) → head (page (query_of a) params l) ≡ head l
 page_head a params l = go a.one l
   where
     go : (one : Bool) (l : List Row) → head (page (query_of (record a { one = one })) params l) ≡ head l
@@ -102,16 +106,16 @@ find_head p (x ∷ xs) = go (p x) (find_head p xs)
     go true later = refl
     go false later = later
 
--- ---- the answer
+-- ---- the answer of one table
 
-module _ {X : Type 0} (a : Asked) (db : Trees) (cells : X → Row) (xs : List X) (stored : db a.tree ≡ table_of cells xs) (params : Row)
+module _ {tree : ℕ} {X : Type 0} (a : Asked (tree ∷ [])) (db : Trees) (cells : X → Row) (xs : List X) (stored : db tree ≡ table_of cells xs) (params : Row)
     (p : ℕ × X → Bool) (tests : (b : ℕ × X) → list_all (holds (params ∷ encode cells b ∷ [])) a.terms ≡ p b)
     (show : ℕ × X → Row) (shows : (b : ℕ × X) → eval_all a.project (params ∷ encode cells b ∷ []) ≡ show b) where
   abbrev q : Query
   q = query_of a
 
-  abbrev source : Source db (inner a.tree end) (ℕ × X)
-  source = last_table db a.tree (encode cells) (number_of {A = X}) (zip_from 1 xs) (stored ∙ encoded cells 1 xs) (rises 1 xs) (at_end db)
+  abbrev source : Source db (inner tree end) (ℕ × X)
+  source = last_table db tree (encode cells) (number_of {A = X}) (zip_from 1 xs) (stored ∙ encoded cells 1 xs) (rises 1 xs) (at_end db)
 
   -- the order in which the query shows two rows
   abbrev OrdersBy : (ℕ × X → ℕ × X → Ordering) → Type 0

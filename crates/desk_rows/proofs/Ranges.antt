@@ -42,8 +42,8 @@ use Rattle.desk_rows.proofs.Ordered.{Asked, query_of, encode, zip_all, zip_from,
 use Rattle.desk_rows.proofs.QueryLemmas.{fails_leave, shown_leaves}
 
 -- all that pass, in this order
-abbrev pub all_by : ℕ → List Term → List Term → List (Term × Key) → Asked
-all_by tree terms project order = record { tree = tree; terms = terms; project = project; order = order; one = false }
+abbrev pub all_by : (trees : List ℕ) → List Term → List Term → List (Term × Key) → Asked trees
+all_by trees terms project order = record { terms = terms; project = project; order = order; one = false }
 
 -- ---- what is read of the rows
 
@@ -64,10 +64,10 @@ module _ {T Seen : Type 0} (seen : T → Seen) (shows : Seen → Row) (Fits : Se
       shown_among want given row tail fit.1 rest
 
 -- all rows of an answer are those that are wanted
-abbrev pub AreAll : {Seen : Type 0} → Asked → Row → Trees → (Seen → Row) → (Seen → Type 0) → List Seen → Type 0
+abbrev pub AreAll : {trees : List ℕ} {Seen : Type 0} → Asked trees → Row → Trees → (Seen → Row) → (Seen → Type 0) → List Seen → Type 0
 AreAll a params db shows Fits want = AllByRecursion Fits want × ((rows : List Row) → IsAnswer (query_of a) db params rows → rows ≡ map shows want)
 
-module _ {sql : List ℕ} {many : ℕ} {a : Asked} (text : IsLookup sql many a) (params : Row) (old new : State) (has : old.now.schema ≡ desk_schema)
+module _ {sql : List ℕ} {many : ℕ} {trees : List ℕ} {a : Asked trees} (text : IsLookup sql many a) (params : Row) (old new : State) (has : old.now.schema ≡ desk_schema)
     {T Seen : Type 0} (seen : T → Seen) (shows : Seen → Row) (Fits : Seen → Type 0) where
   abbrev End : Result (Vec T Global) RowFault → Type 0
   End = EndsWith sql params old new seen shows Fits
@@ -102,7 +102,7 @@ module _ {sql : List ℕ} {many : ℕ} {a : Asked} (text : IsLookup sql many a) 
           let shown = shown_among seen shows Fits want up.0 up.1 got.0 are.0 (are.1 _ got.1) in
           up.3 shown.0 shown.1 shown.2
 
-pub all_told : {sql : List ℕ} {many : ℕ} {a : Asked} (text : IsLookup sql many a) (params : Row) {old new : State} → many ≡ length params
+pub all_told : {sql : List ℕ} {many : ℕ} {trees : List ℕ} {a : Asked trees} (text : IsLookup sql many a) (params : Row) {old new : State} → many ≡ length params
     → accepts_program desk_schema [] (query_of a) params ≡ true
     → {T Seen : Type 0} {seen : T → Seen} {shows : Seen → Row} {Fits : Seen → Type 0} {result : Result (Vec T Global) RowFault}
     → FindsAll sql params old new seen shows Fits result
@@ -141,21 +141,21 @@ rows_alike {X} order P p q same xs all = ap (sort_by order) (filter_alike (λ (b
 
 -- ---- spans in order of start, then of number
 
-untied : {X : Type 0} (start : X → ℤ) (b c : ℕ × X) → int_cmp (pos b.0) (pos c.0) ≡ Less → IsNoTie (by_start start b c)
+pub untied : {X : Type 0} (start : X → ℤ) (b c : ℕ × X) → int_cmp (pos b.0) (pos c.0) ≡ Less → IsNoTie (by_start start b c)
 untied start b c less = no_tie_after (int_cmp (start b.1) (start c.1)) (no_tie (ap (λ o. ordering_then o Equal) less))
 
 abbrev pub IsSpan : Interval → Type 0
 IsSpan span = IsStart span.start × (span.len < 2 ^ 32)
 
-module _ {sql : List ℕ} {many tree : ℕ} {terms project : List Term} {order : List (Term × Key)} (text : IsLookup sql many (all_by tree terms project order))
+module _ {sql : List ℕ} {many tree : ℕ} {terms project : List Term} {order : List (Term × Key)} (text : IsLookup sql many (all_by (tree ∷ []) terms project order))
     (params : Row) {old new : State}
-    (many_is : many ≡ length params) (typed : accepts_program desk_schema [] (query_of (all_by tree terms project order)) params ≡ true)
+    (many_is : many ≡ length params) (typed : accepts_program desk_schema [] (query_of (all_by (tree ∷ []) terms project order)) params ≡ true)
     {X : Type 0} (cells : X → Row) (xs : Rows → List X) (stored : (r : Rows) → Holds old.now r → overlay old.now.trees [] tree ≡ table_of cells (xs r))
     (p : X → Bool) (tests : (b : ℕ × X) → list_all (holds (params ∷ encode cells b ∷ [])) terms ≡ p b.1)
     (span : X → Interval) (shown : (b : ℕ × X) → eval_all project (params ∷ encode cells b ∷ []) ≡ span_shown (span b.1))
-    (orders : (b c : ℕ × X) → output_cmp (query_of (all_by tree terms project order))
-    (output (query_of (all_by tree terms project order)) (params ∷ encode cells b ∷ []))
-    (output (query_of (all_by tree terms project order)) (params ∷ encode cells c ∷ [])) ≡ by_start (λ x. (span x).start) b c)
+    (orders : (b c : ℕ × X) → output_cmp (query_of (all_by (tree ∷ []) terms project order))
+    (output (query_of (all_by (tree ∷ []) terms project order)) (params ∷ encode cells b ∷ []))
+    (output (query_of (all_by (tree ∷ []) terms project order)) (params ∷ encode cells c ∷ [])) ≡ by_start (λ x. (span x).start) b c)
     (P : X → Type 0) (ranges : (r : Rows) → Holds old.now r → AllByRecursion P (xs r)) (fits : (x : X) → P x → IsSpan (span x)) where
   pub spans_told : {result : Result (Vec Interval Global) RowFault} → FindsAll sql params old new (λ s. s) span_shown IsSpan result
       → Reads old new result (λ r spans. spans.items ≡ spans_by span (by_start (λ x. (span x).start)) p (xs r))
@@ -163,7 +163,7 @@ module _ {sql : List ℕ} {many tree : ℕ} {terms project : List Term} {order :
       (λ r has. (
         all_map (λ (b : ℕ × X). P b.1) IsSpan (λ b. span b.1) (λ b. fits b.1) _
             (rows_all P P (by_start (λ x. (span x).start)) p (λ x fit passes. fit) (xs r) (ranges r has)),
-        λ rows answer. rows_sorted (all_by tree terms project order) (overlay old.now.trees []) cells (xs r) (stored r has) params (λ b. p b.1) tests
+        λ rows answer. rows_sorted (all_by (tree ∷ []) terms project order) (overlay old.now.trees []) cells (xs r) (stored r has) params (λ b. p b.1) tests
             (λ b. span_shown (span b.1)) shown
             (by_start (λ x. (span x).start)) (untied (λ x. (span x).start)) orders rows answer
             ∙ sym (map-map span_shown (λ (b : ℕ × X). span b.1) (rows_by (by_start (λ x. (span x).start)) p (xs r))),

@@ -45,7 +45,7 @@ booking_project = col 1 7 ∷ col 1 8 ∷ []
 abbrev of_text : List ℕ
 of_text = codes "SELECT start, airtime FROM booking WHERE gateway = ?1 AND band = ?2 AND state <> 2 ORDER BY start, number"
 
-of_lookup : IsLookup of_text 2 (all_by 17 (is 3 0 ∷ is 6 1 ∷ undropped ∷ []) booking_project booking_order)
+of_lookup : IsLookup of_text 2 (all_by (17 ∷ []) (is 3 0 ∷ is 6 1 ∷ undropped ∷ []) booking_project booking_order)
 unfolding understood everything
 of_lookup = record { names = _; compiled = _; means = refl; command = refl; plain = (refl, refl); whole = omega arith; given = refl; unlisted = refl }
 
@@ -108,14 +108,14 @@ int_below a b = truth_again _ ∙ ap is_lt (value_cmp-Int a b) ∙ lt_lt a b
 abbrev all_text : List ℕ
 all_text = codes "SELECT start, airtime FROM booking WHERE gateway = ?1 AND start > ?2 AND start < ?3 AND state <> 2 ORDER BY start, number"
 
-all_lookup : IsLookup all_text 3 (all_by 17 (is 3 0 ∷ above 7 1 ∷ below 7 2 ∷ undropped ∷ []) booking_project booking_order)
+all_lookup : IsLookup all_text 3 (all_by (17 ∷ []) (is 3 0 ∷ above 7 1 ∷ below 7 2 ∷ undropped ∷ []) booking_project booking_order)
 unfolding understood everything
 all_lookup = record { names = _; compiled = _; means = refl; command = refl; plain = (refl, refl); whole = omega arith; given = refl; unlisted = refl }
 
 abbrev one_text : List ℕ
 one_text = codes "SELECT start, airtime FROM booking WHERE gateway = ?1 AND start > ?2 AND start < ?3 AND band = ?4 AND state <> 2 ORDER BY start, number"
 
-one_lookup : IsLookup one_text 4 (all_by 17 (is 3 0 ∷ above 7 1 ∷ below 7 2 ∷ is 6 3 ∷ undropped ∷ []) booking_project booking_order)
+one_lookup : IsLookup one_text 4 (all_by (17 ∷ []) (is 3 0 ∷ above 7 1 ∷ below 7 2 ∷ is 6 3 ∷ undropped ∷ []) booking_project booking_order)
 unfolding understood everything
 one_lookup = record { names = _; compiled = _; means = refl; command = refl; plain = (refl, refl); whole = omega arith; given = refl; unlisted = refl }
 

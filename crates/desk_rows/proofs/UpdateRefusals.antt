@@ -63,7 +63,7 @@ module _ (old : State) (params : Row) (at : ℕ) (table : Table) (terms project 
   updates stop e some (inl (None, queried, eq)) = absurd queried
   updates stop e some (inl (Some s, inl mistyped, eq)) = absurd (true≢false (sym typed ∙ mistyped.1))
   updates stop e some (inl (Some s, inr (inl over), eq)) =
-      absurd (elim over.1 [ inl none ↦ none | inr folds ↦ fold_stays (overlay old.now.trees []) params table.tree folds ])
+      absurd (elim over.1 [ inl none ↦ none | inr folds ↦ fold_stays (overlay old.now.trees []) (table.tree ∷ []) (params ∷ []) folds ])
   updates stop e some (inl (Some s, inr (inr limited), eq)) = absurd (unset old.step_limit unlimited limited.1)
   updates stop e some (inr (rows, given, inl (s, edits, eq))) =
       elim edits.1 [

@@ -36,5 +36,5 @@ pub use senders::{insert_sender, role_of};
 pub use sessions::{
     insert_session, last_nonce, last_session, next_down, session, session_with, set_next_down,
 };
-pub use spans::{bookings_of, near};
+pub use spans::{bookings_of, near, uplinks_of};
 pub use uplinks::{insert_uplink, last_counter, last_uplink, uplink, uplink_with};

@@ -1,20 +1,21 @@
-//! When downlinks are on the air.
+//! When uplinks and downlinks are on the air.
 ghost use Rattle.std.specs.Prelude.{◌≡◌, ◌&&◌, ◌<◌, ◌^◌, pos};
 ghost use Rattle.sqlite.specs.Held.{state};
 ghost use Rattle.duty_core.specs.Near.{starts_between};
 ghost use Rattle.duty_core.specs.Range.{IsStart};
 ghost use Rattle.duty_core.specs.Use.{Interval};
 ghost use Rattle.registry_core.specs.Bookings.{stands_at, stands_in};
+ghost use Rattle.registry_core.specs.Reports.{interval_of};
 ghost use Rattle.desk_rows.specs.Calls.{Reads};
-ghost use Rattle.desk_rows.specs.order.Arranged.{booking_span, by_start, is_near_at, spans_by};
+ghost use Rattle.desk_rows.specs.order.Arranged.{booking_span, by_start, is_near_at, is_uplink_of, spans_by};
 ghost use Rattle.desk_rows.specs.steps.Shown.{span_shown};
 
 use crate::columns::span_at;
 use crate::faults::RowFault;
 use crate::queries::{FromRow, find_all};
-use crate::values::{band, integer, text};
+use crate::values::{band, blob, integer, octets_of, text};
 use duty_core::{NearRange, Span, near_range};
-use radio_core::{Band, Name};
+use radio_core::{Band, Eui, Name};
 use sqlite::{Alter, Connection, Row};
 use std::alloc::Global;
 
@@ -108,4 +109,26 @@ pub fn near<S: Alter>(
         Some(of) => near_in_one(alloc, conn, gateway, of, range),
         None => near_in_all(alloc, conn, gateway, range),
     }
+}
+
+/// When the device's uplinks in the band were on the air that start from the one time on and before the other, in microseconds
+/// since 1970 UTC, in order of start: equal starts in order of number.
+pub fn uplinks_of<S: Alter>(
+    alloc: Global,
+    conn: &mut Connection<S>,
+    device: Eui,
+    of: Band,
+    from: i64,
+    to: i64,
+) -> Result<Vec<Span>, RowFault>
+    ensures { Reads (state S.Store conn.old) (state S.Store conn.new) result
+        (λ r spans. spans.items ≡ spans_by interval_of (by_start (λ u. (interval_of u).start)) (is_uplink_of r.sessions device of from to) r.uplinks) }
+{
+    let eui = octets_of(device);
+    find_all(
+        alloc,
+        conn,
+        "SELECT uplink.start, uplink.airtime FROM session JOIN uplink ON uplink.session = session.number WHERE session.device = ?1 AND uplink.start >= ?2 AND uplink.start < ?3 AND uplink.band = ?4 ORDER BY uplink.start, uplink.number",
+        &[blob(&eui), integer(from), integer(to), band(of)],
+    )
 }

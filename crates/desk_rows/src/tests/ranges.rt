@@ -1,6 +1,6 @@
 //! Queries of many rows, and the next device.
 use crate::tests::{Conn, filled, name};
-use crate::{RowFault, bookings_of, near, next_device};
+use crate::{RowFault, bookings_of, near, next_device, uplinks_of};
 use duty_core::Span;
 use radio_core::{Band, Eui};
 use sqlite::Connection;
@@ -66,13 +66,44 @@ fn near_ones_are_in_order(alloc: Global, conn: &mut Conn) -> Result<bool, &'stat
     Ok(are(&five, &in_band) && are(&all, &wanted))
 }
 
+/// Beside the uplink of 1,706,745,600,000,000: one of the device's next session that starts with it, one a microsecond later
+/// and one where the time ends, one before it, one in another band and one of another device.
+fn more_uplinks(conn: &mut Conn) -> Result<(), Fail> {
+    conn.execute_batch(
+        "INSERT INTO session (device, nonce, next_down) VALUES (x'0000000000000008', 4, 0), (x'0000000000000009', 4, 0)",
+    )?;
+    conn.execute_batch(
+        "INSERT INTO uplink (session, kind, counter, octets, start, airtime, band) VALUES (2, 0, 4, x'00', 1706745600000000, 2, 3), (1, 1, 8, x'40', 1706745600000001, 3, 3), (2, 1, 1, x'40', 1706745600000002, 4, 3), (2, 1, 2, x'40', 1706745599999999, 5, 3), (1, 1, 9, x'40', 1706745600000001, 6, 4), (3, 1, 1, x'40', 1706745600000001, 7, 3)",
+    )?;
+    Ok(())
+}
+
+fn uplinks_are_in_order(alloc: Global, conn: &mut Conn) -> bool {
+    let found = uplinks_of(
+        alloc,
+        conn,
+        Eui::new(8),
+        Band::B3,
+        1_706_745_600_000_000,
+        1_706_745_600_000_002,
+    );
+    let wanted = [
+        (1_706_745_600_000_000, 61_696),
+        (1_706_745_600_000_000, 2),
+        (1_706_745_600_000_001, 3),
+    ];
+    are(&found, &wanted)
+}
+
 #[test]
-fn bookings_are_told_in_order_of_start(rt: HostRuntime) -> Result<(), Fail> {
+fn spans_are_told_in_order_of_start(rt: HostRuntime) -> Result<(), Fail> {
     let mut conn = Connection::open_in_memory(rt.alloc())?;
     filled(&mut conn)?;
     more_bookings(&mut conn)?;
+    more_uplinks(&mut conn)?;
     assert!(rt; bookings_are_in_order(rt.alloc(), &mut conn)?);
     assert!(rt; near_ones_are_in_order(rt.alloc(), &mut conn)?);
+    assert!(rt; uplinks_are_in_order(rt.alloc(), &mut conn));
     Ok(())
 }
 
