@@ -14,10 +14,12 @@ mod spans;
 mod uplinks;
 
 use crate::tables::Tables;
-use desk_store::StoreFault;
-use radio_core::Eui;
-use registry_core::Uplink;
+use desk_store::{Counts, Looks, StoreFault, Texts};
+use duty_core::Span;
+use radio_core::{Band, Eui, Name};
+use registry_core::{Booking, Config, Device, Envelope, Reception, Role, Session, Uplink};
 use sqlite::Alter;
+use std::alloc::Global;
 
 #[tactic(auto, using(crate::proofs::LookUps::read_told, crate::proofs::LookUps::kept_told))]
 impl<S: Alter> Tables<S> {
@@ -41,6 +43,160 @@ impl<S: Alter> Tables<S> {
     {
         self.up()?;
         let answer = uplinks::join_of(&mut self.conn, session, nonce);
+        self.tell(answer)
+    }
+}
+
+#[tactic(auto, using(crate::proofs::LookUps::read_told, crate::proofs::LookUps::kept_told))]
+impl<S: Alter> Looks for Tables<S> {
+    ghost meaning = { meaning_of S.Store };
+
+    fn config(&self) -> &Config {
+        &self.config
+    }
+
+    fn alloc(&self) -> Global {
+        self.alloc
+    }
+
+    fn role_of(&mut self, name: &Name) -> Result<Option<Role>, StoreFault> {
+        self.up()?;
+        let answer = names::role_of(&mut self.conn, name);
+        self.tell(answer)
+    }
+
+    fn texts_of(&mut self, envelope: &Envelope) -> Result<Option<Texts>, StoreFault> {
+        self.up()?;
+        let answer = names::texts_of(&mut self.conn, envelope);
+        self.tell(answer)
+    }
+
+    fn has_owner(&mut self, name: &Name) -> Result<bool, StoreFault> {
+        self.up()?;
+        let answer = names::has_owner(&mut self.conn, name);
+        self.tell(answer)
+    }
+
+    fn has_gateway(&mut self, name: &Name) -> Result<bool, StoreFault> {
+        self.up()?;
+        let answer = names::has_gateway(&mut self.conn, name);
+        self.tell(answer)
+    }
+
+    fn device(&mut self, dev_eui: Eui) -> Result<Option<Device>, StoreFault> {
+        self.up()?;
+        let answer = devices::device(&mut self.conn, dev_eui);
+        self.tell(answer)
+    }
+
+    fn last_nonce(&mut self, device: Eui) -> Result<Option<u16>, StoreFault> {
+        self.up()?;
+        let answer = devices::last_nonce(&mut self.conn, device);
+        self.tell(answer)
+    }
+
+    fn session(&mut self, number: u64) -> Result<Option<Session>, StoreFault> {
+        self.up()?;
+        let answer = sessions::session(&mut self.conn, number);
+        self.tell(answer)
+    }
+
+    fn last_counter(&mut self, session: u64) -> Result<Option<u32>, StoreFault> {
+        self.up()?;
+        let answer = sessions::last_counter(&mut self.conn, session);
+        self.tell(answer)
+    }
+
+    fn is_below_floor(&mut self, device: Eui, session: u64) -> Result<bool, StoreFault> {
+        self.up()?;
+        let answer = devices::is_below_floor(&mut self.conn, device, session);
+        self.tell(answer)
+    }
+
+    fn join_with(&mut self, device: Eui, nonce: u16) -> Result<Option<(u64, Uplink)>, StoreFault> {
+        match self.session_joined(device, nonce)? {
+            Some(session) => self.join_of(session, nonce),
+            None => Ok(None),
+        }
+    }
+
+    fn data_with(
+        &mut self,
+        session: u64,
+        counter: u32,
+    ) -> Result<Option<(u64, Uplink)>, StoreFault> {
+        self.up()?;
+        let answer = sessions::data_with(&mut self.conn, session, counter);
+        self.tell(answer)
+    }
+
+    fn uplink(&mut self, number: u64) -> Result<Option<Uplink>, StoreFault> {
+        self.up()?;
+        let answer = uplinks::uplink(&mut self.conn, number);
+        self.tell(answer)
+    }
+
+    fn copy_at(&mut self, uplink: u64, gateway: &Name) -> Result<Option<Reception>, StoreFault> {
+        self.up()?;
+        let answer = uplinks::copy_at(&mut self.conn, uplink, gateway);
+        self.tell(answer)
+    }
+
+    fn is_answered(&mut self, uplink: u64) -> Result<bool, StoreFault> {
+        self.up()?;
+        let answer = uplinks::is_answered(&mut self.conn, uplink);
+        self.tell(answer)
+    }
+
+    fn next_down(&mut self, session: u64) -> Result<u64, StoreFault> {
+        self.up()?;
+        let answer = sessions::next_down(&mut self.conn, session);
+        self.tell(answer)
+    }
+
+    fn booking(&mut self, number: u64) -> Result<Option<Booking>, StoreFault> {
+        self.up()?;
+        let answer = uplinks::booking(&mut self.conn, number);
+        self.tell(answer)
+    }
+
+    fn near(
+        &mut self,
+        gateway: &Name,
+        band: Option<Band>,
+        start: u64,
+    ) -> Result<Vec<Span>, StoreFault> {
+        self.up()?;
+        let answer = spans::near(self.alloc, &mut self.conn, gateway, band, start);
+        self.tell(answer)
+    }
+
+    fn counts(&mut self) -> Result<Counts, StoreFault> {
+        self.up()?;
+        Ok(self.counts)
+    }
+
+    fn next_device(&mut self, owner: &Name, after: Option<Eui>) -> Result<Option<Eui>, StoreFault> {
+        self.up()?;
+        let answer = devices::next_device(&mut self.conn, owner, after);
+        self.tell(answer)
+    }
+
+    fn uplinks_of(
+        &mut self,
+        device: Eui,
+        band: Band,
+        from: i64,
+        to: i64,
+    ) -> Result<Vec<Span>, StoreFault> {
+        self.up()?;
+        let answer = spans::uplinks_of(self.alloc, &mut self.conn, device, band, from, to);
+        self.tell(answer)
+    }
+
+    fn bookings_of(&mut self, gateway: &Name, band: Band) -> Result<Vec<Span>, StoreFault> {
+        self.up()?;
+        let answer = spans::bookings_of(self.alloc, &mut self.conn, gateway, band);
         self.tell(answer)
     }
 }

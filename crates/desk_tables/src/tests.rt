@@ -1,3 +1,4 @@
 //! Tests over a connection in memory.
 mod committing;
+mod looks;
 mod opening;

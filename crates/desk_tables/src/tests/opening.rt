@@ -56,7 +56,7 @@ fn a_new_desk_is_opened(rt: HostRuntime) -> Result<(), Fail> {
     Ok(())
 }
 
-fn created(alloc: Global, conn: Conn) -> Result<Tables<MemStore>, StoreFault> {
+pub(crate) fn created(alloc: Global, conn: Conn) -> Result<Tables<MemStore>, StoreFault> {
     let mut conn = conn;
     conn.set_step_limit(None);
     match town() {
