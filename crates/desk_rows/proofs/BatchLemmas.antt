@@ -1,90 +1,16 @@
--- What a batch of CREATEs makes.
-use Rattle.std.proofs.Common.{◌≡◌, ◌≢◌, inl, inr, ℕ, zero, suc, List, [], ◌∷◌, ◌++◌, take, drop, slice_get, true, false, IsTrue, Some, None, Ok, refl, sym, ap, subst, subst₂, ◌∙◌}
-use Rattle.std.specs.List.{AllByRecursion}
-use Rattle.std.proofs.lemmas.Bool.{cases_Bool}
-use Rattle.sqlite_trees.specs.Tree.{Trees}
+-- What a batch of CREATEs makes, and that none of them is refused.
+use Rattle.std.proofs.Common.{◌≡◌, ◌≢◌, inl, inr, ℕ, zero, suc, List, [], ◌∷◌, take, drop, true, IsTrue, Some, Ok, Err, refl, sym, ap, subst, ◌∙◌}
 use Rattle.sqlite_trees.specs.declared.store.Store.{Ghosts}
-use Rattle.sqlite_schema.specs.declared.schema.Table.{Table}
-use Rattle.sqlite_schema.specs.declared.schema.Index.{Index}
 use Rattle.sqlite_schema.specs.declared.schema.Schema.{Schema}
-use Rattle.sqlite_resolve.specs.Compile.{table_defined_by, index_defined_by}
-use Rattle.sqlite_catalog.specs.Change.{created, indexed, next_tree, KeepsRows}
-use Rattle.sqlite.specs.Command.{Command}
-use Rattle.sqlite.specs.Command.TheVariants.{CreateTable, CreateIndex}
-use Rattle.sqlite.specs.Effect.{Database, IsDatabase}
-use Rattle.sqlite.specs.Does.{Tally, Does, AtPlace, Defines, MakesIndex, lacks_sequence}
-use Rattle.sqlite.specs.Listing.{understood}
-use Rattle.sqlite.specs.Clock.{timed}
-use Rattle.sqlite.specs.State.{State, Runs, ExecutesIn, text_of, shows_rows, mode_of}
+use Rattle.sqlite.specs.Effect.{IsDatabase}
+use Rattle.sqlite.specs.State.{ExecutesIn, EndsScope}
 use Rattle.sqlite.specs.Held.{Held, state}
 use Rattle.sqlite.specs.Batch.{RunInTurn, first_len}
-use Rattle.sqlite.proofs.Callers.{IsPlain, command_of, statement_of}
+use Rattle.sqlite.specs.declared.error.Error.{Error}
+use Rattle.desk_rows.specs.Faults.{fault_of}
 use Rattle.desk_rows.specs.Making.{IsEmptied}
-use Rattle.desk_rows.proofs.InsertLemmas.{went, same_value}
-
-module _ (sql : List ℕ) (old new : State) (schema : Schema) (has : old.now.schema ≡ schema) (command : Command) (is : command_of (understood schema sql) ≡ command)
-    (plain : IsPlain (understood schema sql)) where
-  ran_as : (count : ℕ) → ExecutesIn true sql [] old new (Ok count) → Runs old new None command (statement_of sql (understood schema sql)) [] count
-  unfolding ExecutesIn
-  ran_as count h =
-      let known = sym h.1.is ∙ ap (λ s. understood s sql) has in
-      let bare = subst IsPlain (sym known) plain in
-      let ran : Runs old new h.0.returning h.0.command (text_of sql h.0) (timed [] h.0.formats h.1.now) count = elim (cases_Bool (shows_rows true h.0)) [
-        | inl shows ↦ absurd (let e = (rw shows at h.2).0 in cc)
-        | inr runs ↦ rw runs at h.2
-      ] in
-      subst₂ (λ k t. Runs old new None k t [] count) (ap command_of known ∙ is) (ap (statement_of sql) known) (rw (bare.0, bare.1) at ran)
-
--- from tables that are all empty, of the one schema, to such tables of the other, over a store that is open
-abbrev pub Leads : List ℕ → Schema → Schema → Type 1
-Leads sql before after = (old new : State) (count : ℕ) → old.now.schema ≡ before → IsEmptied old.now → ExecutesIn true sql [] old new (Ok count)
-    → (new.now.schema ≡ after) × IsEmptied new.now × IsDatabase new.now × IsTrue new.is_open
-
-still_empty : (old new : Trees) (tables : List Table) → KeepsRows tables old new → AllByRecursion (λ t. old t.tree ≡ []) tables → AllByRecursion (λ t. new t.tree ≡ []) tables
-still_empty old new [] kept all = tt
-still_empty old new (t ∷ tables) kept all = (kept.0 ∙ all.0, still_empty old new tables kept.1 all.1)
-
-one_more : (trees : Trees) (table : Table) (tables : List Table) → AllByRecursion (λ t. trees t.tree ≡ []) tables → trees table.tree ≡ [] → AllByRecursion (λ t. trees t.tree ≡ []) (tables ++ table ∷ [])
-one_more trees table [] all one = (one, tt)
-one_more trees table (t ∷ tables) all one = (all.0, one_more trees table tables all.1 one)
-
-pub table_leads : (sql : List ℕ) (before : Schema) (table : Table) → command_of (understood before sql) ≡ CreateTable → IsPlain (understood before sql)
-    → table_defined_by (statement_of sql (understood before sql)) ≡ Ok table → lacks_sequence (created before table) ≡ false → Leads sql before (created before table)
-table_leads sql before table is plain means counted old new count has empty h =
-    let w = ran_as sql old new before has CreateTable is plain count h in
-    let all = went w.changed in
-    let first = went all.1 in
-    let made = first.1 in
-    let both : Ok made.table ≡ Ok table = sym made.defined ∙ means in
-    let same : made.table ≡ table = cc in
-    let schema : first.0.schema ≡ created before table = made.is ∙ ap (λ s. created s made.table) has ∙ ap (created before) same in
-    let plain : lacks_sequence first.0.schema ≡ false = ap lacks_sequence schema ∙ counted in
-    let now : new.now ≡ first.0 = ap (λ (p : Tally × Database). p.1) (same_value all.2) ∙ same_value (rw plain at first.2) in
-    let old_ones = still_empty old.now.trees first.0.trees old.now.schema.tables made.others empty in
-    let listed = subst (λ (s : Schema). AllByRecursion (λ t. first.0.trees t.tree ≡ []) s.tables) has old_ones in
-    let new_one = subst (λ s. first.0.trees (next_tree s) ≡ []) has made.empty in
-    let every : AllByRecursion (λ t. first.0.trees t.tree ≡ []) (created before table).tables = one_more first.0.trees (record table { tree = next_tree before }) before.tables listed new_one in
-    let emptied : IsEmptied first.0 = subst (λ (s : Schema). AllByRecursion (λ t. first.0.trees t.tree ≡ []) s.tables) (sym schema) every in
-    (ap (λ (d : Database). d.schema) now ∙ schema, subst IsEmptied (sym now) emptied, w.sound, w.shown.is_open)
-
-pub index_leads : (sql : List ℕ) (before : Schema) (at : ℕ) (table : Table) (index : Index) → command_of (understood before sql) ≡ CreateIndex at → slice_get before.tables at ≡ Some table
-    → IsPlain (understood before sql) → index_defined_by table (statement_of sql (understood before sql)) ≡ Ok index → Leads sql before (indexed before table index)
-index_leads sql before at table index is there plain means old new count has empty h =
-    let w = ran_as sql old new before has (CreateIndex at) is plain count h in
-    let text = statement_of sql (understood before sql) in
-    let does = subst (λ s. Does old.step_limit (mode_of old) [] (record old.now { schema = s }) text None (CreateIndex at) (Ok (w.tally, new.now))) has w.changed in
-    let db : Database = record old.now { schema = before } in
-    let found = subst (λ o. AtPlace (λ t. Defines (mode_of old) (MakesIndex text db t)) o (Ok (w.tally, new.now))) there does in
-    let all = went found in
-    let made = all.1 in
-    let both : Ok made.index ≡ Ok index = sym made.defined ∙ means in
-    let same : made.index ≡ index = cc in
-    let schema : all.0.schema ≡ indexed before table index = made.is ∙ ap (indexed before table) same in
-    let now : new.now ≡ all.0 = ap (λ (p : Tally × Database). p.1) (same_value all.2) in
-    let listed = subst (λ (s : Schema). AllByRecursion (λ t. old.now.trees t.tree ≡ []) s.tables) has empty in
-    let every = still_empty old.now.trees all.0.trees before.tables made.rows listed in
-    let emptied : IsEmptied all.0 = subst (λ (s : Schema). AllByRecursion (λ t. all.0.trees t.tree ≡ []) s.tables) (sym schema) every in
-    (ap (λ (d : Database). d.schema) now ∙ schema, subst IsEmptied (sym now) emptied, w.sound, w.shown.is_open)
+use Rattle.desk_rows.specs.declared.faults.RowFault.TheVariants.{Refused}
+use Rattle.desk_rows.proofs.BatchSteps.{IsStep, Leads}
 
 -- ---- one after the other
 
@@ -131,3 +57,28 @@ starts text first rest before mid after begins leads later S g most old new has 
     let ran = one_ran g most text first rest old new begins h in
     let did = leads (state g old) (state g ran.0) ran.1 has empty ran.3 in
     later S g ran.2 ran.0 new did.0 did.1 did.2 did.3 ran.4
+
+-- ---- none of them is refused
+
+-- run in turn inside a transaction, from empty tables of the schema, none is told as Refused
+abbrev pub IsNeverRefused : List ℕ → Schema → Type 1
+IsNeverRefused text before = (S : Type 0) (g : Ghosts S) (most : ℕ) (old new : Held S) (e : Error) → (state g old).now.schema ≡ before → IsEmptied (state g old).now
+    → IsTrue old.in_transaction → fault_of e ≡ Refused → RunInTurn g (Some 0) most text old new (Err e) → ⊥
+
+pub none_refused : (schema : Schema) → IsNeverRefused [] schema
+none_refused schema S g most old new e has empty inside told h = let failed = h.0 in cc
+
+pub first_spared : (text first rest : List ℕ) (before mid : Schema) → Begins text first rest → IsStep first before mid → IsNeverRefused rest mid → IsNeverRefused text before
+first_spared [] first rest before mid begins step later S g most old new e has empty inside told h = begins.some refl
+first_spared (b ∷ more) first rest before mid begins step later S g zero old new e has empty inside told h = h
+first_spared (b ∷ more) first rest before mid begins step later S g (suc most) old new e has empty inside told (inl (why, failed, inl ran)) =
+    let same : e ≡ why = cc in
+    step.spared.runs (state g old) (state g new) why has empty (ap fault_of (sym same) ∙ told)
+    (subst (λ t. ExecutesIn true t [] (state g old) (state g new) (Err why)) begins.first_is ran.runs)
+first_spared (b ∷ more) first rest before mid begins step later S g (suc most) old new e has empty inside told (inl (why, failed, inr (is, inl ends))) =
+    step.spared.stays (state g old) has (subst (λ t. EndsScope 0 t [] (state g old)) begins.first_is ends.0)
+first_spared (b ∷ more) first rest before mid begins step later S g (suc most) old new e has empty inside told (inl (why, failed, inr (is, inr idle))) =
+    let out = idle.0 in let e = rw out at inside in cc
+first_spared (b ∷ more) first rest before mid begins step later S g (suc most) old new e has empty inside told (inr (on, count, ran, others, stays)) =
+    let did = step.leads (state g old) (state g on) count has empty (subst (λ t. ExecutesIn true t [] (state g old) (state g on) (Ok count)) begins.first_is ran.runs) in
+    later S g most on new e did.0 did.1 stays.0 told (subst (λ t. RunInTurn g (Some 0) most t on new (Err e)) begins.rest_is others)

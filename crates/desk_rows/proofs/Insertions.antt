@@ -47,7 +47,8 @@ use Rattle.desk_rows.specs.declared.faults.RowFault.{RowFault}
 use Rattle.desk_rows.proofs.InsertLemmas.{uncounted, inserted}
 use Rattle.desk_rows.proofs.NumberedLemmas.{ints_rise, next_is, put_next}
 use Rattle.desk_rows.proofs.ReadLemmas.{truth_again}
-use Rattle.desk_rows.proofs.RefusedLemmas.{in_order_unless, insert_cause, insert_writes}
+use Rattle.desk_rows.proofs.RefusedLemmas.{in_order_unless, insert_cause}
+use Rattle.desk_rows.proofs.TurnedDown.{insert_writes}
 
 -- the text is an INSERT of one row, with so many parameters
 pub record IsInsert (sql : List ℕ) (many at : ℕ) (terms : List Term) (width : ℕ) : Type 0 where

@@ -1,8 +1,10 @@
 pub mod AllRows
 pub mod BatchLemmas
 pub mod Beside
+pub mod BatchSteps
 pub mod ByKey
 pub mod ChangedRows
+pub mod CreateRefusals
 pub mod DeviceUpdates
 pub mod FaultLemmas
 pub mod InsertLemmas
@@ -24,10 +26,12 @@ pub mod QueryLemmas
 pub mod Ranges
 pub mod ReadLemmas
 pub mod RefusedLemmas
+pub mod SchemaBatch
 pub mod SchemaTexts
 pub mod SpanQueries
 pub mod Tables
 pub mod Terms
+pub mod TurnedDown
 pub mod Unrefused
 pub mod UpdateLemmas
 pub mod UpdateRefusals

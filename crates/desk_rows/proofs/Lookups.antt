@@ -34,7 +34,8 @@ use Rattle.desk_rows.specs.declared.faults.RowFault.{RowFault}
 use Rattle.desk_rows.specs.declared.faults.RowFault.TheVariants.{Memory, Disk, Size, Row as OutOfShape, Refused}
 use Rattle.desk_rows.proofs.QueryLemmas.{shows_none, found_leaves}
 use Rattle.desk_rows.proofs.FaultLemmas.{not_row}
-use Rattle.desk_rows.proofs.RefusedLemmas.{told_else, unset}
+use Rattle.desk_rows.proofs.FaultLemmas.{told_else}
+use Rattle.desk_rows.proofs.RefusedLemmas.{unset}
 
 -- the text is one such query, with so many parameters
 pub record IsLookup (sql : List ℕ) (many : ℕ) {trees : List ℕ} (a : Asked trees) : Type 0 where

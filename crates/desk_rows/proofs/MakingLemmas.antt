@@ -1,5 +1,5 @@
 -- The tables after the batch, and after the first row.
-use Rattle.std.proofs.Common.{◌≡◌, ◌∙◌, ℕ, pos, List, [], ◌∷◌, codes, length, None, Ok, Result, OnOk, IfErr, refl, sym, subst, arith, inl}
+use Rattle.std.proofs.Common.{◌≡◌, ◌∙◌, ℕ, pos, List, [], ◌∷◌, codes, length, None, Ok, Err, Result, OnOk, IfErr, refl, sym, subst, arith, inl}
 use Rattle.std.specs.List.{AllByRecursion}
 use Rattle.sqlite_value.specs.declared.value.Value.TheVariants.{Null, Int, Text}
 use Rattle.sqlite_value.specs.Order.{Row}
@@ -11,12 +11,13 @@ use Rattle.sqlite_rules.specs.Cast.{cast_row}
 use Rattle.sqlite.specs.Effect.{Database}
 use Rattle.sqlite.specs.Batch.{ExecutesAllInside}
 use Rattle.sqlite.specs.Held.{Held, state}
+use Rattle.sqlite.specs.declared.error.Error.{Error}
 use Rattle.sqlite.specs.Listing.{understood}
 use Rattle.sqlite.specs.State.{State, HasCleanDisk, Executes}
 use Rattle.sqlite_tied.specs.Compute.{everything}
 use Rattle.registry_core.specs.Settings.{Settings}
 use Rattle.std.specs.Prelude.{IsTrue}
-use Rattle.desk_rows.specs.Faults.{IsEven}
+use Rattle.desk_rows.specs.Faults.{IsEven, fault_of}
 use Rattle.desk_rows.specs.Making.{IsBare, IsEmptied, settings_rows}
 use Rattle.desk_rows.specs.Rows.{Holds, meta_cells, number}
 use Rattle.desk_rows.specs.Schema.{desk_tables, meta_table, no_schema}
@@ -24,7 +25,8 @@ use Rattle.desk_rows.specs.steps.Statements.{HasWritten}
 use Rattle.desk_rows.specs.declared.faults.RowFault.{RowFault}
 use Rattle.desk_rows.proofs.InsertLemmas.{cast_null, cast_int, uncounted}
 use Rattle.desk_rows.proofs.Insertions.{IsInsert, row_added, insert_in_order, ran_well}
-use Rattle.desk_rows.proofs.SchemaTexts.{from_meta, makes_all}
+use Rattle.desk_rows.proofs.SchemaBatch.{from_meta, makes_all, never_refused}
+use Rattle.desk_rows.proofs.FaultLemmas.{even_unless}
 
 pub tables_made : {S : Type 0} (g : Ghosts S) (old new : Held S) → ExecutesAllInside g 0 from_meta old new (Ok tt) → (state g old).now.schema ≡ no_schema → IsBare (state g new).now × IsTrue (state g new).is_open
 unfolding ExecutesAllInside
@@ -32,6 +34,13 @@ tables_made {S} g old new ran has =
     let none : IsEmptied (state g old).now = subst (λ (s : Schema). AllByRecursion (λ t. (state g old).now.trees t.tree ≡ []) s.tables) (sym has) tt in
     let all = makes_all S g (length from_meta) old new has none ran in
     (record { schema = all.0; sound = all.2; empty = all.1 }, all.3)
+
+pub tables_refused : {S : Type 0} (g : Ghosts S) (old new : Held S) (e : Error) → ExecutesAllInside g 0 from_meta old new (Err e) → (state g old).now.schema ≡ no_schema
+    → IsTrue old.in_transaction → IsEven (fault_of e)
+unfolding ExecutesAllInside
+tables_refused {S} g old new e ran has inside =
+    let none : IsEmptied (state g old).now = subst (λ (s : Schema). AllByRecursion (λ t. (state g old).now.trees t.tree ≡ []) s.tables) (sym has) tt in
+    even_unless e (λ told. never_refused S g (length from_meta) old new e has none inside told ran)
 
 abbrev meta_text : List ℕ
 meta_text = codes "INSERT INTO meta (version, receiver, operator, base, addresses) VALUES (1, ?1, ?2, ?3, ?4)"

@@ -1,11 +1,9 @@
--- Why a statement that writes rows is refused, and an INSERT of one row.
+-- A statement that writes rows inside a transaction, and why an INSERT of one row is refused.
 use Rattle.std.proofs.Common.{◌≡◌, inl, inr, ℕ, zero, suc, ◌≤◌, ◌/◌, List, [], ◌∷◌, length, length-append, slice_get, true, false, Option, Some, None, option_map, Ok, Err, Result, IfErr, refl, sym, ap, subst, ◌∙◌, append-nil, arith}
-use Rattle.std.specs.Prelude.{IsSome, MatchBool}
+use Rattle.std.specs.Prelude.{IsSome}
 use Rattle.std.specs.List.{AllByRecursion}
 use Rattle.sqlite_value.specs.Order.{Row}
 use Rattle.sqlite_trees.specs.Tree.{Trees}
-use Rattle.sqlite_trees.specs.declared.error.StoreError.{StoreError}
-use Rattle.sqlite_trees.specs.declared.error.StoreError.TheVariants.{OutOfMemory, Io, Corrupt, Full, Broken, Unstorable}
 use Rattle.sqlite_sql.specs.Term.{Term}
 use Rattle.sqlite_typing.specs.Types.{accepts_terms}
 use Rattle.sqlite_schema.specs.declared.schema.Table.{Table}
@@ -13,39 +11,28 @@ use Rattle.sqlite_schema.specs.declared.schema.Among.{Among}
 use Rattle.sqlite_schema.specs.declared.schema.Among.TheVariants.{All}
 use Rattle.sqlite_schema.specs.declared.schema.Keys.TheVariants.{Enforced}
 use Rattle.sqlite_schema.specs.Rules.{Refers}
-use Rattle.sqlite_schema.specs.declared.command.Source.{Source}
-use Rattle.sqlite_schema.specs.declared.program.Program.{Program}
 use Rattle.sqlite_resolve.specs.declared.compiled.Compiled.{Compiled}
-use Rattle.sqlite_resolve.specs.declared.error.CompileError.{CompileError}
-use Rattle.sqlite.specs.declared.error.Error.TheVariants.{ExecuteReturnedResults}
 use Rattle.sqlite_rules.specs.declared.error.Refusal.{Refusal}
 use Rattle.sqlite_rules.specs.declared.error.Rowids.TheVariants.{Chosen}
 use Rattle.sqlite_rules.specs.Edit.{edit_of, IsRefused}
 use Rattle.sqlite_rules.specs.Action.{Leads}
 use Rattle.sqlite.specs.Command.{Command}
-use Rattle.sqlite.specs.Command.TheVariants.{Insert, Update}
+use Rattle.sqlite.specs.Command.TheVariants.{Insert}
 use Rattle.sqlite.specs.Source.TheVariants.{Values}
-use Rattle.sqlite.specs.Effect.{edit_error, is_query, value_rows}
+use Rattle.sqlite.specs.Effect.{edit_error, value_rows}
 use Rattle.sqlite.specs.Does.{Does, AtPlace, OnRows}
 use Rattle.sqlite.specs.Rows.{Task, Inserts}
 use Rattle.sqlite.specs.declared.error.Error.{Error}
 use Rattle.sqlite.specs.Listing.{understood}
-use Rattle.sqlite.specs.Clock.{timed}
-use Rattle.sqlite.specs.State.{State, mode_of, Executes, ExecutesIn, ExecutesInside, EndsScope, Escapes, IsMisplaced, IsNoStatement, IsNotRun, IsUnchanged, RunsCommand, is_pragma, text_of, shows_rows, store_error}
+use Rattle.sqlite.specs.State.{State, mode_of, ExecutesInside}
 use Rattle.desk_rows.specs.Schema.{desk_schema, desk_tables}
 use Rattle.desk_rows.specs.Faults.{IsEven, fault_of}
 use Rattle.desk_rows.specs.declared.faults.RowFault.{RowFault}
 use Rattle.desk_rows.specs.declared.faults.RowFault.TheVariants.{Memory, Disk, Size, Row as OutOfShape, Refused}
 use Rattle.desk_rows.proofs.FaultLemmas.{not_row}
+use Rattle.desk_rows.proofs.TurnedDown as turned
+use Rattle.desk_rows.proofs.TurnedDown.{WritesRows}
 use Rattle.desk_rows.proofs.InsertLemmas.{uncounted}
-
-pub told_else : (cause : StoreError) → fault_of (store_error cause) ≡ Refused → ⊥
-told_else OutOfMemory e = cc
-told_else Io e = cc
-told_else Corrupt e = cc
-told_else Full e = cc
-told_else Broken e = cc
-told_else Unstorable e = cc
 
 none_refers : (among : Among) (rows : List Row) → AllByRecursion (λ (row : Row). true ≡ true) rows
 none_refers among [] = tt
@@ -70,86 +57,17 @@ pub not_oversized : {A B : Type 0} (why : Option Refusal) (s stop : Option Error
     → ◌≡◌ {A = Result B (Option Error)} (Err stop) (Err s) → stop ≡ Some e → ⊥
 not_oversized why s stop e big is same some = cc
 
--- ---- a statement that writes, told as Refused
-
--- the command writes rows, and neither shows rows nor ends a transaction
-pub record WritesRows (command : Command) : Type 1 where
-  pub placed : (s : State) (e : Error) → IsMisplaced s command e → ⊥
-  pub stays : (s : State) → Escapes 0 s command → ⊥
-  pub silent : (is_query command ≡ false) × (is_pragma command ≡ false)
-
-pub insert_writes : (at : ℕ) (from : Source) → WritesRows (Insert at from)
-insert_writes at from = record {
-  placed = λ s e h. elim h [
-    | inl transaction ↦ elim transaction.1 [ inl begins ↦ (let a = begins.0 in cc) | inr ends ↦ elim ends.0 [ inl a ↦ cc | inr a ↦ cc ] ]
-    | inr mark ↦ elim mark.2 [ inl a ↦ cc | inr a ↦ cc ]
-  ];
-  stays = λ s h. elim h [ inl ends ↦ elim ends [ inl a ↦ cc | inr a ↦ cc ] | inr marks ↦ elim marks.1 [ inl a ↦ cc | inr a ↦ cc ] ];
-  silent = (refl, refl);
-}
-
-pub update_writes : (at : ℕ) (program : Program) → WritesRows (Update at program)
-update_writes at program = record {
-  placed = λ s e h. elim h [
-    | inl transaction ↦ elim transaction.1 [ inl begins ↦ (let a = begins.0 in cc) | inr ends ↦ elim ends.0 [ inl a ↦ cc | inr a ↦ cc ] ]
-    | inr mark ↦ elim mark.2 [ inl a ↦ cc | inr a ↦ cc ]
-  ];
-  stays = λ s h. elim h [ inl ends ↦ elim ends [ inl a ↦ cc | inr a ↦ cc ] | inr marks ↦ elim marks.1 [ inl a ↦ cc | inr a ↦ cc ] ];
-  silent = (refl, refl);
-}
+-- ---- a statement inside a transaction, told as Refused
 
 module _ (sql : List ℕ) (params : Row) (old new : State) (has : old.now.schema ≡ desk_schema) (command : Command) (writes : WritesRows command)
     (compiled : Compiled) (means : understood desk_schema sql ≡ Ok compiled) (is : compiled.command ≡ command)
     (plain : (compiled.returning ≡ None) × (compiled.formats ≡ [])) (whole : length sql ≤ compiled.tail) (many : length params ≡ length compiled.names) where
-  -- the command was refused on the database of the desk
   abbrev pub IsTurnedDown : Error → Type 0
-  IsTurnedDown e = Does old.step_limit (mode_of old) params (record old.now { schema = desk_schema }) (text_of sql compiled) None command (Err (Some e))
+  IsTurnedDown = turned.IsTurnedDown false desk_schema sql params old new has command writes compiled means is plain whole many
 
-  runs : (e : Error) → fault_of e ≡ Refused → (c : Compiled) → c ≡ compiled → RunsCommand old new sql c params (Err e) → IsTurnedDown e
-  runs e told c same (inr fails) = absurd (told_else fails.0 (ap fault_of (sym fails.1) ∙ told))
-  runs e told c same (inl (inl misplaced, unchanged)) =
-      absurd (writes.placed old e (subst (λ k. IsMisplaced old k e) (ap (λ (x : Compiled). x.command) same ∙ is) misplaced))
-  runs e told c same (inl (inr wrote, unchanged)) =
-      let does : Does old.step_limit (mode_of old) params old.now (text_of sql compiled) compiled.returning compiled.command (Err (Some e)) =
-      subst (λ (x : Compiled). Does old.step_limit (mode_of old) params old.now (text_of sql x) x.returning x.command (Err (Some e))) same wrote.1 in
-      let a = subst (λ k. Does old.step_limit (mode_of old) params old.now (text_of sql compiled) compiled.returning k (Err (Some e))) is does in
-      let b = subst (λ r. Does old.step_limit (mode_of old) params old.now (text_of sql compiled) r command (Err (Some e))) plain.0 a in
-      subst (λ s. Does old.step_limit (mode_of old) params (record old.now { schema = s }) (text_of sql compiled) None command (Err (Some e))) has b
-
-  known : (c : Compiled) → understood old.now.schema sql ≡ Ok c → c ≡ compiled
-  known c it = let both : ◌≡◌ {A = Result Compiled CompileError} (Ok c) (Ok compiled) = sym it ∙ ap (λ s. understood s sql) has ∙ means in cc
-
-  no_statement : (e : Error) → IsNoStatement old sql params e → ⊥
-  no_statement e (inl h) = let a = sym (ap (λ s. understood s sql) has ∙ means) ∙ h.1 in cc
-  no_statement e (inr h) =
-      let same : h.0 ≡ compiled = known h.0 h.1 in
-      elim h.2 [
-        | inl long ↦ long.0 (rw same whole)
-        | inr (inl count) ↦ count.0 (many ∙ ap (λ (c : Compiled). length c.names) (sym same))
-        | inr (inr clock) ↦ clock.0 (ap (λ (c : Compiled). c.formats) same ∙ plain.1)
-      ]
-
-  executed : (e : Error) → fault_of e ≡ Refused → Executes sql params old new (Err e) → IsTurnedDown e
-  unfolding ExecutesIn IsNotRun
-  executed e told (inl (inl h)) = absurd (no_statement e h.0)
-  executed e told (inl (inr h)) = absurd (told_else h.0 (ap fault_of (sym h.1) ∙ told))
-  executed e told (inr h) =
-      let same : h.0 ≡ compiled = known h.0 h.1.is in
-      let cmd : h.0.command ≡ command = ap (λ (x : Compiled). x.command) same ∙ is in
-      let none : h.0.returning ≡ None = ap (λ (x : Compiled). x.returning) same ∙ plain.0 in
-      let still : h.0.formats ≡ [] = ap (λ (x : Compiled). x.formats) same ∙ plain.1 in
-      let silent : shows_rows false h.0 ≡ false = rw (cmd, none, writes.silent.0, writes.silent.1) refl in
-      let ran = subst (λ b. MatchBool b ((◌≡◌ {A = Result ℕ Error} (Err e) (Err ExecuteReturnedResults)) × IsUnchanged old new)
-      (RunsCommand old new sql h.0 (timed params h.0.formats h.1.now) (Err e))) silent h.2 in
-      runs e told h.0 same (rw (still, append-nil params) at ran)
-
-  not_ended : EndsScope 0 sql params old → ⊥
-  unfolding EndsScope
-  not_ended h = writes.stays old (subst (Escapes 0 old) (ap (λ (c : Compiled). c.command) (known h.0 h.1.is) ∙ is) h.2)
-
-  pub turned_down : (e : Error) → fault_of e ≡ Refused → ExecutesInside 0 sql params old new (Err e) → IsTurnedDown e
-  turned_down e told (inl ran) = executed e told ran.0
-  turned_down e told (inr ends) = absurd (not_ended ends.0)
+  turned_down : (e : Error) → fault_of e ≡ Refused → ExecutesInside 0 sql params old new (Err e) → IsTurnedDown e
+  turned_down e told (inl ran) = turned.executed false desk_schema sql params old new has command writes compiled means is plain whole many e told ran.0
+  turned_down e told (inr ends) = absurd (turned.not_ended false desk_schema sql params old new has command writes compiled means is plain whole many ends.0)
 
   -- where the database never refuses it, it fails only for memory, the disk or a size
   pub in_order_unless : ((e : Error) → IsTurnedDown e → ⊥) → (r : Result (Unit {0}) RowFault)

@@ -11,7 +11,7 @@ use Rattle.sqlite.specs.State.{State, FailsToQuery, FailsToShow, IsNotRun, IsNoS
 use Rattle.sqlite.specs.Clock.{timed}
 use Rattle.desk_rows.specs.declared.faults.RowFault.TheVariants.{Refused}
 use Rattle.desk_rows.specs.Faults.{fault_of}
-use Rattle.desk_rows.proofs.RefusedLemmas.{told_else}
+use Rattle.desk_rows.proofs.FaultLemmas.{told_else}
 
 module _ (sql : List ℕ) (params : Row) (old new : State) (schema : Schema) (has : old.now.schema ≡ schema) (compiled : Compiled) (means : understood schema sql ≡ Ok compiled)
     (plain : (compiled.returning ≡ None) × (compiled.formats ≡ [])) (whole : length sql ≤ compiled.tail) (many : length params ≡ length compiled.names) where

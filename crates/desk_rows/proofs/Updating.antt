@@ -36,7 +36,8 @@ use Rattle.desk_rows.proofs.ChangedRows.{none_changed, numbered_changed, put_cha
 use Rattle.desk_rows.proofs.Insertions.{apart, ran_well}
 use Rattle.desk_rows.proofs.Ordered.{encode, zip_from}
 use Rattle.desk_rows.proofs.ReadLemmas.{over_one}
-use Rattle.desk_rows.proofs.RefusedLemmas.{IsTurnedDown, in_order_unless, update_writes}
+use Rattle.desk_rows.proofs.RefusedLemmas.{IsTurnedDown, in_order_unless}
+use Rattle.desk_rows.proofs.TurnedDown.{update_writes}
 use Rattle.desk_rows.proofs.Tables.{tables, with_table, holds_with}
 use Rattle.desk_rows.proofs.UpdateLemmas.{AreFew, gives, updated}
 use Rattle.desk_rows.proofs.UpdateRefusals.{Passes, not_refused, update_cause}

@@ -26,6 +26,8 @@ pub fn create_tables<S: Alter>(tx: &mut Transaction<'_, S>) -> Result<(), RowFau
     ensures inside { HasCleanDisk (state S.Store tx.new.conn.now)
         → OnOk result ((state S.Store tx.new.conn.now).in_transaction ≡ (state S.Store tx.old.conn.now).in_transaction) }
     ensures survives { Survives (state S.Store tx.old.conn.now) (state S.Store tx.new.conn.now) (λ _. ⊥) }
+    ensures in_order { HasCleanDisk (state S.Store tx.new.conn.now) → IsTrue (state S.Store tx.old.conn.now).in_transaction
+        → (state S.Store tx.old.conn.now).now.schema ≡ no_schema → IfErr result IsEven }
 {
     match tx.execute_batch(TABLES) {
         Ok(()) => Ok(()),

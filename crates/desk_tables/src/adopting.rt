@@ -40,6 +40,7 @@ impl<S: Alter> Tables<S> {
         ensures blank { IfOk result (λ t. conn.schema ≡ no_schema) }
         ensures exists { IfErr result (λ back. (back.0 ≡ Exists) ↔ IsTaken conn.schema) }
         ensures stranger { conn.schema ≢ no_schema → ¬ IsTaken conn.schema → IfErr result (λ back. back.0 ≡ NotADesk) }
+        ensures unavailable { conn.schema ≡ no_schema → IfErr result (λ back. HasCleanDisk (state S.Store back.1) → IsUnavailability back.0) }
         ensures given_back { IfErr result (λ back. IsGivenBack (state S.Store conn) (state S.Store back.1) (λ trees. TreesHold trees (opening_rows config))) }
     {
         opening_rows_tell();

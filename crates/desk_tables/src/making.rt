@@ -3,6 +3,7 @@ ghost use Rattle.std.specs.Prelude.{◌≡◌, ◌≢◌, ◌↔◌, false, None
 ghost use Rattle.sqlite_trees.specs.Tree.{Trees};
 ghost use Rattle.sqlite.specs.Held.{state};
 ghost use Rattle.sqlite.specs.State.{HasCleanDisk, KeepsCommit, Survives};
+ghost use Rattle.desk_store.specs.Calls.{IsUnavailability};
 ghost use Rattle.desk_store.specs.declared.faults.StoreFault.TheVariants.{Exists, NotADesk};
 ghost use Rattle.desk_rows.specs.Calls.{IsWrite};
 ghost use Rattle.desk_rows.specs.Faults.{IsEven};
@@ -56,6 +57,7 @@ fn make_all<S: Alter>(conn: &mut Connection<S>, config: &Config) -> Result<(), R
         → OnErr result (((state S.Store conn.new).now ≡ (state S.Store conn.old).committed) × ((state S.Store conn.new).committed ≡ (state S.Store conn.old).committed)) }
     ensures mode { conn.new.in_transaction ≡ false }
     ensures crash { Survives (state S.Store conn.old) (state S.Store conn.new) (λ trees. TreesHold trees (opening_rows config.now)) }
+    ensures in_order { HasCleanDisk (state S.Store conn.new) → conn.old.step_limit ≡ None → IfErr result IsEven }
 {
     let mut tx = conn.transaction();
     create_tables(&mut tx)?;
@@ -85,6 +87,7 @@ pub(crate) fn make_desk<S: Alter>(
     ensures settled { HasCleanDisk (state S.Store conn.new) → IsTrue (state S.Store conn.new).is_open → (state S.Store conn.new).now ≡ (state S.Store conn.new).committed }
     ensures idle { conn.new.in_transaction ≡ false }
     ensures crash { Survives (state S.Store conn.old) (state S.Store conn.new) (λ trees. TreesHold trees (opening_rows config.now)) }
+    ensures unavailable { HasCleanDisk (state S.Store conn.new) → conn.old.schema ≡ no_schema → IfErr result IsUnavailability }
 {
     // tells that all is committed
     prove!(conn.is_autocommit());

@@ -28,3 +28,6 @@ returns-in-Ok-clause-made g c clean = record {
 
 pub returns-in-Err-clause-stranger : goal.returns-in-Err-clause-stranger
 returns-in-Err-clause-stranger g c other free = let told = c.in-Err.ensures.stranger other free in cc
+
+pub returns-in-Err-clause-unavailable : goal.returns-in-Err-clause-unavailable
+returns-in-Err-clause-unavailable g c blank clean = c.in-Err.ensures.unavailable clean blank
