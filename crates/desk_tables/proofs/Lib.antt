@@ -1,11 +1,14 @@
 pub mod Absent
 pub mod CallLemmas
 pub mod CommitLemmas
+pub mod CountLemmas
 pub mod EffectLemmas
 pub mod Entries
 pub mod LookUps
+pub mod NotedCommits
 pub mod OpeningLemmas
 pub mod Reading
+pub mod RefusedCommits
 pub mod ShapeLemmas
 pub mod SpanLookUps
 pub mod Telling

@@ -96,7 +96,7 @@ even_told Size even = tt
 even_told OutOfRange even = absurd (true≢false even)
 even_told Refused even = absurd (true≢false even)
 
-disk_or_as : (told other : StoreFault) (P : StoreFault → Type 0) → P told_as.Disk → P other → (is_disk (Some told) ≡ false → told ≡ other) → P told
+pub disk_or_as : (told other : StoreFault) (P : StoreFault → Type 0) → P told_as.Disk → P other → (is_disk (Some told) ≡ false → told ≡ other) → P told
 disk_or_as told_as.Disk other P disk same not = disk
 disk_or_as told_as.Memory other P disk same not = subst P (sym (not refl)) same
 disk_or_as told_as.Size other P disk same not = subst P (sym (not refl)) same

@@ -3,6 +3,7 @@ pub mod Calls
 pub mod Counting
 pub mod Effects
 pub mod Faults
+pub mod Keeping
 pub mod LookUps
 pub mod Settling
 pub mod Shape

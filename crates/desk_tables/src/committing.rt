@@ -1,13 +1,15 @@
 //! One transaction: an effect, and the message that was heard with its answer.
-ghost use Rattle.std.specs.Prelude.{◌≡◌, false};
+ghost use Rattle.std.specs.Prelude.{◌≡◌, ◌≢◌, false, Err};
 ghost use Rattle.sqlite.specs.Held.{state};
+ghost use Rattle.desk_rows.specs.declared.faults.RowFault.TheVariants.{Size};
 ghost use Rattle.desk_rows.specs.order.Changes.{rows_with};
 ghost use Rattle.desk_rows.specs.order.Keys.{IsThereFor};
-ghost use Rattle.desk_tables.specs.steps.Calls.{Commits, Makes};
-ghost use Rattle.desk_tables.specs.steps.Effects.{IsBasis, IsOpenToBoth, reply_row};
+ghost use Rattle.desk_tables.specs.steps.Calls.{Asks, Commits, Makes};
+ghost use Rattle.desk_tables.specs.steps.Effects.{AreWhole, IsBasis, IsOpenToBoth, reply_row};
 
 use crate::effects::basis::{Basis, basis_of};
 use crate::effects::writing::write_effect;
+use crate::settle::reading_fault;
 use desk_rows::{RowFault, fault_of, insert_reply};
 use registry_core::{Effect, Envelope};
 use sqlite::{Alter, Connection, Transaction};
@@ -50,6 +52,17 @@ fn transact<S: Alter>(
     }
 }
 
+/// What the effect is written by. To look it up names no size of the medium.
+fn basis_read<S: Alter>(conn: &mut Connection<S>, effect: &Effect) -> Result<Basis, RowFault>
+    ensures asks { Asks (state S.Store conn.old) (state S.Store conn.new) result (IsThereFor effect.now) (AreWhole effect.now) (IsBasis effect.now) }
+    ensures no_size { result ≢ Err Size }
+{
+    match basis_of(conn, effect) {
+        Ok(basis) => Ok(basis),
+        Err(fault) => Err(reading_fault(fault)),
+    }
+}
+
 /// Adds the effect and the reply, or neither.
 pub(crate) fn commit_rows<S: Alter>(
     conn: &mut Connection<S>,
@@ -62,6 +75,6 @@ pub(crate) fn commit_rows<S: Alter>(
     ensures { Commits (state S.Store conn.old) (state S.Store conn.new) result (IsThereFor effect.now)
         (IsOpenToBoth effect.now envelope.now) (rows_with effect.now (reply_row envelope.now message.now answer.now)) }
 {
-    let basis = basis_of(conn, effect)?;
+    let basis = basis_read(conn, effect)?;
     transact(conn, envelope, message, effect, answer, basis)
 }

@@ -7,6 +7,7 @@ mod counting;
 mod desk_shape;
 mod effects;
 mod faults;
+mod keeping;
 mod looks;
 mod making;
 mod opening;

@@ -2,7 +2,7 @@
 ghost use Rattle.std.specs.Prelude.{◌≡◌, Some};
 ghost use Rattle.sqlite.specs.Held.{state};
 ghost use Rattle.desk_store.specs.Calls.{is_disk, is_foreign};
-ghost use Rattle.desk_tables.specs.steps.Settling.{Settles, reading_fault};
+ghost use Rattle.desk_tables.specs.steps.Settling.{Settles, is_size, reading_fault};
 
 use crate::faults::store_fault;
 use desk_rows::RowFault;
@@ -39,4 +39,10 @@ pub(crate) fn is_foreign(fault: StoreFault) -> bool
     ensures { result ≡ is_foreign (Some fault) }
 {
     matches!(fault, StoreFault::NotADesk)
+}
+
+pub(crate) fn is_size(fault: StoreFault) -> bool
+    ensures { result ≡ is_size fault }
+{
+    matches!(fault, StoreFault::Size)
 }

@@ -1,9 +1,10 @@
 -- What a fault of the connection is told as, and what then stands.
-use Rattle.std.specs.Prelude.{◌≡◌, ◌||◌, false, Result, Ok, Err, Some, IsTrue}
+use Rattle.std.specs.Prelude.{◌≡◌, ◌||◌, Bool, true, false, Result, Ok, Err, Some, IsTrue}
 use Rattle.sqlite_trees.specs.declared.store.Store.{Ghosts}
 use Rattle.sqlite.specs.Held.{state}
 use Rattle.sqlite.specs.State.{State, HasCleanDisk, Survives}
 use Rattle.desk_store.specs.declared.faults.StoreFault.{StoreFault}
+use Rattle.desk_store.specs.declared.faults.StoreFault.TheVariants.{Size as NoRoom}
 use Rattle.desk_store.specs.Calls.{is_disk, is_foreign}
 use Rattle.desk_rows.specs.declared.faults.RowFault.{RowFault}
 use Rattle.desk_rows.specs.declared.faults.RowFault.TheVariants.{Memory, Size}
@@ -27,6 +28,11 @@ pub record Settles (old new : State) (fault : RowFault) (told : StoreFault) : Ty
   pub mode : old.in_transaction ≡ false → new.in_transaction ≡ false
   pub same : is_disk (Some told) ≡ false → told ≡ store_fault fault
   pub stands : HasCleanDisk new → is_disk (Some told) ≡ false → StaysOpen old new
+
+-- the medium named its own size
+abbrev pub is_size : StoreFault → Bool
+is_size NoRoom = true
+is_size _ = false
 
 module _ {S : Type 0} (g : Ghosts S) where
   -- and the store keeps of it whether it is one of the disk, or tells that what is stored is no desk's

@@ -1,0 +1,191 @@
+-- A commit whose transaction was made, or failed.
+use Rattle.std.proofs.Common.{◌≡◌, inl, inr, ℕ, ◌+◌, ◌<◌, Bool, true, false, true≢false, List, [], ◌∷◌, length, Some, Result, Ok, Err, IsTrue, refl, sym, ap, subst, ◌∙◌, arith}
+use Rattle.std.specs.Prelude.{◌||◌}
+use Rattle.registry_core.specs.declared.effects.Effect.{Effect}
+use Rattle.registry_core.specs.declared.messages.Envelope.{Envelope}
+use Rattle.registry_core.specs.Fits.{Fits}
+use Rattle.registry_core.specs.Heard.{most_heard}
+use Rattle.sqlite_trees.specs.declared.store.Store.{Ghosts}
+use Rattle.sqlite_trees.specs.Tree.{Trees}
+use Rattle.sqlite.specs.Held.{Held, state}
+use Rattle.sqlite.specs.State.{HasCleanDisk}
+use Rattle.desk_store.specs.declared.faults.StoreFault.{StoreFault}
+use Rattle.desk_store.specs.declared.faults.StoreFault.TheVariants.{Size as NoRoom}
+use Rattle.desk_store.specs.declared.looks.Counts.{Counts}
+use Rattle.desk_store.specs.Calls.{IsOfCalls, IsUnavailability, is_disk, is_foreign}
+use Rattle.desk_store.specs.Kept.{CanAdd, Kept, entry_with, with_entry}
+use Rattle.desk_rows.specs.declared.faults.RowFault.{RowFault}
+use Rattle.desk_rows.specs.declared.faults.RowFault.TheVariants.{Memory, Disk, Size, Row as OutOfRange, Refused}
+use Rattle.desk_rows.specs.Faults.{IsEven}
+use Rattle.desk_rows.specs.order.Changes.{RowsFollowFacts, rows_with}
+use Rattle.desk_rows.specs.order.Keys.{ChangedRowsAreThere, IsThereFor, KeysAreFree}
+use Rattle.desk_tables.specs.InOrder.{IsInOrder}
+use Rattle.desk_tables.specs.Store.{HoldsKept, Leaves, Stands, meaning_of, own_law}
+use Rattle.desk_tables.specs.declared.tables.Tables.{Tables}
+use Rattle.desk_tables.specs.steps.Calls.{Commits, IsReady}
+use Rattle.desk_tables.specs.steps.Effects.{IsOpenToBoth, reply_row}
+use Rattle.desk_tables.specs.steps.Faults.{store_fault}
+use Rattle.desk_tables.specs.steps.Keeping.{CountsWith, IsCommit, IsNoted}
+use Rattle.desk_tables.specs.steps.Settling.{Settles, is_size}
+use Rattle.desk_tables.proofs.CommitLemmas.{rows_in_order, rows_open}
+use Rattle.desk_tables.proofs.CountLemmas.{are_few, one_longer}
+use Rattle.desk_tables.proofs.LookUps.{disk_or_as}
+
+-- ---- faults
+
+even_told : (fault : RowFault) → IsEven fault → IsUnavailability (store_fault fault)
+even_told Memory even = tt
+even_told Disk even = tt
+even_told Size even = tt
+even_told OutOfRange even = absurd (true≢false even)
+even_told Refused even = absurd (true≢false even)
+
+of_calls : (fault : RowFault) → IsOfCalls (Some (store_fault fault))
+of_calls Memory = tt
+of_calls Disk = tt
+of_calls Size = tt
+of_calls OutOfRange = tt
+of_calls Refused = tt
+
+first_false : (a b : Bool) → (a || b) ≡ false → a ≡ false
+first_false false b is = refl
+first_false true b is = absurd (true≢false is)
+
+-- ---- a store and what a transaction did
+
+module _ {S : Type 0} (g : Ghosts S) (old : Tables S) (e : Envelope) (message : List ℕ) (effect : Effect) (answer : List ℕ) (up : old.down ≡ false)
+    (room : old.heard < most_heard) (follow : RowsFollowFacts) (keys : KeysAreFree) (changed : ChangedRowsAreThere)
+    (settled : (s : S) (db : Trees) → IsTrue (g.view s).is_open → g.recovers s db → db ≡ (g.view s).committed) where
+  abbrev CommitsTo : Held S → Result (Unit {0}) RowFault → Type 0
+  CommitsTo mid done =
+      Commits (state g old.conn) (state g mid) done (IsThereFor effect) (IsOpenToBoth effect e) (rows_with effect (reply_row e message answer))
+
+  ready : (kept : Kept) → Stands g old kept → IsReady (state g old.conn)
+  ready kept it = record { is_open = it.settled.open_still; schema = it.in_order.held.schema; committed = it.settled.committed }
+
+  there : (kept : Kept) (it : Stands g old kept) → Fits effect kept.facts → IsThereFor effect it.in_order.rows
+  there kept it fits = changed old.config kept.facts it.in_order.rows effect it.in_order.are fits
+
+  few : (kept : Kept) → Stands g old kept → length kept.entries < most_heard
+  few kept it = let heard = it.heard in omega (arith, room, heard)
+
+  -- ---- it was made
+
+  module _ (mid : Held S) (done : Unit {0}) (commits : CommitsTo mid (Ok done)) (counts : Counts) (counted : CountsWith effect old.counts counts) where
+    abbrev after : Tables S
+    after = record old { conn = mid; sized = false; heard = old.heard + 1; counts = counts }
+
+    stands_after : (kept : Kept) → HasCleanDisk (state g mid) → Stands g old kept → CanAdd kept e effect
+        → Stands g after (with_entry kept e message effect answer)
+    stands_after kept clean it can =
+        let was = ready kept it in
+        let new = commits.ready clean was in
+        let r = it.in_order.rows in
+        let longer = one_longer kept.entries (entry_with e message answer) old.heard it.heard in
+        record {
+          settled = record {
+            open_still = new.is_open;
+            autocommit = commits.mode;
+            committed = new.committed;
+            unlimited = commits.limit clean was ∙ it.settled.unlimited;
+          };
+          in_order = rows_in_order e message effect answer old.config kept r it.in_order.are it.in_order.entries follow can.effect_fits (state g mid).now
+              (commits.made clean was r it.in_order.held (there kept it can.effect_fits));
+          heard = longer;
+          few = omega (arith, longer, room);
+          counts = counted kept.facts (are_few old.config kept r it.in_order.are it.in_order.entries it.few) it.counts;
+        }
+
+    commit_made : IsCommit (meaning_of g) old after e message effect answer (Ok done)
+    commit_made = record {
+      call = record { same = refl; was_sound = λ clean. omega (arith, commits.clean, clean); shut = refl; strange = refl };
+      told = tt;
+      down = λ is. absurd (true≢false (sym is ∙ up));
+      added = λ kept clean holds can still. stands_after kept clean (holds up) can;
+      neither = λ kept clean holds. tt;
+      fault = λ kept clean holds can. tt;
+      size = λ kept clean holds is. absurd (cc);
+      no_room = λ kept clean holds was most. let less = few kept (holds up) in absurd (omega (arith, most, less));
+      doubt = λ kept clean holds can was is. absurd (cc);
+      stays = λ all clean is left. absurd (true≢false (sym is ∙ up));
+    }
+
+  -- ---- it failed
+
+  module _ (mid new : Held S) (fault : RowFault) (told : StoreFault) (commits : CommitsTo mid (Err fault)) (settles : Settles (state g mid) (state g new) fault told) where
+    abbrev undone : Tables S
+    undone = record old { conn = new; down = is_disk (Some told) || old.down; foreign = is_foreign (Some told) || old.foreign; sized = is_size told }
+
+    early : HasCleanDisk (state g new) → HasCleanDisk (state g mid)
+    early clean = omega (arith, settles.survives.clean, clean)
+
+    first : HasCleanDisk (state g new) → HasCleanDisk (state g old.conn)
+    first clean = omega (arith, commits.clean, settles.survives.clean, clean)
+
+    stands_still : (kept : Kept) → HasCleanDisk (state g new) → Stands g old kept → is_disk (Some told) ≡ false → Stands g undone kept
+    stands_still kept clean it not_disk =
+        let was = ready kept it in
+        let stays = settles.stands clean not_disk in
+        let back = commits.neither (early clean) was stays.was_open in
+        let at : (state g mid).now ≡ (state g mid).committed = back.0 ∙ it.settled.committed ∙ sym back.1 in
+        let on = stays.kept at in
+        record {
+          settled = record {
+            open_still = stays.open_still;
+            autocommit = settles.mode commits.mode;
+            committed = on.0 ∙ at ∙ sym on.1;
+            unlimited = settles.survives.limit ∙ commits.limit (early clean) was ∙ it.settled.unlimited;
+          };
+          in_order = subst (λ d. IsInOrder old.config d kept) (sym (on.0 ∙ back.0)) it.in_order;
+          heard = it.heard;
+          few = it.few;
+          counts = it.counts;
+        }
+
+    -- a crash leaves what was there, or that with the effect and the entry
+    leaves_either : (kept : Kept) → HasCleanDisk (state g new) → HoldsKept g old kept → CanAdd kept e effect
+        → Leaves g undone (kept ∷ with_entry kept e message effect answer ∷ [])
+    leaves_either kept clean holds can =
+        let it = holds up in
+        let r = it.in_order.rows in
+        let alone = own_law g settled old kept (first clean) up holds in
+        let crash = commits.crash (early clean) (ready kept it) r it.in_order.held (there kept it can.effect_fits) in
+        λ db may. elim (settles.survives.crash clean db may) [
+          | inl before ↦ elim (crash.crash (early clean) db before) [
+            | inl still ↦ let own = alone db still in (own.0, elim own.1 [ inl same ↦ inl same | inr none ↦ absurd none ], own.2)
+            | inr is ↦ (
+              with_entry kept e message effect answer,
+              inr (inl refl),
+              rows_in_order e message effect answer old.config kept r it.in_order.are it.in_order.entries follow can.effect_fits _ is,
+            )
+          ]
+          | inr none ↦ absurd none
+        ]
+
+    commit_undone : IsCommit (meaning_of g) old undone e message effect answer (Err told)
+    commit_undone = record {
+      call = record { same = refl; was_sound = first; shut = refl; strange = refl };
+      told = disk_or_as told (store_fault fault) (λ f. IsOfCalls (Some f)) tt (of_calls fault) settles.same;
+      down = λ is. absurd (true≢false (sym is ∙ up));
+      added = λ kept clean holds can. tt;
+      neither = λ kept clean holds still. stands_still kept clean (holds up) (first_false (is_disk (Some told)) old.down still);
+      fault = λ kept clean holds can.
+          let it = holds up in
+          let r = it.in_order.rows in
+          let open_to = rows_open e message effect answer old.config kept r it.in_order.are it.in_order.entries keys changed (few kept it) can in
+          let even = commits.in_order (early clean) (ready kept it) it.settled.unlimited r it.in_order.held (there kept it can.effect_fits) open_to in
+          disk_or_as told (store_fault fault) IsUnavailability tt (even_told fault even) settles.same;
+      size = λ kept clean holds is. inr (let named : told ≡ NoRoom = cc in ap is_size named);
+      no_room = λ kept clean holds was most. let less = few kept (holds up) in absurd (omega (arith, most, less));
+      doubt = λ kept clean holds can was is. leaves_either kept clean holds can;
+      stays = λ all clean is left. absurd (true≢false (sym is ∙ up));
+    }
+
+  -- ---- either
+
+  pub commit_noted : (mid : Held S) (new : Tables S) (done : Result (Unit {0}) RowFault) (result : Result (Unit {0}) StoreFault) → CommitsTo mid done
+      → IsNoted g effect (record old { conn = mid }) new done result → IsCommit (meaning_of g) old new e message effect answer result
+  commit_noted mid new (Ok done) result commits noted = subst (λ r. IsCommit (meaning_of g) old new e message effect answer r) (sym noted.0)
+      (subst (λ k. IsCommit (meaning_of g) old k e message effect answer (Ok done)) (sym noted.1) (commit_made mid done commits new.counts noted.2))
+  commit_noted mid new (Err fault) result commits (told, is, undone) = subst (λ r. IsCommit (meaning_of g) old new e message effect answer r) (sym is)
+      (subst (λ k. IsCommit (meaning_of g) old k e message effect answer (Err told)) (sym undone.same) (commit_undone mid new.conn fault told commits undone.settles))

@@ -1,0 +1,63 @@
+-- What a commit does, whatever it answers, and what the store keeps of a transaction.
+use Rattle.std.specs.Prelude.{◌≡◌, ◌⊎◌, ◌≤◌, ◌+◌, ◌||◌, ℕ, true, false, List, [], ◌∷◌, length, Result, Ok, Err, Some, IfErr, OnOk, OnErr, IsErrOf, is_ok}
+use Rattle.registry_core.specs.declared.effects.Effect.{Effect}
+use Rattle.registry_core.specs.declared.messages.Envelope.{Envelope}
+use Rattle.registry_core.specs.Heard.{most_heard}
+use Rattle.registry_core.specs.State.{State, state_with}
+use Rattle.sqlite_trees.specs.declared.store.Store.{Ghosts}
+use Rattle.sqlite.specs.Held.{state}
+use Rattle.desk_store.specs.declared.faults.StoreFault.{StoreFault}
+use Rattle.desk_store.specs.declared.faults.StoreFault.TheVariants.{Disk, Size}
+use Rattle.desk_store.specs.declared.looks.Counts.{Counts}
+use Rattle.desk_store.specs.Calls.{ForHeld, IsCall, IsOfCalls, IsUnavailability, TellsDown, fault_in, is_disk, is_foreign}
+use Rattle.desk_store.specs.Kept.{CanAdd, Kept, with_entry}
+use Rattle.desk_store.specs.Meaning.{Meaning}
+use Rattle.desk_store.specs.Parts.{AreCounts}
+use Rattle.desk_rows.specs.declared.faults.RowFault.{RowFault}
+use Rattle.desk_tables.specs.declared.tables.Tables.{Tables}
+use Rattle.desk_tables.specs.steps.Settling.{Settles, is_size}
+
+-- ---- counts
+
+-- of what is numbered there is no more than messages that may be heard
+pub record AreFew (s : State) : Type 0 where
+  pub sessions : length s.sessions ≤ most_heard
+  pub uplinks : length s.uplinks ≤ most_heard
+  pub bookings : length s.bookings ≤ most_heard
+
+-- the counts of any facts become those of the facts with the effect
+abbrev pub CountsWith : Effect → Counts → Counts → Type 0
+CountsWith effect old new = (s : State) → AreFew s → AreCounts s old → AreCounts (state_with s effect) new
+
+-- ---- a transaction
+
+module _ {S : Type 0} (g : Ghosts S) where
+  -- its fault is settled, and the store keeps what is told
+  pub record IsUndone (old new : Tables S) (fault : RowFault) (told : StoreFault) : Type 0 where
+    pub settles : Settles (state g old.conn) (state g new.conn) fault told
+    pub same : new
+        ≡ record old { conn = new.conn; down = is_disk (Some told) || old.down; foreign = is_foreign (Some told) || old.foreign; sized = is_size told }
+
+  -- the store counts one message more and what the effect adds, or keeps why there is none
+  abbrev pub IsNoted : Effect → Tables S → Tables S → Result (Unit {0}) RowFault → Result (Unit {0}) StoreFault → Type 0
+  IsNoted effect old new (Ok done) result = (result ≡ Ok done)
+      × (new ≡ record old { sized = false; heard = old.heard + 1; counts = new.counts }) × CountsWith effect old.counts new.counts
+  IsNoted effect old new (Err fault) result = (told : StoreFault) × (result ≡ Err told) × IsUndone old new fault told
+
+-- ---- a commit
+
+-- the clauses of a store's commit
+pub record IsCommit {K : Type 0} (m : Meaning K) (old new : K) (e : Envelope) (message : List ℕ) (effect : Effect) (answer : List ℕ)
+    (result : Result (Unit {0}) StoreFault) : Type 0 where
+  pub call : IsCall m old new (is_disk (fault_in result)) (is_foreign (fault_in result))
+  pub told : IsOfCalls (fault_in result)
+  pub down : TellsDown m old result
+  pub added : ForHeld m old new (λ kept. CanAdd kept e effect → OnOk result (m.holds new (with_entry kept e message effect answer)))
+  pub neither : ForHeld m old new (λ kept. OnErr result (m.holds new kept))
+  pub fault : ForHeld m old new (λ kept. CanAdd kept e effect → IfErr result IsUnavailability)
+  pub size : ForHeld m old new (λ kept. result ≡ Err Size → (most_heard ≤ length kept.entries) ⊎ m.sized new)
+  pub no_room : ForHeld m old new (λ kept. m.down old ≡ false → most_heard ≤ length kept.entries
+      → (is_ok result ≡ false) × m.leaves new (kept ∷ []))
+  pub doubt : ForHeld m old new (λ kept. CanAdd kept e effect → m.down old ≡ false → IsErrOf result Disk
+      → m.leaves new (kept ∷ with_entry kept e message effect answer ∷ []))
+  pub stays : (all : List Kept) → m.sound new → m.down old ≡ true → m.leaves old all → m.leaves new all

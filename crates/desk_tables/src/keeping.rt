@@ -1,0 +1,85 @@
+//! A message that is heard: its effect and its answer go in together, or neither does.
+ghost use Rattle.std.specs.Prelude.{◌<◌};
+ghost use Rattle.registry_core.specs.Heard.{most_heard};
+ghost use Rattle.desk_tables.specs.Store.{meaning_of};
+ghost use Rattle.desk_tables.specs.steps.Keeping.{CountsWith, IsCommit, IsNoted};
+
+use crate::committing::commit_rows;
+use crate::settle::is_size;
+use crate::tables::Tables;
+use desk_rows::RowFault;
+use desk_rows::order::{changed_rows_are_there, keys_are_free, rows_follow_facts};
+use desk_store::{Counts, StoreFault};
+use registry_core::laws::numbered_items_are_meant;
+use registry_core::{Effect, Envelope, MOST_HEARD};
+use sqlite::Alter;
+
+/// How many there are with the effect.
+fn counts_with(counts: Counts, effect: &Effect) -> Counts
+    ensures { CountsWith effect.now counts result }
+{
+    numbered_items_are_meant();
+    match effect {
+        Effect::AddsSession { .. } => Counts {
+            sessions: counts.sessions.saturating_add(1),
+            uplinks: counts.uplinks.saturating_add(1),
+            ..counts
+        },
+        Effect::AddsUplink { .. } => Counts {
+            uplinks: counts.uplinks.saturating_add(1),
+            ..counts
+        },
+        Effect::AddsBooking { .. } => Counts {
+            bookings: counts.bookings.saturating_add(1),
+            ..counts
+        },
+        _ => counts,
+    }
+}
+
+impl<S: Alter> Tables<S> {
+    /// What a transaction is told as: one message more was heard, or why it wasn't.
+    fn note(&mut self, effect: &Effect, answer: Result<(), RowFault>) -> Result<(), StoreFault>
+        requires { self.old.heard < most_heard }
+        ensures { IsNoted S.Store effect.now self.old self.new answer result }
+    {
+        match answer {
+            Ok(()) => {
+                self.sized = false;
+                self.heard += 1;
+                self.counts = counts_with(self.counts, effect);
+                Ok(())
+            }
+            Err(fault) => {
+                let told = self.fail(fault);
+                self.sized = is_size(told);
+                Err(told)
+            }
+        }
+    }
+
+    /// Adds the effect to the facts and an entry at the end of the heard ones, or neither.
+    pub(crate) fn keep(
+        &mut self,
+        envelope: &Envelope,
+        message: &[u8],
+        effect: &Effect,
+        answer: &[u8],
+    ) -> Result<(), StoreFault>
+        ensures { IsCommit (meaning_of S.Store) self.old self.new envelope.now message.now effect.now answer.now result }
+    {
+        rows_follow_facts();
+        keys_are_free();
+        changed_rows_are_there();
+        self.up()?;
+        // of a store that holds something all is committed
+        if !self.conn.is_autocommit() {
+            return Err(self.fail(RowFault::Refused));
+        }
+        if self.heard >= MOST_HEARD as u64 {
+            return Err(StoreFault::Size);
+        }
+        let done = commit_rows(&mut self.conn, envelope, message, effect, answer);
+        self.note(effect, done)
+    }
+}
