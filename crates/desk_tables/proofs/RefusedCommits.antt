@@ -41,8 +41,8 @@ module _ {S : Type 0} (g : Ghosts S) (old : Tables S) (e : Envelope) (message : 
       → (fault ≡ Disk) × (old.down ≡ true) → IsCommit (meaning_of g) old old e message effect answer result
   commit_down fault result failed (disk, down) =
       let told = err_from_is_err_and result failed in
-      subst (λ r. IsCommit (meaning_of g) old old e message effect answer r) (sym (told.1 ∙ ap (λ (f : StoreFault). let r : Result (Unit {0}) StoreFault = Err f in r) (told.2 ∙ disk)))
-      (commit_shut down)
+      let is : result ≡ Err Disk = told.1 ∙ ap (λ (f : StoreFault). let r : Result (Unit {0}) StoreFault = Err f in r) (told.2 ∙ disk) in
+      subst (λ r. IsCommit (meaning_of g) old old e message effect answer r) (sym is) (commit_shut down)
 
   module _ (up : old.down ≡ false) where
     -- it is in a transaction: it holds nothing

@@ -1,7 +1,7 @@
 //! A message that is heard: its effect and its answer go in together, or neither does.
 ghost use Rattle.std.specs.Prelude.{◌<◌};
 ghost use Rattle.registry_core.specs.Heard.{most_heard};
-ghost use Rattle.desk_tables.specs.Store.{meaning_of};
+ghost use Rattle.desk_tables.specs.Store.{common_law, meaning_of, one_law, own_law};
 ghost use Rattle.desk_tables.specs.steps.Keeping.{CountsWith, IsCommit, IsNoted};
 
 use crate::committing::commit_rows;
@@ -9,7 +9,7 @@ use crate::settle::is_size;
 use crate::tables::Tables;
 use desk_rows::RowFault;
 use desk_rows::order::{changed_rows_are_there, keys_are_free, rows_follow_facts};
-use desk_store::{Counts, StoreFault};
+use desk_store::{Counts, Keeper, StoreFault};
 use registry_core::laws::numbered_items_are_meant;
 use registry_core::{Effect, Envelope, MOST_HEARD};
 use sqlite::Alter;
@@ -59,7 +59,7 @@ impl<S: Alter> Tables<S> {
     }
 
     /// Adds the effect to the facts and an entry at the end of the heard ones, or neither.
-    pub(crate) fn keep(
+    fn keep(
         &mut self,
         envelope: &Envelope,
         message: &[u8],
@@ -81,5 +81,23 @@ impl<S: Alter> Tables<S> {
         }
         let done = commit_rows(&mut self.conn, envelope, message, effect, answer);
         self.note(effect, done)
+    }
+}
+
+impl<S: Alter> Keeper for Tables<S> {
+    ghost own = { own_law _ S.settled };
+
+    ghost one = { one_law _ };
+
+    ghost common = { common_law _ _ S.survives };
+
+    fn commit(
+        &mut self,
+        envelope: &Envelope,
+        message: &[u8],
+        effect: &Effect,
+        answer: &[u8],
+    ) -> Result<(), StoreFault> {
+        self.keep(envelope, message, effect, answer)
     }
 }
