@@ -6,9 +6,11 @@ pub mod EffectLemmas
 pub mod Entries
 pub mod LookUps
 pub mod NotedCommits
+pub mod OneSchema
 pub mod OpeningLemmas
 pub mod Reading
 pub mod RefusedCommits
+pub mod ReopeningLemmas
 pub mod ShapeLemmas
 pub mod SpanLookUps
 pub mod Telling

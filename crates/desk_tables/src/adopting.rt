@@ -85,6 +85,7 @@ impl<S: Alter> Tables<S> {
         ensures other_version { HasMeta conn.schema → (version : ℤ) (c : Settings) → TellsMeta (state S.Store conn).now.trees version c → version ≢ pos 1
             → IfErr result (λ back. HasCleanDisk (state S.Store back.1) → back.0 ≢ NotADesk) }
         ensures never { IfErr result (λ back. back.0 ≢ Exists) }
+        ensures clean { IfOk result (λ t. (meaning_of S.Store).sound t → HasCleanDisk (state S.Store conn)) }
         ensures given_back { IfErr result (λ back. IsGivenBack (state S.Store conn) (state S.Store back.1) (λ _. ⊥)) }
     {
         let mut conn = conn;

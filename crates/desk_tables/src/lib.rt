@@ -11,6 +11,7 @@ mod keeping;
 mod looks;
 mod making;
 mod opening;
+mod reopening;
 mod settle;
 mod shape;
 mod tables;

@@ -69,3 +69,6 @@ returns-in-Err-counted-clause-given_back g c =
         | inr none ↦ absurd none
       ];
     }
+
+pub returns-in-Ok-counted-clause-clean : goal.returns-in-Ok-counted-clause-clean
+returns-in-Ok-counted-clause-clean g c clean = omega (arith, c.open_desk.ensures.crash.clean, c.counted.ensures.read.clean, clean)
