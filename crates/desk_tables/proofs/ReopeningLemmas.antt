@@ -1,5 +1,5 @@
 -- What a desk's files hold is what opens, and a crash leaves such files.
-use Rattle.std.proofs.Common.{◌≡◌, ◌⊎◌, inl, inr, ℕ, List, [], ◌∷◌, IsTrue, refl, sym, ap, ap₂, subst, ◌∙◌}
+use Rattle.std.proofs.Common.{◌≡◌, ◌⊎◌, inl, inr, ℕ, List, [], ◌∷◌, refl, sym, ap, ap₂, subst, ◌∙◌}
 use Rattle.std.specs.List.{AllByRecursion}
 use Rattle.std.proofs.Math.Logic.{∥∥₁_map, ∥∥₁_elim}
 use Rattle.registry_core.specs.Settings.{Settings}
@@ -16,7 +16,7 @@ use Rattle.sqlite_catalog.specs.Listing.{IsSound}
 use Rattle.sqlite.specs.declared.error.Error.{Error}
 use Rattle.sqlite.specs.Effect.{Database}
 use Rattle.sqlite.specs.declared.file.Leftover.{Leftover}
-use Rattle.sqlite.specs.Files.{file_state, over_files, image_of, faults_of, faults_left, tally_left, Finds, FailsToOpenFiles, HoldsDatabase, IsFullLeft, IsNothing, IsOpened}
+use Rattle.sqlite.specs.Files.{file_state, image_of, faults_of, faults_left, tally_left, Finds, FailsToOpenFiles, HoldsDatabase, IsFullLeft, IsNothing, IsOpened}
 use Rattle.sqlite.specs.Held.{Held, AreDatabases}
 use Rattle.sqlite.specs.Opening.{FailsAs}
 use Rattle.sqlite.specs.State.{store_error}

@@ -10,7 +10,6 @@ use Rattle.sqlite_store.specs.FileStore as store
 use Rattle.sqlite_trees.specs.Tree.{Trees}
 use Rattle.sqlite.specs.Files.{over_files, image_of, HoldsDatabase}
 use Rattle.desk_store.specs.Kept.{Kept, IsOneOf}
-use Rattle.desk_store.specs.Meaning.{Meaning}
 use Rattle.desk_rows.specs.Meta.{IsConfig}
 use Rattle.desk_rows.specs.Schema.{desk_schema}
 use Rattle.desk_tables.specs.Adopting.{IsOfDesk, IsStore}

@@ -1,5 +1,6 @@
-//! Tests over a connection in memory.
+//! Tests over a connection or files in memory.
 mod committing;
 mod keeping;
 mod looks;
 mod opening;
+mod reopening;

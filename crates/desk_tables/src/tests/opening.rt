@@ -12,7 +12,7 @@ use std::test::Fail;
 
 type Conn = Connection<MemStore>;
 
-fn town() -> Option<Config> {
+pub(super) fn town() -> Option<Config> {
     let receiver = Name::new(b"desk")?;
     let operator = Name::new(b"office")?;
     Config::new(receiver, operator, 0x01a0_0000, 65_536)

@@ -1,12 +1,9 @@
-use Rattle.std.proofs.Common.{arith, refl}
+use Rattle.std.proofs.Common.{arith}
 use Rattle.std.proofs.Math.Logic.{∥∥₁_map}
-use Rattle.registry_core.specs.Settings.{Settings}
 use Rattle.sqlite_store.specs.Laws.{settled_at}
 use Rattle.sqlite_trees.proofs.Doubt.{no_doubt}
 use Rattle.sqlite.specs.Files.{file_state, over_files}
 use Rattle.sqlite.specs.State.{HasCleanDisk}
-use Rattle.desk_store.specs.Kept.{Kept}
-use Rattle.desk_tables.specs.Reopening.{HoldDesk}
 use Rattle.desk_tables.specs.Store.{own_law}
 use Rattle.desk_tables.proofs.ReopeningLemmas.{found_desk, if_some, left_desk, opening_fails}
 use Rattle.desk_tables.proofs.reopening.Tables+FileStore+D.open_files.Goals as goal
