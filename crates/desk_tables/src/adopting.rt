@@ -6,7 +6,7 @@ ghost use Rattle.sqlite.specs.State.{HasCleanDisk};
 ghost use Rattle.desk_store.specs.Calls.{IsUnavailability};
 ghost use Rattle.desk_store.specs.Kept.{Kept};
 ghost use Rattle.desk_store.specs.declared.faults.StoreFault.TheVariants.{Exists, NotADesk, SchemaVersion};
-ghost use Rattle.desk_rows.specs.Meta.{HasMeta, TellsMeta};
+ghost use Rattle.desk_rows.specs.Meta.{HasMeta, IsConfig, TellsMeta};
 ghost use Rattle.desk_rows.specs.Rows.{Holds, Rows};
 ghost use Rattle.desk_rows.specs.Schema.{desk_schema, no_schema};
 ghost use Rattle.desk_rows.specs.order.Changes.{opening_rows};
@@ -37,6 +37,7 @@ impl<S: Alter> Tables<S> {
         requires idle { conn.in_transaction ≡ false }
         requires unlimited { conn.step_limit ≡ None }
         ensures made { IfOk result (λ t. (meaning_of S.Store).sound t → IsStore (meaning_of S.Store) t config (opening_kept config)) }
+        ensures config { IsConfig config }
         ensures blank { IfOk result (λ t. conn.schema ≡ no_schema) }
         ensures exists { IfErr result (λ back. (back.0 ≡ Exists) ↔ IsTaken conn.schema) }
         ensures stranger { conn.schema ≢ no_schema → ¬ IsTaken conn.schema → IfErr result (λ back. back.0 ≡ NotADesk) }
