@@ -2,7 +2,8 @@
 use Rattle.std.proofs.Common.{ℕ, List, [], ◌++◌, refl}
 use Rattle.sqlite_tied.specs.Compute.{everything}
 use Rattle.desk_rows.proofs.BatchLemmas.{Begins, Through, Starts, starts, through, no_more, IsNeverRefused, none_refused, first_spared}
-use Rattle.desk_rows.proofs.SchemaTexts.{after, meta_text, sender_text, reply_text, owner_text, gateway_text, device_text, session_text, uplink_text, copy_text, booking_text, device_owner_text, uplink_start_text, booking_start_text, booking_uplink_text, meta_step, sender_step, reply_step, owner_step, gateway_step, device_step, session_step, uplink_step, copy_step, booking_step, device_owner_step, uplink_start_step, booking_start_step, booking_uplink_step}
+use Rattle.desk_rows.proofs.SchemaTexts.{after, meta_text, sender_text, reply_text, owner_text, gateway_text, device_text, session_text, uplink_text, copy_text, booking_text, device_owner_text, uplink_start_text, booking_start_text, booking_uplink_text}
+use Rattle.desk_rows.proofs.SchemaTexts.{meta_step, sender_step, reply_step, owner_step, gateway_step, device_step, session_step, uplink_step, copy_step, booking_step, device_owner_step, uplink_start_step, booking_start_step, booking_uplink_step}
 
 -- each with those after it
 abbrev pub from_booking_uplink : List ℕ

@@ -56,69 +56,83 @@ booking_uplink_text = codes " CREATE INDEX booking_uplink ON booking (uplink)"
 pub meta_step : IsStep meta_text (after 0 0) (after 1 0)
 unfolding understood everything fits_kind is_free_name begins same_name value_cmp lib.Ieee.is_nan lib.Ieee.lt
 meta_step =
-    table_step meta_text (after 0 0) (record meta_table { tree = 0 }) (record { compiled = _; means = refl; is = refl; plain = (refl, refl); whole = omega arith; given = refl }) refl refl refl
+    table_step meta_text (after 0 0) (record meta_table { tree = 0 })
+    (record { compiled = _; means = refl; is = refl; plain = (refl, refl); whole = omega arith; given = refl }) refl refl refl
 
 pub sender_step : IsStep sender_text (after 1 0) (after 2 1)
 unfolding understood everything fits_kind is_free_name begins same_name value_cmp lib.Ieee.is_nan lib.Ieee.lt
 sender_step =
-    table_step sender_text (after 1 0) (record sender_table { tree = 0 }) (record { compiled = _; means = refl; is = refl; plain = (refl, refl); whole = omega arith; given = refl }) refl refl refl
+    table_step sender_text (after 1 0) (record sender_table { tree = 0 })
+    (record { compiled = _; means = refl; is = refl; plain = (refl, refl); whole = omega arith; given = refl }) refl refl refl
 
 pub reply_step : IsStep reply_text (after 2 1) (after 3 2)
 unfolding understood everything fits_kind is_free_name begins same_name value_cmp lib.Ieee.is_nan lib.Ieee.lt
 reply_step =
-    table_step reply_text (after 2 1) (record reply_table { tree = 0 }) (record { compiled = _; means = refl; is = refl; plain = (refl, refl); whole = omega arith; given = refl }) refl refl refl
+    table_step reply_text (after 2 1) (record reply_table { tree = 0 })
+    (record { compiled = _; means = refl; is = refl; plain = (refl, refl); whole = omega arith; given = refl }) refl refl refl
 
 pub owner_step : IsStep owner_text (after 3 2) (after 4 3)
 unfolding understood everything fits_kind is_free_name begins same_name value_cmp lib.Ieee.is_nan lib.Ieee.lt
 owner_step =
-    table_step owner_text (after 3 2) (record owner_table { tree = 0 }) (record { compiled = _; means = refl; is = refl; plain = (refl, refl); whole = omega arith; given = refl }) refl refl refl
+    table_step owner_text (after 3 2) (record owner_table { tree = 0 })
+    (record { compiled = _; means = refl; is = refl; plain = (refl, refl); whole = omega arith; given = refl }) refl refl refl
 
 pub gateway_step : IsStep gateway_text (after 4 3) (after 5 4)
 unfolding understood everything fits_kind is_free_name begins same_name value_cmp lib.Ieee.is_nan lib.Ieee.lt
 gateway_step =
-    table_step gateway_text (after 4 3) (record gateway_table { tree = 0 }) (record { compiled = _; means = refl; is = refl; plain = (refl, refl); whole = omega arith; given = refl }) refl refl refl
+    table_step gateway_text (after 4 3) (record gateway_table { tree = 0 })
+    (record { compiled = _; means = refl; is = refl; plain = (refl, refl); whole = omega arith; given = refl }) refl refl refl
 
 pub device_step : IsStep device_text (after 5 4) (after 6 5)
 unfolding understood everything fits_kind is_free_name begins same_name value_cmp lib.Ieee.is_nan lib.Ieee.lt
 device_step =
-    table_step device_text (after 5 4) (record device_table { tree = 0 }) (record { compiled = _; means = refl; is = refl; plain = (refl, refl); whole = omega arith; given = refl }) refl refl refl
+    table_step device_text (after 5 4) (record device_table { tree = 0 })
+    (record { compiled = _; means = refl; is = refl; plain = (refl, refl); whole = omega arith; given = refl }) refl refl refl
 
 pub session_step : IsStep session_text (after 6 5) (after 7 6)
 unfolding understood everything fits_kind is_free_name begins same_name value_cmp lib.Ieee.is_nan lib.Ieee.lt
 session_step =
-    table_step session_text (after 6 5) (record session_table { tree = 0 }) (record { compiled = _; means = refl; is = refl; plain = (refl, refl); whole = omega arith; given = refl }) refl refl refl
+    table_step session_text (after 6 5) (record session_table { tree = 0 })
+    (record { compiled = _; means = refl; is = refl; plain = (refl, refl); whole = omega arith; given = refl }) refl refl refl
 
 pub uplink_step : IsStep uplink_text (after 7 6) (after 8 7)
 unfolding understood everything fits_kind is_free_name begins same_name value_cmp lib.Ieee.is_nan lib.Ieee.lt
 uplink_step =
-    table_step uplink_text (after 7 6) (record uplink_table { tree = 0 }) (record { compiled = _; means = refl; is = refl; plain = (refl, refl); whole = omega arith; given = refl }) refl refl refl
+    table_step uplink_text (after 7 6) (record uplink_table { tree = 0 })
+    (record { compiled = _; means = refl; is = refl; plain = (refl, refl); whole = omega arith; given = refl }) refl refl refl
 
 pub copy_step : IsStep copy_text (after 8 7) (after 9 8)
 unfolding understood everything fits_kind is_free_name begins same_name value_cmp lib.Ieee.is_nan lib.Ieee.lt
 copy_step =
-    table_step copy_text (after 8 7) (record copy_table { tree = 0 }) (record { compiled = _; means = refl; is = refl; plain = (refl, refl); whole = omega arith; given = refl }) refl refl refl
+    table_step copy_text (after 8 7) (record copy_table { tree = 0 })
+    (record { compiled = _; means = refl; is = refl; plain = (refl, refl); whole = omega arith; given = refl }) refl refl refl
 
 pub booking_step : IsStep booking_text (after 9 8) (after 10 8)
 unfolding understood everything fits_kind is_free_name begins same_name value_cmp lib.Ieee.is_nan lib.Ieee.lt
 booking_step =
-    table_step booking_text (after 9 8) (record booking_table { tree = 0 }) (record { compiled = _; means = refl; is = refl; plain = (refl, refl); whole = omega arith; given = refl }) refl refl refl
+    table_step booking_text (after 9 8) (record booking_table { tree = 0 })
+    (record { compiled = _; means = refl; is = refl; plain = (refl, refl); whole = omega arith; given = refl }) refl refl refl
 
 pub device_owner_step : IsStep device_owner_text (after 10 8) (after 10 9)
 unfolding understood everything fits_kind is_free_name begins same_name value_cmp lib.Ieee.is_nan lib.Ieee.lt
 device_owner_step =
-    index_step device_owner_text (after 10 8) 5 device_table _ (record { compiled = _; means = refl; is = refl; plain = (refl, refl); whole = omega arith; given = refl }) refl refl refl
+    index_step device_owner_text (after 10 8) 5 device_table _
+    (record { compiled = _; means = refl; is = refl; plain = (refl, refl); whole = omega arith; given = refl }) refl refl refl
 
 pub uplink_start_step : IsStep uplink_start_text (after 10 9) (after 10 10)
 unfolding understood everything fits_kind is_free_name begins same_name value_cmp lib.Ieee.is_nan lib.Ieee.lt
 uplink_start_step =
-    index_step uplink_start_text (after 10 9) 7 uplink_table _ (record { compiled = _; means = refl; is = refl; plain = (refl, refl); whole = omega arith; given = refl }) refl refl refl
+    index_step uplink_start_text (after 10 9) 7 uplink_table _
+    (record { compiled = _; means = refl; is = refl; plain = (refl, refl); whole = omega arith; given = refl }) refl refl refl
 
 pub booking_start_step : IsStep booking_start_text (after 10 10) (after 10 11)
 unfolding understood everything fits_kind is_free_name begins same_name value_cmp lib.Ieee.is_nan lib.Ieee.lt
 booking_start_step =
-    index_step booking_start_text (after 10 10) 9 booking_table _ (record { compiled = _; means = refl; is = refl; plain = (refl, refl); whole = omega arith; given = refl }) refl refl refl
+    index_step booking_start_text (after 10 10) 9 booking_table _
+    (record { compiled = _; means = refl; is = refl; plain = (refl, refl); whole = omega arith; given = refl }) refl refl refl
 
 pub booking_uplink_step : IsStep booking_uplink_text (after 10 11) (after 10 12)
 unfolding understood everything fits_kind is_free_name begins same_name value_cmp lib.Ieee.is_nan lib.Ieee.lt
 booking_uplink_step =
-    index_step booking_uplink_text (after 10 11) 9 booking_table _ (record { compiled = _; means = refl; is = refl; plain = (refl, refl); whole = omega arith; given = refl }) refl refl refl
+    index_step booking_uplink_text (after 10 11) 9 booking_table _
+    (record { compiled = _; means = refl; is = refl; plain = (refl, refl); whole = omega arith; given = refl }) refl refl refl
