@@ -1,3 +1,4 @@
 pub mod Asked
 pub mod Numerals
+pub mod OnTables
 pub mod Tellings

@@ -4,6 +4,7 @@
 mod commands;
 mod endings;
 mod numbers;
+mod on_tables;
 mod options;
 mod program;
 #[cfg(test)]

@@ -1,0 +1,15 @@
+use Rattle.std.proofs.Common.{refl}
+use Rattle.sqlite.proofs.Callers.{memory_is_clean}
+use Rattle.desk_cli.proofs.on_tables.run_in_memory.Goals as goal
+
+pub returns-in-Ok-outcomes-clause-outcomes : goal.returns-in-Ok-outcomes-clause-outcomes
+returns-in-Ok-outcomes-clause-outcomes c = rw c.in-Ok-outcomes.is at (c.run_on_tables-outcomes.ensures.outcomes (memory_is_clean c.run_on_tables-outcomes.result.1))
+
+pub returns-in-Ok-outcomes-clause-tables : goal.returns-in-Ok-outcomes-clause-tables
+returns-in-Ok-outcomes-clause-tables c = λ is. (rw c.in-Ok-outcomes.is at (c.run_on_tables-outcomes.ensures.tables (memory_is_clean c.run_on_tables-outcomes.result.1)) is).0
+
+pub returns-in-Ok-outcomes-clause-committed : goal.returns-in-Ok-outcomes-clause-committed
+returns-in-Ok-outcomes-clause-committed c = rw c.in-Ok-outcomes.is at (c.run_on_tables-outcomes.ensures.crash (memory_is_clean c.run_on_tables-outcomes.result.1)) _ refl
+
+pub returns-in-Ok-outcomes-clause-hours : goal.returns-in-Ok-outcomes-clause-hours
+returns-in-Ok-outcomes-clause-hours c = rw c.in-Ok-outcomes.is at (c.run_on_tables-outcomes.ensures.hours (memory_is_clean c.run_on_tables-outcomes.result.1))

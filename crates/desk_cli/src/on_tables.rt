@@ -1,0 +1,84 @@
+//! The whole over tables: a desk is made, it answers texts, and what its database then holds.
+ghost use Rattle.std.specs.Prelude.{◌≡◌, ℕ, [], map, take, false, None, IfOk, IfErr};
+ghost use Rattle.sqlite_trees.specs.Tree.{Trees};
+ghost use Rattle.sqlite.specs.Held.{state};
+ghost use Rattle.sqlite.specs.State.{HasCleanDisk};
+ghost use Rattle.sqlite.specs.Steps.{over_memory};
+ghost use Rattle.registry_core.specs.Bookings.{EveryHourKept};
+ghost use Rattle.registry_core.specs.Heard.{state_of};
+ghost use Rattle.desk_engine.specs.Deliveries.{heard_all};
+ghost use Rattle.desk_engine.specs.Outcomes.{AreOutcomes, deliveries_of, first_doubt, has_disk};
+ghost use Rattle.desk_cli.specs.OnTables.{HasHeard, LeftHeard};
+
+use desk_engine::{Outcome, run};
+use desk_store::StoreFault;
+use desk_tables::Tables;
+use registry_core::Config;
+use registry_core::laws::nothing_is_heard;
+use sqlite::{Alter, Connection, MemStore};
+use std::alloc::Global;
+
+/// Makes a desk in a database that has nothing, answers texts in order, and gives the connection back: with an outcome for each
+/// text, or why there is no desk, or no room for the outcomes.
+///
+/// What is said of values is said of a disk that has given back what was written to it.
+pub fn run_on_tables<S: Alter>(
+    alloc: Global,
+    conn: Connection<S>,
+    config: Config,
+    texts: &[&[u8]],
+) -> (Result<Vec<Outcome>, StoreFault>, Connection<S>)
+    requires idle { conn.in_transaction ≡ false }
+    requires unlimited { conn.step_limit ≡ None }
+    ensures outcomes { HasCleanDisk (state S.Store result.1) → IfOk result.0 (λ outcomes. AreOutcomes config [] (map (λ t. t.now) texts.now) outcomes.items) }
+
+    // Unless an outcome tells a fault of the disk, the database holds what was heard and nothing else, and all of it is committed.
+    ensures tables { HasCleanDisk (state S.Store result.1) → IfOk result.0 (λ outcomes. has_disk outcomes.items ≡ false
+        → HasHeard config (heard_all config [] (deliveries_of (map (λ t. t.now) texts.now) outcomes.items)) (state S.Store result.1).now
+        × ((state S.Store result.1).now ≡ (state S.Store result.1).committed)) }
+
+    // Whatever they tell, a crash leaves what was heard, or after a fault of the disk that with the message in doubt.
+    ensures crash { HasCleanDisk (state S.Store result.1) → IfOk result.0 (λ outcomes. (trees : Trees) → (state S.Store result.1).may_leave trees
+        → LeftHeard config (heard_all config [] (deliveries_of (map (λ t. t.now) texts.now) outcomes.items))
+        (first_doubt config (map (λ t. t.now) texts.now) outcomes.items) trees) }
+
+    // No hour of any gateway's band holds more downlinks than the limit, after each beginning of the list.
+    ensures hours { HasCleanDisk (state S.Store result.1) → IfOk result.0 (λ outcomes. (n : ℕ) → EveryHourKept (state_of config
+        (heard_all config [] (take n (deliveries_of (map (λ t. t.now) texts.now) outcomes.items))))) }
+{
+    nothing_is_heard();
+    match Tables::create(alloc, conn, config) {
+        Ok(tables) => {
+            let mut tables = tables;
+            match run(alloc, &mut tables, texts) {
+                Ok(outcomes) => (Ok(outcomes), tables.close()),
+                Err(_) => (Err(StoreFault::Memory), tables.close()),
+            }
+        }
+        Err((fault, conn)) => (Err(fault), conn),
+    }
+}
+
+/// The same in memory, for every configuration and every list of texts: nothing is asked of the caller, and nothing of a disk.
+pub fn run_in_memory(
+    alloc: Global,
+    config: Config,
+    texts: &[&[u8]],
+) -> Result<(Vec<Outcome>, Connection<MemStore>), StoreFault>
+    ensures outcomes { IfOk result (λ ran. AreOutcomes config [] (map (λ t. t.now) texts.now) ran.0.items) }
+    ensures tables { IfOk result (λ ran. has_disk ran.0.items ≡ false
+        → HasHeard config (heard_all config [] (deliveries_of (map (λ t. t.now) texts.now) ran.0.items)) (state over_memory ran.1).now) }
+    ensures committed { IfOk result (λ ran. LeftHeard config (heard_all config [] (deliveries_of (map (λ t. t.now) texts.now) ran.0.items))
+        (first_doubt config (map (λ t. t.now) texts.now) ran.0.items) (state over_memory ran.1).committed.trees) }
+    ensures hours { IfOk result (λ ran. (n : ℕ) → EveryHourKept (state_of config
+        (heard_all config [] (take n (deliveries_of (map (λ t. t.now) texts.now) ran.0.items))))) }
+{
+    let Ok(conn) = Connection::open_in_memory(alloc) else {
+        return Err(StoreFault::Memory);
+    };
+    let (outcomes, conn) = run_on_tables(alloc, conn, config, texts);
+    match outcomes {
+        Ok(outcomes) => Ok((outcomes, conn)),
+        Err(fault) => Err(fault),
+    }
+}
