@@ -48,14 +48,14 @@ module _ {S : Type 0} (g : Ghosts S) (c : Settings) (old new : Tables S) (made :
           → (kept : Kept) × IsOneOf all kept × IsTreesInOrder ((meaning_of g).configuration new) trees kept)
           → (trees : Trees) → (state g conn).may_leave trees → LeftHeard c heard doubt trees
       left heard doubt survives leaves trees may = elim survives [
-        inl own ↦
+        | inl own ↦
             let one = leaves (kept_after c heard ∷ []) own trees may in
             elim one.1 [ inl is ↦ inl (here one.0 (kept_after c heard) is one.2) | inr none ↦ absurd none ]
         | inr in_doubt ↦
             let e = in_doubt.0 in
             let one = leaves (kept_after c heard ∷ kept_after c (heard ++ e ∷ []) ∷ []) in_doubt.2.left trees may in
             elim one.1 [
-              inl is ↦ inl (here one.0 (kept_after c heard) is one.2)
+              | inl is ↦ inl (here one.0 (kept_after c heard) is one.2)
               | inr more ↦ elim more [ inl is ↦ inr (e, its_doubt e in_doubt.1, in_doubt.2.list, here one.0 (kept_after c (heard ++ e ∷ [])) is one.2) | inr none ↦ absurd none ]
             ]
       ]

@@ -11,14 +11,17 @@ mod reports;
 mod requests;
 pub(crate) mod rows;
 mod runs;
+mod stored_lines;
 pub(crate) mod streams;
 mod sweeping;
 
 use desk_engine::{Outcome, deliver};
 use desk_store::{Keeper, Lists, Switched};
+use desk_tables::Tables;
 use radio_core::Name;
 use registry_core::Config;
 use rows::{DEVICE_ADDED, Delivery, Row, SETUP, deliveries_of};
+use sqlite::{Alter, Connection, MemStore};
 use std::alloc::Global;
 use std::process::Abort;
 use std::test::Fail;
@@ -39,6 +42,27 @@ impl Opened for Switched {
     fn opened(alloc: Global, config: Config) -> Result<Box<Self>, Fail> {
         Ok(Box::new(alloc, Switched::new(alloc, config)?)?)
     }
+}
+
+impl Opened for Tables<MemStore> {
+    fn opened(alloc: Global, config: Config) -> Result<Box<Self>, Fail> {
+        made(alloc, Connection::open_in_memory(alloc)?, config)
+    }
+}
+
+/// A desk on tables, in a database that has nothing.
+fn made<S: Alter + Drop>(
+    alloc: Global,
+    conn: Connection<S>,
+    config: Config,
+) -> Result<Box<Tables<S>>, Fail> {
+    let mut conn = conn;
+    conn.set_step_limit(None);
+    if !conn.is_autocommit() {
+        return Err("in a transaction".into());
+    }
+    let tables = Tables::create(alloc, conn, config).map_err(|_| "not made")?;
+    Ok(Box::new(alloc, tables)?)
 }
 
 pub(crate) fn config(addresses: u32) -> Option<Config> {
@@ -115,4 +139,9 @@ fn rows_over_lists(rt: HostRuntime) -> Result<(), Fail> {
 #[test]
 fn rows_over_a_switched_store(rt: HostRuntime) -> Result<(), Fail> {
     rows_hold::<HostRuntime, Switched>(&rt)
+}
+
+#[test]
+fn rows_over_tables(rt: HostRuntime) -> Result<(), Fail> {
+    rows_hold::<HostRuntime, Tables<MemStore>>(&rt)
 }

@@ -1,0 +1,150 @@
+#!/usr/bin/env python3
+"""Compares the store in memory, tables in memory, and tables in a file, message by message.
+
+    checks/both_stores.py [--size 20000] [--seed 1] [--built]
+
+So many messages of mixed operation (mixed_operation.py) go to each store: to the file in two runs, the second of which opens what
+the first one closed. All answers, and both reports on all owners, months and gateways, have to be the same octets. Then the real
+SQLite reads the file, and each row of its ten tables has to be that of a plain Python program that heard the same messages
+(bench/dictionaries.py).
+
+The stores are those of the test `stored_lines` of desk_cli, which `rt test` proves and builds first, or with --built the test that it built last.
+"""
+
+import argparse
+import json
+import os
+import re
+import sqlite3
+import subprocess
+import sys
+import tempfile
+from pathlib import Path
+
+from mixed_operation import mixed_operation
+
+ROOT = Path(__file__).resolve().parent.parent
+sys.path.insert(0, str(ROOT / "bench"))
+import dictionaries
+
+PROGRAM = ROOT / "crates" / "desk_cli" / "out" / "desk_cli_tests"
+TEST = "tests::stored_lines::lines_over_the_named_store"
+TIMES = re.compile(r"^(opened|lines): .*microseconds")
+
+ROLES = {"operator": 0, "radio": 1}
+KINDS = {"join": 0, "data": 1}
+
+
+def told_by(store, lines):
+    """What the store answers and reports, without the times."""
+    ran = subprocess.run(
+        [PROGRAM, TEST],
+        env={**os.environ, "DESK_STORE": str(store)},
+        input="".join(line + "\n" for line in lines),
+        capture_output=True,
+        text=True,
+    )
+    if ran.returncode != 0:
+        sys.exit(f"{store}: {ran.returncode}\n{ran.stdout[-2000:]}{ran.stderr}")
+    return [line for line in ran.stdout.splitlines() if not TIMES.match(line)]
+
+
+def answers_of(told):
+    return [line for line in told if line.startswith("{")]
+
+
+def rows_of(desk):
+    """The rows of the ten tables, as the plain program's dictionaries have them."""
+    nonces = {uplink["number"]: nonce for (_, nonce), uplink in desk.joins.items()}
+    counters = {uplink["number"]: counter for (_, counter), uplink in desk.frames.items()}
+    of_session = {uplink["session"]: nonces[uplink["number"]] for uplink in desk.joins.values()}
+    gateways = {number: gateway for gateway, starts in desk.starts.items() for _, number in starts}
+    uplinks, copies = [], []
+    for uplink in desk.uplinks:
+        number = uplink["number"]
+        counter = nonces[number] if uplink["kind"] == "join" else counters[number]
+        first = next(iter(uplink["copies"].values()))
+        row = number, uplink["session"], KINDS[uplink["kind"]], counter, uplink["octets"], first[0] - uplink["airtime"], uplink["airtime"]
+        uplinks.append((*row, int(uplink["band"][1])))
+        copies += [(number, gateway, *heard) for gateway, heard in uplink["copies"].items()]
+    bookings = [
+        (
+            number,
+            booking["uplink"]["number"],
+            gateways[number],
+            booking["uplink"]["session"],
+            KINDS[booking["uplink"]["kind"]],
+            int(booking["band"][1]),
+            booking["start"],
+            booking["end"] - booking["start"],
+            booking["state"],
+        )
+        for number, booking in enumerate(desk.bookings, 1)
+    ]
+    write = dictionaries.write
+    return {
+        "meta": [(1, 1, "desk", "office", dictionaries.BASE, dictionaries.ADDRESSES)],
+        "sender": [(name, ROLES[role]) for name, role in desk.senders.items()],
+        "reply": [(n, *pair, write(m).encode(), answer.encode()) for n, (pair, (m, answer)) in enumerate(desk.heard.items(), 1)],
+        "owner": [(name,) for name in desk.owners],
+        "gateway": [(name,) for name in desk.gateways],
+        "device": [
+            (bytes.fromhex(eui), bytes.fromhex(device["join"]), device["owner"], device["floor"] or None)
+            for eui, device in desk.devices.items()
+        ],
+        "session": [
+            (number, bytes.fromhex(session["device"]), of_session[number], session["downlinks"])
+            for number, session in enumerate(desk.sessions, 1)
+        ],
+        "uplink": uplinks,
+        "copy": copies,
+        "booking": bookings,
+    }
+
+
+def compare_rows(file, desk):
+    conn = sqlite3.connect(f"file:{file}?mode=ro", uri=True)
+    for table, wanted in rows_of(desk).items():
+        found = conn.execute(f"SELECT * FROM {table}").fetchall()
+        if sorted(found, key=repr) != sorted(wanted, key=repr):
+            differing = [row for row in found if row not in wanted][:3], [row for row in wanted if row not in found][:3]
+            sys.exit(f"{table}: {len(found)} rows, and {len(wanted)} are wanted; in the file, and wanted: {differing}")
+        print(f"{table}: {len(found)} rows agree")
+    print("integrity:", conn.execute("PRAGMA integrity_check").fetchone()[0])
+    conn.close()
+
+
+def main():
+    words = argparse.ArgumentParser(description=__doc__, formatter_class=argparse.RawDescriptionHelpFormatter)
+    words.add_argument("--size", type=int, default=20_000)
+    words.add_argument("--seed", type=int, default=1)
+    words.add_argument("--built", action="store_true", help="take the test that rt test built last")
+    given = words.parse_args()
+    if not given.built:
+        subprocess.run(["rt", "test"], cwd=ROOT / "crates" / "desk_cli", check=True)
+    lines = mixed_operation(given.size, given.seed)
+    wanted = told_by("lists", lines)
+    if any(plain not in (None, answer) for plain, answer in zip(lines.answers, answers_of(wanted), strict=True)):
+        sys.exit("the plain program answers something else")
+    codes = {}
+    for answer in answers_of(wanted):
+        result = json.loads(answer)["Result"]
+        code = result["ResultCode"] + (" " + result["Description"] if result["Description"] else "")
+        codes[code] = codes.get(code, 0) + 1
+    print(f"{len(lines)} messages, seed {given.seed}:", ", ".join(f"{count} {code}" for code, count in sorted(codes.items(), key=lambda x: -x[1])))
+    if told_by("memory", lines) != wanted:
+        sys.exit("tables in memory answer something else")
+    print("tables in memory: all answers and reports agree")
+    with tempfile.TemporaryDirectory() as folder:
+        file = Path(folder) / "desk.db"
+        half = len(lines) // 2
+        first = told_by(file, lines[:half])
+        second = told_by(file, lines[half:])
+        if answers_of(first) + second != wanted:
+            sys.exit("tables in a file answer something else")
+        print("tables in a file, opened again in the middle: all answers and reports agree")
+        compare_rows(file, lines.desk)
+
+
+if __name__ == "__main__":
+    main()
