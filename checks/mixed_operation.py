@@ -57,6 +57,21 @@ class Mixed(Stream):
     def frequency(self):
         return 870_000_000 if self.sometimes(0.01) else 869_525_000 if self.sometimes(0.05) else self.random.choice(FREQUENCIES)
 
+    def report(self, message_type, gateways, octets, frequency, verdict):
+        """Now and then a slow frame, where an hour has room for few answers."""
+        slow = self.sometimes(0.1)
+        for late, gateway in enumerate(gateways):
+            self.say(
+                "bridge",
+                message_type,
+                Gateway=f"gw-{gateway}",
+                Time=self.now + late,
+                Freq=868_800_000 if slow else frequency,
+                DataRate=0 if slow else 5,
+                PHYPayload=octets.hex(),
+                Verdict=verdict,
+            )
+
     def join_heard(self):
         self.step_on()
         device = self.random.randrange(DEVICES)
