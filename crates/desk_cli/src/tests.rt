@@ -5,6 +5,7 @@ mod failing;
 mod importing;
 mod joins;
 mod lines;
+mod lists;
 mod refused_memory;
 mod report_sizes;
 mod reports;

@@ -32,12 +32,12 @@ fn size(rt: &(impl Env + Alloc), word: &str, usual: u64) -> u64 {
         .clamp(1, 1_000_000)
 }
 
-fn named(text: &str) -> Result<Name, &'static str> {
+pub(super) fn named(text: &str) -> Result<Name, &'static str> {
     Name::new(text.as_bytes()).ok_or("no name")
 }
 
 /// Makes the change, for a message with this transaction number.
-fn make(lists: &mut Lists, transaction: u64, effect: &Effect) -> Result<(), Fail> {
+pub(super) fn make(lists: &mut Lists, transaction: u64, effect: &Effect) -> Result<(), Fail> {
     let owner = named("town")?;
     let envelope = Envelope {
         sender: named("office")?,
@@ -52,7 +52,7 @@ fn later(seconds: u64) -> u64 {
     FEBRUARY.saturating_add(seconds.saturating_mul(SECOND))
 }
 
-fn reception() -> Result<Reception, Fail> {
+pub(super) fn reception() -> Result<Reception, Fail> {
     Ok(Reception {
         end: Whole::new(FEBRUARY).ok_or("too great")?,
         rate: Rate {
@@ -62,7 +62,7 @@ fn reception() -> Result<Reception, Fail> {
     })
 }
 
-fn uplink(session: u64, kind: Kind, start: u64) -> Result<Uplink, Fail> {
+pub(super) fn uplink(session: u64, kind: Kind, start: u64) -> Result<Uplink, Fail> {
     Ok(Uplink {
         session,
         kind,
@@ -75,7 +75,7 @@ fn uplink(session: u64, kind: Kind, start: u64) -> Result<Uplink, Fail> {
 }
 
 /// One owner's devices, which joined before the month.
-fn joined(alloc: Global, devices: u64) -> Result<Box<Lists>, Fail> {
+pub(super) fn joined(alloc: Global, devices: u64) -> Result<Box<Lists>, Fail> {
     let mut lists = opening::<Lists>(alloc, 65_536)?;
     let owner = named("town")?;
     make(&mut *lists, 0, &Effect::AddsOwner { name: owner })?;
@@ -107,7 +107,7 @@ fn joined(alloc: Global, devices: u64) -> Result<Box<Lists>, Fail> {
 }
 
 /// So many uplinks of those devices in turn, a second apart.
-fn send(lists: &mut Lists, devices: u64, uplinks: u64) -> Result<(), Fail> {
+pub(super) fn send(lists: &mut Lists, devices: u64, uplinks: u64) -> Result<(), Fail> {
     for place in 0..uplinks {
         let session = (place % devices.max(1)).saturating_add(1);
         let sent = Effect::AddsUplink {
