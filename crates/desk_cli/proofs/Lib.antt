@@ -1,4 +1,14 @@
 pub mod Asked
+pub mod CommandLine
+pub mod Imported
+pub mod Inited
+pub mod LinesAnswered
 pub mod Numerals
 pub mod OnTables
+pub mod Opened
+pub mod Printed
+pub mod Reported
+pub mod Served
+pub mod Serving
+pub mod Stays
 pub mod Tellings

@@ -1,25 +1,52 @@
--- The commands of the desk, listed: the command line, which command its words name, and what each has done where it ends well.
+-- The commands of the desk, listed: the command line, and which command its words name.
 use Rattle.std.specs.Prelude.{ℕ, List, [], ◌∷◌, Option, Some, None, codes, bytes_eq, if◌then◌else◌}
 use Rattle.clap.specs.Faults.{fault_of}
 use Rattle.clap.specs.Kinds.{Kinds}
 use Rattle.clap.specs.Simple.{App, new_app, with_subcommand, subcommand_of}
 use Rattle.clap.specs.Walk.{Row, Text}
 use Rattle.clap.specs.declared.error.kind.ErrorKind.TheVariants.{MissingSubcommand}
-use Rattle.desk_cli.specs.commands.Lines.{AnswersLines, lines_app, lines_named}
+use Rattle.desk_cli.specs.commands.Hear.{hear_app, hear_named}
+use Rattle.desk_cli.specs.commands.Importing.{import_app, import_named}
+use Rattle.desk_cli.specs.commands.Init.{init_app, init_named}
+use Rattle.desk_cli.specs.commands.Lines.{lines_app, lines_named}
+use Rattle.desk_cli.specs.commands.Reports.{bands_app, bands_named, report_app, report_named}
+use Rattle.desk_cli.specs.commands.Serving.{serve_app, serve_named}
 use Rattle.desk_cli.specs.Named.{Named, refused}
 use Rattle.desk_cli.specs.Options.{config_of}
-use Rattle.desk_cli.specs.declared.commands.Command.{Command}
-use Rattle.desk_cli.specs.declared.commands.Command.TheVariants.{Lines}
+
+-- a command line with the commands that read messages or records, and the one that makes a file for them
+abbrev pub with_readers : App → App
+with_readers app =
+    with_subcommand (with_subcommand (with_subcommand (with_subcommand app
+    lines_app.top)
+    init_app.top)
+    hear_app.top)
+    import_app.top
 
 -- the command line
 abbrev pub desk_app : App
-desk_app = with_subcommand (new_app (codes "desk")) lines_app.top
+desk_app =
+    with_subcommand (with_subcommand (with_subcommand (with_readers (new_app (codes "desk")))
+    serve_app.top)
+    report_app.top)
+    bands_app.top
+
+-- the command of this name, with its options
+abbrev pub named_with : Text → List Row → Named
+named_with name rows =
+    if bytes_eq name (codes "lines") then lines_named (config_of rows)
+    else if bytes_eq name (codes "init") then init_named rows
+    else if bytes_eq name (codes "hear") then hear_named rows
+    else if bytes_eq name (codes "import") then import_named rows
+    else if bytes_eq name (codes "serve") then serve_named rows
+    else if bytes_eq name (codes "report") then report_named rows
+    else if bytes_eq name (codes "bands") then bands_named rows
+    else refused (MissingSubcommand ∷ [])
 
 -- the subcommand that clap enters, with its options
 abbrev pub command_named : Option (Text × List Row) → Named
 command_named None = refused (MissingSubcommand ∷ [])
-command_named (Some (name, rows)) =
-    if bytes_eq name (codes "lines") then lines_named (config_of rows) else refused (MissingSubcommand ∷ [])
+command_named (Some (name, rows)) = named_with name rows
 
 abbrev pub named_unless : Kinds → Option (Text × List Row) → Named
 named_unless [] met = command_named met
@@ -28,9 +55,3 @@ named_unless (kind ∷ kinds) met = refused (kind ∷ kinds)
 -- what the words name, by clap's own rules for the command line above
 abbrev pub named_by : List Text → Named
 named_by words = named_unless (fault_of desk_app words) (subcommand_of desk_app words)
-
--- what a reader has left before and after, and what a writer holds before and after
-module _ (left rest before after : Option (List ℕ)) where
-  -- what the command asks was done
-  abbrev pub IsDone : Command → Type 0
-  IsDone (Lines config) = AnswersLines left rest before after config

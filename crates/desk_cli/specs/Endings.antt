@@ -15,10 +15,3 @@ exit_number Failed = 3
 abbrev pub ending_of : Usage → Ending
 ending_of Memory = Failed
 ending_of _ = Misused
-
--- it did what was asked, or something failed
-abbrev pub IsDoneOrFailed : Ending → Type 0
-IsDoneOrFailed Done = Unit {0}
-IsDoneOrFailed Refused = ⊥
-IsDoneOrFailed Misused = ⊥
-IsDoneOrFailed Failed = Unit {0}

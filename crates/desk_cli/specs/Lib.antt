@@ -1,8 +1,14 @@
+pub mod Answering
 pub mod CommandLine
+pub mod Doing
 pub mod Endings
+pub mod Faults
 pub mod Named
 pub mod Numbers
 pub mod OnTables
 pub mod Options
+pub mod Printing
 pub mod Runs
+pub mod Served
 pub mod commands
+pub mod steps

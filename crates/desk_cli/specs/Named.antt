@@ -1,20 +1,51 @@
 -- What words name, and which answers tell it.
-use Rattle.std.specs.Prelude.{◌≡◌, ◌≢◌, Result, Ok, Err}
+use Rattle.std.specs.Prelude.{◌≡◌, ◌≢◌, ℕ, Result, Ok, Err}
 use Rattle.clap.specs.Kinds.{Kinds, IsAmong}
 use Rattle.clap.specs.Values.{kind_of}
+use Rattle.clap.specs.Walk.{Text}
 use Rattle.clap.specs.declared.error.Error.{Error}
 use Rattle.clap.specs.declared.error.kind.ErrorKind.{ErrorKind}
 use Rattle.clap.specs.declared.error.kind.ErrorKind.TheVariants.{OutOfMemory}
+use Rattle.registry_core.specs.Settings.{Settings}
 use Rattle.desk_cli.specs.declared.commands.Command.{Command}
+use Rattle.desk_cli.specs.declared.commands.Command.TheVariants.{Lines, Init, Hear, Import, Serve, Report, Bands}
 use Rattle.desk_cli.specs.declared.usage.BadValue.{BadValue}
 use Rattle.desk_cli.specs.declared.usage.Usage.{Usage}
 use Rattle.desk_cli.specs.declared.usage.Usage.TheVariants.{Words, Value, NotText, Memory}
 
+-- a command with its values, as texts and numbers
+pub data Asked : Type 0 where
+  lines : Settings → Asked
+  init : Text → Settings → Asked
+  hear : Text → Asked
+  -- the file and the sender
+  import : Text → Text → Asked
+  -- the file, the port and how many connections
+  serve : Text → ℕ → ℕ → Asked
+  -- the file, the owner and the month
+  report : Text → Text → Text → Asked
+  -- the file and the gateway
+  bands : Text → Text → Asked
+
+abbrev pub asked_of : Command → Asked
+asked_of (Lines config) = lines config
+asked_of (Init file config) = init file.now config
+asked_of (Hear file) = hear file.now
+asked_of (Import file sender) = import file.now sender
+asked_of (Serve file port connections) = serve file.now port connections
+asked_of (Report file owner month) = report file.now owner.now month.now
+asked_of (Bands file gateway) = bands file.now gateway.now
+
 -- a command, or a value that is bad, or nothing that clap takes: one of these kinds of error
 pub data Named : Type 0 where
-  names : Command → Named
+  names : Asked → Named
   bad : BadValue → Named
   refused : Kinds → Named
+
+-- a command whose values are read, or the first value that is bad
+abbrev pub named_as : Result Asked BadValue → Named
+named_as (Ok asked) = names asked
+named_as (Err value) = bad value
 
 abbrev pub IsRefusal : ErrorKind → Named → Type 0
 IsRefusal kind (refused kinds) = IsAmong kind kinds
@@ -29,7 +60,7 @@ IsUsageOf error NotText = ⊥
 
 -- the answer is what the words name, unless memory ran out
 abbrev pub Tells : Named → Result Command Usage → Type 0
-Tells named (Ok command) = named ≡ names command
+Tells named (Ok command) = named ≡ names (asked_of command)
 Tells named (Err (Words error)) = IsRefusal (kind_of error) named
 Tells named (Err (Value value)) = named ≡ bad value
 Tells named (Err NotText) = ⊥

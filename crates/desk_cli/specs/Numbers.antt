@@ -1,5 +1,5 @@
 -- How words write numbers (this project's forms).
-use Rattle.std.specs.Prelude.{ℕ, ◌^◌, ◌==◌, Bool, ◌&&◌, List, length, Option, Some, None, nat_le, nat_lt, if◌then◌else◌}
+use Rattle.std.specs.Prelude.{ℕ, ◌^◌, ◌==◌, Bool, ◌&&◌, List, length, Option, Some, None, nat_le, nat_lt, option_and_then, if◌then◌else◌}
 use Rattle.std.specs.List.{list_all}
 use Rattle.std.specs.Char.{is_ascii_digit, is_ascii_hexdigit}
 use Rattle.std.specs.Str.Parse.{digits_value}
@@ -21,3 +21,13 @@ base_of text = if is_base text then value_of 16 text else None
 
 abbrev pub count_of : List ℕ → Option ℕ
 count_of text = if is_count text then value_of 10 text else None
+
+-- at least 1, and at most this
+abbrev pub up_to : ℕ → ℕ → Option ℕ
+up_to most n = if nat_le 1 n && nat_le n most then Some n else None
+
+abbrev pub port_of : List ℕ → Option ℕ
+port_of text = option_and_then (up_to 65535) (count_of text)
+
+abbrev pub connections_of : List ℕ → Option ℕ
+connections_of text = option_and_then (up_to 1000000) (count_of text)

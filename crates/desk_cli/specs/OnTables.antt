@@ -1,12 +1,15 @@
 -- A desk's database, in the words of what it has heard.
-use Rattle.std.specs.Prelude.{◌≡◌, ◌⊎◌, ◌++◌, List, [], ◌∷◌, Option, Some}
+use Rattle.std.specs.Prelude.{◌≡◌, ◌⊎◌, ◌++◌, List, [], ◌∷◌, Option, Some, None}
 use Rattle.sqlite.specs.Effect.{Database}
+use Rattle.sqlite.specs.Held.{Held, state}
 use Rattle.sqlite_trees.specs.Tree.{Trees}
+use Rattle.sqlite_trees.specs.declared.store.Store.{Ghosts}
 use Rattle.registry_core.specs.declared.messages.Envelope.{Envelope}
 use Rattle.registry_core.specs.Heard.{IsHeard}
 use Rattle.registry_core.specs.Settings.{Settings}
-use Rattle.desk_tables.specs.Adopting.{IsOfDesk}
-use Rattle.desk_tables.specs.InOrder.{IsTreesInOrder}
+use Rattle.desk_store.specs.Meaning.{Meaning}
+use Rattle.desk_tables.specs.Adopting.{IsStore}
+use Rattle.desk_tables.specs.InOrder.{AreOfDesk, IsOfDesk}
 use Rattle.desk_engine.specs.InOrder.{kept_after}
 
 -- the database holds exactly the tables of a desk of this configuration that has heard these, in this order
@@ -17,5 +20,21 @@ pub record HasHeard (c : Settings) (heard : List Envelope) (db : Database) : Typ
 -- the same of what a crash leaves, or that with the message in doubt
 abbrev pub LeftHeard : Settings → List Envelope → Option Envelope → Trees → Type 0
 LeftHeard c heard doubt trees =
-    IsTreesInOrder c trees (kept_after c heard)
-    ⊎ ((e : Envelope) × (doubt ≡ Some e) × IsHeard c (heard ++ e ∷ []) × IsTreesInOrder c trees (kept_after c (heard ++ e ∷ [])))
+    AreOfDesk c (kept_after c heard) trees
+    ⊎ ((e : Envelope) × (doubt ≡ Some e) × IsHeard c (heard ++ e ∷ []) × AreOfDesk c (kept_after c (heard ++ e ∷ [])) trees)
+
+module _ {S : Type 0} (g : Ghosts S) (conn : Held S) (c : Settings) (heard : List Envelope) where
+  -- whatever a crash leaves of the connection's file at this moment holds what was heard, or that with the message in doubt
+  abbrev pub IsLeft : Option Envelope → Type 0
+  IsLeft doubt = (trees : Trees) → (state g conn).may_leave trees → LeftHeard c heard doubt trees
+
+  -- the connection's database holds what was heard, all of it is committed, and a crash leaves that alone
+  pub record KeepsHeard : Type 0 where
+    pub now : HasHeard c heard (state g conn).now
+    pub committed : (state g conn).now ≡ (state g conn).committed
+    pub left : IsLeft None
+
+-- the store was opened on tables of a desk of this configuration that has heard these, and holds them
+pub record WasOpened {K : Type 0} (m : Meaning K) (k : K) (c : Settings) (heard : List Envelope) : Type 0 where
+  pub list : IsHeard c heard
+  pub store : IsStore m k c (kept_after c heard)

@@ -1,12 +1,13 @@
--- The options of a desk's configuration: their words, and the configuration that they give.
-use Rattle.std.specs.Prelude.{ℕ, ◌+◌, ◌^◌, Bool, ◌&&◌, List, [], ◌∷◌, Option, Some, None, Result, Ok, Err, codes, nat_le, option_and_then, if◌then◌else◌}
+-- The values of commands: the words that give them, and how they are read.
+use Rattle.std.specs.Prelude.{ℕ, ◌+◌, ◌^◌, Bool, true, ◌&&◌, List, [], ◌∷◌, Option, Some, None, Result, Ok, Err, codes, nat_le, option_and_then, if◌then◌else◌}
+use Rattle.std.specs.Borrow.{Bor}
 use Rattle.clap.specs.Simple.{App, new_rule, with_rule}
 use Rattle.clap.specs.Walk.{Row, Rule, Text, first_of}
 use Rattle.radio_core.specs.Names.{is_name}
 use Rattle.registry_core.specs.Settings.{Settings}
 use Rattle.desk_cli.specs.Numbers.{base_of, count_of}
 use Rattle.desk_cli.specs.declared.usage.BadValue.{BadValue}
-use Rattle.desk_cli.specs.declared.usage.BadValue.TheVariants.{Receiver, Operator, Base, Addresses, Block}
+use Rattle.desk_cli.specs.declared.usage.BadValue.TheVariants.{Receiver, Operator, Base, Addresses, Block, Missing}
 
 -- ---- their words
 
@@ -14,7 +15,15 @@ use Rattle.desk_cli.specs.declared.usage.BadValue.TheVariants.{Receiver, Operato
 abbrev pub option_rule : Text → Text → Rule
 option_rule name default = record (new_rule name) { long = Some name; value_names = 1; defaults = default ∷ [] }
 
--- a command with the four options
+-- an option of one value that has to be there
+abbrev pub needed_rule : Text → Rule
+needed_rule name = record (new_rule name) { long = Some name; value_names = 1; required = true }
+
+-- a word that has to be there, known by its place
+abbrev pub place_rule : Text → Rule
+place_rule name = record (new_rule name) { value_names = 1; required = true }
+
+-- a command with the four options of a desk's configuration
 abbrev pub with_settings : App → App
 with_settings app =
     with_rule (with_rule (with_rule (with_rule app
@@ -55,6 +64,15 @@ settings_of receiver operator base addresses =
 -- the value of an option, by a form
 abbrev pub value_at : {X : Type 0} → (Text → Option X) → Text → List Row → Option X
 value_at form option rows = option_and_then form (first_of option rows)
+
+-- the word in a place. clap takes no words that leave a place empty.
+abbrev pub placed : Text → List Row → OrBad Text
+placed name rows = needs (first_of name rows) Missing
+
+-- the text behind a reference
+abbrev pub behind : OrBad (Bor Text) → OrBad Text
+behind (Ok text) = Ok text.now
+behind (Err bad) = Err bad
 
 -- the configuration of the four options, or the first of them that is bad
 unfoldable pub config_of : List Row → OrBad Settings

@@ -1,5 +1,6 @@
--- What the program is asked, and how it ends where that can't be had.
-use Rattle.std.specs.Prelude.{◌≡◌, ◌≢◌, List, Result, Ok, Err, String, map, string_bytes}
+-- What the program is asked, and how a run of it ends.
+use Rattle.std.specs.Prelude.{◌≡◌, ◌≢◌, ◌⊎◌, ℕ, List, Option, None, Result, Ok, Err, String, map, string_bytes}
+use Rattle.std.specs.Io.KnownBytes.{Keeps}
 use Rattle.std.specs.IoError.{error_kind}
 use Rattle.std.specs.Vec.Iter.{into_iter_items}
 use Rattle.std.specs.declared.io.Error.{Error}
@@ -7,11 +8,15 @@ use Rattle.std.specs.declared.io.ErrorKind.{ErrorKind}
 use Rattle.std.specs.declared.io.ErrorKind.TheVariants.{OutOfMemory}
 use Rattle.std.specs.declared.vec.IntoIter.{IntoIter}
 use Rattle.clap.specs.Walk.{Text}
+use Rattle.sqlite.specs.Held.{Held}
+use Rattle.sqlite_trees.specs.declared.store.Store.{Ghosts}
 use Rattle.desk_cli.specs.CommandLine.{named_by}
-use Rattle.desk_cli.specs.Named.{names, Tells}
-use Rattle.desk_cli.specs.declared.commands.Command.{Command}
+use Rattle.desk_cli.specs.Doing.{DoesAsked}
+use Rattle.desk_cli.specs.Faults.{ending_of_result}
+use Rattle.desk_cli.specs.Named.{Asked, names}
 use Rattle.desk_cli.specs.declared.endings.Ending.{Ending}
 use Rattle.desk_cli.specs.declared.endings.Ending.TheVariants.{Failed, Misused}
+use Rattle.desk_cli.specs.declared.faults.Fault.{Fault}
 use Rattle.desk_cli.specs.declared.usage.Usage.{Usage}
 use Rattle.desk_cli.specs.declared.usage.Usage.TheVariants.{NotText, Memory}
 
@@ -25,13 +30,13 @@ given (Ok arguments) = Ok (map string_bytes (into_iter_items arguments))
 given (Err error) = Err (error_kind error)
 
 -- the words can be had, and they name the command
-abbrev pub AsksFor : Given → Command → Type 0
-AsksFor (Ok words) command = named_by words ≡ names command
-AsksFor (Err kind) command = ⊥
+abbrev pub AsksFor : Given → Asked → Type 0
+AsksFor (Ok words) asked = named_by words ≡ names asked
+AsksFor (Err kind) asked = ⊥
 
 -- some words name the command
-abbrev pub IsNamed : Command → Type 0
-IsNamed command = (words : List Text) × (named_by words ≡ names command)
+abbrev pub IsNamed : Asked → Type 0
+IsNamed asked = (words : List Text) × (named_by words ≡ names asked)
 
 -- why the words can't be had: memory ran out, or else one isn't text
 abbrev pub IsUnread : ErrorKind → Usage → Type 0
@@ -39,14 +44,27 @@ IsUnread kind Memory = kind ≡ OutOfMemory
 IsUnread kind NotText = kind ≢ OutOfMemory
 IsUnread kind _ = ⊥
 
--- the answer is what the words name, unless memory ran out, or why they can't be had
-abbrev pub Asks : Given → Result Command Usage → Type 0
-Asks (Ok words) answer = Tells (named_by words) answer
-Asks (Err kind) (Ok command) = ⊥
-Asks (Err kind) (Err usage) = IsUnread kind usage
-
 -- the program ends as failed where there was no memory for its words, and else as misused
 abbrev pub EndsUnread : ErrorKind → Ending → Type 0
 EndsUnread kind Failed = kind ≡ OutOfMemory
 EndsUnread kind Misused = kind ≢ OutOfMemory
 EndsUnread kind _ = ⊥
+
+-- What a connection to a file is; the connection that a run gives back; what its reader has left before and after, and what its
+-- writer holds before and after.
+module _ {S : Type 0} (g : Ghosts S) (Opens : Text → Held S → Type 0) (back : Option (Held S)) (left rest before after : Option (List ℕ)) where
+  -- what was asked was done, and the program ended by how that ended
+  pub record Does (ending : Ending) (asked : Asked) : Type 0 where
+    pub result : Result (Unit {0}) Fault
+    pub ending_is : ending ≡ ending_of_result result
+    pub does : DoesAsked g Opens back left rest before after result asked
+
+  -- Nothing was asked: no file was opened, and nothing was read or written. The words name no command, or memory ran out.
+  pub record AsksNothing (words : Given) (ending : Ending) : Type 0 where
+    pub unopened : back ≡ None
+    pub unread : Keeps left rest
+    pub unwritten : Keeps before after
+    pub ending_is : (ending ≡ Failed) ⊎ ((ending ≡ Misused) × ((asked : Asked) → ¬ (AsksFor words asked)))
+
+  abbrev pub Runs : Given → Ending → Type 0
+  Runs words ending = ((asked : Asked) × AsksFor words asked × Does ending asked) ⊎ AsksNothing words ending

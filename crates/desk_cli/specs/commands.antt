@@ -1,2 +1,7 @@
 -- A file for each command.
+pub mod Hear
+pub mod Importing
+pub mod Init
 pub mod Lines
+pub mod Reports
+pub mod Serving

@@ -1,69 +1,140 @@
 //! The commands of the program. Each has a module with its words, what it does, and its tests; here they are listed.
 ghost use Rattle.std.specs.Prelude.{◌≡◌, [], ◌∷◌, IfOk};
+ghost use Rattle.clap.specs.Matches.{found_of};
 ghost use Rattle.clap.specs.Simple.{app_of, subcommand_rows_of};
-ghost use Rattle.desk_cli.specs.CommandLine.{command_named, desk_app, IsDone};
-ghost use Rattle.desk_cli.specs.Endings.{IsDoneOrFailed};
+ghost use Rattle.clap.specs.Walk.{rows_of};
+ghost use Rattle.desk_cli.specs.CommandLine.{command_named, desk_app, named_with, with_readers};
 ghost use Rattle.desk_cli.specs.Named.{Tells};
 
+mod hear;
+mod importing;
+mod init;
 mod lines;
+mod reports;
+mod serving;
 
-use crate::endings::Ending;
 use crate::options::command;
 use crate::usage::{Usage, no_command};
 use clap::ArgMatches;
-use lines::{lines_app, lines_command, lines_of};
+pub use hear::hear_command;
+use hear::{hear_app, hear_of};
+pub use importing::import_command;
+use importing::{import_app, import_of};
+pub use init::init_command;
+use init::{init_app, init_of};
+pub use lines::lines_command;
+use lines::{lines_app, lines_of};
+use radio_core::Name;
 use registry_core::Config;
+pub use reports::{bands_command, report_command};
+use reports::{bands_app, bands_of, report_app, report_of};
+pub use serving::serve_command;
+use serving::{serve_app, serve_of};
 use std::alloc::{AllocError, Global};
-use std::io::{Read, Write};
 
 /// A command with its values.
 #[derive(Clone, Copy, Debug, PartialEq, Eq)]
-pub enum Command {
+pub enum Command<'a> {
     /// Answers the messages of standard input, one a line, for a new desk that is kept in memory.
-    Lines { config: Config },
+    Lines {
+        config: Config,
+    },
+    /// Makes a file for a new desk.
+    Init {
+        file: &'a str,
+        config: Config,
+    },
+    /// Answers the messages of standard input, one a line, for the desk in a file.
+    Hear {
+        file: &'a str,
+    },
+    /// Answers the records of a gateway's CSV report on standard input, one a line. They come from this sender.
+    Import {
+        file: &'a str,
+        sender: Name,
+    },
+    /// Serves this many connections over HTTP on a port of 127.0.0.1, one after another.
+    Serve {
+        file: &'a str,
+        port: u16,
+        connections: u32,
+    },
+    /// Prints the report of an owner's month.
+    Report {
+        file: &'a str,
+        owner: &'a str,
+        month: &'a str,
+    },
+    /// Prints the bands of a gateway.
+    Bands {
+        file: &'a str,
+        gateway: &'a str,
+    },
 }
+
+const EXAMPLE: &str = "\
+Example:
+  desk init town.db --base 01a00000
+  desk serve town.db --port 8080 --count 100";
 
 /// The command line: each command with its words.
 pub(crate) fn desk_app<'a>(alloc: Global) -> Result<clap::Command<'a>, AllocError>
     ensures { IfOk result (λ c. app_of c ≡ desk_app) }
 {
-    command(alloc, "desk", "A LoRaWAN device registry and airtime desk").subcommand(lines_app(
-        alloc,
-    )?)
+    let about = "A LoRaWAN device registry and airtime desk";
+    let desk = command(alloc, "desk", about, EXAMPLE);
+    with_readers(alloc, desk)?
+        .subcommand(serve_app(alloc)?)?
+        .subcommand(report_app(alloc)?)?
+        .subcommand(bands_app(alloc)?)
+}
+
+/// A command line with the commands that read messages or records, and the one that makes a file for them.
+fn with_readers<'a>(alloc: Global, desk: clap::Command<'a>) -> Result<clap::Command<'a>, AllocError>
+    ensures { IfOk result (λ c. app_of c ≡ with_readers (app_of desk.entry)) }
+{
+    desk.subcommand(lines_app(alloc)?)?
+        .subcommand(init_app(alloc)?)?
+        .subcommand(hear_app(alloc)?)?
+        .subcommand(import_app(alloc)?)
 }
 
 /// The command that words were matched with, by its name and options.
-pub(crate) fn command_of(
-    matches: &ArgMatches<'_>,
-    desk: &mut clap::Command<'_>,
-) -> Result<Command, Usage>
+pub(crate) fn command_of<'a>(
+    matches: &ArgMatches<'a>,
+    desk: &mut clap::Command<'a>,
+) -> Result<Command<'a>, Usage>
     ensures { Tells (command_named (subcommand_rows_of matches.now)) result }
 {
     let Some((name, options)) = matches.subcommand() else {
         return Err(no_command(desk));
     };
-    if name == "lines" {
-        lines_of(options)
-    } else {
-        Err(no_command(desk))
-    }
+    command_with(name, options, desk)
 }
 
-/// Does what the command asks.
-// Behind a reference: where a pattern moves `config` out of its command, the toolchain finds no proof.
-pub(crate) fn perform<R: Read, W: Write, F: Write>(
-    alloc: Global,
-    command: &Command,
-    reader: &mut R,
-    answers: &mut W,
-    faults: &mut F,
-) -> Ending
-    ensures done { result ≡ Ending.Done → IsDone (R.remaining reader.old) (R.remaining reader.new)
-        (W.contents answers.old) (W.contents answers.new) command.now }
-    ensures quiet { result ≡ Ending.Done → faults.new ≡ faults.old }
-    ensures ends { IsDoneOrFailed result }
+/// The command of this name, with its options.
+fn command_with<'a>(
+    name: &str,
+    options: &ArgMatches<'a>,
+    desk: &mut clap::Command<'a>,
+) -> Result<Command<'a>, Usage>
+    ensures { Tells (named_with name.now (rows_of (found_of options.now))) result }
 {
-    match command {
-        Command::Lines { config } => lines_command(alloc, config, reader, answers, faults),
+    if name == "lines" {
+        lines_of(options)
+    } else if name == "init" {
+        init_of(options)
+    } else if name == "hear" {
+        hear_of(options)
+    } else if name == "import" {
+        import_of(options)
+    } else if name == "serve" {
+        serve_of(options)
+    } else if name == "report" {
+        report_of(options)
+    } else if name == "bands" {
+        bands_of(options)
+    } else {
+        Err(no_command(desk))
     }
 }

@@ -1,19 +1,48 @@
 //! The program `desk`: a LoRaWAN device registry and airtime desk.
 #![tactic(auto)]
 
+mod answering;
 mod commands;
 mod endings;
+mod faults;
+mod files;
+mod listening;
 mod numbers;
 mod on_tables;
+mod opening;
 mod options;
+mod performing;
+mod printing;
 mod program;
+mod sockets;
 #[cfg(test)]
 mod tests;
 mod usage;
 mod words;
 
+use files::HostFiles;
+use sockets::Sockets;
+use sqlite::{Start, Unknown};
 use std::process::ExitCode;
 
 fn main(rt: HostRuntime) -> ExitCode {
-    program::run(&rt, &mut rt.stdin(), &mut rt.stdout(), &mut rt.stderr()).status()
+    run_on(&rt, Unknown)
+}
+
+/// Runs the program on this machine. `start` stands for what a file holds when it is opened.
+fn run_on<T: Start>(rt: &HostRuntime, start: T) -> ExitCode {
+    let files = HostFiles { rt, start };
+    let (ending, conn) = program::run(
+        rt,
+        files,
+        &Sockets::new(rt),
+        &mut rt.stdin(),
+        &mut rt.stdout(),
+        &mut rt.stderr(),
+    );
+    if let Some(conn) = conn {
+        // All is committed: where the log can't be moved into the file now, the next start does it.
+        let _ = conn.close();
+    }
+    ending.status()
 }

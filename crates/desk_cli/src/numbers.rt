@@ -1,8 +1,8 @@
 //! Numbers, as words write them.
-ghost use Rattle.std.specs.Prelude.{◌≡◌};
+ghost use Rattle.std.specs.Prelude.{◌≡◌, option_and_then};
 ghost use Rattle.std.specs.Char.{is_ascii_digit, is_ascii_hexdigit};
 ghost use Rattle.std.specs.List.{list_all};
-ghost use Rattle.desk_cli.specs.Numbers.{base_of, count_of, is_base, is_count};
+ghost use Rattle.desk_cli.specs.Numbers.{base_of, connections_of, count_of, is_base, is_count, port_of, up_to};
 
 fn are_hex_digits(text: &[u8]) -> bool
     ensures { result ≡ list_all is_ascii_hexdigit text.now }
@@ -48,4 +48,31 @@ pub(crate) fn count_of(text: &str) -> Option<u32>
     } else {
         None
     }
+}
+
+/// The count, where it is at least 1 and at most this.
+fn count_up_to(most: u32, text: &str) -> Option<u32>
+    ensures { result ≡ option_and_then (up_to most) (count_of text.now) }
+{
+    let count = count_of(text)?;
+    if 1 <= count && count <= most {
+        Some(count)
+    } else {
+        None
+    }
+}
+
+/// A port: one to ten decimal digits, 1 to 65,535.
+pub(crate) fn port_of(text: &str) -> Option<u16>
+    ensures { result ≡ port_of text.now }
+{
+    let port = count_up_to(65_535, text)?;
+    u16::try_from(port).ok()
+}
+
+/// How many connections: one to ten decimal digits, 1 to 1,000,000.
+pub(crate) fn connections_of(text: &str) -> Option<u32>
+    ensures { result ≡ connections_of text.now }
+{
+    count_up_to(1_000_000, text)
 }

@@ -1,28 +1,35 @@
-//! The options of a desk's configuration: their words, and the configuration that they give.
+//! The values of commands: the words that give them, and how they are read.
 ghost use Rattle.std.specs.Prelude.{◌≡◌, false, option_map, IfOk};
 ghost use Rattle.clap.specs.Matches.{found_of};
 ghost use Rattle.clap.specs.Simple.{app_of, new_app};
 ghost use Rattle.clap.specs.Walk.{first_of, rows_of, rule_of};
 ghost use Rattle.clap.specs.declared.builder.command.Command.TheViews.{out-Command as fields_of};
-ghost use Rattle.desk_cli.specs.Numbers.{base_of, count_of};
-ghost use Rattle.desk_cli.specs.Options.{config_of, name_of, option_rule, settings_of, value_at, with_settings};
+ghost use Rattle.desk_cli.specs.Numbers.{base_of, connections_of, count_of, port_of};
+ghost use Rattle.desk_cli.specs.Options.{behind, config_of, name_of, needed_rule, option_rule, place_rule, placed, settings_of, value_at, with_settings};
 
-use crate::numbers::{base_of, count_of};
+use crate::numbers::{base_of, connections_of, count_of, port_of};
 use crate::usage::BadValue;
 use clap::{Arg, ArgMatches};
 use radio_core::Name;
 use registry_core::Config;
 use std::alloc::{AllocError, Global};
 
-/// A command without options.
-pub(crate) fn command<'a>(alloc: Global, name: &'a str, about: &'a str) -> clap::Command<'a>
+/// A command without words of its own: its name, what it does, and an example.
+pub(crate) fn command<'a>(
+    alloc: Global,
+    name: &'a str,
+    about: &'a str,
+    example: &'a str,
+) -> clap::Command<'a>
     ensures app { app_of result ≡ new_app name.entry.now }
     ensures local { (fields_of result).has_globals ≡ false }
 {
-    clap::Command::new(alloc, name).about(about)
+    clap::Command::new(alloc, name)
+        .about(about)
+        .after_help(example)
 }
 
-/// An option of one value.
+/// An option of one value, with its default.
 fn option<'a>(
     alloc: Global,
     name: &'a str,
@@ -40,11 +47,35 @@ fn option<'a>(
         .help(help)
 }
 
+/// An option of one value that has to be there.
+pub(crate) fn needed<'a>(alloc: Global, name: &'a str, form: &'a str, help: &'a str) -> Arg<'a>
+    ensures rule { rule_of result ≡ needed_rule name.entry.now }
+    ensures local { result.global ≡ false }
+{
+    Arg::new(alloc, name)
+        .long(name)
+        .value_name(form)
+        .required(true)
+        .help(help)
+}
+
+/// A word that has to be there, known by its place.
+pub(crate) fn place<'a>(alloc: Global, name: &'a str, form: &'a str, help: &'a str) -> Arg<'a>
+    ensures rule { rule_of result ≡ place_rule name.entry.now }
+    ensures local { result.global ≡ false }
+{
+    Arg::new(alloc, name)
+        .value_name(form)
+        .required(true)
+        .help(help)
+}
+
 /// A command with the four options of a desk's configuration.
 pub(crate) fn command_with_settings<'a>(
     alloc: Global,
     name: &'a str,
     about: &'a str,
+    example: &'a str,
 ) -> Result<clap::Command<'a>, AllocError>
     ensures app { IfOk result (λ c. app_of c ≡ with_settings (new_app name.entry.now)) }
     ensures local { IfOk result (λ c. (fields_of c).has_globals ≡ false) }
@@ -65,7 +96,7 @@ pub(crate) fn command_with_settings<'a>(
         "65536",
         "How many device addresses",
     );
-    command(alloc, name, about)
+    command(alloc, name, about, example)
         .arg(receiver)?
         .arg(operator)?
         .arg(base)?
@@ -90,7 +121,7 @@ fn settings_of(receiver: Name, operator: Name, base: u32, addresses: u32) -> Opt
     Config::new(receiver, operator, base, addresses)
 }
 
-fn name_at(options: &ArgMatches<'_>, option: &str) -> Option<Name>
+pub(crate) fn name_at(options: &ArgMatches<'_>, option: &str) -> Option<Name>
     ensures { result ≡ value_at name_of option.now (rows_of (found_of options.now)) }
 {
     name_of(text_at(options, option)?)
@@ -108,10 +139,29 @@ fn count_at(options: &ArgMatches<'_>, option: &str) -> Option<u32>
     count_of(text_at(options, option)?)
 }
 
+pub(crate) fn port_at(options: &ArgMatches<'_>, option: &str) -> Option<u16>
+    ensures { result ≡ value_at port_of option.now (rows_of (found_of options.now)) }
+{
+    port_of(text_at(options, option)?)
+}
+
+pub(crate) fn connections_at(options: &ArgMatches<'_>, option: &str) -> Option<u32>
+    ensures { result ≡ value_at connections_of option.now (rows_of (found_of options.now)) }
+{
+    connections_of(text_at(options, option)?)
+}
+
 fn name_of(text: &str) -> Option<Name>
     ensures { result ≡ name_of text.now }
 {
     Name::new(text.as_bytes())
+}
+
+/// The word in a place.
+pub(crate) fn placed<'a>(options: &ArgMatches<'a>, place: &str) -> Result<&'a str, BadValue>
+    ensures { behind result ≡ placed place.now (rows_of (found_of options.now)) }
+{
+    text_at(options, place).ok_or(BadValue::Missing)
 }
 
 fn text_at<'a>(options: &ArgMatches<'a>, option: &str) -> Option<&'a str>

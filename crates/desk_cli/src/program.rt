@@ -1,66 +1,128 @@
 //! The program's arguments, and what it does with them.
-ghost use Rattle.std.specs.Prelude.{◌≡◌, ◌≢◌, map, string_bytes, IfOk, IfErr};
+ghost use Rattle.std.specs.Prelude.{◌≡◌, ◌≢◌, Ok, None, map, string_bytes, IfOk, IfErr};
 ghost use Rattle.std.specs.IoError.{error_kind};
 ghost use Rattle.std.specs.Vec.Iter.{into_iter_items};
 ghost use Rattle.clap.specs.Walk.{texts};
-ghost use Rattle.desk_cli.specs.CommandLine.{IsDone, named_by};
+ghost use Rattle.desk_cli.specs.CommandLine.{named_by};
+ghost use Rattle.desk_cli.specs.Doing.{DoesAsked};
 ghost use Rattle.desk_cli.specs.Endings.{ending_of};
-ghost use Rattle.desk_cli.specs.Named.{Tells};
-ghost use Rattle.desk_cli.specs.Runs.{Asks, AsksFor, EndsUnread, given, IsNamed, IsUnread};
-ghost use Rattle.desk_cli.specs.declared.commands.Command.{Command};
+ghost use Rattle.desk_cli.specs.Named.{Asked, Tells};
+ghost use Rattle.desk_cli.specs.Runs.{AsksFor, EndsUnread, Runs, given, IsNamed, IsUnread};
 
-use crate::commands::{Command, perform};
 use crate::endings::{Ending, ending_of};
+use crate::faults::end;
+use crate::files::Files;
+use crate::listening::Network;
+use crate::performing::perform;
 use crate::usage::Usage;
 use crate::words::read_words;
+use sqlite::{Alter, Connection};
 use std::alloc::{AllocError, Global};
 use std::env::{self, Args};
 use std::io::{self, ErrorKind, Read, Write};
 use std::rt::Env;
 
-/// Does what the program's arguments ask. What is wrong with them goes to `faults`.
-pub fn run<E: Env + AllocGlobal, R: Read, W: Write, F: Write>(
+/// Does what the program's arguments ask, and gives the connection to its file back, if it has one that could be opened. What is
+/// wrong with the arguments, or why what they ask isn't done, goes to `faults`.
+pub fn run<E: Env + AllocGlobal, S: Alter, N: Files<S>, B: Network, R: Read, W: Write, F: Write>(
     rt: &E,
+    files: N,
+    network: &B,
     reader: &mut R,
     answers: &mut W,
     faults: &mut F,
-) -> Ending
+) -> (Ending, Option<Connection<S>>)
     // With status 0 what a command that words name asks was done.
-    ensures done { result ≡ Ending.Done → (command : Command) × IsNamed command
-        × IsDone (R.remaining reader.old) (R.remaining reader.new)
-        (W.contents answers.old) (W.contents answers.new) command }
-    ensures quiet { result ≡ Ending.Done → faults.new ≡ faults.old }
-    // Where the words name no command nothing was read, and nothing was answered.
-    ensures misused { result ≡ Ending.Misused
-        → (reader.new ≡ reader.old) × (answers.new ≡ answers.old) }
-    ensures ends { result ≢ Ending.Refused }
+    ensures done { result.0 ≡ Ending.Done → (asked : Asked) × IsNamed asked
+        × DoesAsked {T = Unit {0}} S.Store (N.opens files) result.1 (R.remaining reader.old) (R.remaining reader.new)
+        (W.contents answers.old) (W.contents answers.new) (Ok tt) asked }
+    ensures quiet { result.0 ≡ Ending.Done → faults.new ≡ faults.old }
+    // Where the words name no command no file was opened, nothing was read, and nothing was answered.
+    ensures misused { result.0 ≡ Ending.Misused
+        → (reader.new ≡ reader.old) × (answers.new ≡ answers.old) × (result.1 ≡ None) }
 {
-    run_given(rt.alloc(), env::args(rt), reader, answers, faults)
+    run_given(
+        rt.alloc(),
+        env::args(rt),
+        files,
+        network,
+        reader,
+        answers,
+        faults,
+    )
 }
 
 /// Does what the arguments ask, as std read them. What is wrong with them, or why std has none, goes to `faults`.
-pub fn run_given<R: Read, W: Write, F: Write>(
+pub fn run_given<S: Alter, N: Files<S>, B: Network, R: Read, W: Write, F: Write>(
     alloc: Global,
     arguments: io::Result<Args>,
+    files: N,
+    network: &B,
     reader: &mut R,
     answers: &mut W,
     faults: &mut F,
-) -> Ending
-    // With status 0 the words name a command, and what it asks was done.
-    ensures done { result ≡ Ending.Done → (command : Command) × AsksFor (given arguments) command
-        × IsDone (R.remaining reader.old) (R.remaining reader.new)
-        (W.contents answers.old) (W.contents answers.new) command }
-    ensures quiet { result ≡ Ending.Done → faults.new ≡ faults.old }
-    // With status 2 they name no command, nothing was read, and nothing was answered.
-    ensures misused { result ≡ Ending.Misused
-        → ((command : Command) → ¬ (AsksFor (given arguments) command))
-        × (reader.new ≡ reader.old) × (answers.new ≡ answers.old) }
-    ensures unread { IfErr arguments (λ error. EndsUnread (error_kind error) result) }
-    ensures ends { result ≢ Ending.Refused }
+) -> (Ending, Option<Connection<S>>)
+    // The words name a command, and what it asks was done, by how it ended; or they name none, or can't be had.
+    ensures runs { Runs S.Store (N.opens files) result.1 (R.remaining reader.old) (R.remaining reader.new)
+        (W.contents answers.old) (W.contents answers.new) (given arguments) result.0 }
+    ensures quiet { result.0 ≡ Ending.Done → faults.new ≡ faults.old }
+    ensures misused { result.0 ≡ Ending.Misused
+        → (reader.new ≡ reader.old) × (answers.new ≡ answers.old) × (result.1 ≡ None) }
+    ensures unread { IfErr arguments (λ error. EndsUnread (error_kind error) result.0) }
 {
-    match asked(alloc, arguments) {
-        Ok(command) => perform(alloc, &command, reader, answers, faults),
-        Err(usage) => tell(&usage, faults),
+    match arguments {
+        Ok(arguments) => run_words(alloc, arguments, files, network, reader, answers, faults),
+        Err(error) => (tell(&unread(&error), faults), None),
+    }
+}
+
+/// The same of arguments that could be read, the program's own name first.
+fn run_words<S: Alter, N: Files<S>, B: Network, R: Read, W: Write, F: Write>(
+    alloc: Global,
+    arguments: Args,
+    files: N,
+    network: &B,
+    reader: &mut R,
+    answers: &mut W,
+    faults: &mut F,
+) -> (Ending, Option<Connection<S>>)
+    ensures runs { Runs S.Store (N.opens files) result.1 (R.remaining reader.old) (R.remaining reader.new)
+        (W.contents answers.old) (W.contents answers.new) (Ok (map string_bytes (into_iter_items arguments))) result.0 }
+    ensures quiet { result.0 ≡ Ending.Done → faults.new ≡ faults.old }
+    ensures misused { result.0 ≡ Ending.Misused
+        → (reader.new ≡ reader.old) × (answers.new ≡ answers.old) × (result.1 ≡ None) }
+{
+    match strings_of(alloc, arguments) {
+        Ok(strings) => run_strings(alloc, &strings, files, network, reader, answers, faults),
+        Err(_) => (tell(&Usage::Memory, faults), None),
+    }
+}
+
+/// The same of their texts.
+fn run_strings<S: Alter, N: Files<S>, B: Network, R: Read, W: Write, F: Write>(
+    alloc: Global,
+    strings: &[String],
+    files: N,
+    network: &B,
+    reader: &mut R,
+    answers: &mut W,
+    faults: &mut F,
+) -> (Ending, Option<Connection<S>>)
+    ensures runs { Runs S.Store (N.opens files) result.1 (R.remaining reader.old) (R.remaining reader.new)
+        (W.contents answers.old) (W.contents answers.new) (Ok (map string_bytes strings.now)) result.0 }
+    ensures quiet { result.0 ≡ Ending.Done → faults.new ≡ faults.old }
+    ensures misused { result.0 ≡ Ending.Misused
+        → (reader.new ≡ reader.old) × (answers.new ≡ answers.old) × (result.1 ≡ None) }
+{
+    let Ok(words) = words_of(alloc, strings) else {
+        return (tell(&Usage::Memory, faults), None);
+    };
+    match read_words(alloc, &words) {
+        Ok(command) => {
+            let (done, conn) = perform(alloc, &command, files, network, reader, answers);
+            (end(faults, done), conn)
+        }
+        Err(usage) => (tell(&usage, faults), None),
     }
 }
 
@@ -70,29 +132,6 @@ fn tell<F: Write>(usage: &Usage, faults: &mut F) -> Ending
     // Where even this can't be written, the exit status still tells.
     let _ = write!(faults, "{usage}");
     ending_of(usage)
-}
-
-/// The command that the arguments name, the program's own name first.
-fn asked(alloc: Global, arguments: io::Result<Args>) -> Result<Command, Usage>
-    ensures { Asks (given arguments) result }
-{
-    match arguments {
-        Ok(arguments) => command_of(alloc, arguments),
-        Err(error) => Err(unread(&error)),
-    }
-}
-
-/// The same of arguments that could be read.
-fn command_of(alloc: Global, arguments: Args) -> Result<Command, Usage>
-    ensures { Tells (named_by (map string_bytes (into_iter_items arguments))) result }
-{
-    let Ok(arguments) = strings_of(alloc, arguments) else {
-        return Err(Usage::Memory);
-    };
-    let Ok(words) = words_of(alloc, &arguments) else {
-        return Err(Usage::Memory);
-    };
-    read_words(alloc, &words)
 }
 
 /// Why the arguments can't be had.

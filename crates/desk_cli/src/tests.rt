@@ -9,12 +9,13 @@ mod lists;
 mod refused_memory;
 mod report_sizes;
 mod reports;
-mod requests;
+pub(crate) mod requests;
 pub(crate) mod rows;
 mod runs;
 mod stored_lines;
 pub(crate) mod streams;
 mod sweeping;
+mod tables;
 
 use desk_engine::{Outcome, deliver};
 use desk_store::{Keeper, Lists, Switched};
@@ -28,7 +29,7 @@ use std::process::Abort;
 use std::test::Fail;
 
 /// A store that tests can make.
-trait Opened: Keeper + Drop + Sized {
+pub(crate) trait Opened: Keeper + Drop + Sized {
     /// One that has heard nothing.
     fn opened(alloc: Global, config: Config) -> Result<Box<Self>, Fail>;
 }
@@ -76,7 +77,7 @@ pub(crate) fn config(addresses: u32) -> Option<Config> {
 }
 
 /// A desk with so many addresses that has heard nothing.
-fn opening<K: Opened>(alloc: Global, addresses: u32) -> Result<Box<K>, Fail> {
+pub(crate) fn opening<K: Opened>(alloc: Global, addresses: u32) -> Result<Box<K>, Fail> {
     K::opened(alloc, config(addresses).ok_or("no configuration")?)
 }
 

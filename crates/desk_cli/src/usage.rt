@@ -1,7 +1,8 @@
 //! Why words name no command.
-ghost use Rattle.std.specs.Prelude.{[], ◌∷◌, Err};
+ghost use Rattle.std.specs.Prelude.{◌≡◌, [], ◌∷◌, Err};
 ghost use Rattle.clap.specs.declared.error.kind.ErrorKind.TheVariants.{MissingSubcommand};
 ghost use Rattle.desk_cli.specs.Named.{refused, IsUsageOf, Tells};
+ghost use Rattle.desk_cli.specs.declared.usage.Usage.TheVariants.{Value};
 
 use clap::error::{Error, ErrorKind};
 use std::fmt::{self, Display, Formatter};
@@ -19,6 +20,14 @@ pub enum BadValue {
     Addresses,
     /// The block of addresses is empty or goes beyond the last address.
     Block,
+    /// `--sender` is no name.
+    Sender,
+    /// `--port` isn't one to ten decimal digits, or isn't 1 to 65,535.
+    Port,
+    /// `--count` isn't one to ten decimal digits, or isn't 1 to 1,000,000.
+    Connections,
+    /// No word stands in a place. clap tells of that first, so the user doesn't see it.
+    Missing,
 }
 
 /// Why words name no command. Its `Display` is the text for the user.
@@ -46,6 +55,10 @@ impl Display for BadValue {
             BadValue::Base => "--base takes eight hexadecimal digits",
             BadValue::Addresses => "--addresses takes a number up to 4294967295, in digits",
             BadValue::Block => "--addresses is at least 1, and ends at address ffffffff or before",
+            BadValue::Sender => { "--sender takes 1 to 32 ASCII letters, digits, '-', '_' and '.'" }
+            BadValue::Port => "--port takes a number from 1 to 65535, in digits",
+            BadValue::Connections => "--count takes a number from 1 to 1000000, in digits",
+            BadValue::Missing => "a word is missing",
         })
     }
 }
@@ -60,6 +73,14 @@ impl Display for Usage {
             Usage::NotText => f.write_str("error: a word isn't UTF-8\n"),
             Usage::Memory => f.write_str("desk: unavailable\n"),
         }
+    }
+}
+
+impl From<BadValue> for Usage {
+    ghost from_gives = { λ value usage. usage ≡ Value value };
+
+    fn from(value: BadValue) -> Usage {
+        Usage::Value(value)
     }
 }
 

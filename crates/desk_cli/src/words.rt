@@ -9,7 +9,7 @@ use std::alloc::Global;
 
 /// The command that the words name, the program's own name first, by clap's rules and the forms of the values. Else
 /// why they name none: clap's refusal or help, or the first value that is bad. `Usage::Memory` says nothing of the words.
-pub fn read_words(alloc: Global, words: &[&str]) -> Result<Command, Usage>
+pub fn read_words<'a>(alloc: Global, words: &'a [&'a str]) -> Result<Command<'a>, Usage>
     ensures { Tells (named_by (texts words.now)) result }
 {
     let Ok(mut desk) = desk_app(alloc) else {

@@ -1,18 +1,44 @@
 -- Laws of what is heard of texts.
-use Rattle.std.specs.Prelude.{◌≡◌, ℕ, ◌<◌, false, List, [], ◌∷◌, length, map, All, Some, IfOk}
+use Rattle.std.specs.Prelude.{◌≡◌, ℕ, ◌<◌, ◌||◌, Bool, false, List, [], ◌∷◌, ◌++◌, length, map, All, Option, Some, None, IfOk, if◌then◌else◌}
 use Rattle.registry_core.specs.declared.answers.Answer.{Answer}
 use Rattle.registry_core.specs.declared.messages.Envelope.{Envelope}
 use Rattle.registry_core.specs.Heard.{IsHeard, most_heard, place_of}
 use Rattle.registry_core.specs.Laws.{adds_sender}
 use Rattle.registry_core.specs.Ranges.{IsSettings}
 use Rattle.registry_core.specs.Settings.{Settings}
+use Rattle.desk_store.specs.declared.faults.StoreFault.{StoreFault}
+use Rattle.desk_store.specs.Calls.{IsRead, is_disk, is_foreign}
+use Rattle.desk_store.specs.Meaning.{Meaning}
 use Rattle.desk_engine.specs.Deliveries.{Delivery, heard_after, heard_all}
+use Rattle.desk_engine.specs.Hearing.{Hears}
 use Rattle.desk_engine.specs.Told.{Told, envelope_of_text, text_told}
 
 -- one more delivery leaves a heard list, while there is room
 abbrev pub DeliveriesLeaveHeardLists : Type 0
 DeliveriesLeaveHeardLists = (c : Settings) (heard : List Envelope) (d : Delivery) → IsSettings c → IsHeard c heard → length heard < most_heard
     → IsHeard c (heard_after c heard d)
+
+-- deliveries leave what was heard before them at the front
+abbrev pub DeliveriesAddAtTheEnd : Type 0
+DeliveriesAddAtTheEnd = (c : Settings) (heard : List Envelope) (ds : List Delivery) → (more : List Envelope) × (heard_all c heard ds ≡ heard ++ more)
+
+-- ---- calls in which messages may be heard
+
+module _ {K : Type 0} (m : Meaning K) where
+  -- calls, and then more: what the first heard is heard before what the others heard, and the first fault of the disk leaves its message in doubt
+  abbrev pub CallsHearInOrder : Type 0
+  CallsHearInOrder = (old mid new : K) (first_disk first_foreign disk foreign : Bool) (first_after after : Settings → List Envelope → List Envelope) (first_doubt doubtful : Settings → Option Envelope)
+      → Hears m old mid first_disk first_foreign first_after first_doubt → Hears m mid new disk foreign after doubtful
+      → Hears m old new (first_disk || disk) (first_foreign || foreign) (λ c heard. after c (first_after c heard)) (λ c. if first_disk then first_doubt c else doubtful c)
+
+  -- calls that only read hear nothing
+  abbrev pub ReadsHearNothing : Type 0
+  ReadsHearNothing = (old new : K) (fault : Option StoreFault) → IsRead m old new fault
+      → Hears m old new (is_disk fault) (is_foreign fault) (λ c heard. heard) (λ c. None)
+
+  -- and so does no call
+  abbrev pub NoCallHearsNothing : Type 0
+  NoCallHearsNothing = (keeper : K) → Hears m keeper keeper false false (λ c heard. heard) (λ c. None)
 
 -- ---- what was told stays
 

@@ -1,11 +1,12 @@
 //! Laws of the definitions: each is the contract of a function that does nothing.
-ghost use Rattle.desk_engine.specs.Laws.{DeliveriesLeaveHeardLists, HeardAgain, KeptAnswersStay};
+ghost use Rattle.desk_engine.specs.Laws.{CallsHearInOrder, DeliveriesAddAtTheEnd, DeliveriesLeaveHeardLists, HeardAgain, KeptAnswersStay, NoCallHearsNothing, ReadsHearNothing};
 ghost use Rattle.desk_engine.specs.Lines.{InputsAreCut};
 ghost use Rattle.desk_engine.specs.Reports.{OwnerReportsAgree};
 
+use desk_store::Keeper;
 use desk_wire::laws::reads_in_range;
 use duty_core::laws::peak_has_an_edge;
-use registry_core::laws::{heard_lists_stay, same_message_tells, senders_stay};
+use registry_core::laws::{heard_lists_stay, hours_are_kept, same_message_tells, senders_stay};
 
 /// One more delivery leaves a heard list, while there is room.
 #[tactic(auto, using(crate::proofs::HeardTexts::deliveries_leave_heard_lists))]
@@ -14,6 +15,21 @@ pub fn deliveries_leave_heard_lists()
 {
     heard_lists_stay();
     reads_in_range();
+}
+
+/// Deliveries add to what is heard at its end alone.
+#[tactic(auto, using(crate::proofs::HeardTexts::deliveries_add_at_the_end))]
+pub fn deliveries_add_at_the_end()
+    ensures { DeliveriesAddAtTheEnd }
+{}
+
+/// Calls of a store one after another hear what each of them hears, in order; those that only read hear nothing.
+pub fn calls_hear_in_order<K: Keeper>()
+    ensures order { CallsHearInOrder K.meaning }
+    ensures reads { ReadsHearNothing K.meaning }
+    ensures none { NoCallHearsNothing K.meaning }
+{
+    hours_are_kept();
 }
 
 /// Whatever is delivered, the answer that was given to an envelope stays at its place.

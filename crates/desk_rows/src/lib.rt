@@ -17,8 +17,6 @@ mod replies;
 mod senders;
 mod sessions;
 mod spans;
-#[cfg(test)]
-mod tests;
 mod uplinks;
 mod values;
 mod writes;

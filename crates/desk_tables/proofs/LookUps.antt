@@ -16,7 +16,7 @@ use Rattle.desk_rows.specs.declared.faults.RowFault.TheVariants.{Memory, Disk, S
 use Rattle.desk_rows.specs.Calls.{IsRead, Reads}
 use Rattle.desk_rows.specs.Faults.{IsEven}
 use Rattle.desk_rows.specs.Rows.{Holds, Rows}
-use Rattle.desk_tables.specs.InOrder.{IsInOrder}
+use Rattle.desk_tables.specs.InOrder.{IsOfDesk}
 use Rattle.desk_tables.specs.Store.{IsSettled, Leaves, Stands, meaning_of}
 use Rattle.desk_tables.specs.declared.tables.Tables.{Tables}
 use Rattle.desk_tables.specs.steps.LookUps.{OfKept}
@@ -78,9 +78,8 @@ module _ {S : Type 0} (g : Ghosts S) (old : Tables S) (conn : Held S) (down fore
       committed = same.now_is ∙ it.settled.committed ∙ sym same.committed_is;
       unlimited = same.limit ∙ it.settled.unlimited;
     };
-    in_order = subst (λ d. IsInOrder old.config d kept) (sym same.now_is) it.in_order;
+    desk = subst (IsOfDesk old.config kept) (sym same.now_is) it.desk;
     heard = it.heard;
-    few = it.few;
     counts = it.counts;
   }
 
@@ -126,13 +125,13 @@ module _ {S : Type 0} (g : Ghosts S) (old : Tables S) (mid : Held S) (up : old.d
     reading = tt;
     held = λ kept clean holds _.
         let stands = holds up in
-        let has = stands.in_order.held.schema in
+        let has = stands.desk.in_order.held.schema in
         let open_was = stands.settled.open_still in
         stands_on g old mid old.down old.foreign kept
         (unchanged_before (state g old.conn) (state g mid) stands.settled (read.survives has open_was clean) (read.leaves has open_was clean)) stands;
     left = λ kept all clean holds left.
         let stands = holds up in
-        leaves_on g old mid old.down old.foreign all clean (read.survives stands.in_order.held.schema stands.settled.open_still clean) left;
+        leaves_on g old mid old.down old.foreign all clean (read.survives stands.desk.in_order.held.schema stands.settled.open_still clean) left;
     unavailable = λ kept clean holds. tt;
   }
 
@@ -161,19 +160,19 @@ module _ {S : Type 0} (g : Ghosts S) (old : Tables S) (mid : Held S) (up : old.d
       reading = disk_or_as told (store_fault (reading_fault fault)) (λ f. IsOfReading (Some f)) tt (of_reading fault) settles.same;
       held = λ kept clean holds still.
           let stands = holds up in
-          let has = stands.in_order.held.schema in
+          let has = stands.desk.in_order.held.schema in
           let open_was = stands.settled.open_still in
           stands_on g old new (is_disk (Some told) || old.down) (is_foreign (Some told) || old.foreign) kept
           (failed_before (state g old.conn) (state g mid) (state g new) (reading_fault fault) told stands.settled read
           (read.survives has open_was (early clean)) (read.leaves has open_was (early clean)) settles clean (not_disk still)) stands;
       left = λ kept all clean holds left.
           let stands = holds up in
-          let first = read.survives stands.in_order.held.schema stands.settled.open_still (early clean) in
+          let first = read.survives stands.desk.in_order.held.schema stands.settled.open_still (early clean) in
           leaves_on g old new (is_disk (Some told) || old.down) (is_foreign (Some told) || old.foreign) all clean
           (survives_then (state g old.conn) (state g mid) (state g new) (λ _. ⊥) (λ _. ⊥) (λ _. ⊥) (λ _ db none. none) (λ _ db none. none) first settles.survives) left;
       unavailable = λ kept clean holds.
           let stands = holds up in
-          let even = in_order (early clean) stands.settled.unlimited stands.in_order.rows stands.in_order.held in
+          let even = in_order (early clean) stands.settled.unlimited stands.desk.in_order.rows stands.desk.in_order.held in
           disk_or_as told (store_fault (reading_fault fault)) IsUnavailability tt (even_told fault even) settles.same;
     }
 
@@ -195,9 +194,9 @@ module _ {S T : Type 0} (g : Ghosts S) (old : Tables S) (mid : Held S) (new : Ta
   kept_told (Ok x) result P up reads told = λ kept clean holds.
       let stands = holds up in
       let clean_mid : HasCleanDisk (state g mid) = subst (λ (k : Tables S). HasCleanDisk (state g k.conn)) told.1 clean in
-      let says = reads.told clean_mid stands.in_order.rows stands.in_order.held in
+      let says = reads.told clean_mid stands.desk.in_order.rows stands.desk.in_order.held in
       subst (λ r. IfOk r (P kept)) (sym told.0)
-      (says old.config kept (record { are = stands.in_order.are; entries = stands.in_order.entries; in_range = stands.in_order.held.in_range; few = stands.few }))
+      (says old.config kept (record { are = stands.desk.in_order.are; entries = stands.desk.in_order.entries; in_range = stands.desk.in_order.held.in_range; few = stands.desk.few }))
   kept_told (Err fault) result P up reads (t, is, fails) = λ kept clean holds. subst (λ r. IfOk r (P kept)) (sym is) tt
 
 -- ---- look-ups in a row

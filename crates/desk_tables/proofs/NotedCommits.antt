@@ -7,6 +7,7 @@ use Rattle.registry_core.specs.Fits.{Fits}
 use Rattle.registry_core.specs.Heard.{most_heard}
 use Rattle.sqlite_trees.specs.declared.store.Store.{Ghosts}
 use Rattle.sqlite_trees.specs.Tree.{Trees}
+use Rattle.sqlite.specs.Effect.{Database}
 use Rattle.sqlite.specs.Held.{Held, state}
 use Rattle.sqlite.specs.State.{HasCleanDisk}
 use Rattle.desk_store.specs.declared.faults.StoreFault.{StoreFault}
@@ -17,9 +18,10 @@ use Rattle.desk_store.specs.Kept.{CanAdd, Kept, entry_with, with_entry}
 use Rattle.desk_rows.specs.declared.faults.RowFault.{RowFault}
 use Rattle.desk_rows.specs.declared.faults.RowFault.TheVariants.{Memory, Disk, Size, Row as OutOfRange, Refused}
 use Rattle.desk_rows.specs.Faults.{IsEven}
+use Rattle.desk_rows.specs.Rows.{Holds}
 use Rattle.desk_rows.specs.order.Changes.{RowsFollowFacts, rows_with}
 use Rattle.desk_rows.specs.order.Keys.{ChangedRowsAreThere, IsThereFor, KeysAreFree}
-use Rattle.desk_tables.specs.InOrder.{IsInOrder}
+use Rattle.desk_tables.specs.InOrder.{IsOfDesk}
 use Rattle.desk_tables.specs.Store.{HoldsKept, Leaves, Stands, meaning_of, own_law}
 use Rattle.desk_tables.specs.declared.tables.Tables.{Tables}
 use Rattle.desk_tables.specs.steps.Calls.{Commits, IsReady}
@@ -61,13 +63,25 @@ module _ {S : Type 0} (g : Ghosts S) (old : Tables S) (e : Envelope) (message : 
       Commits (state g old.conn) (state g mid) done (IsThereFor effect) (IsOpenToBoth effect e) (rows_with effect (reply_row e message answer))
 
   ready : (kept : Kept) → Stands g old kept → IsReady (state g old.conn)
-  ready kept it = record { is_open = it.settled.open_still; schema = it.in_order.held.schema; committed = it.settled.committed }
+  ready kept it = record { is_open = it.settled.open_still; schema = it.desk.in_order.held.schema; committed = it.settled.committed }
 
-  there : (kept : Kept) (it : Stands g old kept) → Fits effect kept.facts → IsThereFor effect it.in_order.rows
-  there kept it fits = changed old.config kept.facts it.in_order.rows effect it.in_order.are fits
+  there : (kept : Kept) (it : Stands g old kept) → Fits effect kept.facts → IsThereFor effect it.desk.in_order.rows
+  there kept it fits = changed old.config kept.facts it.desk.in_order.rows effect it.desk.in_order.are fits
 
   few : (kept : Kept) → Stands g old kept → length kept.entries < most_heard
   few kept it = let heard = it.heard in omega (arith, room, heard)
+
+  -- rows with the effect and the reply are those of a desk that holds the effect and the entry too
+  with_message : (kept : Kept) (it : Stands g old kept) → CanAdd kept e effect → (db : Database)
+      → Holds db (rows_with effect (reply_row e message answer) it.desk.in_order.rows) → IsOfDesk old.config (with_entry kept e message effect answer) db
+  with_message kept it can db held =
+      let was = it.desk.in_order in
+      let longer = one_longer kept.entries (entry_with e message answer) old.heard it.heard in
+      record {
+        in_order = rows_in_order e message effect answer old.config kept was.rows was.are was.entries follow can.effect_fits db held;
+        config = it.desk.config;
+        few = omega (arith, longer, room);
+      }
 
   -- ---- it was made
 
@@ -80,8 +94,7 @@ module _ {S : Type 0} (g : Ghosts S) (old : Tables S) (e : Envelope) (message : 
     stands_after kept clean it can =
         let was = ready kept it in
         let new = commits.ready clean was in
-        let r = it.in_order.rows in
-        let longer = one_longer kept.entries (entry_with e message answer) old.heard it.heard in
+        let r = it.desk.in_order.rows in
         record {
           settled = record {
             open_still = new.is_open;
@@ -89,11 +102,9 @@ module _ {S : Type 0} (g : Ghosts S) (old : Tables S) (e : Envelope) (message : 
             committed = new.committed;
             unlimited = commits.limit clean was ∙ it.settled.unlimited;
           };
-          in_order = rows_in_order e message effect answer old.config kept r it.in_order.are it.in_order.entries follow can.effect_fits (state g mid).now
-              (commits.made clean was r it.in_order.held (there kept it can.effect_fits));
-          heard = longer;
-          few = omega (arith, longer, room);
-          counts = counted kept.facts (are_few old.config kept r it.in_order.are it.in_order.entries it.few) it.counts;
+          desk = with_message kept it can (state g mid).now (commits.made clean was r it.desk.in_order.held (there kept it can.effect_fits));
+          heard = one_longer kept.entries (entry_with e message answer) old.heard it.heard;
+          counts = counted kept.facts (are_few old.config kept r it.desk.in_order.are it.desk.in_order.entries it.desk.few) it.counts;
         }
 
     commit_made : IsCommit (meaning_of g) old after e message effect answer (Ok done)
@@ -136,9 +147,8 @@ module _ {S : Type 0} (g : Ghosts S) (old : Tables S) (e : Envelope) (message : 
             committed = on.0 ∙ at ∙ sym on.1;
             unlimited = settles.survives.limit ∙ commits.limit (early clean) was ∙ it.settled.unlimited;
           };
-          in_order = subst (λ d. IsInOrder old.config d kept) (sym (on.0 ∙ back.0)) it.in_order;
+          desk = subst (IsOfDesk old.config kept) (sym (on.0 ∙ back.0)) it.desk;
           heard = it.heard;
-          few = it.few;
           counts = it.counts;
         }
 
@@ -147,16 +157,16 @@ module _ {S : Type 0} (g : Ghosts S) (old : Tables S) (e : Envelope) (message : 
         → Leaves g undone (kept ∷ with_entry kept e message effect answer ∷ [])
     leaves_either kept clean holds can =
         let it = holds up in
-        let r = it.in_order.rows in
+        let r = it.desk.in_order.rows in
         let alone = own_law g settled old kept (first clean) up holds in
-        let crash = commits.crash (early clean) (ready kept it) r it.in_order.held (there kept it can.effect_fits) in
+        let crash = commits.crash (early clean) (ready kept it) r it.desk.in_order.held (there kept it can.effect_fits) in
         λ db may. elim (settles.survives.crash clean db may) [
           | inl before ↦ elim (crash.crash (early clean) db before) [
             | inl still ↦ let own = alone db still in (own.0, elim own.1 [ inl same ↦ inl same | inr none ↦ absurd none ], own.2)
             | inr is ↦ (
               with_entry kept e message effect answer,
               inr (inl refl),
-              rows_in_order e message effect answer old.config kept r it.in_order.are it.in_order.entries follow can.effect_fits _ is,
+              with_message kept it can _ is,
             )
           ]
           | inr none ↦ absurd none
@@ -171,9 +181,9 @@ module _ {S : Type 0} (g : Ghosts S) (old : Tables S) (e : Envelope) (message : 
       neither = λ kept clean holds still. stands_still kept clean (holds up) (first_false (is_disk (Some told)) old.down still);
       fault = λ kept clean holds can.
           let it = holds up in
-          let r = it.in_order.rows in
-          let open_to = rows_open e message effect answer old.config kept r it.in_order.are it.in_order.entries keys changed (few kept it) can in
-          let even = commits.in_order (early clean) (ready kept it) it.settled.unlimited r it.in_order.held (there kept it can.effect_fits) open_to in
+          let r = it.desk.in_order.rows in
+          let open_to = rows_open e message effect answer old.config kept r it.desk.in_order.are it.desk.in_order.entries keys changed (few kept it) can in
+          let even = commits.in_order (early clean) (ready kept it) it.settled.unlimited r it.desk.in_order.held (there kept it can.effect_fits) open_to in
           disk_or_as told (store_fault fault) IsUnavailability tt (even_told fault even) settles.same;
       size = λ kept clean holds is. inr (let named : told ≡ NoRoom = cc in ap is_size named);
       no_room = λ kept clean holds was most. let less = few kept (holds up) in absurd (omega (arith, most, less));

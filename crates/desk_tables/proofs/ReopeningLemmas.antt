@@ -1,6 +1,5 @@
 -- What a desk's files hold is what opens, and a crash leaves such files.
-use Rattle.std.proofs.Common.{◌≡◌, ◌⊎◌, inl, inr, ℕ, List, [], ◌∷◌, refl, sym, ap, ap₂, subst, ◌∙◌}
-use Rattle.std.specs.List.{AllByRecursion}
+use Rattle.std.proofs.Common.{◌≡◌, ◌⊎◌, inl, inr, ℕ, List, refl, sym, ap, ap₂, subst, ◌∙◌}
 use Rattle.std.proofs.Math.Logic.{∥∥₁_map, ∥∥₁_elim}
 use Rattle.registry_core.specs.Settings.{Settings}
 use Rattle.sqlite_disk.specs.declared.Disk.{Ghosts}
@@ -27,16 +26,11 @@ use Rattle.desk_store.specs.declared.faults.StoreFault.{StoreFault}
 use Rattle.desk_store.specs.declared.faults.StoreFault.TheVariants as fault
 use Rattle.desk_rows.specs.Faults.{fault_of}
 use Rattle.desk_rows.specs.Schema.{desk_schema}
-use Rattle.desk_tables.specs.Adopting.{IsOfDesk}
-use Rattle.desk_tables.specs.Reopening.{AreLeftBy, CanHold, HoldDesk}
+use Rattle.desk_tables.specs.InOrder.{IsOfDesk}
+use Rattle.desk_tables.specs.Reopening.{AreLeftBy, HoldDesk}
 use Rattle.desk_tables.specs.declared.tables.Tables.{Tables}
 use Rattle.desk_tables.specs.steps.Faults.{store_fault}
 use Rattle.desk_tables.proofs.OneSchema.{one_schema}
-
-can_hold_one : (c : Settings) (all : List Kept) (kept : Kept) → AllByRecursion (CanHold c) all → IsOneOf all kept → CanHold c kept
-can_hold_one c [] kept every one = absurd one
-can_hold_one c (k ∷ ks) kept every (inl same) = subst (CanHold c) (sym same) every.0
-can_hold_one c (k ∷ ks) kept every (inr later) = can_hold_one c ks kept every.1 later
 
 module _ {D : Type 0} {g : Ghosts D} (files : Files D) where
   -- the trees list the desk's schema, so they are listed in no other
@@ -53,12 +47,11 @@ module _ {D : Type 0} {g : Ghosts D} (files : Files D) where
   -- what a crash of the store before left holds a desk
   pub left_desk : (before : Tables (FileStore D g)) (all : List Kept) → AreLeftBy before all files → ∥ ((kept : Kept) × IsOneOf all kept × HoldDesk g files before.config kept) ∥₁
   left_desk before all left =
-      let sound : AreDatabases (store.recovers before.conn.store) = λ db may. (desk_schema, (left.leaves db may).2.held.sound) in
+      let sound : AreDatabases (store.recovers before.conn.store) = λ db may. (desk_schema, (left.leaves db may).2.in_order.held.sound) in
       ∥∥₁_map (opens_again before.conn.store left.numbered sound (image_of g files) left.left) (λ found.
       let it = left.leaves found.0 found.1 in
-      let can = can_hold_one before.config all it.0 left.can_hold it.1 in
       let r : (kept : Kept) × IsOneOf all kept × HoldDesk g files before.config kept =
-      (it.0, it.1, record { trees = found.0; database = found.2; desk = record { in_order = it.2; config = can.config; few = can.few } }) in r)
+      (it.0, it.1, record { trees = found.0; database = found.2; desk = it.2 }) in r)
 
 -- ---- why there is none
 

@@ -1,16 +1,12 @@
 -- A connection becomes a store, or is given back.
-use Rattle.std.specs.Prelude.{◌≡◌, ◌⊎◌, ◌≤◌, false, [], length, IsTrue}
-use Rattle.registry_core.specs.Heard.{most_heard}
+use Rattle.std.specs.Prelude.{◌≡◌, ◌⊎◌, ◌≤◌, false, [], IsTrue}
 use Rattle.registry_core.specs.Settings.{Settings}
 use Rattle.registry_core.specs.State.{opening}
 use Rattle.sqlite_trees.specs.Tree.{Trees}
 use Rattle.sqlite_trees.specs.View.{doubt}
 use Rattle.sqlite.specs.State.{State, HasCleanDisk}
-use Rattle.sqlite.specs.Effect.{Database}
 use Rattle.desk_store.specs.Kept.{Kept}
 use Rattle.desk_store.specs.Meaning.{Meaning}
-use Rattle.desk_rows.specs.Meta.{IsConfig}
-use Rattle.desk_tables.specs.InOrder.{IsInOrder}
 
 -- a store of this configuration, which is up, has told nothing of another's database, and holds this
 pub record IsStore {K : Type 0} (m : Meaning K) (k : K) (c : Settings) (kept : Kept) : Type 0 where
@@ -29,9 +25,3 @@ pub record IsGivenBack (old new : State) (Made : Trees → Type 0) : Type 0 wher
   pub undone : HasCleanDisk new → IsTrue new.is_open → (new.now ≡ old.now) × (new.committed ≡ old.committed)
   pub idle : new.in_transaction ≡ false
   pub crash : HasCleanDisk new → (trees : Trees) → new.may_leave trees → old.may_leave trees ⊎ Made trees
-
--- the database's tables are in order for this, the configuration is one that a desk can have, and no more was heard than may be
-pub record IsOfDesk (c : Settings) (kept : Kept) (db : Database) : Type 0 where
-  pub in_order : IsInOrder c db kept
-  pub config : IsConfig c
-  pub few : length kept.entries ≤ most_heard

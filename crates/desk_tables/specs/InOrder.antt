@@ -1,9 +1,11 @@
 -- Tables in order: the ten tables hold exactly the rows of a configuration, of facts and of entries.
-use Rattle.std.specs.Prelude.{◌≡◌, map}
+use Rattle.std.specs.Prelude.{◌≡◌, ◌≤◌, length, map}
+use Rattle.registry_core.specs.Heard.{most_heard}
 use Rattle.registry_core.specs.Settings.{Settings}
 use Rattle.sqlite_trees.specs.Tree.{Trees}
 use Rattle.sqlite.specs.Effect.{Database}
 use Rattle.desk_store.specs.Kept.{Entry, Kept}
+use Rattle.desk_rows.specs.Meta.{IsConfig}
 use Rattle.desk_rows.specs.Rows.{Rows, ReplyRow, Holds}
 use Rattle.desk_rows.specs.Schema.{desk_schema}
 use Rattle.desk_rows.specs.order.Facts.{facts_in}
@@ -23,6 +25,12 @@ pub record IsInOrder (c : Settings) (db : Database) (kept : Kept) : Type 0 where
   pub are : AreRowsOf c kept.facts rows
   pub entries : kept.entries ≡ map entry_in rows.replies
 
+-- the database's tables are in order for this, the configuration is one that a desk can have, and no more was heard than may be
+pub record IsOfDesk (c : Settings) (kept : Kept) (db : Database) : Type 0 where
+  pub in_order : IsInOrder c db kept
+  pub config : IsConfig c
+  pub few : length kept.entries ≤ most_heard
+
 -- the same of what a crash leaves: the schema is the desk's
-abbrev pub IsTreesInOrder : Settings → Trees → Kept → Type 0
-IsTreesInOrder c trees kept = IsInOrder c (record { schema = desk_schema; trees = trees }) kept
+abbrev pub AreOfDesk : Settings → Kept → Trees → Type 0
+AreOfDesk c kept trees = IsOfDesk c kept (record { schema = desk_schema; trees = trees })

@@ -1,7 +1,5 @@
 -- A desk's files, and what a crash left in them.
-use Rattle.std.specs.Prelude.{◌≤◌, List, [], ◌∷◌, length, IsTrue}
-use Rattle.std.specs.List.{AllByRecursion}
-use Rattle.registry_core.specs.Heard.{most_heard}
+use Rattle.std.specs.Prelude.{List, [], ◌∷◌, IsTrue}
 use Rattle.registry_core.specs.Settings.{Settings}
 use Rattle.sqlite_disk.specs.declared.Disk.{Ghosts}
 use Rattle.sqlite_disk.specs.declared.Files.{Files}
@@ -10,22 +8,16 @@ use Rattle.sqlite_store.specs.FileStore as store
 use Rattle.sqlite_trees.specs.Tree.{Trees}
 use Rattle.sqlite.specs.Files.{over_files, image_of, HoldsDatabase}
 use Rattle.desk_store.specs.Kept.{Kept, IsOneOf}
-use Rattle.desk_rows.specs.Meta.{IsConfig}
-use Rattle.desk_rows.specs.Schema.{desk_schema}
-use Rattle.desk_tables.specs.Adopting.{IsOfDesk, IsStore}
+use Rattle.desk_tables.specs.Adopting.{IsStore}
+use Rattle.desk_tables.specs.InOrder.{AreOfDesk}
 use Rattle.desk_tables.specs.Store.{meaning_of}
 use Rattle.desk_tables.specs.declared.tables.Tables.{Tables}
 
--- a desk can have this configuration, and hold so many entries
-pub record CanHold (c : Settings) (kept : Kept) : Type 0 where
-  pub config : IsConfig c
-  pub few : length kept.entries ≤ most_heard
-
--- the files hold a database with a desk's tables, in order for this
+-- the files hold a desk's database, with its tables in order for this
 pub record HoldDesk {D : Type 0} (g : Ghosts D) (files : Files D) (c : Settings) (kept : Kept) : Type 0 where
   pub trees : Trees
   pub database : HoldsDatabase (image_of g files) trees
-  pub desk : IsOfDesk c kept (record { schema = desk_schema; trees = trees })
+  pub desk : AreOfDesk c kept trees
 
 module _ {D : Type 0} {g : Ghosts D} where
   -- The files are what a crash of this store at this moment could leave, and that holds one of these.
@@ -33,7 +25,6 @@ module _ {D : Type 0} {g : Ghosts D} where
     pub numbered : IsTrue (store.view before.conn.store).is_numbered
     pub left : (store.state before.conn.store).may_leave (image_of g files)
     pub leaves : (meaning_of over_files).leaves before all
-    pub can_hold : AllByRecursion (CanHold before.config) all
 
   -- opened again, it holds one of what a crash of the store before could leave, and a crash now leaves that alone
   abbrev pub HoldsOneLeft : Files D → Tables (FileStore D g) → Type 0

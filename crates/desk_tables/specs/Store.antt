@@ -1,8 +1,7 @@
 -- What a store over the tables holds, and what a crash leaves of it.
-use Rattle.std.specs.Prelude.{◌≡◌, ◌≤◌, Bool, false, List, [], ◌∷◌, length, None, IsTrue, refl}
+use Rattle.std.specs.Prelude.{◌≡◌, Bool, false, List, [], ◌∷◌, length, None, IsTrue, refl}
 use Rattle.std.proofs.Common.{sym, ap, ap₂, ◌∙◌, subst, inl}
 use Rattle.std.proofs.Math.Logic.{∥∥₁_map}
-use Rattle.registry_core.specs.Heard.{most_heard}
 use Rattle.registry_core.specs.Settings.{Settings}
 use Rattle.sqlite_trees.specs.Tree.{Trees}
 use Rattle.sqlite_trees.specs.View.{doubt}
@@ -16,7 +15,7 @@ use Rattle.desk_store.specs.Parts.{AreCounts}
 use Rattle.desk_rows.specs.Rows.{Rows}
 use Rattle.desk_rows.specs.Schema.{desk_schema}
 use Rattle.desk_rows.specs.Decode.{held_again}
-use Rattle.desk_tables.specs.InOrder.{IsInOrder, IsTreesInOrder, kept_in}
+use Rattle.desk_tables.specs.InOrder.{AreOfDesk, IsInOrder, IsOfDesk, kept_in}
 use Rattle.desk_tables.specs.declared.tables.Tables.{Tables}
 
 -- a connection between two calls: it is open, and all is committed
@@ -31,21 +30,20 @@ module _ {S : Type 0} (g : Ghosts S) (k : Tables S) where
   abbrev pub IsSound : Type 0
   IsSound = HasCleanDisk (state g k.conn)
 
-  -- the database holds these, the counts are theirs, and there are no more entries than may be heard
+  -- the database is of a desk that holds these, and the counts are theirs
   pub record Stands (kept : Kept) : Type 0 where
     pub settled : IsSettled (state g k.conn)
-    pub in_order : IsInOrder k.config (state g k.conn).now kept
+    pub desk : IsOfDesk k.config kept (state g k.conn).now
     pub heard : k.heard ≡ length kept.entries
-    pub few : length kept.entries ≤ most_heard
     pub counts : AreCounts kept.facts k.counts
 
   -- of a store that is down this says nothing
   abbrev pub HoldsKept : Kept → Type 0
   HoldsKept kept = k.down ≡ false → Stands kept
 
-  -- each database that a crash may leave is in order for one of these
+  -- each database that a crash may leave is of a desk that holds one of these
   abbrev pub Leaves : List Kept → Type 0
-  Leaves all = (db : Trees) → (state g k.conn).may_leave db → (kept : Kept) × IsOneOf all kept × IsTreesInOrder k.config db kept
+  Leaves all = (db : Trees) → (state g k.conn).may_leave db → (kept : Kept) × IsOneOf all kept × AreOfDesk k.config kept db
 
 -- what a store over the tables means
 abbrev pub meaning_of : {S : Type 0} → Ghosts S → Meaning (Tables S)
@@ -77,21 +75,21 @@ module _ {S : Type 0} (g : Ghosts S) where
       let stands = holds up in
       let trees : (state g k.conn).now.trees ≡ db = ap (λ (d : Database). d.trees) stands.settled.committed ∙ sym (settled k.conn.store db stands.settled.open_still may) in
       let same : (state g k.conn).now ≡ record { schema = desk_schema; trees = db } =
-      ap₂ (λ schema trees. record { schema = schema; trees = trees }) stands.in_order.held.schema trees in
-      (kept, inl refl, subst (λ d. IsInOrder k.config d kept) same stands.in_order)
+      ap₂ (λ schema trees. record { schema = schema; trees = trees }) stands.desk.in_order.held.schema trees in
+      (kept, inl refl, subst (IsOfDesk k.config kept) same stands.desk)
 
   -- While it isn't down, it holds one thing at most.
   pub one_law : (k : Tables S) (a b : Kept) → IsSound g k → k.down ≡ false → HoldsKept g k a → HoldsKept g k b → a ≡ b
-  one_law k a b clean up one other = one_kept k.config (state g k.conn).now a b (one up).in_order (other up).in_order
+  one_law k a b clean up one other = one_kept k.config (state g k.conn).now a b (one up).desk.in_order (other up).desk.in_order
 
 module _ {S : Type 0} (is_clean : S → Bool) (recovers : S → Trees → Type 0) where
-  -- A crash leaves something, and that is in order for one thing.
+  -- A crash leaves something, and that holds one thing.
   pub common_law : ((s : S) → doubt (is_clean s) ≡ 0 → ∥ ((db : Trees) × recovers s db) ∥₁)
       → (k : Tables S) (a b : List Kept) → doubt (is_clean k.conn.store) ≡ 0
-      → ((db : Trees) → recovers k.conn.store db → (kept : Kept) × IsOneOf a kept × IsTreesInOrder k.config db kept)
-      → ((db : Trees) → recovers k.conn.store db → (kept : Kept) × IsOneOf b kept × IsTreesInOrder k.config db kept) → HaveCommon a b
+      → ((db : Trees) → recovers k.conn.store db → (kept : Kept) × IsOneOf a kept × AreOfDesk k.config kept db)
+      → ((db : Trees) → recovers k.conn.store db → (kept : Kept) × IsOneOf b kept × AreOfDesk k.config kept db) → HaveCommon a b
   common_law survives k a b clean one other = ∥∥₁_map (survives k.conn.store clean) (λ left.
       let first = one left.0 left.1 in
       let second = other left.0 left.1 in
-      let same : first.0 ≡ second.0 = one_kept k.config _ first.0 second.0 first.2 second.2 in
+      let same : first.0 ≡ second.0 = one_kept k.config _ first.0 second.0 first.2.in_order second.2.in_order in
       (second.0, subst (IsOneOf a) same first.1, second.1))

@@ -11,8 +11,8 @@ ghost use Rattle.desk_rows.specs.Meta.{HasMeta, IsConfig, TellsMeta};
 ghost use Rattle.desk_rows.specs.Rows.{Holds, Rows};
 ghost use Rattle.desk_rows.specs.Schema.{desk_schema, no_schema};
 ghost use Rattle.desk_rows.specs.order.Changes.{opening_rows};
-ghost use Rattle.desk_tables.specs.Adopting.{IsGivenBack, IsOfDesk, IsStore, opening_kept};
-ghost use Rattle.desk_tables.specs.InOrder.{IsInOrder, IsTreesInOrder};
+ghost use Rattle.desk_tables.specs.Adopting.{IsGivenBack, IsStore, opening_kept};
+ghost use Rattle.desk_tables.specs.InOrder.{AreOfDesk, IsOfDesk};
 ghost use Rattle.desk_tables.specs.Opening.{IsTaken, TreesHold};
 ghost use Rattle.desk_tables.specs.Store.{meaning_of};
 
@@ -110,14 +110,14 @@ impl<S: Alter> Tables<S> {
         }
     }
 
-    /// The connection: of a store that holds something its tables are in order for that, and all of it is committed. A crash leaves
-    /// what it left of the store.
+    /// The connection: of a store that holds something the database is of a desk that holds that, and all of it is committed. A
+    /// crash leaves what it left of the store.
     pub fn close(self) -> Connection<S>
         ensures sound { HasCleanDisk (state S.Store result) → (meaning_of S.Store).sound self }
         ensures in_order { (kept : Kept) → (meaning_of S.Store).sound self → (meaning_of S.Store).down self ≡ false → (meaning_of S.Store).holds self kept
-            → IsInOrder ((meaning_of S.Store).configuration self) (state S.Store result).now kept × ((state S.Store result).now ≡ (state S.Store result).committed) }
+            → IsOfDesk ((meaning_of S.Store).configuration self) kept (state S.Store result).now × ((state S.Store result).now ≡ (state S.Store result).committed) }
         ensures left { (all : List Kept) → (meaning_of S.Store).leaves self all → (trees : Trees) → (state S.Store result).may_leave trees
-            → (kept : Kept) × IsOneOf all kept × IsTreesInOrder ((meaning_of S.Store).configuration self) trees kept }
+            → (kept : Kept) × IsOneOf all kept × AreOfDesk ((meaning_of S.Store).configuration self) kept trees }
     {
         self.conn
     }

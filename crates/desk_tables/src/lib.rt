@@ -15,7 +15,5 @@ mod reopening;
 mod settle;
 mod shape;
 mod tables;
-#[cfg(test)]
-mod tests;
 
 pub use tables::Tables;

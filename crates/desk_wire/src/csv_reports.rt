@@ -16,7 +16,7 @@ use std::alloc::Global;
 use std::str;
 
 /// The octets of a report, at most (this project's limit).
-const LONGEST_REPORT: usize = 16_777_216;
+pub const LONGEST_REPORT: usize = 16_777_216;
 
 /// The records behind the header, at most (this project's limit).
 const MOST_RECORDS: u32 = 100_000;

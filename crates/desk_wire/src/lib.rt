@@ -25,7 +25,7 @@ mod writing;
 
 pub use answers::{write_answer, write_refusal};
 pub use csv_faults::CsvFault;
-pub use csv_reports::read_report;
+pub use csv_reports::{LONGEST_REPORT, read_report};
 pub use faults::WireFault;
 pub use heads::{Head, head_of};
 pub use reading::read_message;

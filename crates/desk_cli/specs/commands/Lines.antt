@@ -4,9 +4,8 @@ use Rattle.std.specs.Io.KnownBytes.{Appends, Consumes, IsAtEnd}
 use Rattle.clap.specs.Simple.{App, new_app}
 use Rattle.registry_core.specs.Settings.{Settings}
 use Rattle.desk_engine.specs.Lines.{all_lines, answer_lines}
-use Rattle.desk_cli.specs.Named.{Named, bad, names}
+use Rattle.desk_cli.specs.Named.{Named, bad, lines, names}
 use Rattle.desk_cli.specs.Options.{OrBad, with_settings}
-use Rattle.desk_cli.specs.declared.commands.Command.TheVariants.{Lines}
 
 -- its words
 abbrev pub lines_app : App
@@ -14,7 +13,7 @@ lines_app = with_settings (new_app (codes "lines"))
 
 -- what its options name
 abbrev pub lines_named : OrBad Settings → Named
-lines_named (Ok config) = names (Lines config)
+lines_named (Ok config) = names (lines config)
 lines_named (Err value) = bad value
 
 -- What a reader has left before and after, and what a writer holds before and after: the input was read to its end, and exactly the

@@ -1,9 +1,20 @@
-//! Whole runs of the program, over words of the tests.
+//! Whole runs of the program, over words, a file and a network of the tests.
+ghost use Rattle.std.specs.Prelude.{◌≡◌, false, None, IfOk};
+ghost use Rattle.desk_cli.specs.Served.{unknown};
+
+mod one_file;
+
 use super::{run, run_given};
 use crate::endings::Ending;
-use crate::words::tests::LINES_HELP;
+use crate::faults::Fault;
+use crate::files::Files;
+use crate::listening::{Listening, Network};
+use crate::words::tests::helps::LINES_HELP;
+use desk_http::ServeEnd;
+use sqlite::{Connection, MemStore};
+use std::alloc::Global;
 use std::env::FillError;
-use std::io::ErrorKind;
+use std::io::{self, ErrorKind};
 use std::rt::Env;
 use std::test::Fail;
 
@@ -33,6 +44,86 @@ impl Env for Started<'_> {
         Err(FillError::NotPresent)
     }
 }
+
+/// One file that is a database in memory, whatever its path; or none that can be opened.
+#[derive(Drop)]
+struct OneFile {
+    conn: Option<Connection<MemStore>>,
+}
+
+impl OneFile {
+    fn opened(self) -> Result<Connection<MemStore>, Fault>
+        ensures idle { IfOk result (λ conn. conn.in_transaction ≡ false) }
+        ensures unlimited { IfOk result (λ conn. conn.step_limit ≡ None) }
+    {
+        let Some(conn) = self.conn else {
+            return Err(Fault::File);
+        };
+        let mut conn = conn;
+        conn.set_step_limit(None);
+        if conn.is_autocommit() {
+            Ok(conn)
+        } else {
+            Err(Fault::File)
+        }
+    }
+}
+
+impl Files<MemStore> for OneFile {
+    ghost opens = { λ files path conn. Unit {0} };
+
+    fn open(self, _path: &str) -> Result<Connection<MemStore>, Fault> {
+        self.opened().map_err(|_| Fault::File)
+    }
+
+    fn make(self, _path: &str) -> Result<Connection<MemStore>, Fault> {
+        self.opened().map_err(|_| Fault::File)
+    }
+}
+
+/// A port that no connection comes to.
+#[derive(Drop)]
+struct Silent;
+
+impl Listening for Silent {
+    type Reader = &'static [u8];
+
+    type Writer = Vec<u8>;
+
+    ghost meaning = { unknown };
+
+    fn accept(&mut self, _alloc: Global) -> io::Result<(&'static [u8], Vec<u8>)> {
+        Err(ErrorKind::ConnectionAborted.into())
+    }
+
+    fn finish(
+        &mut self,
+        _reader: &'static [u8],
+        _writer: Vec<u8>,
+        _end: ServeEnd,
+    ) -> io::Result<()> {
+        Ok(())
+    }
+}
+
+/// A network with one port that can be had.
+struct OnePort {
+    free: u16,
+}
+
+impl Network for OnePort {
+    type Port = Silent;
+
+    fn listen(&self, port: u16) -> io::Result<Silent> {
+        if port == self.free {
+            Ok(Silent)
+        } else {
+            Err(ErrorKind::AddrInUse.into())
+        }
+    }
+}
+
+const NETWORK: OnePort = OnePort { free: 8080 };
 
 /// A line that no message has.
 const INPUT: &str = "{\n";
@@ -94,7 +185,16 @@ fn runs_of_words(rt: HostRuntime) -> Result<(), Fail> {
         let mut reader = INPUT.as_bytes();
         let mut answers = Vec::new(rt.alloc());
         let mut faults = Vec::new(rt.alloc());
-        let end = run(&process, &mut reader, &mut answers, &mut faults);
+        let none = OneFile { conn: None };
+        let (end, conn) = run(
+            &process,
+            none,
+            &NETWORK,
+            &mut reader,
+            &mut answers,
+            &mut faults,
+        );
+        assert!(rt; conn.is_none());
         assert_eq!(rt; end, *ending, "at {words:?}");
         assert!(rt; answers.as_slice() == answered.as_bytes(), "at {words:?}");
         assert!(rt; faults.as_slice() == told.as_bytes(), "at {words:?}");
@@ -109,9 +209,11 @@ fn no_memory_for_the_words(rt: HostRuntime) -> Result<(), Fail> {
     let mut answers = Vec::new(rt.alloc());
     let mut faults = Vec::new(rt.alloc());
     let arguments = Err(ErrorKind::OutOfMemory.into());
-    let end = run_given(
+    let (end, _) = run_given(
         rt.alloc(),
         arguments,
+        OneFile { conn: None },
+        &NETWORK,
         &mut reader,
         &mut answers,
         &mut faults,

@@ -2,7 +2,7 @@
 mod failing;
 mod limits;
 mod reports;
-mod responses;
+pub(crate) mod responses;
 
 use super::opening;
 use super::rows::{OTHER_OWNER, REQUEST};
@@ -16,7 +16,7 @@ use std::alloc::Global;
 use std::process::Abort;
 use std::test::Fail;
 
-const DEVICE_ADD: &str =
+pub(crate) const DEVICE_ADD: &str =
     "{\"ProtocolVersion\":\"1.0\",\"SenderID\":\"office\",\"ReceiverID\":\"desk\",\"TransactionID\":2,\"MessageType\":\"DeviceAdd\",\"DevEUI\":\"0004a30b001a2b3c\",\"JoinEUI\":\"70b3d57ed0000001\",\"Owner\":\"town\"}";
 
 const OTHER_DEVICE: &str =
@@ -32,7 +32,7 @@ const STRANGER: &str =
     "{\"ProtocolVersion\":\"1.0\",\"SenderID\":\"stranger\",\"ReceiverID\":\"desk\",\"TransactionID\":1,\"MessageType\":\"OwnerAdd\",\"Owner\":\"town\"}";
 
 /// A message as the body of a POST, and so many octets of another request after it.
-fn posted(alloc: Global, message: &str, after: &str) -> Result<String, Fail> {
+pub(crate) fn posted(alloc: Global, message: &str, after: &str) -> Result<String, Fail> {
     let length = message.len();
     Ok(format!(in alloc;
         "POST /v1/messages HTTP/1.1\r\nContent-Length: {length}\r\n\r\n{message}{after}"

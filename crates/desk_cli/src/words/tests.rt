@@ -1,8 +1,16 @@
 //! Words that name no command, and what is printed then.
+mod files;
+pub(crate) mod helps;
+
 use super::read_words;
 use crate::endings::{Ending, ending_of};
-use crate::usage::Usage;
+use crate::usage::{BadValue, Usage};
 use clap::error::ErrorKind;
+use helps::{
+    BANDS_HELP, HEAR_HELP, HELP, IMPORT_HELP, INIT_HELP, LINES_HELP, REPORT_HELP, SERVE_HELP,
+};
+use std::alloc::Global;
+use std::process::Abort;
 use std::test::Fail;
 
 static NAMELESS: [(&[&str], ErrorKind); 14] = [
@@ -31,37 +39,61 @@ static NAMELESS: [(&[&str], ErrorKind); 14] = [
     ),
 ];
 
+/// The words name nothing that clap takes, and its error is of this kind.
+pub(crate) fn refused<'a>(rt: &impl Abort, alloc: Global, words: &'a [&'a str], want: ErrorKind) {
+    match read_words(alloc, words) {
+        Err(Usage::Words(error)) => assert_eq!(rt; error.kind(), want, "at {words:?}"),
+        Err(usage) => assert!(rt; false, "{words:?}: {usage}"),
+        Ok(command) => assert!(rt; false, "{words:?}: {command:?}"),
+    }
+}
+
+/// This value of the words is bad.
+pub(crate) fn bad<'a>(rt: &impl Abort, alloc: Global, words: &'a [&'a str], want: BadValue) {
+    match read_words(alloc, words) {
+        Err(Usage::Value(value)) => assert_eq!(rt; value, want, "at {words:?}"),
+        Err(usage) => assert!(rt; false, "{words:?}: {usage}"),
+        Ok(command) => assert!(rt; false, "{words:?}: {command:?}"),
+    }
+}
+
 #[test]
 fn words_that_name_nothing(rt: HostRuntime) -> Result<(), Fail> {
     for (words, want) in &NAMELESS {
-        match read_words(rt.alloc(), words) {
-            Err(Usage::Words(error)) => assert_eq!(rt; error.kind(), *want, "at {words:?}"),
-            Err(usage) => assert!(rt; false, "{words:?}: {usage}"),
-            Ok(command) => assert!(rt; false, "{words:?}: {command:?}"),
-        }
+        refused(&rt, rt.alloc(), words, *want);
     }
     Ok(())
 }
 
-pub(crate) const LINES_HELP: &str = "\
-Answers the messages of standard input, one a line
-
-Usage: desk lines [OPTIONS]
-
-Options:
-      --receiver <NAME>    The desk's own name [default: desk]
-      --operator <NAME>    The first operator [default: office]
-      --base <HEX8>        The first device address [default: 01a00000]
-      --addresses <COUNT>  How many device addresses [default: 65536]
-  -h, --help               Print help
-";
-
-static PRINTED: [(&[&str], &str); 4] = [
+static PRINTED: [(&[&str], &str); 15] = [
     (
         &["desk"],
         "error: a command is needed\n\nUsage: desk [COMMAND]\n\nFor more information, try '--help'.\n",
     ),
+    (&["desk", "--help"], HELP),
     (&["desk", "lines", "--help"], LINES_HELP),
+    (&["desk", "init", "--help"], INIT_HELP),
+    (&["desk", "hear", "--help"], HEAR_HELP),
+    (&["desk", "import", "--help"], IMPORT_HELP),
+    (&["desk", "serve", "--help"], SERVE_HELP),
+    (&["desk", "report", "--help"], REPORT_HELP),
+    (&["desk", "bands", "--help"], BANDS_HELP),
+    (
+        &["desk", "serve", "town.db"],
+        "error: the following required arguments were not provided:\n  --port <P>\n  --count <N>\n\nUsage: desk serve --port <P> --count <N> <FILE>\n\nFor more information, try '--help'.\n",
+    ),
+    (
+        &["desk", "import", "town.db", "--sender", "a b"],
+        "error: --sender takes 1 to 32 ASCII letters, digits, '-', '_' and '.'\n\nFor more information, try '--help'.\n",
+    ),
+    (
+        &["desk", "serve", "town.db", "--port", "0", "--count", "1"],
+        "error: --port takes a number from 1 to 65535, in digits\n\nFor more information, try '--help'.\n",
+    ),
+    (
+        &["desk", "serve", "town.db", "--port", "1", "--count", "0"],
+        "error: --count takes a number from 1 to 1000000, in digits\n\nFor more information, try '--help'.\n",
+    ),
     (
         &["desk", "lines", "--base", "0"],
         "error: --base takes eight hexadecimal digits\n\nFor more information, try '--help'.\n",

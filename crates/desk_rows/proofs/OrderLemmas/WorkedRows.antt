@@ -1,5 +1,5 @@
 -- Worked rows, computed from the definitions alone: what a list of effects leaves in the kept columns.
-use Rattle.std.proofs.Common.{◌≡◌, ℕ, List, [], ◌∷◌, map, length, Option, Some, None, true, false, refl}
+use Rattle.std.proofs.Common.{◌≡◌, ℕ, List, [], ◌∷◌, map, length, Option, Some, false, refl}
 use Rattle.std.specs.Prelude.{codes, pos}
 use Rattle.radio_core.specs.declared.bands.Band.TheVariants.{B3}
 use Rattle.radio_core.specs.declared.data_rates.DataRate.TheVariants.{Dr5}

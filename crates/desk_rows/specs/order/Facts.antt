@@ -1,5 +1,5 @@
 -- What the rows of the tables tell: the registry's facts.
-use Rattle.std.specs.Prelude.{ℕ, ◌==◌, ◌&&◌, Bool, List, map, find, option_map, bytes_eq}
+use Rattle.std.specs.Prelude.{ℕ, Bool, List, map, find, option_map, bytes_eq}
 use Rattle.std.specs.List.{list_any}
 use Rattle.registry_core.specs.declared.facts.Booking.{Booking}
 use Rattle.registry_core.specs.declared.facts.Session.{Session}

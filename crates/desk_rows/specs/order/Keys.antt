@@ -1,10 +1,9 @@
 -- What each effect finds in the rows: the keys that it adds are free, and the rows that it changes are there, each once.
-use Rattle.std.specs.Prelude.{◌≡◌, ℕ, ◌+◌, ◌<◌, ◌^◌, ◌==◌, ◌&&◌, Bool, true, false, List, [], ◌∷◌, filter, length, Some}
+use Rattle.std.specs.Prelude.{◌≡◌, ℕ, ◌+◌, ◌<◌, ◌^◌, ◌&&◌, Bool, true, false, List, [], ◌∷◌, filter, length, Some}
 use Rattle.std.specs.List.{list_any}
 use Rattle.registry_core.specs.declared.effects.Effect.{Effect}
 use Rattle.registry_core.specs.declared.effects.Effect.TheVariants.{Nothing, AddsSender, AddsOwner, AddsGateway, AddsDevice, MovesDevice, AddsSession, AddsUplink, AddsCopy, AddsBooking, EndsBooking}
 use Rattle.registry_core.specs.declared.facts.Booking.{Booking}
-use Rattle.registry_core.specs.declared.facts.Kind.{Kind}
 use Rattle.registry_core.specs.declared.facts.Kind.TheVariants.{Join, Data}
 use Rattle.registry_core.specs.declared.facts.Standing.TheVariants.{Booked}
 use Rattle.registry_core.specs.declared.facts.Uplink.{Uplink}
@@ -15,7 +14,7 @@ use Rattle.registry_core.specs.Numbered.{item_at, item_changed}
 use Rattle.registry_core.specs.Settings.{Settings}
 use Rattle.registry_core.specs.State.{State}
 use Rattle.sqlite_keyed.specs.Lists.{update_where}
-use Rattle.desk_rows.specs.Rows.{Rows, BookingRow, DeviceRow, SessionRow, kind_number, is_copy, is_device, is_sender, is_session, is_uplink}
+use Rattle.desk_rows.specs.Rows.{Rows, BookingRow, DeviceRow, SessionRow, is_copy, is_device, is_sender, is_session, is_uplink}
 use Rattle.desk_rows.specs.order.Changes.{booking_row, devices_raised, kind_at, session_at, sessions_counted}
 use Rattle.desk_rows.specs.order.Facts.{is_name_row}
 use Rattle.desk_rows.specs.order.RowsOf.{AreRowsOf}

@@ -1,37 +1,34 @@
-use Rattle.std.proofs.Common.{[], None, inl, refl}
-use Rattle.desk_tables.specs.Store.{own_law}
-use Rattle.desk_engine.specs.InOrder.{kept_after}
-use Rattle.desk_cli.proofs.OnTables.{closed, left, was_new}
+use Rattle.std.proofs.Common.{[], None}
+use Rattle.desk_cli.proofs.OnTables.{closed, left, survives, unshut_by, was_in_order, was_new}
 use Rattle.desk_cli.proofs.on_tables.run_on_tables.Goals as goal
 
 pub returns-in-Ok-run-clause-outcomes : goal.returns-in-Ok-run-clause-outcomes
 returns-in-Ok-run-clause-outcomes g c = λ clean.
     let sound = c.close.ensures.sound clean in
     let ran = c.in-Ok-run.ensures.store in
-    let made = c.in-Ok.ensures.made (ran.call.was_sound sound) in
-    c.in-Ok-run.ensures.outcomes c.args.config [] (was_new _ _ _ _ made (c.nothing_is_heard.ensures c.args.config) sound)
+    let was = was_new _ _ _ (c.nothing_is_heard.ensures c.args.config) (c.in-Ok.ensures.made (ran.call.was_sound sound)) in
+    c.in-Ok-run.ensures.outcomes c.args.config [] (was_in_order _ _ _ _ _ was sound)
 
 pub returns-in-Ok-run-clause-tables : goal.returns-in-Ok-run-clause-tables
 returns-in-Ok-run-clause-tables g c = λ clean is.
     let sound = c.close.ensures.sound clean in
     let ran = c.in-Ok-run.ensures.store in
-    let made = c.in-Ok.ensures.made (ran.call.was_sound sound) in
-    let before = was_new _ _ _ _ made (c.nothing_is_heard.ensures c.args.config) sound in
-    closed _ _ _ _ made ran.call c.close.result _ is c.create.ensures.config sound (ran.order c.args.config [] before) c.close.ensures.in_order
+    let was = was_new _ _ _ (c.nothing_is_heard.ensures c.args.config) (c.in-Ok.ensures.made (ran.call.was_sound sound)) in
+    let order = ran.order c.args.config [] (was_in_order _ _ _ _ _ was sound) in
+    closed _ _ _ _ _ was ran.call.same c.close.result _ (unshut_by _ _ _ ran.call is) sound order c.close.ensures.in_order
 
 pub returns-in-Ok-run-clause-crash : goal.returns-in-Ok-run-clause-crash
-unfolding kept_after
 returns-in-Ok-run-clause-crash g c = λ clean.
     let sound = c.close.ensures.sound clean in
     let ran = c.in-Ok-run.ensures.store in
-    let made = c.in-Ok.ensures.made (ran.call.was_sound sound) in
-    let before = was_new _ _ _ _ made (c.nothing_is_heard.ensures c.args.config) sound in
-    let own = own_law g.S.Store g.met.S.Store.settled _ _ (ran.call.was_sound sound) made.up made.holds in
-    left _ _ _ _ made ran.call c.close.result _ _ (ran.crash c.args.config [] None before (inl own)) c.close.ensures.left
+    let was_sound = ran.call.was_sound sound in
+    let was = was_new _ _ _ (c.nothing_is_heard.ensures c.args.config) (c.in-Ok.ensures.made was_sound) in
+    let crash = ran.crash c.args.config [] None (was_in_order _ _ _ _ _ was sound) (survives _ _ _ _ was g.met.S.Store.settled was_sound) in
+    left _ _ _ _ _ was ran.call.same c.close.result _ _ crash c.close.ensures.left
 
 pub returns-in-Ok-run-clause-hours : goal.returns-in-Ok-run-clause-hours
 returns-in-Ok-run-clause-hours g c = λ clean.
     let sound = c.close.ensures.sound clean in
     let ran = c.in-Ok-run.ensures.store in
-    let made = c.in-Ok.ensures.made (ran.call.was_sound sound) in
-    c.in-Ok-run.ensures.hours_before c.args.config [] (was_new _ _ _ _ made (c.nothing_is_heard.ensures c.args.config) sound)
+    let was = was_new _ _ _ (c.nothing_is_heard.ensures c.args.config) (c.in-Ok.ensures.made (ran.call.was_sound sound)) in
+    c.in-Ok-run.ensures.hours_before c.args.config [] (was_in_order _ _ _ _ _ was sound)

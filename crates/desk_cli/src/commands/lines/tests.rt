@@ -3,6 +3,7 @@ mod words;
 
 use super::lines_command;
 use crate::endings::Ending;
+use crate::faults::end;
 use crate::tests::config;
 use crate::tests::rows::{MALFORMED, OWNERS, REQUEST, deliveries_of};
 use crate::tests::streams::{Failing, Pieces};
@@ -17,8 +18,9 @@ fn ran<R: Read, W: Write>(
     answers: &mut W,
 ) -> Result<(Ending, Vec<u8>), Fail> {
     let config = config(65_536).ok_or("no configuration")?;
+    let done = lines_command(alloc, &config, reader, answers);
     let mut faults = Vec::new(alloc);
-    let ending = lines_command(alloc, &config, reader, answers, &mut faults);
+    let ending = end(&mut faults, done);
     Ok((ending, faults))
 }
 

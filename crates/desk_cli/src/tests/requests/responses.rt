@@ -1,12 +1,12 @@
 //! Whole responses.
 
-pub(super) const ADDED: &str =
+pub(crate) const ADDED: &str =
     "HTTP/1.1 200 OK\r\ncontent-type: application/json\r\ncontent-length: 162\r\nconnection: close\r\n\r\n{\"MessageType\":\"OwnerAddAns\",\"ProtocolVersion\":\"1.0\",\"ReceiverID\":\"office\",\"Result\":{\"Description\":\"\",\"ResultCode\":\"Success\"},\"SenderID\":\"desk\",\"TransactionID\":1}";
 
-pub(super) const REUSED: &str =
+pub(crate) const REUSED: &str =
     "HTTP/1.1 409 Conflict\r\ncontent-type: application/json\r\ncontent-length: 171\r\nconnection: close\r\n\r\n{\"MessageType\":\"OwnerAddAns\",\"ProtocolVersion\":\"1.0\",\"ReceiverID\":\"office\",\"Result\":{\"Description\":\"transaction\",\"ResultCode\":\"Other\"},\"SenderID\":\"desk\",\"TransactionID\":1}";
 
-pub(super) const DEVICE_ADDED: &str =
+pub(crate) const DEVICE_ADDED: &str =
     "HTTP/1.1 200 OK\r\ncontent-type: application/json\r\ncontent-length: 163\r\nconnection: close\r\n\r\n{\"MessageType\":\"DeviceAddAns\",\"ProtocolVersion\":\"1.0\",\"ReceiverID\":\"office\",\"Result\":{\"Description\":\"\",\"ResultCode\":\"Success\"},\"SenderID\":\"desk\",\"TransactionID\":2}";
 
 pub(super) const DEVICE_REUSED: &str =
@@ -36,7 +36,7 @@ pub(super) const NOT_BY_POST: &str =
 pub(super) const NO_LENGTH: &str =
     "HTTP/1.1 411 Length Required\r\ncontent-type: text/plain\r\ncontent-length: 7\r\nconnection: close\r\n\r\nlength\n";
 
-pub(super) const TOO_LONG: &str =
+pub(crate) const TOO_LONG: &str =
     "HTTP/1.1 413 Payload Too Large\r\ncontent-type: text/plain\r\ncontent-length: 5\r\nconnection: close\r\n\r\nsize\n";
 
 pub(super) const CUT_BODY: &str =
@@ -54,7 +54,7 @@ pub(super) const NO_GATEWAY: &str =
 pub(super) const UNAVAILABLE: &str =
     "HTTP/1.1 503 Service Unavailable\r\ncontent-type: text/plain\r\ncontent-length: 12\r\nconnection: close\r\n\r\nunavailable\n";
 
-pub(super) const EMPTY_REPORT: &str =
+pub(crate) const EMPTY_REPORT: &str =
     "HTTP/1.1 200 OK\r\ncontent-type: text/csv\r\ncontent-length: 118\r\nconnection: close\r\n\r\ndev_eui,uplinks,b1_us,b1_peak_us,b2_us,b2_peak_us,b3_us,b3_peak_us,b4_us,b4_peak_us,b5_us,b5_peak_us,b6_us,b6_peak_us\n";
 
 pub(super) const OWNER_REPORT: &str =

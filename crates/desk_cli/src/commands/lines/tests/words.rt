@@ -1,7 +1,8 @@
 //! The words of `desk lines`.
 use crate::commands::Command;
-use crate::usage::{BadValue, Usage};
+use crate::usage::BadValue;
 use crate::words::read_words;
+use crate::words::tests::bad;
 use radio_core::Name;
 use registry_core::Config;
 use std::test::Fail;
@@ -77,7 +78,9 @@ static NAMED: [Named; 9] = [
     ),
 ];
 
-fn lines((receiver, operator, base, addresses): (&str, &str, u32, u32)) -> Option<Command> {
+fn lines(
+    (receiver, operator, base, addresses): (&str, &str, u32, u32),
+) -> Option<Command<'static>> {
     let receiver = Name::new(receiver.as_bytes())?;
     let operator = Name::new(operator.as_bytes())?;
     let config = Config::new(receiver, operator, base, addresses)?;
@@ -152,11 +155,7 @@ static BAD: [(&[&str], BadValue); 24] = [
 #[test]
 fn values_that_are_bad(rt: HostRuntime) -> Result<(), Fail> {
     for (words, want) in &BAD {
-        match read_words(rt.alloc(), words) {
-            Err(Usage::Value(value)) => assert_eq!(rt; value, *want, "at {words:?}"),
-            Err(usage) => assert!(rt; false, "{words:?}: {usage}"),
-            Ok(command) => assert!(rt; false, "{words:?}: {command:?}"),
-        }
+        bad(&rt, rt.alloc(), words, *want);
     }
     Ok(())
 }

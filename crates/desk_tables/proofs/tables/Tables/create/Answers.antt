@@ -1,4 +1,4 @@
-use Rattle.std.proofs.Common.{◌∙◌, refl, arith}
+use Rattle.std.proofs.Common.{◌∙◌, refl, rules, arith}
 use Rattle.desk_rows.specs.order.Changes.{opening_rows}
 use Rattle.desk_tables.proofs.tables.Tables.create.Goals as goal
 
@@ -14,14 +14,17 @@ returns-in-Ok-clause-made g c clean = record {
       committed = c.make_desk.ensures.settled clean (c.in-Ok.ensures.open clean);
       unlimited = c.make_desk.ensures.crash.limit ∙ c.requires.unlimited;
     };
-    in_order = record {
-      rows = opening_rows c.args.config;
-      held = c.in-Ok.ensures.made clean;
-      are = c.opening_rows_tell.ensures c.args.config;
-      entries = refl;
+    desk = record {
+      in_order = record {
+        rows = opening_rows c.args.config;
+        held = c.in-Ok.ensures.made clean;
+        are = c.opening_rows_tell.ensures c.args.config;
+        entries = refl;
+      };
+      config = search rules;
+      few = omega arith;
     };
     heard = refl;
-    few = omega arith;
     counts = record { sessions = refl; uplinks = refl; bookings = refl };
   };
 }

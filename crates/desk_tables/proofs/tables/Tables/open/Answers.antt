@@ -6,7 +6,7 @@ use Rattle.sqlite.specs.Held.{state}
 use Rattle.sqlite.specs.State.{HasCleanDisk}
 use Rattle.desk_rows.specs.Rows.{BookingRow, Holds, SessionRow}
 use Rattle.desk_rows.specs.Schema.{desk_schema}
-use Rattle.desk_tables.specs.InOrder.{IsInOrder, entry_in}
+use Rattle.desk_tables.specs.InOrder.{IsOfDesk, entry_in}
 use Rattle.desk_tables.proofs.tables.Tables.open.Goals as goal
 
 pub returns-in-Err-clause-other_version : goal.returns-in-Err-clause-other_version
@@ -35,10 +35,8 @@ returns-in-Ok-counted-clause-in_order g c settings kept is clean =
           committed = read.0.now_is ∙ c.open_desk.ensures.settled early same.0.is_open ∙ sym read.0.committed_is;
           unlimited = (c.counted.ensures.read.survives has.schema same.0.is_open clean).limit ∙ c.open_desk.ensures.crash.limit ∙ c.requires.unlimited;
         };
-        in_order = subst (λ s. IsInOrder s new.now kept) (sym config)
-            (subst (λ d. IsInOrder settings d kept) (sym (read.0.now_is ∙ same.0.now_is)) is.in_order);
+        desk = subst (λ s. IsOfDesk s kept new.now) (sym config) (subst (IsOfDesk settings kept) (sym (read.0.now_is ∙ same.0.now_is)) is);
         heard = told.0 ∙ sym (ap length is.in_order.entries ∙ length-map r.replies entry_in);
-        few = is.few;
         counts = record {
           sessions = told.1.0 ∙ sym (ap (λ (s : State). length s.sessions) is.in_order.are.is ∙ length-map r.sessions (λ (s : SessionRow). s.session));
           uplinks = told.1.1 ∙ sym (ap (λ (s : State). length s.uplinks) is.in_order.are.is);

@@ -1,0 +1,66 @@
+#!/usr/bin/env python3
+"""Runs examples/day.sh, and sees that it prints what examples/day.txt says.
+
+    checks/day.py [--program FILE]
+
+The day runs with a free port, in a fresh folder. It has to end with status 0 within a minute, to print the lines of day.txt and
+nothing else, to say nothing on standard error, and to leave the folder as it was. The program is `./desk`, which is proved and
+built first where it isn't current, or with --program the built one in FILE.
+"""
+
+import argparse
+import itertools
+import os
+import signal
+import socket
+import subprocess
+import sys
+import tempfile
+from pathlib import Path
+
+ROOT = Path(__file__).resolve().parent.parent
+DAY = ROOT / "examples" / "day.sh"
+WANTED = ROOT / "examples" / "day.txt"
+SECONDS = 60
+
+
+def free_port():
+    with socket.socket() as bound:
+        bound.bind(("127.0.0.1", 0))
+        return bound.getsockname()[1]
+
+
+def first_difference(written, wanted):
+    for number, (line, other) in enumerate(itertools.zip_longest(written, wanted), 1):
+        if line != other:
+            return f"{WANTED.name}:{number}: the page has\n  {other}\nand the day has\n  {line}"
+    return None
+
+
+def main():
+    words = argparse.ArgumentParser(description=__doc__.splitlines()[0])
+    words.add_argument("--program", type=Path, default=ROOT / "desk", metavar="FILE", help="the built program, in place of ./desk")
+    program = words.parse_args().program.resolve()
+    # the first call may prove and build the program, and says so
+    subprocess.run([program, "lines"], stdin=subprocess.DEVNULL, check=True)
+    with tempfile.TemporaryDirectory() as folder:
+        given = {**os.environ, "DESK": str(program), "PORT": str(free_port()), "TMPDIR": folder}
+        pipes = {"stdin": subprocess.DEVNULL, "stdout": subprocess.PIPE, "stderr": subprocess.PIPE}
+        day = subprocess.Popen([DAY], env=given, text=True, start_new_session=True, **pipes)
+        try:
+            written, told = day.communicate(timeout=SECONDS)
+        except subprocess.TimeoutExpired:
+            # the desk that it started too
+            os.killpg(day.pid, signal.SIGKILL)
+            sys.exit(f"{DAY.name} hasn't ended after {SECONDS} seconds")
+        left = os.listdir(folder)
+    difference = first_difference(written.splitlines(), WANTED.read_text().splitlines())
+    if difference:
+        sys.exit(f"{difference}\nstatus {day.returncode}, standard error:\n{told}")
+    if day.returncode or told or left:
+        sys.exit(f"{DAY.name} ended with status {day.returncode}, left {left}, and on standard error:\n{told}")
+    print(f"{DAY.name}: {len(written.splitlines())} lines, all as {WANTED.name} says")
+
+
+if __name__ == "__main__":
+    main()

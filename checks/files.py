@@ -1,0 +1,444 @@
+#!/usr/bin/env python3
+"""Sees that the commands on a file end as docs/HANDBOOK.md says, over real files, sockets and signals.
+
+    checks/files.py [--program FILE] [--only NAME,..]
+
+Each part stands in a function below, with what it does, and begins in a folder of its own. All parts are run, and what isn't as the
+handbook says is printed; then the status is 1. `slow_clients` takes a minute and a half. The program is `./desk`, which is proved
+and built first where it isn't current, or with --program the built one in FILE.
+"""
+
+import argparse
+import os
+import resource
+import shutil
+import signal
+import socket
+import sqlite3
+import subprocess
+import sys
+import tempfile
+import time
+from pathlib import Path
+
+ROOT = Path(__file__).resolve().parent.parent
+EXAMPLES = ROOT / "examples"
+REGISTRY = (EXAMPLES / "1-registry.jsonl").read_text()
+MESSAGES = "".join(path.read_text() for path in sorted(EXAMPLES.glob("[1-4]-*.jsonl")))
+ANSWERS = "".join((EXAMPLES / "day.txt").read_text().splitlines(keepends=True)[: MESSAGES.count("\n")])
+REPORT = (EXAMPLES / "evening-report.csv").read_text()
+HEADER = REPORT.splitlines(keepends=True)[0]
+REFUSED_SENDER = '"ResultCode":"UnknownSender"'
+SIZE = 16_777_216
+ENDED = 20
+
+
+class Desk:
+    """The program, and what wasn't as the handbook says."""
+
+    def __init__(self, program):
+        self.program = program
+        self.faults = []
+
+    def wants(self, holds, what):
+        if not holds:
+            print(f"  NOT SO: {what}")
+            self.faults.append(what)
+
+    def run(self, *words, given="", **more):
+        """Its status, what it wrote, and what it told on standard error."""
+        ran = subprocess.run([self.program, *map(str, words)], input=given, capture_output=True, text=True, timeout=600, **more)
+        return ran.returncode, ran.stdout, ran.stderr
+
+    def ends(self, status, told, *words, given="", written=""):
+        found = self.run(*words, given=given)
+        self.wants(found == (status, written, told), f"{' '.join(map(str, words))}: wanted {status} {told!r}, and it ends with {found!r}"[:600])
+
+    def made(self, name="town.db", given=MESSAGES):
+        """A file with these messages."""
+        file = Path(name)
+        self.ends(0, "", "init", file)
+        if given:
+            self.ends(0, "", "hear", file, given=given, written=ANSWERS[: nth(ANSWERS, given.count("\n"))])
+        return file
+
+    def serving(self, file, count):
+        """A program that listens, and its port."""
+        port = free_port()
+        words = [self.program, "serve", str(file), "--port", str(port), "--count", str(count)]
+        program = subprocess.Popen(words, stdout=subprocess.PIPE, stderr=subprocess.PIPE, text=True)
+        line = program.stdout.readline()
+        self.wants(line == f"listening 127.0.0.1:{port}\n", f"serve prints {line!r} first")
+        return program, port
+
+    def ended(self, program):
+        try:
+            _, told = program.communicate(timeout=ENDED)
+        except subprocess.TimeoutExpired:
+            program.kill()
+            program.communicate()
+            return self.wants(False, f"serve hasn't ended after {ENDED} seconds")
+        return self.wants((program.returncode, told) == (0, ""), f"serve ends with {program.returncode} {told!r}")
+
+
+def nth(text, count):
+    """Where so many lines of the text end."""
+    return sum(map(len, text.splitlines(keepends=True)[:count]))
+
+
+def free_port():
+    with socket.socket() as bound:
+        bound.bind(("127.0.0.1", 0))
+        return bound.getsockname()[1]
+
+
+def asked(port, octets, shut=False):
+    """The response to these octets."""
+    with socket.create_connection(("127.0.0.1", port), timeout=60) as connection:
+        connection.sendall(octets)
+        if shut:
+            connection.shutdown(socket.SHUT_WR)
+        return received(connection)
+
+
+def received(connection):
+    parts = []
+    while part := connection.recv(65_536):
+        parts.append(part)
+    return b"".join(parts)
+
+
+def post(line):
+    return f"POST /v1/messages HTTP/1.1\r\nhost: a\r\ncontent-length: {len(line)}\r\n\r\n{line}".encode()
+
+
+def get(target):
+    return f"GET {target} HTTP/1.1\r\nhost: a\r\n\r\n".encode()
+
+
+def body(response):
+    return response.partition(b"\r\n\r\n")[2].decode()
+
+
+def octets_of(file):
+    return {path.name: path.read_bytes() for path in Path().glob(f"{file.name}*") if not path.name.endswith("-shm")}
+
+
+def execute(file, text, words=""):
+    conn = sqlite3.connect(f"file:{file}{words}", uri=True, timeout=0)
+    try:
+        found = conn.execute(text).fetchall()
+        conn.commit()
+        return found
+    finally:
+        conn.close()
+
+
+def replies(file):
+    return execute(file, "SELECT count(*) FROM reply", "?mode=ro")[0][0]
+
+
+def making(desk):
+    """A file is made once, and a desk's stays as it is."""
+    file = desk.made(given="")
+    desk.ends(0, "", "hear", file)
+    desk.ends(0, "", "hear", file, given=MESSAGES, written=ANSWERS)
+    before = octets_of(file)
+    desk.ends(1, "desk: exists\n", "init", file)
+    desk.wants(octets_of(file)["town.db"] == before["town.db"], "init of a desk's file leaves it as it was")
+    desk.ends(0, "", "hear", file, given=MESSAGES, written=ANSWERS)
+    desk.wants(replies(file) == MESSAGES.count("\n"), "messages told again are kept once")
+
+
+def options(desk):
+    """The four options are kept in the file."""
+    desk.ends(0, "", "init", "port.db", "--receiver", "desk-2", "--operator", "harbour", "--base", "01B00000", "--addresses", "7")
+    found = execute(Path("port.db"), "SELECT version, receiver, operator, base, addresses FROM meta", "?mode=ro")
+    desk.wants(found == [(1, "desk-2", "harbour", 0x01B0_0000, 7)], f"the file tells {found}")
+
+
+def missing(desk):
+    """A file that isn't there is refused, and not made."""
+    for words in (["hear"], ["import", "--sender", "bridge"], ["report", "town", "2024-02"], ["bands", "gw-a"]):
+        desk.ends(3, "desk: file\n", words[0], "nothing.db", *words[1:], given=HEADER)
+    desk.ends(3, "desk: file\n", "serve", "nothing.db", "--port", str(free_port()), "--count", "1")
+    desk.wants(not list(Path().iterdir()), f"no file is made: {list(Path().iterdir())}")
+    desk.ends(3, "desk: file\n", "init", "nowhere/town.db")
+
+
+def strangers(desk):
+    """Files that are no desk's are refused, and left as they are."""
+    Path("text.db").write_text("no database at all\n" * 1000)
+    execute("other.db", "CREATE TABLE note (id INTEGER PRIMARY KEY)")
+    version = desk.made("version.db", REGISTRY)
+    execute(version, "UPDATE meta SET version = 7")
+    without = desk.made("without.db", REGISTRY)
+    execute(without, "DELETE FROM meta")
+    for name, status, told in [
+        ("text.db", 3, "desk: file\n"),
+        ("other.db", 1, "desk: not a desk\n"),
+        ("without.db", 1, "desk: not a desk\n"),
+        ("version.db", 1, "desk: schema\n"),
+    ]:
+        before = Path(name).read_bytes()
+        desk.ends(status, told, "hear", name, given=REGISTRY)
+        desk.ends(status, told, "report", name, "town", "2024-02")
+        desk.wants(Path(name).read_bytes() == before, f"{name} is left as it was")
+    desk.ends(1, "desk: not a desk\n", "init", "other.db")
+    desk.ends(3, "desk: file\n", "init", "text.db")
+
+
+def links(desk):
+    """A link and a file with two names are refused."""
+    file = desk.made(given=REGISTRY)
+    os.symlink(file, "link.db")
+    desk.ends(3, "desk: file\n", "bands", "link.db", "gw-a")
+    os.link(file, "second.db")
+    desk.ends(3, "desk: file\n", "bands", file, "gw-a")
+    os.unlink("second.db")
+    desk.wants(desk.run("bands", file, "gw-a")[0] == 0, "with one name it is read again")
+
+
+def usage(desk):
+    """Words that name no command: status 2, and nothing on standard output."""
+    for words in (
+        [],
+        ["hear"],
+        ["serve", "town.db"],
+        ["serve", "town.db", "--port", "0", "--count", "1"],
+        ["serve", "town.db", "--port", "65536", "--count", "1"],
+        ["serve", "town.db", "--port", "8080", "--count", "1000001"],
+        ["import", "town.db"],
+        ["import", "town.db", "--sender", "a b"],
+        ["report", "town.db", "town"],
+        ["--help"],
+        ["serve", "--help"],
+    ):
+        status, written, told = desk.run(*words)
+        desk.wants((status, written) == (2, "") and told, f"{words} ends with {status} {written!r} {told!r}")
+    desk.wants(not list(Path().iterdir()), "no file is made by words that are wrong")
+
+
+def reports(desk):
+    """Both reports, and what is refused of them."""
+    file = desk.made()
+    desk.ends(0, "", "report", file, "town", "2024-02", written=(EXAMPLES / "owner-report.csv").read_text())
+    desk.ends(0, "", "bands", file, "gw-a", written=(EXAMPLES / "band-report.csv").read_text())
+    desk.ends(1, "desk: owner\n", "report", file, "nobody", "2024-02")
+    desk.ends(1, "desk: month\n", "report", file, "nobody", "2024-13")
+    desk.ends(1, "desk: gateway\n", "bands", file, "gw-z")
+
+
+def importing(desk):
+    """What is refused of a report imports nothing; an unknown sender is told in the answers."""
+    file = desk.made()
+    words = "import", file, "--sender", "bridge"
+    for fault, given in [
+        ("end", REPORT[:-1]),
+        ("end", ""),
+        ("header", REPORT.replace("transaction", "number", 1)),
+        ("header", REPORT[len(HEADER) :]),
+        ("record 3", REPORT.replace("13,FrameHeard", "13,FrameSeen")),
+        ("record 5", REPORT + "15,FrameHeard,gw-b\n"),
+        ("size", REPORT + "\n" * SIZE),
+        ("size", HEADER + REPORT[len(HEADER) :].splitlines(keepends=True)[0] * 100_001),
+    ]:
+        desk.ends(1, f"desk: csv {fault}\n", *words, given=given)
+    desk.wants(replies(file) == MESSAGES.count("\n"), "a report that is refused imports nothing")
+    status, written, told = desk.run("import", file, "--sender", "roof", given=REPORT)
+    desk.wants((status, told, written.count(REFUSED_SENDER)) == (0, "", 3), f"an unknown sender: {status} {told!r} {written}")
+    first = desk.run(*words, given=REPORT)
+    desk.wants(first[0] == 0 and first[1].count('"ResultCode":"Success"') == 3, f"the report: {first}")
+    desk.wants(desk.run(*words, given=REPORT) == first, "the same report once more gets the same answers")
+    desk.ends(0, "", *words, given=HEADER)
+
+
+def held(desk):
+    """A file is one program's: others are refused, and reports are asked of the one that serves."""
+    file = desk.made()
+    program, port = desk.serving(file, 3)
+    for words in (["hear", file], ["report", file, "town", "2024-02"], ["bands", file, "gw-a"], ["import", file, "--sender", "bridge"]):
+        desk.ends(3, "desk: file\n", *words, given=HEADER)
+    desk.ends(3, "desk: file\n", "init", file)
+    try:
+        execute(file, "SELECT * FROM meta", "?mode=ro")
+        desk.wants(False, "sqlite3 reads a file that a program has")
+    except sqlite3.OperationalError as error:
+        desk.wants(str(error) == "database is locked", f"sqlite3 says {error}")
+    other = subprocess.run(["sqlite3", f"file:{file}?mode=ro", ".backup copy.db"], capture_output=True, text=True)
+    desk.wants("locked" in other.stderr, f"sqlite3's .backup says {other.stderr!r}")
+    desk.ends(3, "desk: network\n", "serve", desk.made("other.db", ""), "--port", str(port), "--count", "1")
+    desk.wants(body(asked(port, get("/v1/bands/gw-a"))) == (EXAMPLES / "band-report.csv").read_text(), "the bands by HTTP")
+    desk.wants(body(asked(port, get("/v1/reports/town/2024-02"))) == (EXAMPLES / "owner-report.csv").read_text(), "the report by HTTP")
+    desk.wants(asked(port, get("/v1/reports/town/2024-13")).startswith(b"HTTP/1.1 400 "), "no month by HTTP")
+    desk.ended(program)
+    desk.ends(0, "", "hear", file, given=MESSAGES, written=ANSWERS)
+
+
+def responses(desk):
+    """Statuses, and a body that stays unread: the client gets its 413 and isn't reset."""
+    file = desk.made(given="")
+    first, answer = MESSAGES.splitlines()[0], ANSWERS.splitlines()[0]
+    long = b"POST /v1/messages HTTP/1.1\r\ncontent-length: 65537\r\n\r\n" + b" " * 65_537
+    cases = [
+        (post(first), b"200", answer),
+        (post(first), b"200", answer),
+        (post(first.replace("bridge", "roof")), b"409", None),
+        (post("{"), b"400", None),
+        (long, b"413", "size\n"),
+        (get("/v1/else"), b"404", "route\n"),
+        (get("/v1/messages"), b"405", "method\n"),
+        (b"POST /v1/messages HTTP/1.1\r\n\r\n", b"411", "length\n"),
+        (b"no head\r\n\r\n", b"400", "head\n"),
+        (get("/v1/bands/gw-z"), b"404", "gateway\n"),
+        (get("/v1/reports/town/2024-02"), b"404", "owner\n"),
+    ]
+    program, port = desk.serving(file, len(cases) + 2)
+    for octets, status, wanted in cases:
+        response = asked(port, octets)
+        agrees = response.startswith(b"HTTP/1.1 " + status + b" ") and wanted in (None, body(response))
+        desk.wants(agrees, f"{octets[:60]}: {response[:300]}")
+    response = asked(port, post(first)[:-1], shut=True)
+    desk.wants(response.startswith(b"HTTP/1.1 400 ") and body(response) == "body\n", f"a body that is cut off: {response}")
+    desk.wants(asked(port, b"", shut=True) == b"", "no octets get no response")
+    desk.ended(program)
+
+
+def killed(desk):
+    """What was answered before a kill is there, and the file is sound; the copy of the two files too."""
+    for count in (1, 5, 16):
+        file = desk.made(f"killed-{count}.db", "")
+        program, port = desk.serving(file, 100)
+        bodies = [body(asked(port, post(line))) + "\n" for line in MESSAGES.splitlines()[:count]]
+        program.send_signal(signal.SIGKILL)
+        program.communicate()
+        desk.wants("".join(bodies) == ANSWERS[: nth(ANSWERS, count)], "the answers before the kill")
+        for path in Path().glob(f"{file}*"):
+            shutil.copy(path, f"copy-of-{path}")
+        for name in (str(file), f"copy-of-{file}"):
+            desk.wants(replies(name) == count, f"{name}: sqlite3 finds the {count} messages")
+            desk.ends(0, "", "hear", name, given=MESSAGES, written=ANSWERS)
+            desk.wants(execute(name, "PRAGMA integrity_check", "?mode=ro") == [("ok",)], f"{name} is sound")
+            desk.wants(replies(name) == MESSAGES.count("\n"), f"{name}: each message is kept once")
+
+
+def backups(desk):
+    """A copy of both files, and sqlite3's .backup, are desks; the first file alone is too, after the program has ended."""
+    file = desk.made()
+    files = sorted(path.name for path in Path().iterdir())
+    desk.wants(files == ["town.db", "town.db-wal"], f"after the program the folder has {files}")
+    for name in files:
+        shutil.copy(name, name.replace("town", "copied"))
+    shutil.copy(file, "alone.db")
+    made = subprocess.run(["sqlite3", f"file:{file}?mode=ro", ".backup backup.db"], capture_output=True, text=True)
+    desk.wants((made.returncode, made.stderr) == (0, ""), f"sqlite3's .backup: {made}")
+    for name in ("copied.db", "backup.db", "alone.db", "town.db"):
+        desk.ends(0, "", "hear", name, given=MESSAGES, written=ANSWERS)
+        desk.ends(0, "", "report", name, "town", "2024-02", written=(EXAMPLES / "owner-report.csv").read_text())
+    desk.wants(not Path("town.db-shm").exists() or desk.run("bands", file, "gw-a")[0] == 0, "a -shm that sqlite3 left is no hindrance")
+
+
+def full_disk(desk):
+    """No file may grow: what can't be kept isn't answered, and the same lines again are heard once there is room."""
+
+    def limited():
+        signal.signal(signal.SIGXFSZ, signal.SIG_IGN)
+        # of each file: some of the log, which is emptied into the other file only when it has 4 MB
+        room = sum(path.stat().st_size for path in Path().iterdir()) + 1_000_000
+        resource.setrlimit(resource.RLIMIT_FSIZE, (room, room))
+
+    file = desk.made(given=REGISTRY)
+    status, written, told = desk.run("hear", file, given=MESSAGES * 2 + more_messages(2000), preexec_fn=limited)
+    desk.wants((status, told) == (3, "desk: unavailable\n"), f"without room it ends with {status} {told!r}")
+    desk.wants(written.startswith(ANSWERS * 2), "the answers before stand")
+    answered = written.count("\n")
+    desk.wants(answered < 2000, f"{answered} answers were written")
+    status, again, told = desk.run("hear", file, given=MESSAGES * 2 + more_messages(2000))
+    desk.wants((status, told) == (0, "") and again.startswith(written), "with room the same lines get the same answers, and go on")
+    desk.wants(replies(file) == MESSAGES.count("\n") + 2000, "each message is kept once")
+
+
+def more_messages(count):
+    owner = '{{"ProtocolVersion":"1.0","SenderID":"office","ReceiverID":"desk","TransactionID":{n},"MessageType":"OwnerAdd","Owner":"owner-{n}"}}\n'
+    return "".join(owner.format(n=n) for n in range(1000, 1000 + count))
+
+
+def full_output(desk):
+    """Where standard output fails, the message is heard all the same, and its line again gets its answer."""
+    file = desk.made(given="")
+    with open("/dev/full", "w") as full:
+        ran = subprocess.run([desk.program, "hear", str(file)], input=MESSAGES, stdout=full, stderr=subprocess.PIPE, text=True)
+    desk.wants((ran.returncode, ran.stderr) == (3, "desk: file\n"), f"a full output: {ran.returncode} {ran.stderr!r}")
+    desk.ends(0, "", "hear", file, given=MESSAGES, written=ANSWERS)
+
+
+def slow_clients(desk):
+    """Who says nothing is let go after ten seconds, and who says an octet now and then after thirty; then others are served."""
+    file = desk.made(given="")
+    program, port = desk.serving(file, 4)
+    begun = time.monotonic()
+    with socket.create_connection(("127.0.0.1", port), timeout=60) as connection:
+        desk.wants(received(connection) == b"", "who says nothing gets no response")
+    took = time.monotonic() - begun
+    desk.wants(9 < took < 12, f"who says nothing is let go after {took:.1f} s")
+    desk.wants(body(asked(port, post(MESSAGES.splitlines()[0]))) + "\n" == ANSWERS[: nth(ANSWERS, 1)], "the next is served")
+    begun = time.monotonic()
+    with socket.create_connection(("127.0.0.1", port), timeout=0.1) as connection:
+        for octet in post(MESSAGES.splitlines()[1]):
+            try:
+                connection.sendall(bytes([octet]))
+                if connection.recv(1) == b"":
+                    break
+            except TimeoutError:
+                time.sleep(2)
+            except OSError:
+                break
+    took = time.monotonic() - begun
+    desk.wants(27 < took < 45, f"who says an octet every two seconds is let go after {took:.1f} s")
+    desk.wants(body(asked(port, post(MESSAGES.splitlines()[1]))) + "\n" == ANSWERS[nth(ANSWERS, 1) : nth(ANSWERS, 2)], "the next is served")
+    desk.ended(program)
+
+
+PARTS = [
+    making,
+    options,
+    missing,
+    strangers,
+    links,
+    usage,
+    reports,
+    importing,
+    held,
+    responses,
+    killed,
+    backups,
+    full_disk,
+    full_output,
+    slow_clients,
+]
+
+
+def main():
+    words = argparse.ArgumentParser(description=__doc__, formatter_class=argparse.RawDescriptionHelpFormatter)
+    words.add_argument("--program", type=Path, default=ROOT / "desk", metavar="FILE", help="the built program, in place of ./desk")
+    words.add_argument("--only", default=",".join(part.__name__ for part in PARTS), metavar="NAME,..")
+    given = words.parse_args()
+    desk = Desk(given.program.resolve())
+    # the first call may prove and build the program
+    subprocess.run([desk.program, "lines"], stdin=subprocess.DEVNULL, check=True)
+    chosen = [part for part in PARTS if part.__name__ in given.only.split(",")]
+    for part in chosen:
+        print(f"{part.__name__}: {part.__doc__}", flush=True)
+        with tempfile.TemporaryDirectory() as folder:
+            os.chdir(folder)
+            try:
+                part(desk)
+            except Exception as error:  # a part that can't go on is a fault, and the next ones are run
+                desk.wants(False, f"{part.__name__} can't go on: {error!r}")
+            os.chdir(ROOT)
+    print(f"{len(chosen)} parts, {len(desk.faults)} faults")
+    sys.exit(bool(desk.faults))
+
+
+if __name__ == "__main__":
+    main()

@@ -1,0 +1,95 @@
+-- Lines that a store answered, and what is said of them where the store is in a file.
+use Rattle.std.proofs.Common.{◌≡◌, ◌++◌, ◌∷◌, ℕ, List, [], Bool, false, Option, None, Result, Ok, Err, OnOk, inl, inr, refl, sym, subst, ◌∙◌, append_assoc}
+use Rattle.std.proofs.lemmas.List.{append-nil}
+use Rattle.std.proofs.KnownBytes.{Appends-nil, Consumes-nil}
+use Rattle.std.specs.Io.KnownBytes.{Appends, Consumes}
+use Rattle.registry_core.specs.declared.messages.Envelope.{Envelope}
+use Rattle.registry_core.specs.Settings.{Settings}
+use Rattle.desk_store.specs.declared.faults.StoreFault.{StoreFault}
+use Rattle.desk_store.specs.Calls.{IsCall}
+use Rattle.desk_store.specs.Meaning.{Meaning}
+use Rattle.desk_engine.specs.Lines.{FailsToWrite, HasAnswered, HasHeard, IsBeginning, IsCutShort, all_lines, heard_lines, last_line, whole_lines}
+use Rattle.desk_engine.specs.Outcomes.{doubt_of_text}
+use Rattle.desk_cli.proofs.OnTables.{unshut_by}
+use Rattle.desk_cli.proofs.Opened.{err, is_unavailable}
+use Rattle.desk_cli.specs.Faults.{fault_of_store}
+use Rattle.desk_cli.specs.Answering.{AnswersBy, AnswersFirst, HearsFirst, Keeps, Leaves}
+use Rattle.desk_cli.specs.commands.Lines.{AnswersLines}
+use Rattle.desk_cli.specs.declared.faults.Fault.{Fault}
+use Rattle.desk_cli.specs.declared.faults.Fault.TheVariants.{Exists, NotADesk, Schema, Owner, Gateway, Month, CsvSize, CsvEnd, CsvHeader, CsvRecord, Unavailable, File, Network}
+
+module _ {K : Type 0} (m : Meaning K) (c : Settings) (heard : List Envelope) (old new : K) where
+  -- what was heard is kept, unless a fault of the disk was told
+  pub keeps_lines : {disk foreign : Bool} → IsCall m old new disk foreign → disk ≡ false → (lines : List (List ℕ)) → HasHeard m c heard old new lines None
+      → Keeps m c heard old new (heard_lines c heard lines)
+  keeps_lines call is lines hears = record { leaves = record { order = hears.order; crash = hears.crash }; still = unshut_by m old new call is }
+
+  module _ (left rest before after : Option (List ℕ)) (input : List ℕ) (read : Consumes left rest input) where
+    -- all lines were heard, and handing the answers on failed
+    pub hears_all : {foreign : Bool} → IsCall m old new false foreign → HasHeard m c heard old new (all_lines input) None
+        → HearsFirst c heard (Keeps m c heard old new) (Leaves m c heard old new) left rest before after
+    hears_all call hears = record { input = input; read = read; lines = all_lines input; beginning = ([], sym (append-nil (all_lines input))); kept = keeps_lines call refl _ hears }
+
+    -- a read failed after the lines that are ended
+    pub hears_ended : {foreign : Bool} → IsCall m old new false foreign → HasHeard m c heard old new (whole_lines input) None
+        → HearsFirst c heard (Keeps m c heard old new) (Leaves m c heard old new) left rest before after
+    hears_ended call hears = record { input = input; read = read; lines = whole_lines input; beginning = (last_line input ∷ [], refl); kept = keeps_lines call refl _ hears }
+
+    -- a write failed after the line
+    pub hears_unwritten : {foreign : Bool} → IsCall m old new false foreign → FailsToWrite m c heard old new input
+        → HearsFirst c heard (Keeps m c heard old new) (Leaves m c heard old new) left rest before after
+    hears_unwritten call fails = record { input = input; read = read; lines = fails.lines ++ fails.line ∷ []; beginning = fails.beginning; kept = keeps_lines call refl _ fails.hears }
+
+    -- a line found the store unavailable
+    is_cut_short : (fault : StoreFault) → IsCutShort m c heard old new before after input fault
+        → AnswersFirst c heard (Keeps m c heard old new) (Leaves m c heard old new) left rest before after
+    is_cut_short fault cut = record {
+      input = input;
+      read = read;
+      lines = cut.lines;
+      beginning = (cut.line ∷ cut.beginning.0, cut.beginning.1 ∙ append_assoc cut.lines (cut.line ∷ []) cut.beginning.0);
+      doubt = _;
+      in_doubt = inr (cut.line, fault, cut.beginning, refl);
+      left_is = record { order = cut.answered.hears.order; crash = cut.answered.hears.crash };
+      answers = cut.answered.answers;
+    }
+
+    -- and that is told
+    pub cut_short : (why : StoreFault) → IsCutShort m c heard old new before after input why → (fault : Fault) → fault ≡ fault_of_store why
+        → AnswersBy c heard (Keeps m c heard old new) (Leaves m c heard old new) left rest before after (err {T = Unit {0}} fault)
+    cut_short why cut fault is =
+        subst (λ f. AnswersBy c heard (Keeps m c heard old new) (Leaves m c heard old new) left rest before after (err {T = Unit {0}} f))
+        (sym (is ∙ is_unavailable why cut.unavailability)) (is_cut_short why cut)
+
+module _ (c : Settings) (heard : List Envelope) (Kept Stands : List Envelope → Type 0) (Left Stays : List Envelope → Option Envelope → Type 0)
+    (kept : (all : List Envelope) → Kept all → Stands all) (left : (all : List Envelope) (doubt : Option Envelope) → Left all doubt → Stays all doubt)
+    (rest_before rest before after : Option (List ℕ)) {T : Type 0} where
+  pub carried : (r : Result T Fault) → AnswersBy c heard Kept Left rest_before rest before after r → AnswersBy c heard Stands Stays rest_before rest before after r
+  carried (Ok x) by = record { input = by.input; read = by.read; whole = by.whole; kept = kept _ by.kept; answers = by.answers }
+  carried (Err File) by = record { input = by.input; read = by.read; lines = by.lines; beginning = by.beginning; kept = kept _ by.kept }
+  carried (Err Unavailable) by =
+      record { input = by.input; read = by.read; lines = by.lines; beginning = by.beginning; doubt = by.doubt; in_doubt = by.in_doubt; left_is = left _ _ by.left_is; answers = by.answers }
+  carried (Err Exists) by = absurd by
+  carried (Err NotADesk) by = absurd by
+  carried (Err Schema) by = absurd by
+  carried (Err Owner) by = absurd by
+  carried (Err Gateway) by = absurd by
+  carried (Err Month) by = absurd by
+  carried (Err CsvSize) by = absurd by
+  carried (Err CsvEnd) by = absurd by
+  carried (Err CsvHeader) by = absurd by
+  carried (Err (CsvRecord n)) by = absurd by
+  carried (Err Network) by = absurd by
+
+-- where nothing was opened, no line was heard or answered
+pub answers_unopened : (c : Settings) (heard : List Envelope) (Kept : List Envelope → Type 0) (Left : List Envelope → Option Envelope → Type 0) (rest before : Option (List ℕ))
+    (fault : Fault) → fault ≡ Unavailable → Left heard None → AnswersBy c heard Kept Left rest rest before before (err {T = Unit {0}} fault)
+answers_unopened c heard Kept Left rest before fault is left =
+    subst (λ f. AnswersBy c heard Kept Left rest rest before before (err {T = Unit {0}} f)) (sym is)
+    (record { input = []; read = Consumes-nil rest; lines = []; beginning = (all_lines [], refl); doubt = None; in_doubt = inl refl; left_is = left; answers = Appends-nil before })
+
+-- the answers of a whole input
+pub answered_all : {K : Type 0} (m : Meaning K) (c : Settings) (old new : K) (left rest before after : Option (List ℕ)) {T : Type 0} (r : Result T Fault)
+    → AnswersBy c [] (Keeps m c [] old new) (Leaves m c [] old new) left rest before after r → OnOk r (AnswersLines left rest before after c)
+answered_all m c old new left rest before after (Ok x) by = (by.input, by.read, by.whole, by.answers)
+answered_all m c old new left rest before after (Err fault) by = tt

@@ -1,0 +1,91 @@
+-- A report that a store was asked for, printed.
+use Rattle.std.proofs.Common.{◌≡◌, ◌↔◌, ◌⊎◌, ℕ, List, Bool, false, Option, Some, None, Result, Ok, Err, IfOk, IfErr, OnOk, IsTrue, inl, inr, refl, ap, sym, subst}
+use Rattle.std.specs.Prelude.{ℤ}
+use Rattle.std.specs.Io.KnownBytes.{Appends, Keeps}
+use Rattle.registry_core.specs.State.{State}
+use Rattle.desk_store.specs.declared.faults.StoreFault.TheVariants as store
+use Rattle.desk_store.specs.Calls.{is_disk}
+use Rattle.desk_engine.specs.declared.report_faults.ReportFault.{ReportFault}
+use Rattle.desk_engine.specs.declared.report_faults.ReportFault.TheVariants.{Time, Owner, Gateway, Unavailable}
+use Rattle.desk_engine.specs.Months.{IsMonth}
+use Rattle.desk_engine.specs.Reporting.{IsGatewayFault, IsOwnerFault, store_fault}
+use Rattle.desk_engine.specs.Reports.{IsBandReport, IsOwnerReport, is_gateway, is_owner}
+use Rattle.desk_http.specs.Reports.{IsBandAnswer}
+use Rattle.desk_cli.proofs.Opened.{err}
+use Rattle.desk_cli.specs.Faults.{fault_of_report}
+use Rattle.desk_cli.specs.Printing.{IsOwnersMonth, PrintsBy}
+use Rattle.desk_cli.specs.steps.Printing.{IsPrinted}
+use Rattle.desk_cli.specs.declared.faults.Fault.{Fault}
+use Rattle.desk_cli.specs.declared.faults.Fault.TheVariants as told
+
+-- the octets of a report
+abbrev pub shown : {X : Type 0} → (X → List ℕ) → Result X ReportFault → Result (List ℕ) ReportFault
+shown octets (Ok text) = Ok (octets text)
+shown octets (Err why) = Err why
+
+module _ {X : Type 0} (octets : X → List ℕ) (s : State) where
+  pub owners_month : (owner month : List ℕ) (r : Result X ReportFault) → (r ≡ Err Time) ↔ ((from to : ℤ) → ¬ (IsMonth month from to))
+      → OnOk r (IsTrue (is_owner s owner))
+      → ((from to : ℤ) → IsMonth month from to → IfOk r (λ text. IsOwnerReport s owner from to (octets text)))
+      → ((from to : ℤ) → IsMonth month from to → IfErr r (IsOwnerFault s owner)) → IsOwnersMonth s owner month (shown octets r)
+  owners_month owner month (Ok text) time known report fault = record {
+    answer_is = record { known = known; report = report; fault = fault };
+    time = λ is. absurd (differs is);
+    month_is = λ none. let is = time.1 none in absurd (is_ok is);
+  }
+    where
+      Answers : {Y : Type 0} → Result Y ReportFault → Type 0
+      Answers (Ok y) = Unit {0}
+      Answers (Err why) = ⊥
+
+      differs : Ok (octets text) ≡ Err Time → ⊥
+      differs is = subst Answers is tt
+
+      is_ok : Ok text ≡ Err Time → ⊥
+      is_ok is = subst Answers is tt
+  owners_month owner month (Err why) time known report fault = record {
+    answer_is = record { known = known; report = report; fault = fault };
+    time = λ is. let same : why ≡ Time = cc in time.0 (ap Err same);
+    month_is = tt;
+  }
+
+  pub gateways_bands : (gateway : List ℕ) (r : Result X ReportFault) → OnOk r (IsTrue (is_gateway s gateway))
+      → IfOk r (λ text. IsBandReport s gateway (octets text)) → IfErr r (IsGatewayFault s gateway) → IsBandAnswer s gateway (shown octets r)
+  gateways_bands gateway (Ok text) known report fault = record { known = known; report = report; fault = fault }
+  gateways_bands gateway (Err why) known report fault = record { known = known; report = report; fault = fault }
+
+-- the store is unavailable, or it is kept
+either : (X Kept : Type 0) (fault : Fault) (why : ReportFault) → (is_disk (store_fault {T = X} (Err why)) ≡ false → Kept) → fault ≡ fault_of_report why → (fault ≡ told.Unavailable) ⊎ Kept
+either X Kept fault Time kept is = inr (kept refl)
+either X Kept fault Owner kept is = inr (kept refl)
+either X Kept fault Gateway kept is = inr (kept refl)
+either X Kept fault (Unavailable store.Memory) kept is = inl is
+either X Kept fault (Unavailable store.Disk) kept is = inl is
+either X Kept fault (Unavailable store.Size) kept is = inl is
+either X Kept fault (Unavailable store.NotADesk) kept is = inr (kept refl)
+either X Kept fault (Unavailable store.SchemaVersion) kept is = inr (kept refl)
+either X Kept fault (Unavailable store.Exists) kept is = inr (kept refl)
+
+module _ (Kept Left : Type 0) (before after : Option (List ℕ)) (IsAnswer : Result (List ℕ) ReportFault → Type 0) {T : Type 0} where
+  -- it is printed, or it is told why not
+  pub prints : {X : Type 0} (octets : X → List ℕ) (report : Result X ReportFault) (r : Result T Fault) → IsAnswer (shown octets report)
+      → (is_disk (store_fault report) ≡ false → Kept) → Left → IsPrinted octets report before after r → PrintsBy Kept Left before after IsAnswer r
+  prints octets (Ok text) (Ok x) is kept left printed = record { answer = Ok (octets text); answer_is = is; prints = (printed, kept refl) }
+  prints octets (Ok text) (Err fault) is kept left printed = record { answer = Ok (octets text); answer_is = is; prints = (printed, kept refl) }
+  prints octets (Err why) (Ok x) is kept left printed = absurd printed
+  prints {X = X} octets (Err why) (Err fault) is kept left printed = record { answer = Err why; answer_is = is; prints = (printed.0, printed.1, either X Kept fault why kept printed.0, left) }
+
+-- where the desk couldn't be opened, nothing is printed
+pub prints_unopened : (Kept Left : Type 0) (before : Option (List ℕ)) (IsAnswer : Result (List ℕ) ReportFault → Type 0) {T : Type 0} (fault : Fault)
+    → fault ≡ told.Unavailable → Left → Keeps before before → IsAnswer (Err (Unavailable store.Memory)) → PrintsBy Kept Left before before IsAnswer (err {T = T} fault)
+prints_unopened Kept Left before IsAnswer fault is left kept answer = record { answer = Err (Unavailable store.Memory); answer_is = answer; prints = (is, kept, inl is, left) }
+
+abbrev pub unasked : Result (List ℕ) ReportFault
+unasked = Err (Unavailable store.Memory)
+
+pub unavailable_is_no_time : unasked ≡ Err Time → ⊥
+unavailable_is_no_time is = subst Waits is tt
+  where
+    Waits : Result (List ℕ) ReportFault → Type 0
+    Waits (Err (Unavailable fault)) = Unit {0}
+    Waits _ = ⊥

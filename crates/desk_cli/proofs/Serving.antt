@@ -1,0 +1,55 @@
+-- What connections leave of a store, and what is said of it where the store is in a file.
+use Rattle.std.proofs.Common.{◌≡◌, ℕ, List, Option, None, Result, Ok, Err, refl, sym, subst}
+use Rattle.std.specs.Io.KnownBytes.{Keeps as KeepsBytes}
+use Rattle.std.proofs.KnownBytes.{Keeps-refl}
+use Rattle.registry_core.specs.declared.messages.Envelope.{Envelope}
+use Rattle.registry_core.specs.Settings.{Settings}
+use Rattle.desk_store.specs.Meaning.{Meaning}
+use Rattle.desk_engine.specs.InOrder.{WasInOrder}
+use Rattle.desk_cli.proofs.OnTables.{unshut_by}
+use Rattle.desk_cli.proofs.Opened.{err}
+use Rattle.desk_cli.specs.Answering.{Keeps, Leaves}
+use Rattle.desk_cli.specs.Served.{HearsDeliveries}
+use Rattle.desk_cli.specs.commands.Serving.{HearsServed, ServesBy}
+use Rattle.desk_cli.specs.declared.faults.Fault.{Fault}
+use Rattle.desk_cli.specs.declared.faults.Fault.TheVariants.{Exists, NotADesk, Schema, Owner, Gateway, Month, CsvSize, CsvEnd, CsvHeader, CsvRecord, Unavailable, File, Network}
+
+pub hears_served : {K : Type 0} (m : Meaning K) (c : Settings) (heard : List Envelope) (old new : K) (port : ℕ) (before after : Option (List ℕ))
+    → WasInOrder m c heard old new → HearsDeliveries m old new
+    → HearsServed c heard (Keeps m c heard old new) (Leaves m c heard old new) port before after
+hears_served m c heard old new port before after was by =
+    let leaves : Leaves m c heard old new _ (by.doubtful c) = record { order = by.hears.order c heard was; crash = λ doubt. by.hears.crash c heard doubt was } in
+    record {
+      deliveries = by.deliveries;
+      disk = by.disk;
+      doubt = by.doubtful c;
+      undoubted = λ is. by.undoubted is c;
+      kept = λ is. record { leaves = subst (Leaves m c heard old new _) (by.undoubted is c) leaves; still = unshut_by m old new by.hears.call is };
+      left_is = leaves;
+    }
+
+module _ (c : Settings) (heard : List Envelope) (Kept Stands : List Envelope → Type 0) (Left Stays : List Envelope → Option Envelope → Type 0)
+    (kept : (all : List Envelope) → Kept all → Stands all) (left : (all : List Envelope) (doubt : Option Envelope) → Left all doubt → Stays all doubt)
+    (port : ℕ) (before after : Option (List ℕ)) {T : Type 0} where
+  pub carried : (r : Result T Fault) → ServesBy c heard Kept Left port before after r → ServesBy c heard Stands Stays port before after r
+  carried (Ok x) by =
+      (record { deliveries = by.0.deliveries; disk = by.0.disk; doubt = by.0.doubt; undoubted = by.0.undoubted; kept = λ is. kept _ (by.0.kept is); left_is = left _ _ by.0.left_is }, by.1)
+  carried (Err Network) by = (kept _ by.0, by.1)
+  carried (Err File) by = kept _ by
+  carried (Err Unavailable) by = (left _ _ by.0, by.1)
+  carried (Err Exists) by = absurd by
+  carried (Err NotADesk) by = absurd by
+  carried (Err Schema) by = absurd by
+  carried (Err Owner) by = absurd by
+  carried (Err Gateway) by = absurd by
+  carried (Err Month) by = absurd by
+  carried (Err CsvSize) by = absurd by
+  carried (Err CsvEnd) by = absurd by
+  carried (Err CsvHeader) by = absurd by
+  carried (Err (CsvRecord n)) by = absurd by
+
+-- where nothing was opened no connection was served
+pub serves_unopened : (c : Settings) (heard : List Envelope) (Kept : List Envelope → Type 0) (Left : List Envelope → Option Envelope → Type 0) (port : ℕ) (before : Option (List ℕ)) (T : Type 0)
+    (fault : Fault) → fault ≡ Unavailable → Left heard None → ServesBy c heard Kept Left port before before (err {T = T} fault)
+serves_unopened c heard Kept Left port before T fault is left =
+    subst (λ f. ServesBy c heard Kept Left port before before (err {T = T} f)) (sym is) (left, Keeps-refl before)

@@ -1,0 +1,18 @@
+-- A store that no message came to.
+use Rattle.std.proofs.Common.{◌≡◌, Bool, true, false, List, Option, None, inl, inr, refl, sym, ◌∙◌}
+use Rattle.std.proofs.lemmas.Bool.{true≢false}
+use Rattle.registry_core.specs.declared.messages.Envelope.{Envelope}
+use Rattle.registry_core.specs.Settings.{Settings}
+use Rattle.desk_store.specs.Meaning.{Meaning}
+use Rattle.desk_engine.specs.InOrder.{Survives, WasInOrder, doubt_after}
+use Rattle.desk_cli.specs.Answering.{Keeps, Leaves}
+
+module _ {K : Type 0} (m : Meaning K) (c : Settings) (heard : List Envelope) (keeper : K) where
+  -- a store that is up is in no doubt
+  still_survives : (down : Bool) → m.down keeper ≡ down → (doubt : Option Envelope) → Survives m c keeper heard doubt
+      → Survives m c keeper heard (doubt_after down doubt None)
+  still_survives true is doubt survives = survives
+  still_survives false is doubt survives = elim survives [ inl own ↦ inl own | inr in_doubt ↦ absurd (true≢false (sym in_doubt.2.is_down ∙ is)) ]
+
+  pub stays : WasInOrder m c heard keeper keeper → Keeps m c heard keeper keeper heard
+  stays was = record { leaves = record { order = was.order; crash = still_survives (m.down keeper) refl }; still = refl }

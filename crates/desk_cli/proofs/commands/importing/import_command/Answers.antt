@@ -1,0 +1,24 @@
+use Rattle.desk_cli.proofs.Imported.{carried, imports_unopened}
+use Rattle.desk_cli.proofs.OnTables.{is_left, keeps, was_in_order}
+use Rattle.desk_cli.specs.OnTables.{IsLeft, KeepsHeard}
+use Rattle.desk_cli.proofs.commands.importing.import_command.Goals as goal
+
+pub returns-in-Ok : goal.returns-in-Ok
+returns-in-Ok g c = record {
+  imports = λ clean config heard kept.
+      let sound = c.close.ensures.sound clean in
+      let done = c.import_report-done.ensures in
+      let was_sound = done.was_sound sound in
+      let was = c.in-Ok.ensures.desk was_sound config heard kept in
+      carried config heard _ _ _ _ _
+      (keeps _ _ _ _ _ was done.same c.close.result g.met.S.Store.settled was_sound sound c.close.ensures.left c.close.ensures.in_order)
+      (is_left _ _ _ _ _ was done.same c.close.result g.met.S.Store.settled was_sound sound c.close.ensures.left)
+      _ _ _ _ c.import_report-done.result (done.imports config heard (was_in_order _ _ _ _ _ was sound));
+}
+
+pub returns-in-Err : goal.returns-in-Err
+returns-in-Err g c = record {
+  imports = λ clean config heard kept.
+      let back = c.in-Err.ensures.unavailable clean config heard kept in
+      imports_unopened config heard c.args.sender.now (KeepsHeard g.S.Store c.in-Err.conn config) (IsLeft g.S.Store c.in-Err.conn config) (g.R.Read.remaining c.args.reader.now) (g.W.Write.contents c.args.answers.now) (Unit {0}) c.in-Err.fault back.0 back.1;
+}

@@ -1,0 +1,32 @@
+use Rattle.std.proofs.Common.{◌≡◌, ℕ, List, Ok, Err, false, None}
+use Rattle.std.proofs.KnownBytes.{Keeps-refl}
+use Rattle.registry_core.specs.Heard.{state_of}
+use Rattle.desk_engine.specs.InOrder.{kept_after}
+use Rattle.desk_cli.proofs.OnTables.{is_left, keeps}
+use Rattle.desk_cli.proofs.Printed.{gateways_bands, prints, prints_unopened}
+use Rattle.desk_cli.proofs.Reported.{is_kept_as_it_was, is_left_as_it_was}
+use Rattle.desk_cli.proofs.commands.reports.bands_command.Goals as goal
+
+pub returns-in-Ok : goal.returns-in-Ok
+unfolding kept_after
+returns-in-Ok g c = record {
+  prints = λ clean config heard kept.
+      let sound = c.close.ensures.sound clean in
+      let read = c.band_report-report.ensures.read in
+      let was_sound = read.was_sound sound in
+      let was = c.in-Ok.ensures.desk was_sound config heard kept in
+      prints _ _ _ _ _ (λ text. text.items) c.band_report-report.result c.print.result
+      (gateways_bands (λ text. text.items) (state_of config heard) c.args.gateway.now c.band_report-report.result
+      (c.band_report-report.ensures.known (kept_after config heard) sound was.store.holds) (c.band_report-report.ensures.report (kept_after config heard) sound was.store.holds)
+      (c.band_report-report.ensures.fault (kept_after config heard) sound was.store.holds))
+      (λ still. keeps _ _ _ _ _ was read.same c.close.result g.met.S.Store.settled was_sound sound c.close.ensures.left c.close.ensures.in_order heard (is_kept_as_it_was _ _ _ _ _ was _ read sound still))
+      (is_left _ _ _ _ _ was read.same c.close.result g.met.S.Store.settled was_sound sound c.close.ensures.left heard None (is_left_as_it_was _ _ _ _ _ was _ read sound))
+      c.print.ensures;
+}
+
+pub returns-in-Err : goal.returns-in-Err
+returns-in-Err g c = record {
+  prints = λ clean config heard kept.
+      let back = c.in-Err.ensures.unavailable clean config heard kept in
+      prints_unopened _ _ _ _ c.in-Err.fault back.0 back.1 (Keeps-refl _) (record { known = tt; report = tt; fault = tt });
+}

@@ -1,0 +1,53 @@
+-- What a command does, by how it ended: on a file, and on the desk that is in it.
+use Rattle.std.specs.Prelude.{◌≡◌, ◌⊎◌, ℕ, List, [], Option, Some, None, Result, Err, OnOk}
+use Rattle.std.specs.Io.KnownBytes.{Keeps}
+use Rattle.clap.specs.Walk.{Text}
+use Rattle.sqlite.specs.Held.{Held, state}
+use Rattle.sqlite.specs.State.{HasCleanDisk}
+use Rattle.sqlite_trees.specs.declared.store.Store.{Ghosts}
+use Rattle.registry_core.specs.declared.messages.Envelope.{Envelope}
+use Rattle.registry_core.specs.Heard.{state_of}
+use Rattle.registry_core.specs.Settings.{Settings}
+use Rattle.desk_http.specs.Reports.{IsBandAnswer}
+use Rattle.desk_cli.specs.Named.{Asked, lines, init, hear, import, serve, report, bands}
+use Rattle.desk_cli.specs.OnTables.{IsLeft, KeepsHeard}
+use Rattle.desk_cli.specs.Printing.{IsOwnersMonth, PrintsBy}
+use Rattle.desk_cli.specs.commands.Hear.{HearsBy}
+use Rattle.desk_cli.specs.commands.Importing.{ImportsBy}
+use Rattle.desk_cli.specs.commands.Init.{InitsBy}
+use Rattle.desk_cli.specs.commands.Lines.{AnswersLines}
+use Rattle.desk_cli.specs.commands.Serving.{ServesBy}
+use Rattle.desk_cli.specs.declared.faults.Fault.{Fault}
+use Rattle.desk_cli.specs.declared.faults.Fault.TheVariants.{File}
+
+-- of whatever the desk of this connection had heard, where the disk has given back what was written to it
+abbrev pub OnDesk : {S : Type 0} → Ghosts S → Held S → Held S → (Settings → List Envelope → Type 0) → Type 0
+OnDesk g conn back Does = HasCleanDisk (state g back) → (c : Settings) (heard : List Envelope) → KeepsHeard g conn c heard → Does c heard
+
+-- What a connection to a file is, and the connection that a run gives back: the file was opened, and this was done with the connection; or
+-- it couldn't be, and the streams are untouched.
+abbrev pub OnFile : {S T : Type 0} → (Text → Held S → Type 0) → Option (Held S) → Result T Fault → Text → Type 0 → (Held S → Held S → Type 0) → Type 0
+OnFile {S} Opens given_back result file Untouched Does =
+    ((conn back : Held S) × Opens file conn × (given_back ≡ Some back) × Does conn back)
+    ⊎ ((result ≡ Err File) × (given_back ≡ None) × Untouched)
+
+-- what a reader has left before and after, and what a writer holds before and after
+module _ {S T : Type 0} (g : Ghosts S) (Opens : Text → Held S → Type 0) (given_back : Option (Held S)) (left rest before after : Option (List ℕ)) (result : Result T Fault) where
+  -- what was asked was done, by how it ended
+  abbrev pub DoesAsked : Asked → Type 0
+  DoesAsked (lines c) = OnOk result (AnswersLines left rest before after c) × (given_back ≡ None)
+  DoesAsked (init file c) = OnFile Opens given_back result file (Unit {0}) (λ conn back. InitsBy g conn back c result)
+  DoesAsked (hear file) =
+      OnFile Opens given_back result file (Keeps left rest × Keeps before after) (λ conn back. OnDesk g conn back (λ c heard. HearsBy g back c heard left rest before after result))
+  DoesAsked (import file sender) =
+      OnFile Opens given_back result file (Keeps left rest × Keeps before after)
+      (λ conn back. OnDesk g conn back (λ c heard. ImportsBy c heard sender (KeepsHeard g back c) (IsLeft g back c) left rest before after result))
+  DoesAsked (serve file port connections) =
+      OnFile Opens given_back result file (Keeps before after)
+      (λ conn back. OnDesk g conn back (λ c heard. ServesBy c heard (KeepsHeard g back c) (IsLeft g back c) port before after result))
+  DoesAsked (report file owner month) =
+      OnFile Opens given_back result file (Keeps before after)
+      (λ conn back. OnDesk g conn back (λ c heard. PrintsBy (KeepsHeard g back c heard) (IsLeft g back c heard None) before after (IsOwnersMonth (state_of c heard) owner month) result))
+  DoesAsked (bands file gateway) =
+      OnFile Opens given_back result file (Keeps before after)
+      (λ conn back. OnDesk g conn back (λ c heard. PrintsBy (KeepsHeard g back c heard) (IsLeft g back c heard None) before after (IsBandAnswer (state_of c heard) gateway) result))

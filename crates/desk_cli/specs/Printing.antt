@@ -1,0 +1,32 @@
+-- A report that a command prints.
+use Rattle.std.specs.Prelude.{◌≡◌, ◌⊎◌, ℕ, ℤ, List, Option, None, Result, Ok, Err, OnOk}
+use Rattle.std.specs.Io.KnownBytes.{Appends, Keeps}
+use Rattle.registry_core.specs.State.{State}
+use Rattle.desk_engine.specs.declared.report_faults.ReportFault.{ReportFault}
+use Rattle.desk_engine.specs.declared.report_faults.ReportFault.TheVariants.{Time}
+use Rattle.desk_engine.specs.Months.{IsMonth}
+use Rattle.desk_http.specs.Reports.{IsOwnerAnswer}
+use Rattle.desk_cli.specs.Faults.{fault_of_report}
+use Rattle.desk_cli.specs.declared.faults.Fault.{Fault}
+use Rattle.desk_cli.specs.declared.faults.Fault.TheVariants.{File, Unavailable}
+
+-- the owner's report of a month, or why there is none: where the text is no month's there is none, and a bad month is told of no month
+pub record IsOwnersMonth (s : State) (owner month : List ℕ) (answer : Result (List ℕ) ReportFault) : Type 0 where
+  pub answer_is : IsOwnerAnswer s owner month answer
+  pub time : answer ≡ Err Time → (from to : ℤ) → ¬ (IsMonth month from to)
+  pub month_is : OnOk answer (¬ ((from to : ℤ) → ¬ (IsMonth month from to)))
+
+-- What says that the desk's file is kept and that a crash leaves it; what the writer holds before and after; the report that was
+-- asked for, or why there is none.
+module _ (Kept Left : Type 0) (before after : Option (List ℕ)) where
+  -- exactly the report was written; or why not, and then nothing was, unless the writer failed
+  abbrev pub PrintsAnswer : {T : Type 0} → Result (List ℕ) ReportFault → Result T Fault → Type 0
+  PrintsAnswer (Ok text) (Ok x) = Appends before after text × Kept
+  PrintsAnswer (Ok text) (Err fault) = (fault ≡ File) × Kept
+  PrintsAnswer (Err why) (Ok x) = ⊥
+  PrintsAnswer (Err why) (Err fault) = (fault ≡ fault_of_report why) × Keeps before after × ((fault ≡ Unavailable) ⊎ Kept) × Left
+
+  pub record PrintsBy (IsAnswer : Result (List ℕ) ReportFault → Type 0) {T : Type 0} (result : Result T Fault) : Type 0 where
+    pub answer : Result (List ℕ) ReportFault
+    pub answer_is : IsAnswer answer
+    pub prints : PrintsAnswer answer result

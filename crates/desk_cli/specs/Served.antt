@@ -1,0 +1,76 @@
+-- Connections that are served one after another, and what they do to a store.
+use Rattle.std.specs.Prelude.{◌≡◌, ◌⊎◌, ℕ, zero, suc, Bool, false, List, [], Option, None}
+use Rattle.std.specs.Io.KnownBytes.{Consumes, IsAtEnd}
+use Rattle.registry_core.specs.declared.messages.Envelope.{Envelope}
+use Rattle.registry_core.specs.Settings.{Settings}
+use Rattle.desk_store.specs.Meaning.{Meaning}
+use Rattle.desk_engine.specs.Deliveries.{Delivery, heard_all}
+use Rattle.desk_engine.specs.Hearing.{Hears}
+use Rattle.desk_http.specs.declared.serving.ServeEnd.{ServeEnd}
+use Rattle.desk_http.specs.Serving.{Serves, ServingEndsBy}
+
+-- ---- what a listening means
+
+-- In one record: the ghost member of the trait. Each speaks of a listening as it was and as it is.
+pub record Connections (L R W : Type 0) : Type 1 where
+  -- this connection came, with what it is read by and written by
+  pub comes : L → L → R → W → Type 0
+  -- one failed to come
+  pub fails : L → L → Type 0
+  -- this one was let go, with what is left to read and what was written, after it was served so
+  pub goes : L → L → R → W → ServeEnd → Type 0
+
+-- of which nothing is said, as of sockets
+abbrev pub unknown : {L R W : Type 0} → Connections L R W
+unknown = record {
+  comes = λ before after reader writer. Unit {0};
+  fails = λ before after. Unit {0};
+  goes = λ before after reader writer end. Unit {0};
+}
+
+-- ---- one after another
+
+module _ {K L R W : Type 0} (m : Meaning K) (l : Connections L R W) (remaining : R → Option (List ℕ)) (contents : W → Option (List ℕ)) where
+  -- One serving: of what the reader gives, to what the writer takes. It ended so.
+  abbrev pub ServesBy : K → K → R → R → W → W → ServeEnd → Type 0
+  ServesBy old new reader left writer written end = ServingEndsBy old new
+      (λ response. (input : List ℕ) × Consumes (remaining reader) (remaining left) input × Serves m old new input (remaining left) response)
+      (Consumes (remaining reader) (remaining left) [] × IsAtEnd (remaining left))
+      (contents writer) (contents written) end
+
+  -- A connection came, was served once, and was let go with what the serving left of it, by how it ended.
+  pub record ServesConnection (old new : K) (before after : L) : Type 0 where
+    pub meanwhile : L
+    pub reader : R
+    pub left : R
+    pub writer : W
+    pub written : W
+    pub end : ServeEnd
+    pub comes : l.comes before meanwhile reader writer
+    pub served : ServesBy old new reader left writer written end
+    pub goes : l.goes meanwhile after left written end
+
+  -- The same; or the connection failed to come, and the store stands as before.
+  abbrev pub ServesNext : K → K → L → L → Type 0
+  ServesNext old new before after = ServesConnection old new before after ⊎ ((new ≡ old) × l.fails before after)
+
+  -- so many connections, one after another
+  abbrev pub ServesEach : ℕ → K → K → L → L → Type 0
+  ServesEach zero old new before after = (new ≡ old) × (after ≡ before)
+  ServesEach (suc n) old new before after = (mid : K) × (between : L) × ServesEach n old mid before between × ServesNext mid new between after
+
+-- ---- what they do to a store
+
+-- Messages were delivered, in this order, and reports may have been asked for. Where the store was in order for a heard list, it ends in
+-- order for what is heard with the deliveries; a crash then leaves that, or after a fault of the disk that with the message in doubt;
+-- and in what it holds no hour of any gateway's band has more downlinks than the limit.
+pub record HearsDeliveries {K : Type 0} (m : Meaning K) (old new : K) : Type 0 where
+  pub deliveries : List Delivery
+  -- a call told a fault of the disk
+  pub disk : Bool
+  -- a call told that what is stored is no desk's
+  pub foreign : Bool
+  -- the message in doubt
+  pub doubtful : Settings → Option Envelope
+  pub undoubted : disk ≡ false → (c : Settings) → doubtful c ≡ None
+  pub hears : Hears m old new disk foreign (λ c heard. heard_all c heard deliveries) doubtful

@@ -1,0 +1,58 @@
+-- `desk serve`: its words, and what it has done, by how it ended.
+use Rattle.std.specs.Prelude.{◌≡◌, ℕ, List, [], ◌∷◌, ◌++◌, Bool, false, Option, None, Result, Ok, Err, codes}
+use Rattle.std.specs.Fmt.{decimal}
+use Rattle.std.specs.Io.KnownBytes.{Appends, Keeps}
+use Rattle.clap.specs.Simple.{App, new_app, with_rule}
+use Rattle.clap.specs.Walk.{Row}
+use Rattle.desk_cli.specs.Named.{Named, named_as, serve}
+use Rattle.desk_cli.specs.Numbers.{connections_of, port_of}
+use Rattle.desk_cli.specs.Options.{◌>>=◌, needed_rule, needs, place_rule, placed, value_at}
+use Rattle.registry_core.specs.declared.messages.Envelope.{Envelope}
+use Rattle.registry_core.specs.Settings.{Settings}
+use Rattle.desk_engine.specs.Deliveries.{Delivery, heard_all}
+use Rattle.desk_engine.specs.Lines.{line_feed}
+use Rattle.desk_cli.specs.declared.faults.Fault.{Fault}
+use Rattle.desk_cli.specs.declared.faults.Fault.TheVariants.{File, Network, Unavailable}
+use Rattle.desk_cli.specs.declared.usage.BadValue.TheVariants.{Connections, Port}
+
+-- its words
+abbrev pub serve_app : App
+serve_app =
+    with_rule (with_rule (with_rule (new_app (codes "serve"))
+    (place_rule (codes "file")))
+    (needed_rule (codes "port")))
+    (needed_rule (codes "count"))
+
+-- what they name
+abbrev pub serve_named : List Row → Named
+serve_named rows = named_as do
+  file ← placed (codes "file") rows
+  port ← needs (value_at port_of (codes "port") rows) Port
+  connections ← needs (value_at connections_of (codes "count") rows) Connections
+  Ok (serve file port connections)
+
+-- ---- what it does
+
+-- what is written before the first connection
+abbrev pub listening_line : ℕ → List ℕ
+listening_line port = codes "listening 127.0.0.1:" ++ (decimal port ++ line_feed ∷ [])
+
+-- What had been heard; what says that these are kept, and that these are left, or these with one more; the port; what a writer holds
+-- before and after.
+module _ (c : Settings) (heard : List Envelope) (Kept : List Envelope → Type 0) (Left : List Envelope → Option Envelope → Type 0) (port : ℕ) (before after : Option (List ℕ)) where
+  -- messages were delivered, in this order; a fault of the disk leaves one in doubt
+  pub record HearsServed : Type 0 where
+    pub deliveries : List Delivery
+    pub disk : Bool
+    pub doubt : Option Envelope
+    pub undoubted : disk ≡ false → doubt ≡ None
+    pub kept : disk ≡ false → Kept (heard_all c heard deliveries)
+    pub left_is : Left (heard_all c heard deliveries) doubt
+
+  -- By how it ended. Where it failed no connection was served.
+  abbrev pub ServesBy : {T : Type 0} → Result T Fault → Type 0
+  ServesBy (Ok x) = HearsServed × Appends before after (listening_line port)
+  ServesBy (Err Network) = Kept heard × Keeps before after
+  ServesBy (Err File) = Kept heard
+  ServesBy (Err Unavailable) = Left heard None × Keeps before after
+  ServesBy (Err _) = ⊥

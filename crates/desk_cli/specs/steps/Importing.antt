@@ -1,0 +1,33 @@
+-- Envelopes heard in order by a store, and what is written for them.
+use Rattle.std.specs.Prelude.{◌≡◌, ◌⊎◌, ℕ, List, [], ◌∷◌, ◌++◌, Option, None, Result, Ok, Err, slice_get, take, ⊤}
+use Rattle.std.specs.Io.KnownBytes.{Appends}
+use Rattle.registry_core.specs.declared.messages.Envelope.{Envelope}
+use Rattle.registry_core.specs.Settings.{Settings}
+use Rattle.desk_engine.specs.declared.outcomes.Outcome.{Outcome}
+use Rattle.desk_engine.specs.declared.outcomes.Outcome.TheVariants.{Answered, Refused, Unavailable}
+use Rattle.desk_engine.specs.Importing.{heard_in_order}
+use Rattle.desk_engine.specs.Lines.{line_feed}
+use Rattle.desk_cli.specs.commands.Importing.{answer_envelopes}
+use Rattle.desk_cli.specs.declared.faults.Fault.{Fault}
+use Rattle.desk_cli.specs.declared.faults.Fault.TheVariants as fault
+
+-- the line of an outcome: none where the store was unavailable
+abbrev pub line_of : Outcome → List ℕ
+line_of (Answered text) = text.items ++ line_feed ∷ []
+line_of (Refused refusal text) = text.items ++ line_feed ∷ []
+line_of (Unavailable why) = []
+
+module _ (c : Settings) (heard : List Envelope) (Kept : List Envelope → Type 0) (Left : List Envelope → Option Envelope → Type 0) (envelopes : List Envelope) (before after : Option (List ℕ)) where
+  -- the first of the envelopes were heard, and of them this was written
+  pub record HearsSome (Written : List ℕ → Type 0) : Type 0 where
+    pub count : ℕ
+    pub doubt : Option Envelope
+    pub in_doubt : (doubt ≡ None) ⊎ (doubt ≡ slice_get envelopes count)
+    pub left_is : Left (heard_in_order c heard (take count envelopes)) doubt
+    pub answers : Written (answer_envelopes c heard (take count envelopes))
+
+  abbrev pub HearsEnvelopes : {T : Type 0} → Result T Fault → Type 0
+  HearsEnvelopes (Ok x) = Kept (heard_in_order c heard envelopes) × Appends before after (answer_envelopes c heard envelopes)
+  HearsEnvelopes (Err fault.Unavailable) = HearsSome (Appends before after)
+  HearsEnvelopes (Err fault.File) = HearsSome (λ _. ⊤)
+  HearsEnvelopes (Err _) = ⊥

@@ -1,0 +1,36 @@
+//! Lines answered over any store, and why not all of them were.
+ghost use Rattle.std.specs.Prelude.{◌≡◌, List};
+ghost use Rattle.registry_core.specs.declared.messages.Envelope.{Envelope};
+ghost use Rattle.registry_core.specs.Settings.{Settings};
+ghost use Rattle.desk_engine.specs.InOrder.{WasInOrder};
+ghost use Rattle.desk_cli.specs.Answering.{AnswersBy, Keeps, Leaves};
+
+use crate::faults::Fault;
+use desk_engine::{LinesEnd, run_lines};
+use desk_store::Keeper;
+use std::alloc::Global;
+use std::io::{Read, Write};
+
+/// Answers the messages of the reader, one a line, and flushes the answers.
+pub(crate) fn answer_lines<K: Keeper, R: Read, W: Write>(
+    alloc: Global,
+    keeper: &mut K,
+    reader: &mut R,
+    answers: &mut W,
+) -> Result<(), Fault>
+    ensures same { K.meaning.configuration keeper.new ≡ K.meaning.configuration keeper.old }
+    ensures was_sound { K.meaning.sound keeper.new → K.meaning.sound keeper.old }
+    ensures ends { (c : Settings) (heard : List Envelope) → WasInOrder K.meaning c heard keeper.old keeper.new
+        → AnswersBy c heard (Keeps K.meaning c heard keeper.old keeper.new) (Leaves K.meaning c heard keeper.old keeper.new)
+        (R.remaining reader.old) (R.remaining reader.new) (W.contents answers.old) (W.contents answers.new) result }
+{
+    match run_lines(alloc, keeper, reader, answers) {
+        LinesEnd::Done => match answers.flush() {
+            Ok(()) => Ok(()),
+            Err(_) => Err(Fault::File),
+        },
+        LinesEnd::Read => Err(Fault::File),
+        LinesEnd::Write => Err(Fault::File),
+        LinesEnd::Unavailable(fault) => Err(fault.into()),
+    }
+}

@@ -1,0 +1,70 @@
+//! `desk hear`: messages from a reader, answers to a writer, over a desk's file.
+ghost use Rattle.std.specs.Prelude.{◌≡◌, false, IfOk, List, None};
+ghost use Rattle.clap.specs.Matches.{found_of};
+ghost use Rattle.clap.specs.Simple.{app_of};
+ghost use Rattle.clap.specs.Walk.{rows_of};
+ghost use Rattle.clap.specs.declared.builder.command.Command.TheViews.{out-Command as fields_of};
+ghost use Rattle.desk_cli.specs.commands.Hear.{hear_app, hear_named, HearsBy};
+ghost use Rattle.desk_cli.specs.Named.{Tells};
+ghost use Rattle.sqlite.specs.Held.{state};
+ghost use Rattle.sqlite.specs.State.{HasCleanDisk};
+ghost use Rattle.registry_core.specs.declared.messages.Envelope.{Envelope};
+ghost use Rattle.registry_core.specs.Settings.{Settings};
+ghost use Rattle.desk_cli.specs.OnTables.{KeepsHeard};
+
+use super::Command;
+use crate::answering::answer_lines;
+use crate::faults::Fault;
+use crate::opening::opened;
+use crate::options::{command, place, placed};
+use crate::usage::Usage;
+use clap::ArgMatches;
+use sqlite::{Alter, Connection};
+use std::alloc::{AllocError, Global};
+use std::io::{Read, Write};
+
+/// Its words: its name and the file.
+pub(crate) fn hear_app<'a>(alloc: Global) -> Result<clap::Command<'a>, AllocError>
+    ensures app { IfOk result (λ c. app_of c ≡ hear_app) }
+    ensures local { IfOk result (λ c. (fields_of c).has_globals ≡ false) }
+{
+    let about = "Answers the messages of standard input, one a line, for the desk in a file";
+    let example = "Example:\n  desk hear town.db < messages.txt";
+    let file = place(alloc, "file", "FILE", "The desk's file");
+    command(alloc, "hear", about, example).arg(file)
+}
+
+/// The command that its words give.
+pub(crate) fn hear_of<'a>(options: &ArgMatches<'a>) -> Result<Command<'a>, Usage>
+    ensures { Tells (hear_named (rows_of (found_of options.now))) result }
+{
+    let file = placed(options, "file")?;
+    Ok(Command::Hear { file })
+}
+
+/// Answers the messages of the reader, one a line, by the desk of the connection's database, and gives the connection back.
+///
+/// Nothing is read before the desk is open. With `Ok` all lines are heard and answered. With `File` a read or a write failed:
+/// the first lines are heard, and how much of the last answer went out isn't known. With `Unavailable` exactly the lines
+/// before the one that found the desk so are answered.
+pub fn hear_command<S: Alter, R: Read, W: Write>(
+    alloc: Global,
+    conn: Connection<S>,
+    reader: &mut R,
+    answers: &mut W,
+) -> (Result<(), Fault>, Connection<S>)
+    requires idle { conn.in_transaction ≡ false }
+    requires unlimited { conn.step_limit ≡ None }
+    ensures hears { HasCleanDisk (state S.Store result.1) → (c : Settings) (heard : List Envelope) → KeepsHeard S.Store conn c heard
+        → HearsBy S.Store result.1 c heard (R.remaining reader.old) (R.remaining reader.new)
+        (W.contents answers.old) (W.contents answers.new) result.0 }
+{
+    match opened(alloc, conn) {
+        Ok(tables) => {
+            let mut tables = tables;
+            let done = answer_lines(alloc, &mut tables, reader, answers);
+            (done, tables.close())
+        }
+        Err((fault, conn)) => (Err(fault), conn),
+    }
+}

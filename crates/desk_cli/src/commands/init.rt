@@ -1,0 +1,59 @@
+//! `desk init`: a desk is made in a file.
+ghost use Rattle.std.specs.Prelude.{◌≡◌, false, IfOk, None};
+ghost use Rattle.clap.specs.Matches.{found_of};
+ghost use Rattle.clap.specs.Simple.{app_of};
+ghost use Rattle.clap.specs.Walk.{rows_of};
+ghost use Rattle.clap.specs.declared.builder.command.Command.TheViews.{out-Command as fields_of};
+ghost use Rattle.desk_cli.specs.commands.Init.{init_app, init_named, InitsBy};
+ghost use Rattle.desk_cli.specs.Named.{Tells};
+
+use super::Command;
+use crate::faults::Fault;
+use crate::options::{command_with_settings, config_of, place, placed};
+use crate::usage::Usage;
+use clap::ArgMatches;
+use desk_tables::Tables;
+use registry_core::Config;
+use registry_core::laws::nothing_is_heard;
+use sqlite::{Alter, Connection};
+use std::alloc::{AllocError, Global};
+
+/// Its words: its name, the file, and the options of a desk's configuration.
+pub(crate) fn init_app<'a>(alloc: Global) -> Result<clap::Command<'a>, AllocError>
+    ensures app { IfOk result (λ c. app_of c ≡ init_app) }
+    ensures local { IfOk result (λ c. (fields_of c).has_globals ≡ false) }
+{
+    let about = "Makes a file for a new desk";
+    let example = "Example:\n  desk init town.db --base 01a00000";
+    let file = place(alloc, "file", "FILE", "The file, which isn't there yet");
+    command_with_settings(alloc, "init", about, example)?.arg(file)
+}
+
+/// The command that its words give.
+pub(crate) fn init_of<'a>(options: &ArgMatches<'a>) -> Result<Command<'a>, Usage>
+    ensures { Tells (init_named (rows_of (found_of options.now))) result }
+{
+    let file = placed(options, "file")?;
+    let config = config_of(options)?;
+    Ok(Command::Init { file, config })
+}
+
+/// Makes a desk of this configuration in the connection's database, which has to hold nothing, and gives the connection back.
+///
+/// `Exists` where one of the desk's names is taken there, else `NotADesk` where there is anything else, else `Unavailable`:
+/// then nothing is changed, and a crash leaves what was there, or the new desk.
+pub fn init_command<S: Alter>(
+    alloc: Global,
+    conn: Connection<S>,
+    config: Config,
+) -> (Result<(), Fault>, Connection<S>)
+    requires idle { conn.in_transaction ≡ false }
+    requires unlimited { conn.step_limit ≡ None }
+    ensures { InitsBy S.Store conn result.1 config result.0 }
+{
+    nothing_is_heard();
+    match Tables::create(alloc, conn, config) {
+        Ok(tables) => (Ok(()), tables.close()),
+        Err((fault, conn)) => (Err(fault.into()), conn),
+    }
+}

@@ -1,0 +1,127 @@
+//! `desk report` and `desk bands`: reports from a desk's file.
+ghost use Rattle.std.specs.Prelude.{◌≡◌, false, IfOk, List, None};
+ghost use Rattle.clap.specs.Matches.{found_of};
+ghost use Rattle.clap.specs.Simple.{app_of};
+ghost use Rattle.clap.specs.Walk.{rows_of};
+ghost use Rattle.clap.specs.declared.builder.command.Command.TheViews.{out-Command as fields_of};
+ghost use Rattle.desk_cli.specs.commands.Reports.{bands_app, bands_named, report_app, report_named};
+ghost use Rattle.desk_cli.specs.Named.{Tells};
+ghost use Rattle.sqlite.specs.Held.{state};
+ghost use Rattle.sqlite.specs.State.{HasCleanDisk};
+ghost use Rattle.registry_core.specs.declared.messages.Envelope.{Envelope};
+ghost use Rattle.registry_core.specs.Heard.{state_of};
+ghost use Rattle.registry_core.specs.Settings.{Settings};
+ghost use Rattle.desk_http.specs.Reports.{IsBandAnswer};
+ghost use Rattle.desk_cli.specs.OnTables.{IsLeft, KeepsHeard};
+ghost use Rattle.desk_cli.specs.Printing.{IsOwnersMonth, PrintsBy};
+
+use super::Command;
+use crate::faults::Fault;
+use crate::opening::opened;
+use crate::options::{command, place, placed};
+use crate::printing::print;
+use crate::usage::Usage;
+use clap::ArgMatches;
+use desk_engine::{band_report, owner_report};
+use sqlite::{Alter, Connection};
+use std::alloc::{AllocError, Global};
+use std::io::Write;
+
+/// The words of `desk report`: its name, the file, the owner and the month.
+pub(crate) fn report_app<'a>(alloc: Global) -> Result<clap::Command<'a>, AllocError>
+    ensures app { IfOk result (λ c. app_of c ≡ report_app) }
+    ensures local { IfOk result (λ c. (fields_of c).has_globals ≡ false) }
+{
+    let about = "Prints the report of an owner's month";
+    let example = "Example:\n  desk report town.db town 2024-02";
+    let file = place(alloc, "file", "FILE", "The desk's file");
+    let owner = place(alloc, "owner", "OWNER", "The owner");
+    let month = place(alloc, "month", "MONTH", "The month, as 2024-02");
+    command(alloc, "report", about, example)
+        .arg(file)?
+        .arg(owner)?
+        .arg(month)
+}
+
+/// The command that they give.
+pub(crate) fn report_of<'a>(options: &ArgMatches<'a>) -> Result<Command<'a>, Usage>
+    ensures { Tells (report_named (rows_of (found_of options.now))) result }
+{
+    let file = placed(options, "file")?;
+    let owner = placed(options, "owner")?;
+    let month = placed(options, "month")?;
+    Ok(Command::Report { file, owner, month })
+}
+
+/// The words of `desk bands`: its name, the file and the gateway.
+pub(crate) fn bands_app<'a>(alloc: Global) -> Result<clap::Command<'a>, AllocError>
+    ensures app { IfOk result (λ c. app_of c ≡ bands_app) }
+    ensures local { IfOk result (λ c. (fields_of c).has_globals ≡ false) }
+{
+    let about = "Prints the bands of a gateway";
+    let example = "Example:\n  desk bands town.db gw-a";
+    let file = place(alloc, "file", "FILE", "The desk's file");
+    let gateway = place(alloc, "gateway", "GATEWAY", "The gateway");
+    command(alloc, "bands", about, example)
+        .arg(file)?
+        .arg(gateway)
+}
+
+/// The command that they give.
+pub(crate) fn bands_of<'a>(options: &ArgMatches<'a>) -> Result<Command<'a>, Usage>
+    ensures { Tells (bands_named (rows_of (found_of options.now))) result }
+{
+    let file = placed(options, "file")?;
+    let gateway = placed(options, "gateway")?;
+    Ok(Command::Bands { file, gateway })
+}
+
+/// Prints the owner's report of a month from the desk of the connection's database, and gives the connection back.
+///
+/// A text that is no month's is `Month`, for any owner, and then an owner that nobody added is `Owner`. With `File` the writer
+/// failed. Nothing is changed.
+pub fn report_command<S: Alter, W: Write>(
+    alloc: Global,
+    conn: Connection<S>,
+    owner: &str,
+    month: &str,
+    answers: &mut W,
+) -> (Result<(), Fault>, Connection<S>)
+    requires idle { conn.in_transaction ≡ false }
+    requires unlimited { conn.step_limit ≡ None }
+    ensures prints { HasCleanDisk (state S.Store result.1) → (c : Settings) (heard : List Envelope) → KeepsHeard S.Store conn c heard
+        → PrintsBy (KeepsHeard S.Store result.1 c heard) (IsLeft S.Store result.1 c heard None) (W.contents answers.old) (W.contents answers.new)
+        (IsOwnersMonth (state_of c heard) owner.now month.now) result.0 }
+{
+    match opened(alloc, conn) {
+        Ok(tables) => {
+            let mut tables = tables;
+            let report = owner_report(alloc, &mut tables, owner, month);
+            (print(answers, &report), tables.close())
+        }
+        Err((fault, conn)) => (Err(fault), conn),
+    }
+}
+
+/// Prints the report of a gateway's bands, likewise. A gateway that nobody added is `Gateway`.
+pub fn bands_command<S: Alter, W: Write>(
+    alloc: Global,
+    conn: Connection<S>,
+    gateway: &str,
+    answers: &mut W,
+) -> (Result<(), Fault>, Connection<S>)
+    requires idle { conn.in_transaction ≡ false }
+    requires unlimited { conn.step_limit ≡ None }
+    ensures prints { HasCleanDisk (state S.Store result.1) → (c : Settings) (heard : List Envelope) → KeepsHeard S.Store conn c heard
+        → PrintsBy (KeepsHeard S.Store result.1 c heard) (IsLeft S.Store result.1 c heard None) (W.contents answers.old) (W.contents answers.new)
+        (IsBandAnswer (state_of c heard) gateway.now) result.0 }
+{
+    match opened(alloc, conn) {
+        Ok(tables) => {
+            let mut tables = tables;
+            let report = band_report(alloc, &mut tables, gateway);
+            (print(answers, &report), tables.close())
+        }
+        Err((fault, conn)) => (Err(fault), conn),
+    }
+}

@@ -1,0 +1,182 @@
+//! `desk serve`: requests over HTTP, one a connection, for a desk in a file.
+ghost use Rattle.std.specs.Prelude.{◌≡◌, false, None, List, IfOk, OnOk};
+ghost use Rattle.std.specs.Io.KnownBytes.{Appends};
+ghost use Rattle.std.specs.String.{string_bytes};
+ghost use Rattle.clap.specs.Matches.{found_of};
+ghost use Rattle.clap.specs.Simple.{app_of};
+ghost use Rattle.clap.specs.Walk.{rows_of};
+ghost use Rattle.clap.specs.declared.builder.command.Command.TheViews.{out-Command as fields_of};
+ghost use Rattle.sqlite.specs.Held.{state};
+ghost use Rattle.sqlite.specs.State.{HasCleanDisk};
+ghost use Rattle.registry_core.specs.declared.messages.Envelope.{Envelope};
+ghost use Rattle.registry_core.specs.Settings.{Settings};
+ghost use Rattle.desk_engine.specs.InOrder.{WasInOrder};
+ghost use Rattle.desk_cli.specs.Answering.{Keeps, Leaves};
+ghost use Rattle.desk_cli.specs.Named.{Tells};
+ghost use Rattle.desk_cli.specs.OnTables.{IsLeft, KeepsHeard};
+ghost use Rattle.desk_cli.specs.Served.{HearsDeliveries, ServesEach, ServesNext};
+ghost use Rattle.desk_cli.specs.commands.Serving.{ServesBy, listening_line, serve_app, serve_named};
+
+use super::Command;
+use crate::faults::Fault;
+use crate::listening::{Listening, Network};
+use crate::opening::opened;
+use crate::options::{command, connections_at, needed, place, placed, port_at};
+use crate::usage::{BadValue, Usage};
+use clap::ArgMatches;
+use desk_engine::laws::calls_hear_in_order;
+use desk_http::serve_one;
+use desk_store::Keeper;
+use sqlite::{Alter, Connection};
+use std::alloc::{AllocError, Global};
+use std::io::{self, Write};
+
+const EXAMPLE: &str = "\
+Each read and each write of a connection has ten seconds, and a connection thirty as a whole.
+
+Example:
+  desk serve town.db --port 8080 --count 100";
+
+/// Its words: its name, the file, the port and how many connections.
+pub(crate) fn serve_app<'a>(alloc: Global) -> Result<clap::Command<'a>, AllocError>
+    ensures app { IfOk result (λ c. app_of c ≡ serve_app) }
+    ensures local { IfOk result (λ c. (fields_of c).has_globals ≡ false) }
+{
+    let about = "Serves messages, reports and bands over HTTP on 127.0.0.1";
+    let file = place(alloc, "file", "FILE", "The desk's file");
+    let port = needed(alloc, "port", "P", "The port, 1 to 65535");
+    let count = needed(
+        alloc,
+        "count",
+        "N",
+        "How many connections, one after another, 1 to 1000000",
+    );
+    command(alloc, "serve", about, EXAMPLE)
+        .arg(file)?
+        .arg(port)?
+        .arg(count)
+}
+
+/// The command that its words give.
+pub(crate) fn serve_of<'a>(options: &ArgMatches<'a>) -> Result<Command<'a>, Usage>
+    ensures { Tells (serve_named (rows_of (found_of options.now))) result }
+{
+    let file = placed(options, "file")?;
+    let port = port_at(options, "port").ok_or(BadValue::Port)?;
+    let connections = connections_at(options, "count").ok_or(BadValue::Connections)?;
+    Ok(Command::Serve {
+        file,
+        port,
+        connections,
+    })
+}
+
+/// Serves so many connections at a port of 127.0.0.1, one after another, by the desk of the connection's database, and gives
+/// the connection back. Before the first it writes `listening 127.0.0.1:` with the port, and an LF.
+///
+/// The port is bound once the desk is open: `Network` where it can't be had, and `File` where the line can't be written. A
+/// connection that fails counts as served.
+pub fn serve_command<S: Alter, B: Network, W: Write>(
+    alloc: Global,
+    conn: Connection<S>,
+    network: &B,
+    port: u16,
+    connections: u32,
+    answers: &mut W,
+) -> (Result<(), Fault>, Connection<S>)
+    requires idle { conn.in_transaction ≡ false }
+    requires unlimited { conn.step_limit ≡ None }
+    ensures serves { HasCleanDisk (state S.Store result.1) → (c : Settings) (heard : List Envelope) → KeepsHeard S.Store conn c heard
+        → ServesBy c heard (KeepsHeard S.Store result.1 c) (IsLeft S.Store result.1 c) port (W.contents answers.old) (W.contents answers.new) result.0 }
+{
+    match opened(alloc, conn) {
+        Ok(tables) => {
+            let mut tables = tables;
+            let done = serve_port(alloc, &mut tables, network, port, connections, answers);
+            (done, tables.close())
+        }
+        Err((fault, conn)) => (Err(fault), conn),
+    }
+}
+
+/// The same by a store.
+fn serve_port<K: Keeper, B: Network, W: Write>(
+    alloc: Global,
+    keeper: &mut K,
+    network: &B,
+    port: u16,
+    connections: u32,
+    answers: &mut W,
+) -> Result<(), Fault>
+    ensures same { K.meaning.configuration keeper.new ≡ K.meaning.configuration keeper.old }
+    ensures was_sound { K.meaning.sound keeper.new → K.meaning.sound keeper.old }
+    ensures serves { (c : Settings) (heard : List Envelope) → WasInOrder K.meaning c heard keeper.old keeper.new
+        → ServesBy c heard (Keeps K.meaning c heard keeper.old keeper.new) (Leaves K.meaning c heard keeper.old keeper.new)
+        port (W.contents answers.old) (W.contents answers.new) result }
+{
+    let Ok(mut listening) = network.listen(port) else {
+        return Err(Fault::Network);
+    };
+    let Ok(line) = listening_line(alloc, port) else {
+        return Err(Fault::Unavailable);
+    };
+    match write_now(answers, line.as_str()) {
+        Ok(()) => {}
+        Err(_) => return Err(Fault::File),
+    }
+    serve_connections(alloc, keeper, &mut listening, connections);
+    Ok(())
+}
+
+/// What is written before the first connection.
+fn listening_line(alloc: Global, port: u16) -> Result<String, AllocError>
+    ensures { IfOk result (λ line. string_bytes line ≡ listening_line port) }
+{
+    format!(in alloc; "listening 127.0.0.1:{port}\n")
+}
+
+fn write_now<W: Write>(answers: &mut W, text: &str) -> io::Result<()>
+    ensures { OnOk result (Appends (W.contents answers.old) (W.contents answers.new) text.now) }
+{
+    answers.write_all(text.as_bytes())?;
+    answers.flush()
+}
+
+/// Serves so many connections, one after another: each by one request. One that fails counts.
+pub fn serve_connections<K: Keeper, L: Listening>(
+    alloc: Global,
+    keeper: &mut K,
+    listening: &mut L,
+    connections: u32,
+)
+    ensures same { K.meaning.configuration keeper.new ≡ K.meaning.configuration keeper.old }
+    ensures was_sound { K.meaning.sound keeper.new → K.meaning.sound keeper.old }
+    ensures served { ServesEach K.meaning L.meaning L.Reader.remaining L.Writer.contents connections
+        keeper.old keeper.new listening.old listening.new }
+
+    // What the messages among them do to a store that was in order.
+    ensures hears { HearsDeliveries K.meaning keeper.old keeper.new }
+{
+    calls_hear_in_order::<K>();
+    for _ in 0..connections {
+        serve_next(alloc, keeper, listening);
+    }
+}
+
+/// Serves the connection that comes next.
+fn serve_next<K: Keeper, L: Listening>(alloc: Global, keeper: &mut K, listening: &mut L)
+    ensures { ServesNext K.meaning L.meaning L.Reader.remaining L.Writer.contents
+        keeper.old keeper.new listening.old listening.new }
+{
+    let Ok((reader, writer)) = listening.accept(alloc) else {
+        return;
+    };
+    let mut reader = reader;
+    let mut writer = writer;
+    let end = serve_one(alloc, keeper, &mut reader, &mut writer);
+    // Of a response that doesn't go out nothing more can be told.
+    let _ = listening.finish(reader, writer, end);
+}
+
+#[cfg(test)]
+mod tests;

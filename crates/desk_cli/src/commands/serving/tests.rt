@@ -1,0 +1,205 @@
+//! Connections one after another: of peers that the tests play, and over sockets.
+ghost use Rattle.desk_cli.specs.Served.{unknown};
+
+mod loopback;
+
+use super::serve_connections;
+use crate::listening::Listening;
+use crate::tests::opening;
+use crate::tests::requests::responses::{ADDED, DEVICE_ADDED, EMPTY_REPORT, REUSED};
+use crate::tests::requests::{DEVICE_ADD, posted};
+use crate::tests::rows::{OTHER_OWNER, REQUEST};
+use crate::tests::streams::Pieces;
+use desk_http::ServeEnd;
+use desk_store::Lists;
+use std::alloc::Global;
+use std::io::{self, ErrorKind, Write};
+use std::process::Abort;
+use std::test::Fail;
+
+/// What a peer sends. So many reads of it succeed, and so many writes to it.
+#[derive(Clone, Copy)]
+struct Visit<'a> {
+    sends: &'a [u8],
+    reads: usize,
+    writes: usize,
+}
+
+impl<'a> Visit<'a> {
+    fn of(sends: &'a [u8]) -> Self {
+        Visit {
+            sends,
+            reads: usize::MAX,
+            writes: usize::MAX,
+        }
+    }
+}
+
+/// Keeps what is written. So many writes succeed.
+#[derive(Drop)]
+struct Kept {
+    octets: Vec<u8>,
+    until_failure: usize,
+}
+
+impl Write for Kept {
+    fn write(&mut self, buf: &[u8]) -> io::Result<usize> {
+        if self.until_failure == 0 {
+            return Err(ErrorKind::BrokenPipe.into());
+        }
+        self.until_failure -= 1;
+        self.octets.extend_from_slice(buf)?;
+        Ok(buf.len())
+    }
+
+    fn flush(&mut self) -> io::Result<()> {
+        Ok(())
+    }
+}
+
+/// How a peer was served: what was left of what it sends, and what was written to it.
+#[derive(Drop)]
+struct Served {
+    end: ServeEnd,
+    left: usize,
+    written: Vec<u8>,
+}
+
+/// Peers that come in this order, where none stands for one that can't be accepted, and how they were served.
+struct Peers<'a> {
+    coming: &'a [Option<Visit<'a>>],
+    served: Vec<Served>,
+}
+
+impl<'a> Listening for Peers<'a> {
+    type Reader = Pieces<'a>;
+
+    type Writer = Kept;
+
+    ghost meaning = { unknown };
+
+    fn accept(&mut self, alloc: Global) -> io::Result<(Pieces<'a>, Kept)> {
+        if self.coming.is_empty() {
+            return Err(ErrorKind::NotConnected.into());
+        }
+        let next = self.coming[0];
+        self.coming = &self.coming[1..];
+        match next {
+            Some(visit) => {
+                let written = Kept {
+                    octets: Vec::new(alloc),
+                    until_failure: visit.writes,
+                };
+                Ok((Pieces::new(visit.sends, visit.reads), written))
+            }
+            None => Err(ErrorKind::ConnectionAborted.into()),
+        }
+    }
+
+    fn finish(&mut self, reader: Pieces<'a>, writer: Kept, end: ServeEnd) -> io::Result<()> {
+        self.served.push(Served {
+            end,
+            left: reader.left.len(),
+            written: writer.octets,
+        })?;
+        Ok(())
+    }
+}
+
+/// Serves these peers over a new desk, and leaves so many of them unserved: how the others were served.
+fn serve_visits<R: AllocGlobal>(
+    rt: &R,
+    visits: &[Option<Visit<'_>>],
+    connections: u32,
+    unserved: usize,
+) -> Result<Vec<Served>, Fail> {
+    let mut lists = opening::<Lists>(rt.alloc(), 65_536)?;
+    let mut peers = Peers {
+        coming: visits,
+        served: Vec::new(rt.alloc()),
+    };
+    serve_connections(rt.alloc(), &mut *lists, &mut peers, connections);
+    let Peers { coming, served } = peers;
+    if coming.len() != unserved {
+        return Err("another number of peers was served".into());
+    }
+    Ok(served)
+}
+
+/// They were served so, in this order.
+fn expect(rt: &impl Abort, served: &[Served], wanted: &[(ServeEnd, &str)]) {
+    assert_eq!(rt; served.len(), wanted.len());
+    for (one, (end, response)) in served.iter().zip(wanted) {
+        assert_eq!(rt; one.end, *end);
+        assert!(rt; one.written.as_slice() == response.as_bytes(), "{response}");
+    }
+}
+
+#[test]
+fn peers_in_order(rt: HostRuntime) -> Result<(), Fail> {
+    let owner = posted(rt.alloc(), REQUEST, "GET")?;
+    let device = posted(rt.alloc(), DEVICE_ADD, "")?;
+    let report = b"GET /v1/reports/town/2024-02 HTTP/1.1\r\n\r\n";
+    let visits = [
+        Some(Visit::of(owner.as_bytes())),
+        Some(Visit::of(report)),
+        Some(Visit::of(device.as_bytes())),
+        Some(Visit::of(report)),
+    ];
+    let served = serve_visits(&rt, &visits, 3, 1)?;
+    expect(
+        &rt,
+        &served,
+        &[
+            (ServeEnd::Done(200), ADDED),
+            (ServeEnd::Done(200), EMPTY_REPORT),
+            (ServeEnd::Done(200), DEVICE_ADDED),
+        ],
+    );
+    // What the first sent after its request is let go with it.
+    let first = served.first().ok_or("none was served")?;
+    assert_eq!(rt; first.left, 3);
+    Ok(())
+}
+
+#[test]
+fn peers_that_fail(rt: HostRuntime) -> Result<(), Fail> {
+    let owner = posted(rt.alloc(), REQUEST, "")?;
+    let other = posted(rt.alloc(), OTHER_OWNER, "")?;
+    let visits = [
+        None,
+        Some(Visit::of(b"")),
+        Some(Visit {
+            reads: 52,
+            ..Visit::of(other.as_bytes())
+        }),
+        Some(Visit {
+            writes: 0,
+            ..Visit::of(owner.as_bytes())
+        }),
+        None,
+        Some(Visit::of(owner.as_bytes())),
+        Some(Visit::of(other.as_bytes())),
+    ];
+    // One more is asked for than comes.
+    let served = serve_visits(&rt, &visits, 8, 0)?;
+    expect(
+        &rt,
+        &served,
+        &[
+            (ServeEnd::Closed, ""),
+            (ServeEnd::Read, ""),
+            (ServeEnd::Write, ""),
+            (ServeEnd::Done(200), ADDED),
+            (ServeEnd::Done(409), REUSED),
+        ],
+    );
+    Ok(())
+}
+
+#[test]
+fn no_peers(rt: HostRuntime) -> Result<(), Fail> {
+    let served = serve_visits(&rt, &[Some(Visit::of(b""))], 0, 1)?;
+    expect(&rt, &served, &[]);
+    Ok(())
+}

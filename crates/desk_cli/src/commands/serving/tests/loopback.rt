@@ -1,0 +1,68 @@
+//! Connections to a port of 127.0.0.1.
+use super::serve_connections;
+use crate::listening::Network;
+use crate::sockets::Sockets;
+use crate::tests::opening;
+use crate::tests::requests::posted;
+use crate::tests::requests::responses::{ADDED, TOO_LONG};
+use crate::tests::rows::REQUEST;
+use desk_store::Lists;
+use std::io::{Read, Write};
+use std::net::{Shutdown, TcpStream};
+use std::test::Fail;
+use std::time::Duration;
+
+/// What a client gets that sends these pieces and then nothing more. It is served once all of them are sent.
+fn answered(rt: &HostRuntime, pieces: &[&[u8]]) -> Result<Vec<u8>, Fail> {
+    let mut port = Sockets::new(rt).listen(0)?;
+    let mut client = TcpStream::connect(rt, port.address()?)?;
+    client.set_nodelay(true)?;
+    client.set_read_timeout(Some(Duration::from_secs(5)))?;
+    client.set_write_timeout(Some(Duration::from_secs(5)))?;
+    for piece in pieces {
+        client.write_all(piece)?;
+    }
+    client.shutdown(Shutdown::Write)?;
+    let mut lists = opening::<Lists>(rt.alloc(), 65_536)?;
+    serve_connections(rt.alloc(), &mut *lists, &mut port, 1);
+    let mut response = Vec::new(rt.alloc());
+    client.read_to_end(&mut response)?;
+    Ok(response)
+}
+
+#[test]
+fn a_message(rt: HostRuntime) -> Result<(), Fail> {
+    let input = posted(rt.alloc(), REQUEST, "")?;
+    let response = answered(&rt, &[input.as_bytes()])?;
+    assert!(rt; response.as_slice() == ADDED.as_bytes());
+    Ok(())
+}
+
+#[test]
+fn a_head_in_pieces(rt: HostRuntime) -> Result<(), Fail> {
+    let input = posted(rt.alloc(), REQUEST, "")?;
+    let input = input.as_bytes();
+    assert!(rt; input.len() > 40);
+    let pieces = [&input[..1], &input[1..30], &input[30..31], &input[31..]];
+    let response = answered(&rt, &pieces)?;
+    assert!(rt; response.as_slice() == ADDED.as_bytes());
+    Ok(())
+}
+
+#[test]
+fn a_peer_that_closes_at_once(rt: HostRuntime) -> Result<(), Fail> {
+    let response = answered(&rt, &[])?;
+    assert!(rt; response.is_empty());
+    Ok(())
+}
+
+/// What is left unread of it doesn't cut the response off.
+#[test]
+fn a_body_that_is_too_long(rt: HostRuntime) -> Result<(), Fail> {
+    let head = b"POST /v1/messages HTTP/1.1\r\nContent-Length: 65537\r\n\r\n";
+    let mut input = head.to_vec(rt.alloc())?;
+    input.resize(head.len() + 65_537, b'x')?;
+    let response = answered(&rt, &[input.as_slice()])?;
+    assert!(rt; response.as_slice() == TOO_LONG.as_bytes());
+    Ok(())
+}

@@ -1,0 +1,128 @@
+//! Why a command isn't done, and the line that says so.
+ghost use Rattle.std.specs.Prelude.{◌≡◌, Ok};
+ghost use Rattle.desk_cli.specs.Faults.{ending_of_fault, ending_of_result, fault_of_csv, fault_of_report, fault_of_store};
+
+use crate::endings::Ending;
+use desk_engine::ReportFault;
+use desk_store::StoreFault;
+use desk_wire::CsvFault;
+use std::fmt::{self, Display, Formatter};
+use std::io::Write;
+
+/// Why a command isn't done. Its `Display` is what the fault line says after `desk: `.
+#[derive(Clone, Copy, Debug, PartialEq, Eq)]
+pub enum Fault {
+    /// The file holds a table, index or view with a name of the desk's already.
+    Exists,
+    /// What the file holds is no desk's.
+    NotADesk,
+    /// It is a desk's in a schema of another version.
+    Schema,
+    /// No owner has the name.
+    Owner,
+    /// No gateway has the name.
+    Gateway,
+    /// The text is no month's.
+    Month,
+    /// The gateway report is longer than one may be, or has too many records.
+    CsvSize,
+    /// It doesn't end in LF.
+    CsvEnd,
+    /// Its first record isn't the header.
+    CsvHeader,
+    /// The record with this number, where the header has number 1, isn't in its form.
+    CsvRecord(u32),
+    /// The store, or memory, isn't available.
+    Unavailable,
+    /// FILE can't be opened, or a read or write of the standard streams failed.
+    File,
+    /// The port can't be had.
+    Network,
+}
+
+impl Fault {
+    /// How the program ends for it.
+    pub fn ending(self) -> Ending
+        ensures { result ≡ ending_of_fault self }
+    {
+        match self {
+            Fault::Unavailable | Fault::File | Fault::Network => Ending::Failed,
+            _ => Ending::Refused,
+        }
+    }
+}
+
+impl Display for Fault {
+    fn fmt<W: fmt::Write>(&self, f: &mut Formatter<W>) -> fmt::Result {
+        match self {
+            Fault::Exists => f.write_str("exists"),
+            Fault::NotADesk => f.write_str("not a desk"),
+            Fault::Schema => f.write_str("schema"),
+            Fault::Owner => f.write_str("owner"),
+            Fault::Gateway => f.write_str("gateway"),
+            Fault::Month => f.write_str("month"),
+            Fault::CsvSize => f.write_str("csv size"),
+            Fault::CsvEnd => f.write_str("csv end"),
+            Fault::CsvHeader => f.write_str("csv header"),
+            Fault::CsvRecord(number) => write!(f, "csv record {number}"),
+            Fault::Unavailable => f.write_str("unavailable"),
+            Fault::File => f.write_str("file"),
+            Fault::Network => f.write_str("network"),
+        }
+    }
+}
+
+impl From<StoreFault> for Fault {
+    ghost from_gives = { λ fault e. e ≡ fault_of_store fault };
+
+    fn from(fault: StoreFault) -> Self {
+        match fault {
+            StoreFault::Memory | StoreFault::Disk | StoreFault::Size => Fault::Unavailable,
+            StoreFault::NotADesk => Fault::NotADesk,
+            StoreFault::SchemaVersion => Fault::Schema,
+            StoreFault::Exists => Fault::Exists,
+        }
+    }
+}
+
+impl From<ReportFault> for Fault {
+    ghost from_gives = { λ fault e. e ≡ fault_of_report fault };
+
+    fn from(fault: ReportFault) -> Self {
+        match fault {
+            ReportFault::Time => Fault::Month,
+            ReportFault::Owner => Fault::Owner,
+            ReportFault::Gateway => Fault::Gateway,
+            ReportFault::Unavailable(fault) => fault.into(),
+        }
+    }
+}
+
+impl From<CsvFault> for Fault {
+    ghost from_gives = { λ fault e. e ≡ fault_of_csv fault };
+
+    fn from(fault: CsvFault) -> Self {
+        match fault {
+            CsvFault::Size => Fault::CsvSize,
+            CsvFault::Unended => Fault::CsvEnd,
+            CsvFault::Header => Fault::CsvHeader,
+            CsvFault::Record(number) => Fault::CsvRecord(number),
+            CsvFault::Memory => Fault::Unavailable,
+        }
+    }
+}
+
+/// How the program ends after a command. Why it wasn't done stands on the fault line; where even this can't be written, the
+/// exit status still tells.
+pub fn end<F: Write>(faults: &mut F, done: Result<(), Fault>) -> Ending
+    ensures ending { result ≡ ending_of_result done }
+    ensures quiet { result ≡ Ending.Done → faults.new ≡ faults.old }
+{
+    match done {
+        Ok(()) => Ending::Done,
+        Err(fault) => {
+            let _ = writeln!(faults, "desk: {fault}");
+            fault.ending()
+        }
+    }
+}

@@ -1,0 +1,57 @@
+//! Where a desk's file is, and how it is opened.
+ghost use Rattle.std.specs.Prelude.{◌≡◌, false, None, ℕ, List, IfOk, IfErr};
+ghost use Rattle.sqlite.specs.Held.{Held};
+ghost use Rattle.sqlite.specs.State.{HasCleanDisk};
+ghost use Rattle.sqlite.specs.Files.{file_state, IsOpened};
+ghost use Rattle.sqlite.specs.Start.{FindsIn};
+ghost use Rattle.sqlite_wal.specs.Files.{image_at};
+
+use crate::faults::Fault;
+use sqlite::{Alter, Connection, FileFrom, FileStore, Start};
+use std::path::Path;
+
+/// Opens one file as a database, by its path.
+pub trait Files<S: Alter>: Drop + Sized {
+    /// What is known of a connection to the file at a path.
+    ghost opens: { Self → List ℕ → Held S → Type 0 };
+
+    /// The database of the file, which has to be there.
+    fn open(self, path: &str) -> Result<Connection<S>, Fault>
+        ensures opened { IfOk result (λ conn. opens self path.now conn) }
+        ensures idle { IfOk result (λ conn. conn.in_transaction ≡ false) }
+        ensures unlimited { IfOk result (λ conn. conn.step_limit ≡ None) }
+        ensures fault { IfErr result (λ fault. fault ≡ Fault.File) };
+
+    /// The database of the file, which is made where there is none.
+    fn make(self, path: &str) -> Result<Connection<S>, Fault>
+        ensures opened { IfOk result (λ conn. opens self path.now conn) }
+        ensures idle { IfOk result (λ conn. conn.in_transaction ≡ false) }
+        ensures unlimited { IfOk result (λ conn. conn.step_limit ≡ None) }
+        ensures fault { IfErr result (λ fault. fault ≡ Fault.File) };
+}
+
+/// The files of the machine. `start` stands for what they hold when they are opened.
+#[derive(Drop)]
+pub(crate) struct HostFiles<'a, T: Start> {
+    pub rt: &'a HostRuntime,
+    pub start: T,
+}
+
+impl<T: Start> Files<FileStore<FileFrom<T>>> for HostFiles<'_, T> {
+    // The connection shows what the files hold, on a disk that has given back what was written to it.
+    ghost opens = { λ files path conn. HasCleanDisk (file_state conn) → IsOpened conn × FindsIn (image_at T.Start) (file_state conn) };
+
+    fn open(self, path: &str) -> Result<Connection<FileStore<FileFrom<T>>>, Fault> {
+        if !Path::new(path).is_file(self.rt) {
+            return Err(Fault::File);
+        }
+        self.make(path)
+    }
+
+    fn make(self, path: &str) -> Result<Connection<FileStore<FileFrom<T>>>, Fault> {
+        match Connection::open_from(self.rt, path, false, self.start) {
+            Ok(conn) => Ok(conn),
+            Err(_) => Err(Fault::File),
+        }
+    }
+}

@@ -1,0 +1,34 @@
+//! A desk's file, opened for a command.
+ghost use Rattle.std.specs.Prelude.{◌≡◌, false, None, List, IfOk, IfErr};
+ghost use Rattle.sqlite.specs.Held.{state};
+ghost use Rattle.sqlite.specs.State.{HasCleanDisk};
+ghost use Rattle.registry_core.specs.declared.messages.Envelope.{Envelope};
+ghost use Rattle.registry_core.specs.Settings.{Settings};
+ghost use Rattle.desk_tables.specs.Adopting.{IsGivenBack};
+ghost use Rattle.desk_tables.specs.Store.{meaning_of};
+ghost use Rattle.desk_cli.specs.OnTables.{IsLeft, KeepsHeard, WasOpened};
+
+use crate::faults::Fault;
+use desk_tables::Tables;
+use sqlite::{Alter, Connection};
+use std::alloc::Global;
+
+/// The desk that the connection's database holds; or the connection, beside why there is none: `Unavailable`, `NotADesk` or
+/// `Schema`.
+pub(crate) fn opened<S: Alter>(
+    alloc: Global,
+    conn: Connection<S>,
+) -> Result<Tables<S>, (Fault, Connection<S>)>
+    requires idle { conn.in_transaction ≡ false }
+    requires unlimited { conn.step_limit ≡ None }
+    ensures desk { IfOk result (λ t. (meaning_of S.Store).sound t → (c : Settings) (heard : List Envelope)
+        → KeepsHeard S.Store conn c heard → WasOpened (meaning_of S.Store) t c heard) }
+    ensures unavailable { IfErr result (λ back. HasCleanDisk (state S.Store back.1) → (c : Settings) (heard : List Envelope)
+        → KeepsHeard S.Store conn c heard → (back.0 ≡ Fault.Unavailable) × IsLeft S.Store back.1 c heard None) }
+    ensures given_back { IfErr result (λ back. IsGivenBack (state S.Store conn) (state S.Store back.1) (λ _. ⊥)) }
+{
+    match Tables::open(alloc, conn) {
+        Ok(tables) => Ok(tables),
+        Err((fault, conn)) => Err((fault.into(), conn)),
+    }
+}

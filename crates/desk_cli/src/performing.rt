@@ -1,0 +1,183 @@
+//! What a command asks, done. Its file is opened before the standard input is read, and before the port is bound.
+ghost use Rattle.registry_core.specs.Heard.{state_of};
+ghost use Rattle.std.specs.Io.KnownBytes.{Keeps};
+ghost use Rattle.desk_http.specs.Reports.{IsBandAnswer};
+ghost use Rattle.desk_cli.specs.Doing.{DoesAsked, OnDesk, OnFile};
+ghost use Rattle.desk_cli.specs.Named.{asked_of};
+ghost use Rattle.desk_cli.specs.OnTables.{IsLeft, KeepsHeard};
+ghost use Rattle.desk_cli.specs.Printing.{IsOwnersMonth, PrintsBy};
+ghost use Rattle.desk_cli.specs.commands.Hear.{HearsBy};
+ghost use Rattle.desk_cli.specs.commands.Importing.{ImportsBy};
+ghost use Rattle.desk_cli.specs.commands.Init.{InitsBy};
+ghost use Rattle.desk_cli.specs.commands.Serving.{ServesBy};
+ghost use Rattle.std.specs.Prelude.{None};
+
+use crate::commands::{
+    Command, bands_command, hear_command, import_command, init_command, lines_command,
+    report_command, serve_command,
+};
+use crate::faults::Fault;
+use crate::files::Files;
+use crate::listening::Network;
+use radio_core::Name;
+use registry_core::Config;
+use sqlite::{Alter, Connection};
+use std::alloc::Global;
+use std::io::{Read, Write};
+
+/// What came of a command, and the connection to its file, where it has one that could be opened.
+pub type Performed<S> = (Result<(), Fault>, Option<Connection<S>>);
+
+/// Does what the command asks.
+pub(crate) fn perform<S: Alter, N: Files<S>, B: Network, R: Read, W: Write>(
+    alloc: Global,
+    command: &Command<'_>,
+    files: N,
+    network: &B,
+    reader: &mut R,
+    answers: &mut W,
+) -> Performed<S>
+    ensures { DoesAsked S.Store (N.opens files) result.1 (R.remaining reader.old) (R.remaining reader.new)
+        (W.contents answers.old) (W.contents answers.new) result.0 (asked_of command.now) }
+{
+    match command {
+        Command::Lines { config } => (lines_command(alloc, config, reader, answers), None),
+        Command::Init { file, config } => init_file(alloc, files, file, *config),
+        Command::Hear { file } => hear_file(alloc, files, file, reader, answers),
+        Command::Import { file, sender } => {
+            import_file(alloc, files, file, sender, reader, answers)
+        }
+        Command::Serve {
+            file,
+            port,
+            connections,
+        } => { serve_file(alloc, files, network, file, *port, *connections, answers) }
+        Command::Report { file, owner, month } => {
+            report_file(alloc, files, file, owner, month, answers)
+        }
+        Command::Bands { file, gateway } => bands_file(alloc, files, file, gateway, answers),
+    }
+}
+
+fn init_file<S: Alter, N: Files<S>>(
+    alloc: Global,
+    files: N,
+    file: &str,
+    config: Config,
+) -> Performed<S>
+    ensures { OnFile (N.opens files) result.1 result.0 file.now (Unit {0}) (λ conn back. InitsBy S.Store conn back config result.0) }
+{
+    match files.make(file) {
+        Ok(conn) => {
+            let (done, conn) = init_command(alloc, conn, config);
+            (done, Some(conn))
+        }
+        Err(fault) => (Err(fault), None),
+    }
+}
+
+fn hear_file<S: Alter, N: Files<S>, R: Read, W: Write>(
+    alloc: Global,
+    files: N,
+    file: &str,
+    reader: &mut R,
+    answers: &mut W,
+) -> Performed<S>
+    ensures { OnFile (N.opens files) result.1 result.0 file.now
+        (Keeps (R.remaining reader.old) (R.remaining reader.new) × Keeps (W.contents answers.old) (W.contents answers.new))
+        (λ conn back. OnDesk S.Store conn back (λ c heard. HearsBy S.Store back c heard (R.remaining reader.old) (R.remaining reader.new)
+        (W.contents answers.old) (W.contents answers.new) result.0)) }
+{
+    match files.open(file) {
+        Ok(conn) => {
+            let (done, conn) = hear_command(alloc, conn, reader, answers);
+            (done, Some(conn))
+        }
+        Err(fault) => (Err(fault), None),
+    }
+}
+
+fn import_file<S: Alter, N: Files<S>, R: Read, W: Write>(
+    alloc: Global,
+    files: N,
+    file: &str,
+    sender: &Name,
+    reader: &mut R,
+    answers: &mut W,
+) -> Performed<S>
+    ensures { OnFile (N.opens files) result.1 result.0 file.now
+        (Keeps (R.remaining reader.old) (R.remaining reader.new) × Keeps (W.contents answers.old) (W.contents answers.new))
+        (λ conn back. OnDesk S.Store conn back (λ c heard. ImportsBy c heard sender.now (KeepsHeard S.Store back c) (IsLeft S.Store back c)
+        (R.remaining reader.old) (R.remaining reader.new) (W.contents answers.old) (W.contents answers.new) result.0)) }
+{
+    match files.open(file) {
+        Ok(conn) => {
+            let (done, conn) = import_command(alloc, conn, sender, reader, answers);
+            (done, Some(conn))
+        }
+        Err(fault) => (Err(fault), None),
+    }
+}
+
+fn serve_file<S: Alter, N: Files<S>, B: Network, W: Write>(
+    alloc: Global,
+    files: N,
+    network: &B,
+    file: &str,
+    port: u16,
+    connections: u32,
+    answers: &mut W,
+) -> Performed<S>
+    ensures { OnFile (N.opens files) result.1 result.0 file.now (Keeps (W.contents answers.old) (W.contents answers.new))
+        (λ conn back. OnDesk S.Store conn back (λ c heard. ServesBy c heard (KeepsHeard S.Store back c) (IsLeft S.Store back c)
+        port (W.contents answers.old) (W.contents answers.new) result.0)) }
+{
+    match files.open(file) {
+        Ok(conn) => {
+            let (done, conn) = serve_command(alloc, conn, network, port, connections, answers);
+            (done, Some(conn))
+        }
+        Err(fault) => (Err(fault), None),
+    }
+}
+
+fn report_file<S: Alter, N: Files<S>, W: Write>(
+    alloc: Global,
+    files: N,
+    file: &str,
+    owner: &str,
+    month: &str,
+    answers: &mut W,
+) -> Performed<S>
+    ensures { OnFile (N.opens files) result.1 result.0 file.now (Keeps (W.contents answers.old) (W.contents answers.new))
+        (λ conn back. OnDesk S.Store conn back (λ c heard. PrintsBy (KeepsHeard S.Store back c heard) (IsLeft S.Store back c heard None)
+        (W.contents answers.old) (W.contents answers.new) (IsOwnersMonth (state_of c heard) owner.now month.now) result.0)) }
+{
+    match files.open(file) {
+        Ok(conn) => {
+            let (done, conn) = report_command(alloc, conn, owner, month, answers);
+            (done, Some(conn))
+        }
+        Err(fault) => (Err(fault), None),
+    }
+}
+
+fn bands_file<S: Alter, N: Files<S>, W: Write>(
+    alloc: Global,
+    files: N,
+    file: &str,
+    gateway: &str,
+    answers: &mut W,
+) -> Performed<S>
+    ensures { OnFile (N.opens files) result.1 result.0 file.now (Keeps (W.contents answers.old) (W.contents answers.new))
+        (λ conn back. OnDesk S.Store conn back (λ c heard. PrintsBy (KeepsHeard S.Store back c heard) (IsLeft S.Store back c heard None)
+        (W.contents answers.old) (W.contents answers.new) (IsBandAnswer (state_of c heard) gateway.now) result.0)) }
+{
+    match files.open(file) {
+        Ok(conn) => {
+            let (done, conn) = bands_command(alloc, conn, gateway, answers);
+            (done, Some(conn))
+        }
+        Err(fault) => (Err(fault), None),
+    }
+}

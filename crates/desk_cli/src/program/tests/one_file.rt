@@ -1,0 +1,170 @@
+//! The commands on one file, one after another: each runs on what the one before left.
+use super::{NETWORK, OneFile, Started};
+use crate::endings::Ending;
+use crate::program::run;
+use crate::tests::rows::{OWNERS, deliveries_of};
+use sqlite::{Connection, MemStore};
+use std::process::Abort;
+use std::test::Fail;
+
+/// The worked gateway report, whose gateways nobody has added.
+const REPORT: &str =
+    "transaction,type,gateway,time_us,freq_hz,dr,phy,verdict\n10,JoinHeard,gw-a,1706745600061696,868100000,5,00010000d07ed5b3703c2b1a000ba304000000a1b2c3d4,Good\n11,FrameHeard,gw-a,1706745700041216,868300000,5,400000a00100000011223344,0\n12,FrameHeard,gw-b,1706745700041220,868300000,5,400000a00100000011223344,0\n";
+
+const REPORT_ANSWERS: &str = "\
+{\"MessageType\":\"JoinHeardAns\",\"ProtocolVersion\":\"1.0\",\"ReceiverID\":\"office\",\"Result\":{\"Description\":\"gateway\",\"ResultCode\":\"Other\"},\"SenderID\":\"desk\",\"TransactionID\":10}
+{\"MessageType\":\"FrameHeardAns\",\"ProtocolVersion\":\"1.0\",\"ReceiverID\":\"office\",\"Result\":{\"Description\":\"gateway\",\"ResultCode\":\"Other\"},\"SenderID\":\"desk\",\"TransactionID\":11}
+{\"MessageType\":\"FrameHeardAns\",\"ProtocolVersion\":\"1.0\",\"ReceiverID\":\"office\",\"Result\":{\"Description\":\"gateway\",\"ResultCode\":\"Other\"},\"SenderID\":\"desk\",\"TransactionID\":12}
+";
+
+const ADD_OWNER: &str =
+    "{\"ProtocolVersion\":\"1.0\",\"SenderID\":\"office\",\"ReceiverID\":\"desk\",\"TransactionID\":1,\"MessageType\":\"OwnerAdd\",\"Owner\":\"town\"}\n";
+
+const OWNER_ADDED: &str =
+    "{\"MessageType\":\"OwnerAddAns\",\"ProtocolVersion\":\"1.0\",\"ReceiverID\":\"office\",\"Result\":{\"Description\":\"\",\"ResultCode\":\"Success\"},\"SenderID\":\"desk\",\"TransactionID\":1}\n";
+
+const OWNER_HEADER: &str =
+    "dev_eui,uplinks,b1_us,b1_peak_us,b2_us,b2_peak_us,b3_us,b3_peak_us,b4_us,b4_peak_us,b5_us,b5_peak_us,b6_us,b6_peak_us\n";
+
+/// Words behind the program's name, the standard input, how the program ends, its answers, and what is on its fault line.
+type Row = (
+    &'static [&'static [u8]],
+    &'static str,
+    Ending,
+    &'static str,
+    &'static str,
+);
+
+static ROWS: [Row; 14] = [
+    (
+        &[b"desk", b"import", b"f.db", b"--sender", b"office"],
+        REPORT,
+        Ending::Refused,
+        "",
+        "desk: not a desk\n",
+    ),
+    (&[b"desk", b"init", b"f.db"], "", Ending::Done, "", ""),
+    (
+        &[b"desk", b"init", b"f.db"],
+        "",
+        Ending::Refused,
+        "",
+        "desk: exists\n",
+    ),
+    (
+        &[b"desk", b"import", b"f.db", b"--sender", b"office"],
+        REPORT,
+        Ending::Done,
+        REPORT_ANSWERS,
+        "",
+    ),
+    (
+        &[b"desk", b"import", b"f.db", b"--sender", b"office"],
+        REPORT,
+        Ending::Done,
+        REPORT_ANSWERS,
+        "",
+    ),
+    (
+        &[b"desk", b"report", b"f.db", b"town", b"2024-02"],
+        "",
+        Ending::Refused,
+        "",
+        "desk: owner\n",
+    ),
+    (
+        &[b"desk", b"hear", b"f.db"],
+        ADD_OWNER,
+        Ending::Done,
+        OWNER_ADDED,
+        "",
+    ),
+    (
+        &[b"desk", b"hear", b"f.db"],
+        ADD_OWNER,
+        Ending::Done,
+        OWNER_ADDED,
+        "",
+    ),
+    (
+        &[b"desk", b"report", b"f.db", b"town", b"2024-13"],
+        "",
+        Ending::Refused,
+        "",
+        "desk: month\n",
+    ),
+    (
+        &[b"desk", b"report", b"f.db", b"town", b"2024-02"],
+        "",
+        Ending::Done,
+        OWNER_HEADER,
+        "",
+    ),
+    (
+        &[b"desk", b"bands", b"f.db", b"gw-a"],
+        "",
+        Ending::Refused,
+        "",
+        "desk: gateway\n",
+    ),
+    (
+        &[b"desk", b"import", b"f.db", b"--sender", b"office"],
+        "transaction\n",
+        Ending::Refused,
+        "",
+        "desk: csv header\n",
+    ),
+    (
+        &[
+            b"desk", b"serve", b"f.db", b"--port", b"8080", b"--count", b"2",
+        ],
+        "",
+        Ending::Done,
+        "listening 127.0.0.1:8080\n",
+        "",
+    ),
+    (
+        &[
+            b"desk", b"serve", b"f.db", b"--port", b"8081", b"--count", b"2",
+        ],
+        "",
+        Ending::Failed,
+        "",
+        "desk: network\n",
+    ),
+];
+
+/// One row on the connection that the row before gave back.
+fn ends<R: Abort + AllocGlobal>(
+    rt: &R,
+    row: &Row,
+    conn: Connection<MemStore>,
+) -> Result<Connection<MemStore>, Fail> {
+    let (words, input, ending, answered, told) = row;
+    let process = (Started { words: *words }, rt.alloc());
+    let file = OneFile { conn: Some(conn) };
+    let mut reader = input.as_bytes();
+    let mut answers = Vec::new(rt.alloc());
+    let mut faults = Vec::new(rt.alloc());
+    let (end, conn) = run(
+        &process,
+        file,
+        &NETWORK,
+        &mut reader,
+        &mut answers,
+        &mut faults,
+    );
+    assert_eq!(rt; end, *ending, "at {words:?}");
+    assert!(rt; answers.as_slice() == answered.as_bytes(), "at {words:?}");
+    assert!(rt; faults.as_slice() == told.as_bytes(), "at {words:?}");
+    Ok(conn.ok_or("no connection")?)
+}
+
+#[test]
+fn commands_on_one_file(rt: HostRuntime) -> Result<(), Fail> {
+    let mut conn = Connection::open_in_memory(rt.alloc())?;
+    for row in &ROWS {
+        conn = ends(&rt, row, conn)?;
+    }
+    Ok(())
+}

@@ -1,0 +1,99 @@
+//! What is heard and what is refused, through the traits.
+use super::{copy, data_uplink, heard_session, sent_booking};
+use crate::tests::opening;
+use crate::tests::report_sizes::named;
+use desk_store::{Counts, Keeper, Looks, StoreFault};
+use desk_tables::Tables;
+use registry_core::{Effect, Envelope, Kind, Message, Uplink};
+use sqlite::MemStore;
+use std::test::Fail;
+
+fn envelope(transaction: u32) -> Result<Envelope, &'static str> {
+    let sender = named("office")?;
+    let message = Message::OwnerAdd { owner: sender };
+    Ok(Envelope {
+        sender,
+        transaction,
+        message,
+    })
+}
+
+fn heard<K: Keeper>(
+    store: &mut K,
+    transaction: u32,
+    effect: &Effect,
+) -> Result<Result<(), StoreFault>, &'static str> {
+    Ok(store.commit(&envelope(transaction)?, b"message", effect, b"answer"))
+}
+
+fn owner_heard<K: Keeper>(
+    store: &mut K,
+    transaction: u32,
+    owner: &str,
+) -> Result<Result<(), StoreFault>, &'static str> {
+    let name = named(owner)?;
+    heard(store, transaction, &Effect::AddsOwner { name })
+}
+
+fn join_heard<K: Keeper>(store: &mut K) -> Result<Result<(), StoreFault>, &'static str> {
+    let uplink = Uplink {
+        kind: Kind::Join,
+        counter: 3,
+        ..data_uplink()?
+    };
+    let effect = Effect::AddsSession {
+        session: heard_session(),
+        uplink,
+        gateway: named("gw-a")?,
+        reception: copy()?,
+    };
+    heard(store, 2, &effect)
+}
+
+/// A downlink of an uplink that there isn't.
+fn downlink_heard<K: Keeper>(store: &mut K) -> Result<Result<(), StoreFault>, &'static str> {
+    let booking = sent_booking()?;
+    heard(store, 3, &Effect::AddsBooking { booking })
+}
+
+fn has_owner<K: Looks>(store: &mut K, owner: &str) -> Result<bool, &'static str> {
+    Ok(store.has_owner(&named(owner)?) == Ok(true))
+}
+
+fn has_reply<K: Looks>(store: &mut K, transaction: u32) -> Result<bool, &'static str> {
+    Ok(matches!(store.texts_of(&envelope(transaction)?), Ok(Some(_))))
+}
+
+fn counts_are<K: Looks>(store: &mut K, sessions: u64, uplinks: u64) -> bool {
+    let counts = Counts {
+        sessions,
+        uplinks,
+        bookings: 0,
+    };
+    store.counts() == Ok(counts)
+}
+
+#[test]
+fn what_is_heard_is_kept(rt: HostRuntime) -> Result<(), Fail> {
+    let mut desk = opening::<Tables<MemStore>>(rt.alloc(), 65_536)?;
+    assert!(rt; owner_heard(&mut *desk, 1, "town")? == Ok(()));
+    assert!(rt; join_heard(&mut *desk)? == Ok(()));
+    assert!(rt; has_owner(&mut *desk, "town")?);
+    assert!(rt; has_reply(&mut *desk, 1)?);
+    assert!(rt; counts_are(&mut *desk, 1, 1));
+    Ok(())
+}
+
+/// The pair is taken, the owner is there, the uplink isn't: nothing of the message is left.
+#[test]
+fn what_is_refused_leaves_nothing(rt: HostRuntime) -> Result<(), Fail> {
+    let mut desk = opening::<Tables<MemStore>>(rt.alloc(), 65_536)?;
+    assert!(rt; owner_heard(&mut *desk, 1, "town")? == Ok(()));
+    assert!(rt; owner_heard(&mut *desk, 1, "coast")? == Err(StoreFault::NotADesk));
+    assert!(rt; !has_owner(&mut *desk, "coast")?);
+    assert!(rt; owner_heard(&mut *desk, 2, "town")? == Err(StoreFault::NotADesk));
+    assert!(rt; !has_reply(&mut *desk, 2)?);
+    assert!(rt; downlink_heard(&mut *desk)? == Err(StoreFault::NotADesk));
+    assert!(rt; !has_reply(&mut *desk, 3)?);
+    Ok(())
+}
