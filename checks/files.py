@@ -159,7 +159,7 @@ def options(desk):
 
 def missing(desk):
     """A file that isn't there is refused, and not made."""
-    for words in (["hear"], ["import", "--sender", "bridge"], ["report", "town", "2024-02"], ["bands", "gw-a"]):
+    for words in (["hear"], ["import", "--sender", "bridge"], ["report", "town", "2024-02"], ["bands", "gw-a"], ["check"]):
         desk.ends(3, "desk: file\n", words[0], "nothing.db", *words[1:], given=HEADER)
     desk.ends(3, "desk: file\n", "serve", "nothing.db", "--port", str(free_port()), "--count", "1")
     desk.wants(not list(Path().iterdir()), f"no file is made: {list(Path().iterdir())}")
@@ -183,6 +183,7 @@ def strangers(desk):
         before = Path(name).read_bytes()
         desk.ends(status, told, "hear", name, given=REGISTRY)
         desk.ends(status, told, "report", name, "town", "2024-02")
+        desk.ends(status, told, "check", name)
         desk.wants(Path(name).read_bytes() == before, f"{name} is left as it was")
     desk.ends(1, "desk: not a desk\n", "init", "other.db")
     desk.ends(3, "desk: file\n", "init", "text.db")
@@ -257,7 +258,7 @@ def held(desk):
     """A file is one program's: others are refused, and reports are asked of the one that serves."""
     file = desk.made()
     program, port = desk.serving(file, 3)
-    for words in (["hear", file], ["report", file, "town", "2024-02"], ["bands", file, "gw-a"], ["import", file, "--sender", "bridge"]):
+    for words in (["hear", file], ["report", file, "town", "2024-02"], ["bands", file, "gw-a"], ["check", file], ["import", file, "--sender", "bridge"]):
         desk.ends(3, "desk: file\n", *words, given=HEADER)
     desk.ends(3, "desk: file\n", "init", file)
     try:

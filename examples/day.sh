@@ -48,3 +48,4 @@ server=
 "$desk" report town.db town 2024-02
 "$desk" report town.db harbour 2024-02
 "$desk" bands town.db gw-b
+"$desk" check town.db

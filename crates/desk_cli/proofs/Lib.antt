@@ -1,4 +1,5 @@
 pub mod Asked
+pub mod Checked
 pub mod CommandLine
 pub mod Imported
 pub mod Inited

@@ -5,6 +5,7 @@ use Rattle.clap.specs.Kinds.{Kinds}
 use Rattle.clap.specs.Simple.{App, new_app, with_subcommand, subcommand_of}
 use Rattle.clap.specs.Walk.{Row, Text}
 use Rattle.clap.specs.declared.error.kind.ErrorKind.TheVariants.{MissingSubcommand}
+use Rattle.desk_cli.specs.commands.Checking.{check_app, check_named}
 use Rattle.desk_cli.specs.commands.Hear.{hear_app, hear_named}
 use Rattle.desk_cli.specs.commands.Importing.{import_app, import_named}
 use Rattle.desk_cli.specs.commands.Init.{init_app, init_named}
@@ -26,10 +27,11 @@ with_readers app =
 -- the command line
 abbrev pub desk_app : App
 desk_app =
-    with_subcommand (with_subcommand (with_subcommand (with_readers (new_app (codes "desk")))
+    with_subcommand (with_subcommand (with_subcommand (with_subcommand (with_readers (new_app (codes "desk")))
     serve_app.top)
     report_app.top)
-    bands_app.top
+    bands_app.top)
+    check_app.top
 
 -- the command of this name, with its options
 abbrev pub named_with : Text → List Row → Named
@@ -41,6 +43,7 @@ named_with name rows =
     else if bytes_eq name (codes "serve") then serve_named rows
     else if bytes_eq name (codes "report") then report_named rows
     else if bytes_eq name (codes "bands") then bands_named rows
+    else if bytes_eq name (codes "check") then check_named rows
     else refused (MissingSubcommand ∷ [])
 
 -- the subcommand that clap enters, with its options

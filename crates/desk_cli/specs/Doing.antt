@@ -9,9 +9,10 @@ use Rattle.registry_core.specs.declared.messages.Envelope.{Envelope}
 use Rattle.registry_core.specs.Heard.{state_of}
 use Rattle.registry_core.specs.Settings.{Settings}
 use Rattle.desk_http.specs.Reports.{IsBandAnswer}
-use Rattle.desk_cli.specs.Named.{Asked, lines, init, hear, import, serve, report, bands}
+use Rattle.desk_cli.specs.Named.{Asked, lines, init, hear, import, serve, report, bands, check}
 use Rattle.desk_cli.specs.OnTables.{IsLeft, KeepsHeard}
 use Rattle.desk_cli.specs.Printing.{IsOwnersMonth, PrintsBy}
+use Rattle.desk_cli.specs.commands.Checking.{IsCheck}
 use Rattle.desk_cli.specs.commands.Hear.{HearsBy}
 use Rattle.desk_cli.specs.commands.Importing.{ImportsBy}
 use Rattle.desk_cli.specs.commands.Init.{InitsBy}
@@ -51,3 +52,6 @@ module _ {S T : Type 0} (g : Ghosts S) (Opens : Text → Held S → Type 0) (giv
   DoesAsked (bands file gateway) =
       OnFile Opens given_back result file (Keeps before after)
       (λ conn back. OnDesk g conn back (λ c heard. PrintsBy (KeepsHeard g back c heard) (IsLeft g back c heard None) before after (IsBandAnswer (state_of c heard) gateway) result))
+  DoesAsked (check file) =
+      OnFile Opens given_back result file (Keeps before after)
+      (λ conn back. OnDesk g conn back (λ c heard. PrintsBy (KeepsHeard g back c heard) (IsLeft g back c heard None) before after (IsCheck c heard) result))

@@ -8,7 +8,7 @@ use Rattle.clap.specs.declared.error.kind.ErrorKind.{ErrorKind}
 use Rattle.clap.specs.declared.error.kind.ErrorKind.TheVariants.{OutOfMemory}
 use Rattle.registry_core.specs.Settings.{Settings}
 use Rattle.desk_cli.specs.declared.commands.Command.{Command}
-use Rattle.desk_cli.specs.declared.commands.Command.TheVariants.{Lines, Init, Hear, Import, Serve, Report, Bands}
+use Rattle.desk_cli.specs.declared.commands.Command.TheVariants.{Lines, Init, Hear, Import, Serve, Report, Bands, Check}
 use Rattle.desk_cli.specs.declared.usage.BadValue.{BadValue}
 use Rattle.desk_cli.specs.declared.usage.Usage.{Usage}
 use Rattle.desk_cli.specs.declared.usage.Usage.TheVariants.{Words, Value, NotText, Memory}
@@ -26,6 +26,7 @@ pub data Asked : Type 0 where
   report : Text → Text → Text → Asked
   -- the file and the gateway
   bands : Text → Text → Asked
+  check : Text → Asked
 
 abbrev pub asked_of : Command → Asked
 asked_of (Lines config) = lines config
@@ -35,6 +36,7 @@ asked_of (Import file sender) = import file.now sender
 asked_of (Serve file port connections) = serve file.now port connections
 asked_of (Report file owner month) = report file.now owner.now month.now
 asked_of (Bands file gateway) = bands file.now gateway.now
+asked_of (Check file) = check file.now
 
 -- a command, or a value that is bad, or nothing that clap takes: one of these kinds of error
 pub data Named : Type 0 where

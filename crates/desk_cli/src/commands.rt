@@ -6,6 +6,7 @@ ghost use Rattle.clap.specs.Walk.{rows_of};
 ghost use Rattle.desk_cli.specs.CommandLine.{command_named, desk_app, named_with, with_readers};
 ghost use Rattle.desk_cli.specs.Named.{Tells};
 
+mod checking;
 mod hear;
 mod importing;
 mod init;
@@ -15,6 +16,8 @@ mod serving;
 
 use crate::options::command;
 use crate::usage::{Usage, no_command};
+pub use checking::check_command;
+use checking::{check_app, check_of};
 use clap::ArgMatches;
 pub use hear::hear_command;
 use hear::{hear_app, hear_of};
@@ -70,6 +73,10 @@ pub enum Command<'a> {
         file: &'a str,
         gateway: &'a str,
     },
+    /// Prints what a desk's file was made with, and how much it holds.
+    Check {
+        file: &'a str,
+    },
 }
 
 const EXAMPLE: &str = "\
@@ -86,7 +93,8 @@ pub(crate) fn desk_app<'a>(alloc: Global) -> Result<clap::Command<'a>, AllocErro
     with_readers(alloc, desk)?
         .subcommand(serve_app(alloc)?)?
         .subcommand(report_app(alloc)?)?
-        .subcommand(bands_app(alloc)?)
+        .subcommand(bands_app(alloc)?)?
+        .subcommand(check_app(alloc)?)
 }
 
 /// A command line with the commands that read messages or records, and the one that makes a file for them.
@@ -134,6 +142,8 @@ fn command_with<'a>(
         report_of(options)
     } else if name == "bands" {
         bands_of(options)
+    } else if name == "check" {
+        check_of(options)
     } else {
         Err(no_command(desk))
     }

@@ -6,6 +6,7 @@ ghost use Rattle.desk_cli.specs.Doing.{DoesAsked, OnDesk, OnFile};
 ghost use Rattle.desk_cli.specs.Named.{asked_of};
 ghost use Rattle.desk_cli.specs.OnTables.{IsLeft, KeepsHeard};
 ghost use Rattle.desk_cli.specs.Printing.{IsOwnersMonth, PrintsBy};
+ghost use Rattle.desk_cli.specs.commands.Checking.{IsCheck};
 ghost use Rattle.desk_cli.specs.commands.Hear.{HearsBy};
 ghost use Rattle.desk_cli.specs.commands.Importing.{ImportsBy};
 ghost use Rattle.desk_cli.specs.commands.Init.{InitsBy};
@@ -13,8 +14,8 @@ ghost use Rattle.desk_cli.specs.commands.Serving.{ServesBy};
 ghost use Rattle.std.specs.Prelude.{None};
 
 use crate::commands::{
-    Command, bands_command, hear_command, import_command, init_command, lines_command,
-    report_command, serve_command,
+    Command, bands_command, check_command, hear_command, import_command, init_command,
+    lines_command, report_command, serve_command,
 };
 use crate::faults::Fault;
 use crate::files::Files;
@@ -56,6 +57,7 @@ pub(crate) fn perform<S: Alter, N: Files<S>, B: Network, R: Read, W: Write>(
             report_file(alloc, files, file, owner, month, answers)
         }
         Command::Bands { file, gateway } => bands_file(alloc, files, file, gateway, answers),
+        Command::Check { file } => check_file(alloc, files, file, answers),
     }
 }
 
@@ -176,6 +178,25 @@ fn bands_file<S: Alter, N: Files<S>, W: Write>(
     match files.open(file) {
         Ok(conn) => {
             let (done, conn) = bands_command(alloc, conn, gateway, answers);
+            (done, Some(conn))
+        }
+        Err(fault) => (Err(fault), None),
+    }
+}
+
+fn check_file<S: Alter, N: Files<S>, W: Write>(
+    alloc: Global,
+    files: N,
+    file: &str,
+    answers: &mut W,
+) -> Performed<S>
+    ensures { OnFile (N.opens files) result.1 result.0 file.now (Keeps (W.contents answers.old) (W.contents answers.new))
+        (λ conn back. OnDesk S.Store conn back (λ c heard. PrintsBy (KeepsHeard S.Store back c heard) (IsLeft S.Store back c heard None)
+        (W.contents answers.old) (W.contents answers.new) (IsCheck c heard) result.0)) }
+{
+    match files.open(file) {
+        Ok(conn) => {
+            let (done, conn) = check_command(alloc, conn, answers);
             (done, Some(conn))
         }
         Err(fault) => (Err(fault), None),

@@ -31,7 +31,7 @@ use Rattle.registry_core.specs.Ranges.{IsEui}
 use Rattle.desk_rows.specs.Schema.{desk_schema}
 use Rattle.desk_rows.specs.Calls.{Reads}
 use Rattle.desk_rows.specs.steps.Queries.{Finds}
-use Rattle.desk_rows.specs.Rows.{Rows, Holds, SessionRow, IsSession, IsUplink, reply_cells, session_cells, uplink_cells, booking_cells, eui, number, kind_number, table_of, last_number}
+use Rattle.desk_rows.specs.Rows.{Rows, Holds, SessionRow, IsSession, IsUplink, booking_cells, device_cells, name_cells, reply_cells, sender_cells, session_cells, uplink_cells, eui, number, kind_number, table_of, last_number}
 use Rattle.desk_rows.specs.declared.faults.RowFault.{RowFault}
 use Rattle.desk_rows.proofs.Lookups.{IsLookup, finds, says_so}
 use Rattle.desk_rows.proofs.Ordered.{Asked, query_of, falling, encode, zip_from, head, first_sorted, map_same, map_twice}
@@ -148,31 +148,63 @@ module _ {sql : List ℕ} {many tree : ℕ} {terms project : List Term} {order :
 
 -- ---- the last number of a table
 
+-- the rowid of the row whose rowid is the greatest
+abbrev last_of : (tree : ℕ) → Asked (tree ∷ [])
+last_of tree = latest tree [] (col 1 0 ∷ []) ((col 1 0, falling) ∷ [])
+
+abbrev last_sender_text : List ℕ
+last_sender_text = codes "SELECT rowid FROM sender ORDER BY rowid DESC LIMIT 1"
+
+last_sender_lookup : IsLookup last_sender_text 0 (last_of 1)
+unfolding understood everything
+last_sender_lookup = record { names = _; compiled = _; means = refl; command = refl; plain = (refl, refl); whole = omega arith; given = refl; unlisted = refl }
+
 abbrev last_reply_text : List ℕ
 last_reply_text = codes "SELECT seq FROM reply ORDER BY seq DESC LIMIT 1"
 
-last_reply_lookup : IsLookup last_reply_text 0 (latest 3 ([]) (col 1 0 ∷ []) ((col 1 0, falling) ∷ []))
+last_reply_lookup : IsLookup last_reply_text 0 (last_of 3)
 unfolding understood everything
 last_reply_lookup = record { names = _; compiled = _; means = refl; command = refl; plain = (refl, refl); whole = omega arith; given = refl; unlisted = refl }
+
+abbrev last_owner_text : List ℕ
+last_owner_text = codes "SELECT rowid FROM owner ORDER BY rowid DESC LIMIT 1"
+
+last_owner_lookup : IsLookup last_owner_text 0 (last_of 5)
+unfolding understood everything
+last_owner_lookup = record { names = _; compiled = _; means = refl; command = refl; plain = (refl, refl); whole = omega arith; given = refl; unlisted = refl }
+
+abbrev last_gateway_text : List ℕ
+last_gateway_text = codes "SELECT rowid FROM gateway ORDER BY rowid DESC LIMIT 1"
+
+last_gateway_lookup : IsLookup last_gateway_text 0 (last_of 7)
+unfolding understood everything
+last_gateway_lookup = record { names = _; compiled = _; means = refl; command = refl; plain = (refl, refl); whole = omega arith; given = refl; unlisted = refl }
+
+abbrev last_device_text : List ℕ
+last_device_text = codes "SELECT rowid FROM device ORDER BY rowid DESC LIMIT 1"
+
+last_device_lookup : IsLookup last_device_text 0 (last_of 9)
+unfolding understood everything
+last_device_lookup = record { names = _; compiled = _; means = refl; command = refl; plain = (refl, refl); whole = omega arith; given = refl; unlisted = refl }
 
 abbrev last_session_text : List ℕ
 last_session_text = codes "SELECT number FROM session ORDER BY number DESC LIMIT 1"
 
-last_session_lookup : IsLookup last_session_text 0 (latest 11 ([]) (col 1 0 ∷ []) ((col 1 0, falling) ∷ []))
+last_session_lookup : IsLookup last_session_text 0 (last_of 11)
 unfolding understood everything
 last_session_lookup = record { names = _; compiled = _; means = refl; command = refl; plain = (refl, refl); whole = omega arith; given = refl; unlisted = refl }
 
 abbrev last_uplink_text : List ℕ
 last_uplink_text = codes "SELECT number FROM uplink ORDER BY number DESC LIMIT 1"
 
-last_uplink_lookup : IsLookup last_uplink_text 0 (latest 13 ([]) (col 1 0 ∷ []) ((col 1 0, falling) ∷ []))
+last_uplink_lookup : IsLookup last_uplink_text 0 (last_of 13)
 unfolding understood everything
 last_uplink_lookup = record { names = _; compiled = _; means = refl; command = refl; plain = (refl, refl); whole = omega arith; given = refl; unlisted = refl }
 
 abbrev last_booking_text : List ℕ
 last_booking_text = codes "SELECT number FROM booking ORDER BY number DESC LIMIT 1"
 
-last_booking_lookup : IsLookup last_booking_text 0 (latest 17 ([]) (col 1 0 ∷ []) ((col 1 0, falling) ∷ []))
+last_booking_lookup : IsLookup last_booking_text 0 (last_of 17)
 unfolding understood everything
 last_booking_lookup = record { names = _; compiled = _; means = refl; command = refl; plain = (refl, refl); whole = omega arith; given = refl; unlisted = refl }
 
@@ -189,30 +221,38 @@ any : (o : Option ℕ) → IfSome o (λ n. Unit {0})
 any None = tt
 any (Some n) = tt
 
-module _ {old new : State} where
-  pub last_reply_told : {result : Result (Option ℕ) RowFault} → Finds last_reply_text [] old new (λ n. n) (λ n. number n ∷ []) (λ n. Unit {0}) result → Reads old new result (λ r n. n ≡ last_number r.replies)
-  last_reply_told found = says_so
-      (greatest_found last_reply_lookup [] refl refl reply_cells (λ r. r.replies) (λ r has. has.reply) (λ b. true) (λ b. refl) (λ b. b.0) (λ b. refl)
+module _ {sql : List ℕ} {tree : ℕ} (text : IsLookup sql 0 (last_of tree)) (typed : accepts_program desk_schema [] (query_of (last_of tree)) [] ≡ true)
+    {X : Type 0} (cells : X → Row) (xs : Rows → List X) {old new : State} (stored : (r : Rows) → Holds old.now r → overlay old.now.trees [] tree ≡ table_of cells (xs r)) where
+  last_told : {result : Result (Option ℕ) RowFault} → Finds sql [] old new (λ n. n) (λ n. number n ∷ []) (λ n. Unit {0}) result → Reads old new result (λ r n. n ≡ last_number (xs r))
+  last_told found = says_so
+      (greatest_found text [] refl typed cells xs stored (λ b. true) (λ b. refl) (λ b. b.0) (λ b. refl)
       (λ b c. ap (λ o. ordering_then o Equal) (value_cmp-Int (pos c.0) (pos b.0)) ∙ once b.0 c.0) (λ _. Unit {0}) (λ r has. any _) found)
-      (λ r has n is. is ∙ last_is r.replies)
+      (λ r has n is. is ∙ last_is (xs r))
 
-  pub last_session_told : {result : Result (Option ℕ) RowFault} → Finds last_session_text [] old new (λ n. n) (λ n. number n ∷ []) (λ n. Unit {0}) result → Reads old new result (λ r n. n ≡ last_number r.sessions)
-  last_session_told found = says_so
-      (greatest_found last_session_lookup [] refl refl session_cells (λ r. r.sessions) (λ r has. has.session) (λ b. true) (λ b. refl) (λ b. b.0) (λ b. refl)
-      (λ b c. ap (λ o. ordering_then o Equal) (value_cmp-Int (pos c.0) (pos b.0)) ∙ once b.0 c.0) (λ _. Unit {0}) (λ r has. any _) found)
-      (λ r has n is. is ∙ last_is r.sessions)
+module _ {old new : State} {result : Result (Option ℕ) RowFault} where
+  pub last_sender_told : Finds last_sender_text [] old new (λ n. n) (λ n. number n ∷ []) (λ n. Unit {0}) result → Reads old new result (λ r n. n ≡ last_number r.senders)
+  last_sender_told = last_told last_sender_lookup refl sender_cells (λ r. r.senders) (λ r has. has.sender)
 
-  pub last_uplink_told : {result : Result (Option ℕ) RowFault} → Finds last_uplink_text [] old new (λ n. n) (λ n. number n ∷ []) (λ n. Unit {0}) result → Reads old new result (λ r n. n ≡ last_number r.uplinks)
-  last_uplink_told found = says_so
-      (greatest_found last_uplink_lookup [] refl refl uplink_cells (λ r. r.uplinks) (λ r has. has.uplink) (λ b. true) (λ b. refl) (λ b. b.0) (λ b. refl)
-      (λ b c. ap (λ o. ordering_then o Equal) (value_cmp-Int (pos c.0) (pos b.0)) ∙ once b.0 c.0) (λ _. Unit {0}) (λ r has. any _) found)
-      (λ r has n is. is ∙ last_is r.uplinks)
+  pub last_reply_told : Finds last_reply_text [] old new (λ n. n) (λ n. number n ∷ []) (λ n. Unit {0}) result → Reads old new result (λ r n. n ≡ last_number r.replies)
+  last_reply_told = last_told last_reply_lookup refl reply_cells (λ r. r.replies) (λ r has. has.reply)
 
-  pub last_booking_told : {result : Result (Option ℕ) RowFault} → Finds last_booking_text [] old new (λ n. n) (λ n. number n ∷ []) (λ n. Unit {0}) result → Reads old new result (λ r n. n ≡ last_number r.bookings)
-  last_booking_told found = says_so
-      (greatest_found last_booking_lookup [] refl refl booking_cells (λ r. r.bookings) (λ r has. has.booking) (λ b. true) (λ b. refl) (λ b. b.0) (λ b. refl)
-      (λ b c. ap (λ o. ordering_then o Equal) (value_cmp-Int (pos c.0) (pos b.0)) ∙ once b.0 c.0) (λ _. Unit {0}) (λ r has. any _) found)
-      (λ r has n is. is ∙ last_is r.bookings)
+  pub last_owner_told : Finds last_owner_text [] old new (λ n. n) (λ n. number n ∷ []) (λ n. Unit {0}) result → Reads old new result (λ r n. n ≡ last_number r.owners)
+  last_owner_told = last_told last_owner_lookup refl name_cells (λ r. r.owners) (λ r has. has.owner)
+
+  pub last_gateway_told : Finds last_gateway_text [] old new (λ n. n) (λ n. number n ∷ []) (λ n. Unit {0}) result → Reads old new result (λ r n. n ≡ last_number r.gateways)
+  last_gateway_told = last_told last_gateway_lookup refl name_cells (λ r. r.gateways) (λ r has. has.gateway)
+
+  pub last_device_told : Finds last_device_text [] old new (λ n. n) (λ n. number n ∷ []) (λ n. Unit {0}) result → Reads old new result (λ r n. n ≡ last_number r.devices)
+  last_device_told = last_told last_device_lookup refl device_cells (λ r. r.devices) (λ r has. has.device)
+
+  pub last_session_told : Finds last_session_text [] old new (λ n. n) (λ n. number n ∷ []) (λ n. Unit {0}) result → Reads old new result (λ r n. n ≡ last_number r.sessions)
+  last_session_told = last_told last_session_lookup refl session_cells (λ r. r.sessions) (λ r has. has.session)
+
+  pub last_uplink_told : Finds last_uplink_text [] old new (λ n. n) (λ n. number n ∷ []) (λ n. Unit {0}) result → Reads old new result (λ r n. n ≡ last_number r.uplinks)
+  last_uplink_told = last_told last_uplink_lookup refl uplink_cells (λ r. r.uplinks) (λ r has. has.uplink)
+
+  pub last_booking_told : Finds last_booking_text [] old new (λ n. n) (λ n. number n ∷ []) (λ n. Unit {0}) result → Reads old new result (λ r n. n ≡ last_number r.bookings)
+  last_booking_told = last_told last_booking_lookup refl booking_cells (λ r. r.bookings) (λ r has. has.booking)
 
 -- ---- the last nonce of a device, the last counter of a session
 

@@ -11,7 +11,7 @@ ghost use Rattle.registry_core.specs.Reports.{is_after};
 ghost use Rattle.desk_rows.specs.order.Arranged.{by_eui, is_next_of};
 ghost use Rattle.desk_rows.specs.order.LookUps.{first_by};
 ghost use Rattle.desk_rows.specs.steps.Queries.{above_only};
-ghost use Rattle.desk_rows.specs.Rows.{eui, is_device, number, or_null};
+ghost use Rattle.desk_rows.specs.Rows.{eui, is_device, last_number, number, or_null};
 ghost use Rattle.desk_rows.specs.order.Changes.{moved};
 ghost use Rattle.desk_rows.specs.order.Keys.{HasOnly, floor_set};
 
@@ -50,6 +50,17 @@ pub fn device<S: Alter>(conn: &mut Connection<S>, dev_eui: Eui) -> Result<Option
         conn,
         "SELECT join_eui, owner FROM device WHERE eui = ?1 ORDER BY rowid",
         &[blob(&eui)],
+    )
+}
+
+/// The number of the last device, if there is one: how many there are.
+pub fn last_device<S: Alter>(conn: &mut Connection<S>) -> Result<Option<u64>, RowFault>
+    ensures { Reads (state S.Store conn.old) (state S.Store conn.new) result (λ r number. number ≡ last_number r.devices) }
+{
+    find(
+        conn,
+        "SELECT rowid FROM device ORDER BY rowid DESC LIMIT 1",
+        &[],
     )
 }
 

@@ -23,14 +23,16 @@ mod writes;
 
 pub use bookings::{booking, end_booking, insert_booking, is_answered, last_booking};
 pub use copies::{copy_at, insert_copy};
-pub use devices::{device, floor_of, insert_device, move_device, next_device, set_floor};
+pub use devices::{
+    device, floor_of, insert_device, last_device, move_device, next_device, set_floor,
+};
 pub use faults::{RowFault, fault_of};
-pub use gateways::{gateway_is_known, insert_gateway};
+pub use gateways::{gateway_is_known, insert_gateway, last_gateway};
 pub use making::{create_tables, insert_settings};
 pub use meta::read_settings;
-pub use owners::{insert_owner, owner_is_known};
+pub use owners::{insert_owner, last_owner, owner_is_known};
 pub use replies::{Texts, insert_reply, last_reply, texts_of};
-pub use senders::{insert_sender, role_of};
+pub use senders::{insert_sender, last_sender, role_of};
 pub use sessions::{
     insert_session, last_nonce, last_session, next_down, session, session_with, set_next_down,
 };

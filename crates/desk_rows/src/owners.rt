@@ -2,10 +2,11 @@
 ghost use Rattle.std.specs.Prelude.{◌≡◌, ◌+◌, ◌<◌, ◌^◌, ◌++◌, [], ◌∷◌, length, false, bytes_eq};
 ghost use Rattle.std.specs.List.{list_any};
 ghost use Rattle.sqlite.specs.Held.{state};
-ghost use Rattle.desk_rows.specs.Calls.{Reads, Changes};
+ghost use Rattle.desk_rows.specs.Calls.{Changes, Reads};
+ghost use Rattle.desk_rows.specs.Rows.{last_number};
 
 use crate::faults::RowFault;
-use crate::queries::is_found;
+use crate::queries::{find, is_found};
 use crate::values::text;
 use crate::writes::write;
 use radio_core::Name;
@@ -19,6 +20,17 @@ pub fn owner_is_known<S: Alter>(conn: &mut Connection<S>, name: &Name) -> Result
         conn,
         "SELECT 1 FROM owner WHERE name = ?1 ORDER BY rowid",
         &[text(name)],
+    )
+}
+
+/// The number of the last owner, if there is one: how many there are.
+pub fn last_owner<S: Alter>(conn: &mut Connection<S>) -> Result<Option<u64>, RowFault>
+    ensures { Reads (state S.Store conn.old) (state S.Store conn.new) result (λ r number. number ≡ last_number r.owners) }
+{
+    find(
+        conn,
+        "SELECT rowid FROM owner ORDER BY rowid DESC LIMIT 1",
+        &[],
     )
 }
 

@@ -3,7 +3,7 @@ ghost use Rattle.std.specs.Prelude.{◌≡◌, ◌+◌, ◌<◌, ◌^◌, ◌++�
 ghost use Rattle.std.specs.List.{list_any};
 ghost use Rattle.sqlite.specs.Held.{state};
 ghost use Rattle.desk_rows.specs.Calls.{Changes, Reads};
-ghost use Rattle.desk_rows.specs.Rows.{is_sender, number, role_number};
+ghost use Rattle.desk_rows.specs.Rows.{is_sender, last_number, number, role_number};
 ghost use Rattle.registry_core.specs.declared.messages.Role.{Role};
 
 use crate::columns::role_at;
@@ -37,6 +37,17 @@ pub fn role_of<S: Alter>(conn: &mut Connection<S>, name: &Name) -> Result<Option
         conn,
         "SELECT role FROM sender WHERE name = ?1 ORDER BY rowid",
         &[text(name)],
+    )
+}
+
+/// The number of the last sender, if there is one: how many there are.
+pub fn last_sender<S: Alter>(conn: &mut Connection<S>) -> Result<Option<u64>, RowFault>
+    ensures { Reads (state S.Store conn.old) (state S.Store conn.new) result (λ r number. number ≡ last_number r.senders) }
+{
+    find(
+        conn,
+        "SELECT rowid FROM sender ORDER BY rowid DESC LIMIT 1",
+        &[],
     )
 }
 

@@ -4,6 +4,7 @@ pub mod CommitLemmas
 pub mod CountLemmas
 pub mod EffectLemmas
 pub mod Entries
+pub mod HaveItLemmas
 pub mod LookUps
 pub mod NotedCommits
 pub mod OneSchema

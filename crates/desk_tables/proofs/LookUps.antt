@@ -1,6 +1,8 @@
 -- What stands after a look-up, and what it tells.
 use Rattle.std.proofs.Common.{◌≡◌, ◌⊎◌, inl, inr, Bool, true, false, true≢false, IsTrue, Option, None, Some, List, Result, Ok, Err, refl, sym, ap, subst, ◌∙◌, arith}
 use Rattle.std.specs.Prelude.{◌||◌, IfOk}
+use Rattle.std.specs.Result.{IsErrAnd}
+use Rattle.std.proofs.lemmas.Result.{err_from_is_err_and}
 use Rattle.sqlite_trees.specs.declared.store.Store.{Ghosts}
 use Rattle.sqlite.specs.State.{State, HasCleanDisk, IsUnchanged, IsRolledBack, Survives}
 use Rattle.sqlite.specs.Held.{Held, state}
@@ -212,3 +214,10 @@ read_then m a b c fault one two = record {
   left = λ kept all sound holds left. two.left kept all sound (one.held kept (two.was_sound sound) holds) (one.left kept all (two.was_sound sound) holds left);
   unavailable = λ kept sound holds. two.unavailable kept sound (one.held kept (two.was_sound sound) holds);
 }
+
+-- and the last of them failed
+pub read_fails : {K T : Type 0} (m : Meaning K) (a b c : K) (fault : StoreFault) (result : Result T StoreFault) → IsErrAnd result (λ told. told ≡ fault)
+    → calls.IsRead m a b None → calls.IsRead m b c (Some fault) → calls.IsRead m a c (fault_in result)
+read_fails {T = T} m a b c fault result failed one two =
+    let told = err_from_is_err_and result failed in
+    subst (λ r. calls.IsRead m a c (fault_in r)) (sym (told.1 ∙ ap (λ (f : StoreFault). let r : Result T StoreFault = Err f in r) told.2)) (read_then m a b c (Some fault) one two)

@@ -3,4 +3,5 @@ pub mod InOrder
 pub mod Opening
 pub mod Reopening
 pub mod Store
+pub mod Totals
 pub mod steps

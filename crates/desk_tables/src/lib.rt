@@ -15,5 +15,7 @@ mod reopening;
 mod settle;
 mod shape;
 mod tables;
+mod totals;
 
 pub use tables::Tables;
+pub use totals::Totals;

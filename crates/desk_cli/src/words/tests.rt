@@ -7,7 +7,8 @@ use crate::endings::{Ending, ending_of};
 use crate::usage::{BadValue, Usage};
 use clap::error::ErrorKind;
 use helps::{
-    BANDS_HELP, HEAR_HELP, HELP, IMPORT_HELP, INIT_HELP, LINES_HELP, REPORT_HELP, SERVE_HELP,
+    BANDS_HELP, CHECK_HELP, HEAR_HELP, HELP, IMPORT_HELP, INIT_HELP, LINES_HELP, REPORT_HELP,
+    SERVE_HELP,
 };
 use std::alloc::Global;
 use std::process::Abort;
@@ -65,7 +66,7 @@ fn words_that_name_nothing(rt: HostRuntime) -> Result<(), Fail> {
     Ok(())
 }
 
-static PRINTED: [(&[&str], &str); 15] = [
+static PRINTED: [(&[&str], &str); 16] = [
     (
         &["desk"],
         "error: a command is needed\n\nUsage: desk [COMMAND]\n\nFor more information, try '--help'.\n",
@@ -78,6 +79,7 @@ static PRINTED: [(&[&str], &str); 15] = [
     (&["desk", "serve", "--help"], SERVE_HELP),
     (&["desk", "report", "--help"], REPORT_HELP),
     (&["desk", "bands", "--help"], BANDS_HELP),
+    (&["desk", "check", "--help"], CHECK_HELP),
     (
         &["desk", "serve", "town.db"],
         "error: the following required arguments were not provided:\n  --port <P>\n  --count <N>\n\nUsage: desk serve --port <P> --count <N> <FILE>\n\nFor more information, try '--help'.\n",

@@ -18,14 +18,14 @@ use Rattle.registry_core.specs.Numbered.{greatest, item_at}
 use Rattle.registry_core.specs.State.{state_with}
 use Rattle.sqlite_keyed.specs.Lists.{update_where}
 use Rattle.desk_rows.specs.Rows.{Rows, DeviceRow, ReplyRow, SessionRow, is_device}
-use Rattle.desk_rows.specs.order.Changes.{RowsFollowFacts, booking_row, copy_row, device_row, kind_at, moved, raised, rows_with, session_at, session_row, sessions_counted}
+use Rattle.desk_rows.specs.order.Changes.{RowsFollowFacts, booking_row, copy_row, device_row, kind_at, moved, raised, rows_with, sender_row, session_at, session_row, sessions_counted}
 use Rattle.desk_rows.specs.order.Facts.{bookings_in, facts_in, sessions_in}
 use Rattle.desk_rows.specs.order.RowsOf.{AnswersUplink, IsCounted, IsKeyed, IsOfSession, IsOfUplink, NamesRows, floor_of, is_data_from, same_join}
 use Rattle.desk_rows.proofs.OrderLemmas.Counters.{HasDowns, HasFloor, answers_ended, answers_new, answers_with, downs_with, floor_join, floor_session, floors_raised, kind_found, next_down_ended, next_down_kept, next_down_none, session_found}
 use Rattle.desk_rows.proofs.OrderLemmas.Counting.{filter_none}
 use Rattle.desk_rows.proofs.OrderLemmas.Each.{all_at, all_map, all_so, all_with}
 use Rattle.desk_rows.proofs.OrderLemmas.Few.{few_with}
-use Rattle.desk_rows.proofs.OrderLemmas.Keys.{devices_with, sessions_with}
+use Rattle.desk_rows.proofs.OrderLemmas.Keys.{devices_with, named_once_with, senders_with, sessions_with}
 use Rattle.desk_rows.proofs.OrderLemmas.Named.{HasDevice, copies_with, device_changed, device_with, session_kept, session_new, session_there}
 use Rattle.desk_rows.proofs.OrderLemmas.Numbering.{item_end, item_past, item_there, item_with}
 use Rattle.desk_rows.proofs.OrderLemmas.Telling.{counted_shown, device_told, euis_changed, facts_with, there_changed}
@@ -191,28 +191,63 @@ names_with r (AddsBooking booking) reply fits names =
 -- ---- keys
 
 keyed_with : (r : Rows) (effect : Effect) (reply : ReplyRow) → Fits effect (facts_in r) → IsKeyed r → IsKeyed (rows_with effect reply r)
-keyed_with r Nothing reply fits keyed = record { devices = keyed.devices; sessions = keyed.sessions }
-keyed_with r (AddsSender name role) reply fits keyed = record { devices = keyed.devices; sessions = keyed.sessions }
-keyed_with r (AddsOwner name) reply fits keyed = record { devices = keyed.devices; sessions = keyed.sessions }
-keyed_with r (AddsGateway name) reply fits keyed = record { devices = keyed.devices; sessions = keyed.sessions }
-keyed_with r (AddsCopy number gateway reception) reply fits keyed = record { devices = keyed.devices; sessions = keyed.sessions }
-keyed_with r (EndsBooking number sent) reply fits keyed = record { devices = keyed.devices; sessions = keyed.sessions }
-keyed_with r (AddsDevice dev_eui device) reply fits keyed =
-    record { devices = devices_with r.devices (device_row dev_eui device) fits.0 keyed.devices; sessions = keyed.sessions }
+keyed_with r Nothing reply fits keyed = record { senders = keyed.senders; owners = keyed.owners; gateways = keyed.gateways; devices = keyed.devices; sessions = keyed.sessions }
+keyed_with r (AddsSender name role) reply fits keyed = record {
+  senders = senders_with r.senders (sender_row name role) fits keyed.senders;
+  owners = keyed.owners;
+  gateways = keyed.gateways;
+  devices = keyed.devices;
+  sessions = keyed.sessions;
+}
+keyed_with r (AddsOwner name) reply fits keyed = record {
+  senders = keyed.senders;
+  owners = named_once_with r.owners name fits keyed.owners;
+  gateways = keyed.gateways;
+  devices = keyed.devices;
+  sessions = keyed.sessions;
+}
+keyed_with r (AddsGateway name) reply fits keyed = record {
+  senders = keyed.senders;
+  owners = keyed.owners;
+  gateways = named_once_with r.gateways name fits keyed.gateways;
+  devices = keyed.devices;
+  sessions = keyed.sessions;
+}
+keyed_with r (AddsCopy number gateway reception) reply fits keyed = record { senders = keyed.senders; owners = keyed.owners; gateways = keyed.gateways; devices = keyed.devices; sessions = keyed.sessions }
+keyed_with r (EndsBooking number sent) reply fits keyed = record { senders = keyed.senders; owners = keyed.owners; gateways = keyed.gateways; devices = keyed.devices; sessions = keyed.sessions }
+keyed_with r (AddsDevice dev_eui device) reply fits keyed = record {
+  senders = keyed.senders;
+  owners = keyed.owners;
+  gateways = keyed.gateways;
+  devices = devices_with r.devices (device_row dev_eui device) fits.0 keyed.devices;
+  sessions = keyed.sessions;
+}
 keyed_with r (MovesDevice dev_eui owner) reply fits keyed = record {
+  senders = keyed.senders;
+  owners = keyed.owners;
+  gateways = keyed.gateways;
   devices = subst (IsDistinct nat_eq) (euis_changed (is_device dev_eui) (moved owner) (λ d. refl) r.devices) keyed.devices;
   sessions = keyed.sessions;
 }
 keyed_with r (AddsSession session uplink gateway reception) reply fits keyed = record {
+  senders = keyed.senders;
+  owners = keyed.owners;
+  gateways = keyed.gateways;
   devices = keyed.devices;
   sessions = subst (IsDistinct same_join) (sym (sessions_more r.sessions session)) (sessions_with (sessions_in r.sessions) session fits.nonce keyed.sessions);
 }
 keyed_with r (AddsUplink uplink gateway reception) reply fits keyed = record {
+  senders = keyed.senders;
+  owners = keyed.owners;
+  gateways = keyed.gateways;
   devices = subst (IsDistinct nat_eq)
       (euis_changed (λ d. is_of_device (sessions_in r.sessions) d.dev_eui uplink.session) (raised uplink.session) (λ d. refl) r.devices) keyed.devices;
   sessions = keyed.sessions;
 }
 keyed_with r (AddsBooking booking) reply fits keyed = record {
+  senders = keyed.senders;
+  owners = keyed.owners;
+  gateways = keyed.gateways;
   devices = keyed.devices;
   sessions = subst (IsDistinct same_join) (counted_shown (kind_at r.uplinks booking.uplink) (session_at r.uplinks booking.uplink) r.sessions) keyed.sessions;
 }

@@ -30,7 +30,7 @@ use Rattle.desk_rows.proofs.OrderLemmas.Numbering.{map-item_changed, map_unchang
 same_name : (a b : List ℕ) → bytes_eq a b ≡ true → a ≡ b
 same_name a b is = (bytes_eq-Decides a b).0 is
 
-abbrev role_told : List SenderRow → List ℕ → Option Role
+abbrev pub role_told : List SenderRow → List ℕ → Option Role
 role_told senders name = option_map (λ (s : SenderRow). s.role) (find (is_sender name) senders)
 
 sender_with : (senders : List SenderRow) (name : List ℕ) (role : Role) → role_told senders name ≡ None → (other : List ℕ)

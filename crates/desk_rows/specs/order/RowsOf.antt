@@ -1,6 +1,6 @@
 -- Which rows are those of a configuration and of facts: they tell them, each kept counter is right, what a row names is there,
 -- and no two rows have one key.
-use Rattle.std.specs.Prelude.{◌≡◌, ℕ, ◌+◌, ◌≤◌, ◌==◌, ◌&&◌, Bool, List, map, filter, length, Option, Some, is_some, nat_eq, IsTrue}
+use Rattle.std.specs.Prelude.{◌≡◌, ℕ, ◌+◌, ◌≤◌, ◌==◌, ◌&&◌, Bool, List, map, filter, length, Option, Some, is_some, bytes_eq, nat_eq, IsTrue}
 use Rattle.std.specs.List.{AllByRecursion, IsDistinct}
 use Rattle.registry_core.specs.declared.facts.Kind.TheVariants.{Join}
 use Rattle.registry_core.specs.declared.facts.Session.{Session}
@@ -10,7 +10,7 @@ use Rattle.registry_core.specs.Derived.{is_data, is_of_device}
 use Rattle.registry_core.specs.Numbered.{item_at, greatest}
 use Rattle.registry_core.specs.Settings.{Settings}
 use Rattle.registry_core.specs.State.{State}
-use Rattle.desk_rows.specs.Rows.{Rows, DeviceRow, SessionRow, CopyRow, BookingRow}
+use Rattle.desk_rows.specs.Rows.{Rows, SenderRow, DeviceRow, SessionRow, CopyRow, BookingRow}
 use Rattle.desk_rows.specs.order.Facts.{bookings_in, facts_in, sessions_in}
 
 -- ---- kept counters
@@ -59,8 +59,11 @@ pub record NamesRows (r : Rows) : Type 0 where
 abbrev pub same_join : Session → Session → Bool
 same_join a b = a.device == b.device && a.nonce == b.nonce
 
--- no two devices have one DevEUI, and no two sessions one device and one nonce
+-- no two senders, owners or gateways have one name, no two devices one DevEUI, and no two sessions one device and one nonce
 pub record IsKeyed (r : Rows) : Type 0 where
+  pub senders : IsDistinct bytes_eq (map (λ (s : SenderRow). s.name) r.senders)
+  pub owners : IsDistinct bytes_eq r.owners
+  pub gateways : IsDistinct bytes_eq r.gateways
   pub devices : IsDistinct nat_eq (map (λ (d : DeviceRow). d.dev_eui) r.devices)
   pub sessions : IsDistinct same_join (sessions_in r.sessions)
 

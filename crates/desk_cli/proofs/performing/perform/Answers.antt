@@ -14,3 +14,6 @@ returns-in-Report g c = rw c.in-Report.is c.report_file.ensures
 
 pub returns-in-Bands : goal.returns-in-Bands
 returns-in-Bands g c = rw c.in-Bands.is c.bands_file.ensures
+
+pub returns-in-Check : goal.returns-in-Check
+returns-in-Check g c = rw c.in-Check.is c.check_file.ensures

@@ -26,6 +26,23 @@ const OWNER_ADDED: &str =
 const OWNER_HEADER: &str =
     "dev_eui,uplinks,b1_us,b1_peak_us,b2_us,b2_peak_us,b3_us,b3_peak_us,b4_us,b4_peak_us,b5_us,b5_peak_us,b6_us,b6_peak_us\n";
 
+/// The operator and an owner; the three records of the report that were refused, and the owner's message.
+const HOLDS: &str = "\
+schema: 1
+receiver: desk
+operator: office
+base: 01a00000
+addresses: 65536
+senders: 1
+owners: 1
+gateways: 0
+devices: 0
+sessions: 0
+uplinks: 0
+bookings: 0
+replies: 4
+";
+
 /// Words behind the program's name, the standard input, how the program ends, its answers, and what is on its fault line.
 type Row = (
     &'static [&'static [u8]],
@@ -35,7 +52,7 @@ type Row = (
     &'static str,
 );
 
-static ROWS: [Row; 14] = [
+static ROWS: [Row; 15] = [
     (
         &[b"desk", b"import", b"f.db", b"--sender", b"office"],
         REPORT,
@@ -107,6 +124,7 @@ static ROWS: [Row; 14] = [
         "",
         "desk: gateway\n",
     ),
+    (&[b"desk", b"check", b"f.db"], "", Ending::Done, HOLDS, ""),
     (
         &[b"desk", b"import", b"f.db", b"--sender", b"office"],
         "transaction\n",

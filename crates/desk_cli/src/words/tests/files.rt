@@ -3,7 +3,7 @@ use super::{bad, refused};
 use crate::commands::Command;
 use crate::usage::BadValue;
 use crate::words::read_words;
-use Want::{Bands, Hear, Import, Init, Report, Serve};
+use Want::{Bands, Check, Hear, Import, Init, Report, Serve};
 use clap::error::ErrorKind;
 use radio_core::Name;
 use registry_core::Config;
@@ -19,6 +19,7 @@ enum Want {
     Serve(&'static str, u16, u32),
     Report(&'static str, &'static str, &'static str),
     Bands(&'static str, &'static str),
+    Check(&'static str),
 }
 
 fn name(text: &str) -> Option<Name> {
@@ -43,12 +44,13 @@ fn command(want: Want) -> Option<Command<'static>> {
         },
         Report(file, owner, month) => Command::Report { file, owner, month },
         Bands(file, gateway) => Command::Bands { file, gateway },
+        Check(file) => Command::Check { file },
     })
 }
 
 const LONGEST: &str = "abcdefghijklmnopqrstuvwxyz-_.012";
 
-static NAMED: [(&str, Want); 22] = [
+static NAMED: [(&str, Want); 24] = [
     ("desk init town.db", Init("town.db", 0x01a0_0000, 65_536)),
     (
         "desk init town.db --base 00000001 --addresses=7",
@@ -107,6 +109,8 @@ static NAMED: [(&str, Want); 22] = [
     ),
     ("desk bands town.db gw-a", Bands("town.db", "gw-a")),
     ("desk bands gw-a town.db", Bands("gw-a", "town.db")),
+    ("desk check town.db", Check("town.db")),
+    ("desk check -- --help", Check("--help")),
 ];
 
 /// The words of a line: what stands between its spaces.
@@ -192,7 +196,7 @@ fn values_that_are_bad(rt: HostRuntime) -> Result<(), Fail> {
 }
 
 /// By clap's rules: words that are missing or too many, and options that are given twice or not known.
-static REFUSED: [(&str, ErrorKind); 23] = [
+static REFUSED: [(&str, ErrorKind); 25] = [
     ("desk init", ErrorKind::MissingRequiredArgument),
     (
         "desk init --base 01a00000",
@@ -248,6 +252,8 @@ static REFUSED: [(&str, ErrorKind); 23] = [
     ),
     ("desk bands town.db", ErrorKind::MissingRequiredArgument),
     ("desk bands town.db gw-a x", ErrorKind::UnknownArgument),
+    ("desk check", ErrorKind::MissingRequiredArgument),
+    ("desk check town.db x", ErrorKind::UnknownArgument),
     (
         "desk --port 1 serve town.db --count 1",
         ErrorKind::UnknownArgument,

@@ -13,6 +13,7 @@ Commands:
   serve   Serves messages, reports and bands over HTTP on 127.0.0.1
   report  Prints the report of an owner's month
   bands   Prints the bands of a gateway
+  check   Prints what a desk's file was made with, and how much it holds
   help    Print this message or the help of the given subcommand(s)
 
 Options:
@@ -139,4 +140,19 @@ Options:
 
 Example:
   desk bands town.db gw-a
+";
+
+pub(crate) const CHECK_HELP: &str = "\
+Prints what a desk's file was made with, and how much it holds
+
+Usage: desk check <FILE>
+
+Arguments:
+  <FILE>  The desk's file
+
+Options:
+  -h, --help  Print help
+
+Example:
+  desk check town.db
 ";

@@ -1,0 +1,30 @@
+use Rattle.std.proofs.Common.{◌≡◌, ℕ, List, Ok, Err, false, None}
+use Rattle.std.proofs.KnownBytes.{Keeps-refl}
+use Rattle.desk_engine.specs.InOrder.{kept_after}
+use Rattle.desk_cli.proofs.Checked.{is_check}
+use Rattle.desk_cli.proofs.OnTables.{is_left, keeps}
+use Rattle.desk_cli.proofs.Printed.{prints, prints_unopened}
+use Rattle.desk_cli.proofs.Reported.{is_kept_as_it_was, is_left_as_it_was}
+use Rattle.desk_cli.proofs.commands.checking.check_command.Goals as goal
+
+pub returns-in-Ok : goal.returns-in-Ok
+unfolding kept_after
+returns-in-Ok g c = record {
+  prints = λ clean config heard kept.
+      let sound = c.close.ensures.sound clean in
+      let read = c.text_of-text.ensures.read in
+      let was_sound = read.was_sound sound in
+      let was = c.in-Ok.ensures.desk was_sound config heard kept in
+      prints _ _ _ _ _ (λ text. text.items) c.text_of-text.result c.print.result
+      (is_check _ config heard c.in-Ok.tables c.text_of-text.new.tables (λ text. text.items) was sound c.text_of-text.result c.text_of-text.ensures.told)
+      (λ still. keeps _ _ _ _ _ was read.same c.close.result g.met.S.Store.settled was_sound sound c.close.ensures.left c.close.ensures.in_order heard (is_kept_as_it_was _ _ _ _ _ was _ read sound still))
+      (is_left _ _ _ _ _ was read.same c.close.result g.met.S.Store.settled was_sound sound c.close.ensures.left heard None (is_left_as_it_was _ _ _ _ _ was _ read sound))
+      c.print.ensures;
+}
+
+pub returns-in-Err : goal.returns-in-Err
+returns-in-Err g c = record {
+  prints = λ clean config heard kept.
+      let back = c.in-Err.ensures.unavailable clean config heard kept in
+      prints_unopened _ _ _ _ c.in-Err.fault back.0 back.1 (Keeps-refl _) tt;
+}

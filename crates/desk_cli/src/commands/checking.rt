@@ -1,0 +1,155 @@
+//! `desk check`: what a desk's file holds.
+ghost use Rattle.std.specs.Prelude.{◌≡◌, false, IfOk, List, None};
+ghost use Rattle.std.specs.String.{string_bytes};
+ghost use Rattle.clap.specs.Matches.{found_of};
+ghost use Rattle.clap.specs.Simple.{app_of};
+ghost use Rattle.clap.specs.Walk.{rows_of};
+ghost use Rattle.clap.specs.declared.builder.command.Command.TheViews.{out-Command as fields_of};
+ghost use Rattle.sqlite.specs.Held.{state};
+ghost use Rattle.sqlite.specs.State.{HasCleanDisk};
+ghost use Rattle.registry_core.specs.declared.messages.Envelope.{Envelope};
+ghost use Rattle.registry_core.specs.Settings.{Settings};
+ghost use Rattle.desk_store.specs.Calls.{IsRead, Tells, fault_in};
+ghost use Rattle.desk_engine.specs.Reporting.{store_fault};
+ghost use Rattle.desk_tables.specs.Store.{meaning_of};
+ghost use Rattle.desk_cli.specs.Named.{Tells as TellsWords};
+ghost use Rattle.desk_cli.specs.OnTables.{IsLeft, KeepsHeard};
+ghost use Rattle.desk_cli.specs.Printing.{PrintsBy};
+ghost use Rattle.desk_cli.specs.commands.Checking.{IsCheck, check_app, check_named, check_text, eight_digits, named_lines, numbered_lines, settings_lines};
+ghost use Rattle.desk_cli.specs.steps.Checking.{IsCheckOf, TellsTotals};
+
+use super::Command;
+use crate::faults::Fault;
+use crate::opening::opened;
+use crate::options::{command, place, placed};
+use crate::printing::print;
+use crate::usage::Usage;
+use clap::ArgMatches;
+use desk_engine::ReportFault;
+use desk_store::{Counts, Looks, StoreFault};
+use desk_tables::{Tables, Totals};
+use registry_core::Config;
+use sqlite::{Alter, Connection};
+use std::alloc::{AllocError, Global};
+use std::io::Write;
+
+/// Its words: its name and the file.
+pub(crate) fn check_app<'a>(alloc: Global) -> Result<clap::Command<'a>, AllocError>
+    ensures app { IfOk result (λ c. app_of c ≡ check_app) }
+    ensures local { IfOk result (λ c. (fields_of c).has_globals ≡ false) }
+{
+    let about = "Prints what a desk's file was made with, and how much it holds";
+    let example = "Example:\n  desk check town.db";
+    let file = place(alloc, "file", "FILE", "The desk's file");
+    command(alloc, "check", about, example).arg(file)
+}
+
+/// The command that its words give.
+pub(crate) fn check_of<'a>(options: &ArgMatches<'a>) -> Result<Command<'a>, Usage>
+    ensures { TellsWords (check_named (rows_of (found_of options.now))) result }
+{
+    let file = placed(options, "file")?;
+    Ok(Command::Check { file })
+}
+
+/// Prints what the desk of the connection's database was made with, and how many senders, owners, gateways, devices, sessions,
+/// uplinks, bookings and replies it holds, a line each, and gives the connection back.
+///
+/// With `File` the writer failed. Nothing is changed.
+pub fn check_command<S: Alter, W: Write>(
+    alloc: Global,
+    conn: Connection<S>,
+    answers: &mut W,
+) -> (Result<(), Fault>, Connection<S>)
+    requires idle { conn.in_transaction ≡ false }
+    requires unlimited { conn.step_limit ≡ None }
+    ensures prints { HasCleanDisk (state S.Store result.1) → (c : Settings) (heard : List Envelope) → KeepsHeard S.Store conn c heard
+        → PrintsBy (KeepsHeard S.Store result.1 c heard) (IsLeft S.Store result.1 c heard None) (W.contents answers.old) (W.contents answers.new)
+        (IsCheck c heard) result.0 }
+{
+    match opened(alloc, conn) {
+        Ok(tables) => {
+            let mut tables = tables;
+            let text = text_of(alloc, &mut tables);
+            (print(answers, &text), tables.close())
+        }
+        Err((fault, conn)) => (Err(fault), conn),
+    }
+}
+
+/// What is printed of the desk.
+fn text_of<S: Alter>(alloc: Global, tables: &mut Tables<S>) -> Result<Vec<u8>, ReportFault>
+    ensures read { IsRead (meaning_of S.Store) tables.old tables.new (store_fault result) }
+    ensures told { IsCheckOf (meaning_of S.Store) tables.old tables.new (λ text. text.items) result }
+{
+    Ok(checked(alloc, tables)?)
+}
+
+fn checked<S: Alter>(alloc: Global, tables: &mut Tables<S>) -> Result<Vec<u8>, StoreFault>
+    ensures read { IsRead (meaning_of S.Store) tables.old tables.new (fault_in result) }
+    ensures told { Tells (meaning_of S.Store) tables.old tables.new result
+        (λ kept text. TellsTotals kept ((meaning_of S.Store).configuration tables.old) text.items) }
+{
+    let totals = tables.totals()?;
+    let text = lines_of(alloc, tables.config(), &totals)?;
+    Ok(text.into_bytes())
+}
+
+fn lines_of(alloc: Global, config: &Config, totals: &Totals) -> Result<String, AllocError>
+    ensures { IfOk result (λ text. string_bytes text ≡ check_text config.now totals.now) }
+{
+    let numbered = numbered_lines(alloc, totals)?;
+    let named = named_lines(alloc, totals, numbered.as_str())?;
+    settings_lines(alloc, config, named.as_str())
+}
+
+/// The lines of the configuration, before these.
+fn settings_lines(alloc: Global, config: &Config, lines: &str) -> Result<String, AllocError>
+    ensures { IfOk result (λ text. string_bytes text ≡ settings_lines config.now lines.now) }
+{
+    let base = digits_of(alloc, config.base())?;
+    let receiver = config.receiver().as_str();
+    let operator = config.operator().as_str();
+    let addresses = config.addresses();
+    format!(in alloc;
+        "schema: 1\nreceiver: {receiver}\noperator: {operator}\nbase: {base}\naddresses: {addresses}\n{lines}"
+    )
+}
+
+/// An address as eight hexadecimal digits.
+fn digits_of(alloc: Global, address: u32) -> Result<String, AllocError>
+    ensures { IfOk result (λ text. string_bytes text ≡ eight_digits address) }
+{
+    format!(in alloc; "{address:08x}")
+}
+
+/// The lines of what has a name or a DevEUI, before these.
+fn named_lines(alloc: Global, totals: &Totals, lines: &str) -> Result<String, AllocError>
+    ensures { IfOk result (λ text. string_bytes text ≡ named_lines totals.now lines.now) }
+{
+    let Totals {
+        senders,
+        owners,
+        gateways,
+        devices,
+        ..
+    } = *totals;
+    format!(in alloc;
+        "senders: {senders}\nowners: {owners}\ngateways: {gateways}\ndevices: {devices}\n{lines}"
+    )
+}
+
+/// The lines of what is numbered.
+fn numbered_lines(alloc: Global, totals: &Totals) -> Result<String, AllocError>
+    ensures { IfOk result (λ text. string_bytes text ≡ numbered_lines totals.now) }
+{
+    let Counts {
+        sessions,
+        uplinks,
+        bookings,
+    } = totals.numbered;
+    let replies = totals.replies;
+    format!(in alloc;
+        "sessions: {sessions}\nuplinks: {uplinks}\nbookings: {bookings}\nreplies: {replies}\n"
+    )
+}
