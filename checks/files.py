@@ -21,6 +21,8 @@ import tempfile
 import time
 from pathlib import Path
 
+from http_client import asked, body, free_port, get, post, received
+
 ROOT = Path(__file__).resolve().parent.parent
 EXAMPLES = ROOT / "examples"
 REGISTRY = (EXAMPLES / "1-registry.jsonl").read_text()
@@ -84,40 +86,6 @@ class Desk:
 def nth(text, count):
     """Where so many lines of the text end."""
     return sum(map(len, text.splitlines(keepends=True)[:count]))
-
-
-def free_port():
-    with socket.socket() as bound:
-        bound.bind(("127.0.0.1", 0))
-        return bound.getsockname()[1]
-
-
-def asked(port, octets, shut=False):
-    """The response to these octets."""
-    with socket.create_connection(("127.0.0.1", port), timeout=60) as connection:
-        connection.sendall(octets)
-        if shut:
-            connection.shutdown(socket.SHUT_WR)
-        return received(connection)
-
-
-def received(connection):
-    parts = []
-    while part := connection.recv(65_536):
-        parts.append(part)
-    return b"".join(parts)
-
-
-def post(line):
-    return f"POST /v1/messages HTTP/1.1\r\nhost: a\r\ncontent-length: {len(line)}\r\n\r\n{line}".encode()
-
-
-def get(target):
-    return f"GET {target} HTTP/1.1\r\nhost: a\r\n\r\n".encode()
-
-
-def body(response):
-    return response.partition(b"\r\n\r\n")[2].decode()
 
 
 def octets_of(file):
@@ -190,10 +158,12 @@ def strangers(desk):
 
 
 def links(desk):
-    """A link and a file with two names are refused."""
+    """A link is followed, to the log too; a file with two names is refused."""
     file = desk.made(given=REGISTRY)
     os.symlink(file, "link.db")
-    desk.ends(3, "desk: file\n", "bands", "link.db", "gw-a")
+    wanted = desk.run("bands", file, "gw-a")
+    desk.wants(wanted[0] == 0 and desk.run("bands", "link.db", "gw-a") == wanted, "by a link it is the same desk")
+    desk.wants(sorted(path.name for path in Path().iterdir()) == ["link.db", "town.db", "town.db-wal"], "a link has no log of its own")
     os.link(file, "second.db")
     desk.ends(3, "desk: file\n", "bands", file, "gw-a")
     os.unlink("second.db")

@@ -1,6 +1,7 @@
 pub mod Asked
 pub mod Checked
 pub mod CommandLine
+pub mod FoundAgain
 pub mod Imported
 pub mod Inited
 pub mod LinesAnswered

@@ -34,6 +34,13 @@ module _ {S : Type 0} (g : Ghosts S) (conn : Held S) (c : Settings) (heard : Lis
     pub committed : (state g conn).now ≡ (state g conn).committed
     pub left : IsLeft None
 
+-- the database holds what was heard, or that with the message in doubt: which one can't be told
+abbrev pub IsFound : Settings → List Envelope → Option Envelope → Database → Type 0
+IsFound c heard doubt db = ∥ (
+    IsOfDesk c (kept_after c heard) db
+    ⊎ ((e : Envelope) × (doubt ≡ Some e) × IsHeard c (heard ++ e ∷ []) × IsOfDesk c (kept_after c (heard ++ e ∷ [])) db)
+    ) ∥₁
+
 -- the store was opened on tables of a desk of this configuration that has heard these, and holds them
 pub record WasOpened {K : Type 0} (m : Meaning K) (k : K) (c : Settings) (heard : List Envelope) : Type 0 where
   pub list : IsHeard c heard

@@ -15,6 +15,7 @@ mod performing;
 mod printing;
 mod program;
 mod sockets;
+mod stopping;
 #[cfg(test)]
 mod tests;
 mod usage;

@@ -1,0 +1,37 @@
+"""Requests to a desk that serves, and its responses, octet for octet."""
+
+import socket
+
+
+def free_port():
+    with socket.socket() as bound:
+        bound.bind(("127.0.0.1", 0))
+        return bound.getsockname()[1]
+
+
+def asked(port, octets, shut=False):
+    """The response to these octets."""
+    with socket.create_connection(("127.0.0.1", port), timeout=60) as connection:
+        connection.sendall(octets)
+        if shut:
+            connection.shutdown(socket.SHUT_WR)
+        return received(connection)
+
+
+def received(connection):
+    parts = []
+    while part := connection.recv(65_536):
+        parts.append(part)
+    return b"".join(parts)
+
+
+def post(line):
+    return f"POST /v1/messages HTTP/1.1\r\nhost: a\r\ncontent-length: {len(line)}\r\n\r\n{line}".encode()
+
+
+def get(target):
+    return f"GET {target} HTTP/1.1\r\nhost: a\r\n\r\n".encode()
+
+
+def body(response):
+    return response.partition(b"\r\n\r\n")[2].decode()
