@@ -12,6 +12,7 @@ mod reports;
 pub(crate) mod requests;
 pub(crate) mod rows;
 mod runs;
+mod stops;
 mod stored_lines;
 pub(crate) mod streams;
 mod sweeping;
@@ -125,7 +126,7 @@ fn deliver_each<R: Abort + AllocGlobal, K: Keeper>(
 fn rows_hold<R: Abort + AllocGlobal, K: Opened>(rt: &R) -> Result<(), Fail> {
     runs::have_their_outcomes::<R, K>(rt)?;
     runs::hours_have_their_outcomes::<R, K>(rt)?;
-    runs::the_longest_text::<R, K>(rt)?;
+    runs::texts_have_limits::<R, K>(rt)?;
     importing::reports_are_heard_in_order::<R, K>(rt)?;
     reports::the_worked_report::<R, K>(rt)?;
     reports::months_have_edges::<R, K>(rt)?;

@@ -1,20 +1,23 @@
-//! Lines over plain lists: whole outputs, the limit of a line, and a read or a write that fails.
-use super::opening;
+//! Lines: whole outputs, the limit of a line, and a read or a write that fails.
 use super::rows::{ADDED, MALFORMED, OTHER_OWNER, REQUEST};
 use super::streams::{Failing, Pieces};
+use super::{Opened, opening};
 use desk_engine::{LinesEnd, run_lines};
-use desk_store::Lists;
+use desk_store::{Keeper, Lists};
+use desk_tables::Tables;
+use sqlite::MemStore;
 use std::alloc::Global;
+use std::process::Abort;
 use std::test::Fail;
 
 const REUSED: &str =
     r#"{"MessageType":"OwnerAddAns","ProtocolVersion":"1.0","ReceiverID":"office","Result":{"Description":"transaction","ResultCode":"Other"},"SenderID":"desk","TransactionID":1}"#;
 
 /// What the desk writes for the input, with sound ends.
-fn answers(alloc: Global, lists: &mut Lists, input: &str) -> Result<Vec<u8>, Fail> {
+fn answers<K: Keeper>(alloc: Global, keeper: &mut K, input: &str) -> Result<Vec<u8>, Fail> {
     let mut written = Vec::new(alloc);
     let mut reader = input.as_bytes();
-    match run_lines(alloc, lists, &mut reader, &mut written) {
+    match run_lines(alloc, keeper, &mut reader, &mut written) {
         LinesEnd::Done => Ok(written),
         _ => Err("no end".into()),
     }
@@ -46,20 +49,19 @@ fn lines_are_answered(rt: HostRuntime) -> Result<(), Fail> {
 
 /// A new desk after the input in pieces, of which the read fails that stands at this place; how it ended, and what
 /// it wrote.
-fn read_in_pieces(
+fn read_in_pieces<K: Opened>(
     alloc: Global,
     input: &str,
     until_failure: usize,
-) -> Result<(Box<Lists>, LinesEnd, Vec<u8>), Fail> {
-    let mut lists = opening::<Lists>(alloc, 65_536)?;
+) -> Result<(Box<K>, LinesEnd, Vec<u8>), Fail> {
+    let mut keeper = opening::<K>(alloc, 65_536)?;
     let mut written = Vec::new(alloc);
     let mut reader = Pieces::new(input.as_bytes(), until_failure);
-    let end = run_lines(alloc, &mut *lists, &mut reader, &mut written);
-    Ok((lists, end, written))
+    let end = run_lines(alloc, &mut *keeper, &mut reader, &mut written);
+    Ok((keeper, end, written))
 }
 
-#[test]
-fn a_read_fails(rt: HostRuntime) -> Result<(), Fail> {
+fn a_read_fails<R: Abort + AllocGlobal, K: Opened>(rt: &R) -> Result<(), Fail> {
     let alloc = rt.alloc();
     let input = format!(in alloc; "{{\n{REQUEST}\n")?;
     let malformed = format!(in alloc; "{MALFORMED}\n")?;
@@ -74,30 +76,33 @@ fn a_read_fails(rt: HostRuntime) -> Result<(), Fail> {
         (2, LinesEnd::Read, both.as_str(), &reused),
         (3, LinesEnd::Done, both.as_str(), &reused),
     ] {
-        let (mut lists, ended, written) = read_in_pieces(alloc, input.as_str(), until_failure)?;
+        let (mut keeper, ended, written) = read_in_pieces::<K>(
+            alloc,
+            input.as_str(),
+            until_failure,
+        )?;
         assert_eq!(rt; ended, end);
         assert!(rt; written.as_slice() == want.as_bytes());
-        let again = answers(alloc, &mut *lists, input.as_str())?;
+        let again = answers(alloc, &mut *keeper, input.as_str())?;
         assert!(rt; again.as_slice() == both.as_bytes());
-        let (mut lists, _, _) = read_in_pieces(alloc, input.as_str(), until_failure)?;
-        let other = answers(alloc, &mut *lists, OTHER_OWNER)?;
+        let (mut keeper, _, _) = read_in_pieces::<K>(alloc, input.as_str(), until_failure)?;
+        let other = answers(alloc, &mut *keeper, OTHER_OWNER)?;
         assert!(rt; other.as_slice() == want_other.as_bytes());
     }
     Ok(())
 }
 
-#[test]
-fn a_write_fails(rt: HostRuntime) -> Result<(), Fail> {
+fn a_write_fails<R: Abort + AllocGlobal, K: Opened>(rt: &R) -> Result<(), Fail> {
     let alloc = rt.alloc();
     let want = format!(in alloc; "{ADDED}\n{MALFORMED}\n")?;
     let reused = format!(in alloc; "{REUSED}\n")?;
     let input = format!(in alloc; "{REQUEST}\n\n{{")?;
     // One write an answer.
     for until_failure in 0..3 {
-        let mut lists = opening::<Lists>(alloc, 65_536)?;
+        let mut keeper = opening::<K>(alloc, 65_536)?;
         let mut reader = input.as_bytes();
         let mut writer = Failing::new(until_failure);
-        let ended = run_lines(alloc, &mut *lists, &mut reader, &mut writer);
+        let ended = run_lines(alloc, &mut *keeper, &mut reader, &mut writer);
         assert_eq!(rt;
             ended,
             if until_failure < 2 {
@@ -106,17 +111,29 @@ fn a_write_fails(rt: HostRuntime) -> Result<(), Fail> {
                 LinesEnd::Done
             }
         );
-        let again = answers(alloc, &mut *lists, input.as_str())?;
+        let again = answers(alloc, &mut *keeper, input.as_str())?;
         assert!(rt; again.as_slice() == want.as_bytes());
-        let other = answers(alloc, &mut *lists, OTHER_OWNER)?;
+        let other = answers(alloc, &mut *keeper, OTHER_OWNER)?;
         assert!(rt; other.as_slice() == reused.as_bytes());
     }
-    let mut lists = opening::<Lists>(alloc, 65_536)?;
+    let mut keeper = opening::<K>(alloc, 65_536)?;
     let mut room = [0u8; 162];
     let mut writer: &mut [u8] = &mut room;
     let mut reader = input.as_bytes();
-    let ended = run_lines(alloc, &mut *lists, &mut reader, &mut writer);
+    let ended = run_lines(alloc, &mut *keeper, &mut reader, &mut writer);
     assert_eq!(rt; ended, LinesEnd::Write);
     assert!(rt; room.as_slice() == &ADDED.as_bytes()[..162]);
     Ok(())
+}
+
+#[test]
+fn ends_fail_over_lists(rt: HostRuntime) -> Result<(), Fail> {
+    a_read_fails::<HostRuntime, Lists>(&rt)?;
+    a_write_fails::<HostRuntime, Lists>(&rt)
+}
+
+#[test]
+fn ends_fail_over_tables(rt: HostRuntime) -> Result<(), Fail> {
+    a_read_fails::<HostRuntime, Tables<MemStore>>(&rt)?;
+    a_write_fails::<HostRuntime, Tables<MemStore>>(&rt)
 }

@@ -1,13 +1,10 @@
 //! The ten tables and desks in them, over connections and files in memory: calls of desk_rows and of desk_tables, for what no
 //! worked row shows. Each step is a function of its own: a proof that carries the clauses of many calls takes minutes.
-mod found;
 mod keeping;
-mod looks;
 mod opening;
 mod ranges;
 mod refusals;
 mod reopening;
-mod updates;
 
 use super::config;
 use super::report_sizes::named;

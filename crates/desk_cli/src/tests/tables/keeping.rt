@@ -1,7 +1,9 @@
 //! What is heard and what is refused, through the traits.
 use super::{copy, data_uplink, heard_session, sent_booking};
-use crate::tests::opening;
 use crate::tests::report_sizes::named;
+use crate::tests::stops::{deliveries, opened};
+use crate::tests::{expect_told, opening};
+use desk_engine::{Outcome, deliver};
 use desk_store::{Counts, Keeper, Looks, StoreFault};
 use desk_tables::Tables;
 use registry_core::{Effect, Envelope, Kind, Message, Uplink};
@@ -95,5 +97,23 @@ fn what_is_refused_leaves_nothing(rt: HostRuntime) -> Result<(), Fail> {
     assert!(rt; !has_reply(&mut *desk, 2)?);
     assert!(rt; downlink_heard(&mut *desk)? == Err(StoreFault::NotADesk));
     assert!(rt; !has_reply(&mut *desk, 3)?);
+    Ok(())
+}
+
+/// Somebody has written a booking's state as 3. What ends that booking tells that it is no desk's.
+#[test]
+fn a_booking_in_no_state(rt: HostRuntime) -> Result<(), Fail> {
+    let mut deliveries = deliveries(rt.alloc())?;
+    let last = deliveries.pop().ok_or("no message")?;
+    let mut desk = opening::<Tables<MemStore>>(rt.alloc(), 65_536)?;
+    for delivery in &deliveries {
+        let outcome = deliver(rt.alloc(), &mut *desk, delivery.text.as_bytes());
+        expect_told(&rt, &outcome, delivery);
+    }
+    let mut conn = Box::into_inner(desk).close();
+    conn.execute_batch("UPDATE booking SET state = 3")?;
+    let mut desk = opened(rt.alloc(), conn)?;
+    let outcome = deliver(rt.alloc(), &mut *desk, last.text.as_bytes());
+    assert!(rt; matches!(outcome, Outcome::Unavailable(StoreFault::NotADesk)));
     Ok(())
 }
