@@ -39,7 +39,8 @@ FIRST_DEV_EUI = 0x0004_A30B_001A_0000
 class Stream:
     """Messages in order, each with the next number of its sender."""
 
-    def __init__(self, seed):
+    def __init__(self, seed, devices=DEVICES):
+        self.devices = devices
         self.random = random.Random(seed)
         self.lines = []
         self.transactions = {}
@@ -64,7 +65,7 @@ class Stream:
         self.say("office", "OwnerAdd", Owner="town")
         for n in range(GATEWAYS):
             self.say("office", "GatewayAdd", Gateway=f"gw-{n}")
-        for n in range(DEVICES):
+        for n in range(self.devices):
             self.say("office", "DeviceAdd", DevEUI=f"{FIRST_DEV_EUI + n:016x}", JoinEUI=f"{JOIN_EUI:016x}", Owner="town")
 
     def report(self, message_type, gateways, octets, frequency, verdict):

@@ -1,8 +1,8 @@
 """Messages as a desk meets them: operation with repeats, copies, changed messages, late and lost frames, refused downlinks.
 
 `mixed_operation(size, seed)` gives so many lines, from the opening state on, the same ones for the same seed, and the plain Python
-program (bench/dictionaries.py) that heard them, with its answers. Each line is a message in its form, or NO_MESSAGE, to which that
-program has no answer.
+program (bench/dictionaries.py) that heard them, with its answers. With few devices a short stream is more than their joins. Each line
+is a message in its form, or NO_MESSAGE, to which that program has no answer.
 """
 
 import json
@@ -34,8 +34,8 @@ class Heard(list):
 
 
 class Mixed(Stream):
-    def __init__(self, seed):
-        super().__init__(seed)
+    def __init__(self, seed, devices):
+        super().__init__(seed, devices)
         self.lines = Heard()
         self.desk = self.lines.desk
 
@@ -74,7 +74,7 @@ class Mixed(Stream):
 
     def join_heard(self):
         self.step_on()
-        device = self.random.randrange(DEVICES)
+        device = self.random.randrange(self.devices)
         eui = FIRST_DEV_EUI + device
         last = self.desk.devices[f"{eui:016x}"]["last"]
         nonce = max(0, last + self.random.choices([1, 2, 8, 0], [80, 10, 5, 5])[0])
@@ -123,7 +123,7 @@ class Mixed(Stream):
 
     def registry(self):
         sender = self.random.choices(["office", "desk-2", "bridge", "nobody"], [60, 20, 15, 5])[0]
-        eui = f"{FIRST_DEV_EUI + self.random.randrange(DEVICES + 5):016x}"
+        eui = f"{FIRST_DEV_EUI + self.random.randrange(self.devices + 5):016x}"
         owner = self.random.choice(OWNERS)
         kind = self.one_of(DeviceMove=50, DeviceAdd=20, OwnerAdd=5, GatewayAdd=15, SenderAdd=10)
         members = {
@@ -165,10 +165,10 @@ STEPS = {
 }
 
 
-def mixed_operation(size, seed):
-    stream = Mixed(seed)
+def mixed_operation(size, seed, devices=DEVICES):
+    stream = Mixed(seed, devices)
     stream.register()
-    for _ in range(DEVICES):
+    for _ in range(devices):
         stream.join_heard()
     while len(stream.lines) < size:
         stream.random.choices(list(STEPS), list(STEPS.values()))[0](stream)

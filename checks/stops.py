@@ -4,8 +4,8 @@
     checks/stops.py [--built] [--streams 20] [--runs 200] [--size 120] [--seed 1]
 
 A desk over files in memory hears the ten messages of the test, once for each number of calls that the one file passes on before it
-fails, and then for each of the other, until it meets no stop any more. Each stream (mixed_operation.py: repeats, copies, changed and
-refused messages) is heard so many times with a random number of calls. What is there after a stop is opened again twice: as a process
+fails, and then for each of the other, until it meets no stop any more. Each stream (mixed_operation.py, of few devices: repeats, copies,
+changed and refused messages, downlinks) is heard so many times with a random number of calls. What is there after a stop is opened again twice: as a process
 leaves it that has ended, and as a machine does that has lost all that wasn't synced. Each time its rows have to be those of a desk that
 wasn't stopped, before the message under way or with it; and the rest has to be told what it is told without a stop, and to leave the
 same rows.
@@ -30,6 +30,8 @@ TEST = "tests::stops::given_lines"
 CALLS_A_MESSAGE = 4
 CALLS_OF_DB = 120
 BATCH = 50
+# few enough that a stream is more than their joins
+DEVICES = 8
 
 
 def runs_of(fuses, lines, what):
@@ -64,7 +66,7 @@ def at_random_calls(streams, runs, size, first):
         chance = random.Random(seed)
         fuses = [f"log{chance.randrange(CALLS_A_MESSAGE * size)}" for _ in range(runs * 4 // 5)]
         fuses += [f"db{chance.randrange(CALLS_OF_DB)}" for _ in range(runs - len(fuses))]
-        stops += runs_of(fuses, mixed_operation(size, seed), f"seed {seed}")
+        stops += runs_of(fuses, mixed_operation(size, seed, devices=DEVICES), f"seed {seed}")
     return stops
 
 
