@@ -3,8 +3,9 @@
 
     bench/dictionaries.py < LINES
 
-It hears the messages of standard input and answers them as `desk lines` does, by the same rules. Nothing is proved of it, and it
-trusts that each line is a message in its form, for a known receiver: so it does no more than any program must.
+It hears the messages of standard input and answers them as `desk lines` does, by the same rules. Nothing is proved of
+it, and it trusts that each line is a message in its form, for a known receiver, but for a Limit, which may be too great:
+so it does no more than any program must.
 """
 
 import bisect
@@ -19,7 +20,7 @@ FIRST_TIME, LAST_TIME = 946_684_800_000_000, 4_102_444_800_000_000
 SYMBOLS = [32_768, 16_384, 8_192, 4_096, 2_048, 1_024, 512]
 SPREADING = [12, 11, 10, 9, 8, 7, 7]
 LONGEST = [64, 64, 64, 128, 255, 255, 255]
-# from, to, and what any hour may hold
+# from, to, and what any hour may hold where no other limit is set
 BANDS = {
     "B1": (863_000_000, 865_000_000, 3_600_000),
     "B2": (865_000_000, 868_000_000, 36_000_000),
@@ -64,6 +65,11 @@ def data_frame(octets, kinds):
     return little(octets[1:5]), little(octets[6:8])
 
 
+def limit_in_form(message):
+    """Whether the message's Limit, if it has one, is no more than its band's own."""
+    return message["MessageType"] != "LimitSet" or message["Limit"] <= BANDS[message["Band"]][2]
+
+
 def most_in_an_hour(spans):
     """The greatest use of an hour that begins at a start or ends at an end, of spans that share nothing."""
     spans = sorted(spans)
@@ -75,7 +81,7 @@ def most_in_an_hour(spans):
         return before[begun] - (max(0, spans[begun - 1][1] - time) if begun else 0)
 
     begins = starts + [end - HOUR for _, end in spans]
-    return max(used_before(begin + HOUR) - used_before(begin) for begin in begins)
+    return max((used_before(begin + HOUR) - used_before(begin) for begin in begins), default=0)
 
 
 class Desk:
@@ -92,6 +98,8 @@ class Desk:
         self.bookings = []
         # of a gateway the starts and numbers of its bookings, in order of start
         self.starts = {}
+        # of a gateway and a band
+        self.limits = {}
 
     def deliver(self, line):
         message = json.loads(line)
@@ -103,6 +111,8 @@ class Desk:
             "SenderID": "desk",
             "TransactionID": message["TransactionID"],
         }
+        if not limit_in_form(message):
+            return told(answer, "Other", "body")
         if sender not in self.senders:
             return told(answer, "UnknownSender", "")
         pair = sender, message["TransactionID"]
@@ -146,6 +156,18 @@ class Desk:
         wants(message["DevEUI"] in self.devices, "UnknownDevEUI")
         wants(message["Owner"] in self.owners, "Other", "owner")
         self.devices[message["DevEUI"]]["owner"] = message["Owner"]
+
+    def downlinks(self, gateway, band):
+        """The gateway's downlinks in the band that aren't dropped: when each begins and ends."""
+        bookings = (self.bookings[number - 1] for _, number in self.starts.get(gateway, []))
+        return [(b["start"], b["end"]) for b in bookings if b["band"] == band and b["state"] != DROPPED]
+
+    def limit_set(self, message):
+        self.operated(message)
+        gateway, band = message["Gateway"], message["Band"]
+        wants(gateway in self.gateways, "Other", "gateway")
+        wants(most_in_an_hour(self.downlinks(gateway, band)) <= message["Limit"], "XmitFailed", "duty")
+        self.limits[gateway, band] = message["Limit"]
 
     def received(self, message):
         """Its octets and band, after the checks that joins and data frames share."""
@@ -230,7 +252,8 @@ class Desk:
         near = [self.bookings[n - 1] for _, n in starts[first:after] if self.bookings[n - 1]["state"] != DROPPED]
         wants(all(b["end"] <= start or start + length <= b["start"] for b in near), "XmitFailed", "collision")
         spans = [(b["start"], b["end"]) for b in near if b["band"] == band]
-        wants(most_in_an_hour(spans + [(start, start + length)]) <= BANDS[band][2], "XmitFailed", "duty")
+        limit = self.limits.get((message["Gateway"], band), BANDS[band][2])
+        wants(most_in_an_hour(spans + [(start, start + length)]) <= limit, "XmitFailed", "duty")
         self.bookings.append({"uplink": uplink, "band": band, "start": start, "end": start + length, "state": BOOKED})
         bisect.insort(starts, (start, len(self.bookings)))
         uplink["answered"] = True
@@ -256,6 +279,7 @@ MESSAGES = {
     "FrameHeard": Desk.frame_heard,
     "DownBook": Desk.down_book,
     "DownDone": Desk.down_done,
+    "LimitSet": Desk.limit_set,
 }
 
 

@@ -221,7 +221,7 @@ def owner_report_of(desk):
     for eui, by_band in sorted(spans.items()):
         numbers = [sum(map(len, by_band.values()))]
         for of_band in by_band.values():
-            numbers += [sum(end - start for start, end in of_band), most_in_an_hour(of_band) if of_band else 0]
+            numbers += [sum(end - start for start, end in of_band), most_in_an_hour(of_band)]
         lines.append(",".join([eui, *map(str, numbers)]))
     return text_of(lines)
 

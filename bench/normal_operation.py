@@ -3,11 +3,12 @@
 
     bench/normal_operation.py [--sizes 2000,10000,50000] [--seed 1] [--write FILE]
 
-A stream is one owner, 8 gateways and 200 devices, which join, and then send data frames that 1 to 3 gateways hear. Every tenth
-data frame is answered in its first window, and each downlink is told as sent. For each size it prints the lines a second, how
-the time grows from size to size, and the peak memory, and beside them how many times as long a plain Python program over
-dictionaries takes (dictionaries.py). Every answer has to be a success, and the two programs have to give the same octets. With
---write the largest stream goes into a file, and nothing is measured.
+A stream is one owner, 8 gateways and 200 devices, which join, and then send data frames that 1 to 3 gateways hear. Every
+tenth data frame is answered in its first window, and each downlink is told as sent. Now and then the operator sets the
+limit of a gateway's band: lower and higher again where there are downlinks, and 0 where there are none. For each size it
+prints the lines a second, how the time grows from size to size, and the peak memory, and beside them how many times as
+long a plain Python program over dictionaries takes (dictionaries.py). Every answer has to be a success, and the two
+programs have to give the same octets. With --write the largest stream goes into a file, and nothing is measured.
 """
 
 import argparse
@@ -27,6 +28,10 @@ DEVICES = 200
 # 2024-02-01 00:00 UTC, in microseconds
 BEGINNING = 1_706_745_600_000_000
 
+# after so many data frames a limit is set, at the gateways in turn, in each round of them the next of these
+FRAMES_A_LIMIT = 500
+LIMITS = [("B3", 18_000_000), ("B1", 0), ("B3", 36_000_000), ("B1", 3_600_000)]
+
 # between two uplinks: no downlink then collides with another, and no hour comes near its limit
 SECOND = 1_000_000
 
@@ -40,8 +45,8 @@ class Stream:
     """Messages in order, each with the next number of its sender."""
 
     def __init__(self, seed, devices=DEVICES):
-        self.devices = devices
         self.random = random.Random(seed)
+        self.devices = devices
         self.lines = []
         self.transactions = {}
         self.now = BEGINNING
@@ -112,9 +117,14 @@ class Stream:
         self.say("bridge", "DownBook", Uplink=self.uplinks, Gateway=f"gw-{gateway}", Window=1, PHYPayload=octets.hex())
         self.say("bridge", "DownDone", Booking=self.bookings, Sent=True)
 
+    def limit(self, place):
+        """The limit with this place in the order in which they are set."""
+        band, most = LIMITS[place // GATEWAYS % len(LIMITS)]
+        self.say("office", "LimitSet", Gateway=f"gw-{place % GATEWAYS}", Band=band, Limit=most)
 
-def normal_operation(size, seed):
-    """So many lines, from the opening state on."""
+
+def normal_operation(size, seed, limits=True):
+    """So many lines, from the opening state on. Without limits no line is a LimitSet, and the others are the same ones."""
     stream = Stream(seed)
     stream.register()
     for device in range(DEVICES):
@@ -130,6 +140,8 @@ def normal_operation(size, seed):
         if frames % 10 == 0:
             stream.answer(device, down[device], gateway)
             down[device] += 1
+        if limits and frames % FRAMES_A_LIMIT == 0:
+            stream.limit(frames // FRAMES_A_LIMIT - 1)
     return stream.lines[:size]
 
 

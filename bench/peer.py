@@ -3,10 +3,11 @@
 
     bench/peer.py FILE < LINES
 
-It hears the messages of standard input and answers them as `desk hear` does, by the same rules, over the same ten tables in FILE,
-which it makes where there is none. Each message is one transaction, which is on the disk before its answer (WAL, synchronous FULL),
-and nobody else may use FILE meanwhile. Nothing is proved of it, and it trusts that each line is a message in its form, for a known
-receiver: so it does no more than any program must. What needs no table it takes from dictionaries.py.
+It hears the messages of standard input and answers them as `desk hear` does, by the same rules, over the same eleven
+tables in FILE, which it makes where there is none. Each message is one transaction, which is on the disk before its
+answer (WAL, synchronous FULL), and nobody else may use FILE meanwhile. Nothing is proved of it, and it trusts that each
+line is a message in its form, for a known receiver, but for a Limit, which may be too great: so it does no more than any
+program must. What needs no table it takes from dictionaries.py.
 """
 
 import json
@@ -31,6 +32,7 @@ from dictionaries import (
     airtime,
     band_of,
     data_frame,
+    limit_in_form,
     little,
     most_in_an_hour,
     told,
@@ -61,7 +63,7 @@ class File:
             self.run("BEGIN")
             for statement in schema().split(";"):
                 self.run(statement)
-            self.run("INSERT INTO meta VALUES (1, 1, 'desk', 'office', ?, ?)", BASE, ADDRESSES)
+            self.run("INSERT INTO meta VALUES (1, 2, 'desk', 'office', ?, ?)", BASE, ADDRESSES)
             self.run("INSERT INTO sender VALUES ('office', ?)", OPERATOR)
             self.run("COMMIT")
 
@@ -83,6 +85,8 @@ class File:
     def answer_to(self, message):
         sender, number, kind = message["SenderID"], message["TransactionID"], message["MessageType"]
         answer = {"MessageType": kind + "Ans", "ProtocolVersion": "1.0", "ReceiverID": sender, "SenderID": "desk", "TransactionID": number}
+        if not limit_in_form(message):
+            return told(answer, "Other", "body")
         known = self.found("SELECT role FROM sender WHERE name = ?", sender)
         if not known:
             return told(answer, "UnknownSender", "")
@@ -126,6 +130,15 @@ class File:
         wants(self.found("SELECT 1 FROM device WHERE eui = ?", eui), "UnknownDevEUI")
         self.wants_named("owner", message["Owner"])
         self.run("UPDATE device SET owner = ? WHERE eui = ?", message["Owner"], eui)
+
+    def limit_set(self, message):
+        gateway, band, limit = message["Gateway"], int(message["Band"][1]), message["Limit"]
+        self.wants_named("gateway", gateway)
+        text = "SELECT start, start + airtime FROM booking WHERE gateway = ? AND band = ? AND state <> ?"
+        spans = self.run(text, gateway, band, DROPPED).fetchall()
+        wants(most_in_an_hour(spans) <= limit, "XmitFailed", "duty")
+        changed = "ON CONFLICT (gateway, band) DO UPDATE SET value = excluded.value"
+        self.run(f"INSERT INTO band_limit VALUES (?, ?, ?) {changed}", gateway, band, limit)
 
     def received(self, message):
         """Its octets and band, after the checks that joins and data frames share."""
@@ -224,7 +237,10 @@ class File:
         near = self.run(text, gateway, first, after, DROPPED).fetchall()
         wants(all(b_end <= start or start + length <= b_start for b_start, b_end, _ in near), "XmitFailed", "collision")
         spans = [(b_start, b_end) for b_start, b_end, b_band in near if b_band == int(band[1])]
-        wants(most_in_an_hour(spans + [(start, start + length)]) <= BANDS[band][2], "XmitFailed", "duty")
+        limit = self.last("SELECT value FROM band_limit WHERE gateway = ? AND band = ?", gateway, int(band[1]))
+        if limit is None:
+            limit = BANDS[band][2]
+        wants(most_in_an_hour(spans + [(start, start + length)]) <= limit, "XmitFailed", "duty")
         values = number, gateway, session, kind, int(band[1]), start, length, BOOKED
         booking = self.run("INSERT INTO booking VALUES (NULL, ?, ?, ?, ?, ?, ?, ?, ?)", *values).lastrowid
         if kind == DATA:
@@ -248,8 +264,9 @@ MESSAGES = {
     "FrameHeard": File.frame_heard,
     "DownBook": File.down_book,
     "DownDone": File.down_done,
+    "LimitSet": File.limit_set,
 }
-OPERATORS_ONLY = ["SenderAdd", "OwnerAdd", "GatewayAdd", "DeviceAdd", "DeviceMove"]
+OPERATORS_ONLY = ["SenderAdd", "OwnerAdd", "GatewayAdd", "DeviceAdd", "DeviceMove", "LimitSet"]
 
 
 def main():

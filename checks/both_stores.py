@@ -3,10 +3,10 @@
 
     checks/both_stores.py [--size 20000] [--seed 1] [--built]
 
-So many messages of mixed operation (mixed_operation.py) go to each store: to the file in two runs, the second of which opens what
-the first one closed. All answers, and both reports on all owners, months and gateways, have to be the same octets. Then the real
-SQLite reads the file, and each row of its ten tables has to be that of a plain Python program that heard the same messages
-(bench/dictionaries.py).
+So many messages of mixed operation (mixed_operation.py) go to each store: to the file in two runs, the second of which
+opens what the first one closed. All answers, and both reports on all owners, months and gateways, have to be the same
+octets. Then the real SQLite reads the file, and each row of its eleven tables has to be that of a plain Python program
+that heard the same messages (bench/dictionaries.py).
 
 The stores are those of the test `stored_lines` of desk_cli, which `rt test` proves and builds first, or with --built the test that it built last.
 """
@@ -54,7 +54,7 @@ def answers_of(told):
 
 
 def rows_of(desk):
-    """The rows of the ten tables, as the plain program's dictionaries have them."""
+    """The rows of the eleven tables, as the plain program's dictionaries have them."""
     nonces = {uplink["number"]: nonce for (_, nonce), uplink in desk.joins.items()}
     counters = {uplink["number"]: counter for (_, counter), uplink in desk.frames.items()}
     of_session = {uplink["session"]: nonces[uplink["number"]] for uplink in desk.joins.values()}
@@ -83,7 +83,7 @@ def rows_of(desk):
     ]
     write = dictionaries.write
     return {
-        "meta": [(1, 1, "desk", "office", dictionaries.BASE, dictionaries.ADDRESSES)],
+        "meta": [(1, 2, "desk", "office", dictionaries.BASE, dictionaries.ADDRESSES)],
         "sender": [(name, ROLES[role]) for name, role in desk.senders.items()],
         "reply": [(n, *pair, write(m).encode(), answer.encode()) for n, (pair, (m, answer)) in enumerate(desk.heard.items(), 1)],
         "owner": [(name,) for name in desk.owners],
@@ -99,6 +99,7 @@ def rows_of(desk):
         "uplink": uplinks,
         "copy": copies,
         "booking": bookings,
+        "band_limit": [(gateway, int(band[1]), limit) for (gateway, band), limit in desk.limits.items()],
     }
 
 

@@ -30,6 +30,8 @@ MESSAGES = "".join(path.read_text() for path in sorted(EXAMPLES.glob("[1-4]-*.js
 ANSWERS = "".join((EXAMPLES / "day.txt").read_text().splitlines(keepends=True)[: MESSAGES.count("\n")])
 REPORT = (EXAMPLES / "evening-report.csv").read_text()
 HEADER = REPORT.splitlines(keepends=True)[0]
+LIMIT = '{"ProtocolVersion":"1.0","SenderID":"office","ReceiverID":"desk","TransactionID":6,"MessageType":"LimitSet","Gateway":"gw-a","Band":"B1","Limit":0}\n'
+LIMIT_ANSWER = '{"MessageType":"LimitSetAns","ProtocolVersion":"1.0","ReceiverID":"office","Result":{"Description":"","ResultCode":"Success"},"SenderID":"desk","TransactionID":6}\n'
 REFUSED_SENDER = '"ResultCode":"UnknownSender"'
 SIZE = 16_777_216
 ENDED = 20
@@ -102,6 +104,11 @@ def execute(file, text, words=""):
         conn.close()
 
 
+def rows_of(file):
+    tables = execute(file, "SELECT name FROM sqlite_schema WHERE type = 'table' ORDER BY rowid", "?mode=ro")
+    return {table: execute(file, f"SELECT * FROM {table} ORDER BY rowid", "?mode=ro") for (table,) in tables}
+
+
 def replies(file):
     return execute(file, "SELECT count(*) FROM reply", "?mode=ro")[0][0]
 
@@ -122,12 +129,12 @@ def options(desk):
     """The four options are kept in the file."""
     desk.ends(0, "", "init", "port.db", "--receiver", "desk-2", "--operator", "harbour", "--base", "01B00000", "--addresses", "7")
     found = execute(Path("port.db"), "SELECT version, receiver, operator, base, addresses FROM meta", "?mode=ro")
-    desk.wants(found == [(1, "desk-2", "harbour", 0x01B0_0000, 7)], f"the file tells {found}")
+    desk.wants(found == [(2, "desk-2", "harbour", 0x01B0_0000, 7)], f"the file tells {found}")
 
 
 def missing(desk):
     """A file that isn't there is refused, and not made."""
-    for words in (["hear"], ["import", "--sender", "bridge"], ["report", "town", "2024-02"], ["bands", "gw-a"], ["check"]):
+    for words in (["hear"], ["import", "--sender", "bridge"], ["report", "town", "2024-02"], ["bands", "gw-a"], ["check"], ["migrate"]):
         desk.ends(3, "desk: file\n", words[0], "nothing.db", *words[1:], given=HEADER)
     desk.ends(3, "desk: file\n", "serve", "nothing.db", "--port", str(free_port()), "--count", "1")
     desk.wants(not list(Path().iterdir()), f"no file is made: {list(Path().iterdir())}")
@@ -152,9 +159,58 @@ def strangers(desk):
         desk.ends(status, told, "hear", name, given=REGISTRY)
         desk.ends(status, told, "report", name, "town", "2024-02")
         desk.ends(status, told, "check", name)
+        desk.ends(status, told, "migrate", name)
         desk.wants(Path(name).read_bytes() == before, f"{name} is left as it was")
     desk.ends(1, "desk: not a desk\n", "init", "other.db")
     desk.ends(3, "desk: file\n", "init", "text.db")
+
+
+def schema_1(desk, name):
+    """A file with the messages, as one has them that was made before there were limits."""
+    file = desk.made(name)
+    execute(file, "DROP TABLE band_limit")
+    execute(file, "UPDATE meta SET version = 1")
+    return file
+
+
+def without_room():
+    """The log has no room for a transaction, and the first file has none at all."""
+    signal.signal(signal.SIGXFSZ, signal.SIG_IGN)
+    resource.setrlimit(resource.RLIMIT_FSIZE, (8_192, 8_192))
+
+
+def earlier(desk):
+    """A file of schema 1 is refused by every command but `migrate`, by that one where there is no room, and left as it is."""
+    file = schema_1(desk, "town.db")
+    before = file.read_bytes()
+    for words in (["hear"], ["import", "--sender", "bridge"], ["report", "town", "2024-02"], ["bands", "gw-a"], ["check"]):
+        desk.ends(1, "desk: schema\n", words[0], file, *words[1:], given=HEADER)
+    desk.ends(1, "desk: schema\n", "serve", file, "--port", str(free_port()), "--count", "1")
+    desk.ends(1, "desk: exists\n", "init", file)
+    status, _, told = desk.run("migrate", file, preexec_fn=without_room)
+    desk.wants((status, told) == (3, "desk: unavailable\n"), f"migrate without room ends with {status} {told!r}")
+    taken = schema_1(desk, "taken.db")
+    execute(taken, "CREATE TABLE band_limit (id INTEGER PRIMARY KEY)")
+    taken_before = taken.read_bytes()
+    desk.ends(1, "desk: exists\n", "migrate", taken)
+    desk.wants((file.read_bytes(), taken.read_bytes()) == (before, taken_before), "what isn't moved is left as it was")
+    desk.ends(0, "", "migrate", file)
+
+
+def migrating(desk):
+    """A file of schema 1 is moved by `migrate` once, with what it has, and then has limits."""
+    file = schema_1(desk, "town.db")
+    rows = rows_of(file)
+    desk.ends(0, "", "migrate", file)
+    desk.wants(rows_of(file) == {**rows, "meta": [(1, 2, *rows["meta"][0][2:])], "band_limit": []}, "all rows are moved")
+    desk.ends(0, "", "hear", file, given=MESSAGES + LIMIT, written=ANSWERS + LIMIT_ANSWER)
+    desk.ends(0, "", "report", file, "town", "2024-02", written=(EXAMPLES / "owner-report.csv").read_text())
+    desk.ends(0, "", "bands", file, "gw-a", written=(EXAMPLES / "band-report.csv").read_text().replace("B1,3600000", "B1,0"))
+    counted = {line.partition(": ")[0]: line.partition(": ")[2] for line in desk.run("check", file)[1].splitlines()}
+    desk.wants((counted.get("schema"), counted.get("limits")) == ("2", "1"), f"check counts {counted}")
+    before = file.read_bytes()
+    desk.ends(1, "desk: schema\n", "migrate", file)
+    desk.wants(file.read_bytes() == before, "a file that was moved is left as it is")
 
 
 def links(desk):
@@ -182,6 +238,8 @@ def usage(desk):
         ["import", "town.db"],
         ["import", "town.db", "--sender", "a b"],
         ["report", "town.db", "town"],
+        ["migrate"],
+        ["migrate", "town.db", "--base", "01b00000"],
         ["--help"],
         ["serve", "--help"],
     ):
@@ -228,7 +286,7 @@ def held(desk):
     """A file is one program's: others are refused, and reports are asked of the one that serves."""
     file = desk.made()
     program, port = desk.serving(file, 3)
-    for words in (["hear", file], ["report", file, "town", "2024-02"], ["bands", file, "gw-a"], ["check", file], ["import", file, "--sender", "bridge"]):
+    for words in (["hear", file], ["report", file, "town", "2024-02"], ["bands", file, "gw-a"], ["check", file], ["migrate", file], ["import", file, "--sender", "bridge"]):
         desk.ends(3, "desk: file\n", *words, given=HEADER)
     desk.ends(3, "desk: file\n", "init", file)
     try:
@@ -375,6 +433,8 @@ PARTS = [
     options,
     missing,
     strangers,
+    earlier,
+    migrating,
     links,
     usage,
     reports,

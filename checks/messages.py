@@ -22,7 +22,7 @@ from pathlib import Path
 ROOT = Path(__file__).resolve().parent.parent
 PAGE = ROOT / "docs" / "MESSAGES.md"
 HANDBOOK = ROOT / "docs" / "HANDBOOK.md"
-MESSAGES = ["SenderAdd", "OwnerAdd", "GatewayAdd", "DeviceAdd", "DeviceMove", "JoinHeard", "FrameHeard", "DownBook", "DownDone"]
+MESSAGES = ["SenderAdd", "OwnerAdd", "GatewayAdd", "DeviceAdd", "DeviceMove", "JoinHeard", "FrameHeard", "DownBook", "DownDone", "LimitSet"]
 ANSWERED_REFUSALS = range(1, 32)
 
 COMMAND = re.compile(r"    \./desk (.+)")

@@ -1,8 +1,10 @@
-"""Messages as a desk meets them: operation with repeats, copies, changed messages, late and lost frames, refused downlinks.
+"""Messages as a desk meets them: operation with repeats, copies, changed messages, late and lost frames, refused downlinks,
+limits that are set and refused.
 
-`mixed_operation(size, seed)` gives so many lines, from the opening state on, the same ones for the same seed, and the plain Python
-program (bench/dictionaries.py) that heard them, with its answers. With few devices a short stream is more than their joins. Each line
-is a message in its form, or NO_MESSAGE, to which that program has no answer.
+`mixed_operation(size, seed)` gives so many lines, from the opening state on, the same ones for the same seed, and the plain
+Python program (bench/dictionaries.py) that heard them, with its answers. With `limits=False` no line is a LimitSet; with
+fewer devices a short stream is more than their joins. Each line is a message in its form, but for a Limit that is too
+great, or NO_MESSAGE, to which that program has no answer.
 """
 
 import json
@@ -11,6 +13,7 @@ from pathlib import Path
 
 sys.path.insert(0, str(Path(__file__).resolve().parent.parent / "bench"))
 import dictionaries
+from dictionaries import BANDS, most_in_an_hour
 from normal_operation import BASE, DEVICES, FREQUENCIES, GATEWAYS, SECOND, FIRST_DEV_EUI, JOIN_EUI, Stream
 
 NO_MESSAGE = "{"
@@ -89,7 +92,7 @@ class Mixed(Stream):
         number = self.random.randrange(len(self.desk.sessions)) + 1
         device = self.desk.sessions[number - 1]["device"]
         if not self.sometimes(0.05):
-            number = max(n for n, session in enumerate(self.desk.sessions, 1) if session["device"] == device)
+            number = self.desk.joins[device, self.desk.devices[device]["last"]]["session"]
         last = self.desk.sessions[number - 1]["last"]
         # the next one, one after some that were lost, or one of before
         counter = max(0, last + self.random.choices([1, 2, 4, 0, -1], [90, 4, 2, 2, 2])[0])
@@ -121,8 +124,28 @@ class Mixed(Stream):
         number = max(1, len(self.desk.bookings) - self.random.randrange(10)) + 1000 * self.sometimes(0.03)
         self.say("bridge", "DownDone", Booking=number, Sent=self.sometimes(0.7))
 
+    def registrar(self):
+        """Mostly an operator."""
+        return self.random.choices(["office", "desk-2", "bridge", "nobody"], [60, 20, 15, 5])[0]
+
+    def limit_set(self):
+        """The band's own limit, one with room, just what the band holds, less than that, nothing at all, or too much."""
+        sender, gateway = self.registrar(), f"gw-{self.random.randrange(GATEWAYS + 2)}"
+        band = self.one_of(B1=10, B2=10, B3=25, B4=20, B5=25, B6=10)
+        own, held = BANDS[band][2], most_in_an_hour(self.desk.downlinks(gateway, band))
+        limits = {
+            "own": own,
+            "room": self.random.randint(held, own),
+            "held": held,
+            "less": max(0, held - 1),
+            "nothing": 0,
+            "above": own + self.random.choice([1, own]),
+        }
+        limit = limits[self.one_of(own=25, room=15, held=25, less=10, nothing=15, above=10)]
+        self.say(sender, "LimitSet", Gateway=gateway, Band=band, Limit=limit)
+
     def registry(self):
-        sender = self.random.choices(["office", "desk-2", "bridge", "nobody"], [60, 20, 15, 5])[0]
+        sender = self.registrar()
         eui = f"{FIRST_DEV_EUI + self.random.randrange(self.devices + 5):016x}"
         owner = self.random.choice(OWNERS)
         kind = self.one_of(DeviceMove=50, DeviceAdd=20, OwnerAdd=5, GatewayAdd=15, SenderAdd=10)
@@ -162,14 +185,16 @@ STEPS = {
     Mixed.join_heard: 5,
     Mixed.registry: 5,
     Mixed.no_message: 1,
+    Mixed.limit_set: 3,
 }
 
 
-def mixed_operation(size, seed, devices=DEVICES):
+def mixed_operation(size, seed, limits=True, devices=DEVICES):
     stream = Mixed(seed, devices)
+    steps = {step: share for step, share in STEPS.items() if limits or step is not Mixed.limit_set}
     stream.register()
     for _ in range(devices):
         stream.join_heard()
     while len(stream.lines) < size:
-        stream.random.choices(list(STEPS), list(STEPS.values()))[0](stream)
+        stream.random.choices(list(steps), list(steps.values()))[0](stream)
     return stream.lines

@@ -3,15 +3,16 @@
 
     checks/mutations.py [--program FILE] [--messages 100000] [--requests 20000] [--reports 2000] [--seed 1]
 
-Messages of mixed operation (mixed_operation.py), the requests that post them, and reports of their frames are changed at random: octets
-changed, dropped, doubled and exchanged; numbers at the edges of their ranges; members doubled; names escaped; values nested; texts as
-long as a message may be, and longer. The desk gets some of them as they are, and the changed ones between them: messages by `desk hear`
-in one run, requests by `desk serve` one a connection, and reports by `desk import` one a run.
+Messages of mixed operation (mixed_operation.py), the requests that post them, and reports of their frames are changed at
+random: octets changed, dropped, doubled and exchanged; numbers at the edges of their ranges, limits of bands among them;
+other bands, and texts that name none; members doubled; names escaped; values nested; texts as long as a message may be,
+and longer. The desk gets some of them as they are, and the changed ones between them: messages by `desk hear` in one run,
+requests by `desk serve` one a connection, and reports by `desk import` one a run.
 
-It must never end by a signal or by itself, and has to answer each message and each whole request, with no more memory than MEMORY to
-be had. What it tells as heard is then delivered alone to a new desk: it is told the same, and each row of the
-ten tables is the same. The program is `./desk`, which is proved and built first where it isn't current, or with --program the built one
-in FILE.
+It must never end by a signal or by itself, and has to answer each message and each whole request, with no more memory
+than MEMORY to be had. What it tells as heard is then delivered alone to a new desk: it is told the same, and each row of
+the eleven tables is the same. The program is `./desk`, which is proved and built first where it isn't current, or with
+--program the built one in FILE.
 """
 
 import argparse
@@ -27,13 +28,14 @@ import time
 from pathlib import Path
 
 from both_stores import ROOT
+from dictionaries import BANDS
 from http_client import asked, free_port, post
 from mixed_operation import NO_MESSAGE, mixed_operation
 
 # the most of memory that a run is given, in MiB: of addresses, so the program itself and the C library are in it
 MEMORY = 64
 
-TABLES = ["meta", "sender", "reply", "owner", "gateway", "device", "session", "uplink", "copy", "booking"]
+TABLES = ["meta", "sender", "reply", "owner", "gateway", "device", "session", "uplink", "copy", "booking", "band_limit"]
 # what isn't heard, by its ResultCode and Description
 UNHEARD = {
     ("Other", "malformed"),
@@ -46,6 +48,9 @@ UNHEARD = {
 }
 EDGES = ["0", "1", "-1", "-0", "1.0", "1e0", "255", "65535", "65536", "4294967295", "4294967296", "9007199254740991", "9007199254740992"]
 EDGES += ["946684799999999", "4102444800000001", "18446744073709551615", "18446744073709551616", "1e400", "00", "null", "true", '""', "[]", "{}"]
+# a band's own limit, and one above it
+EDGES += [str(limit + more) for limit in sorted({limit for _, _, limit in BANDS.values()}) for more in (0, 1)]
+BAND_TEXTS = [f'"{band}"' for band in BANDS] + ['"B0"', '"B7"', '"b1"', '"B"', '"B11"', '" B1"', '"B1\\u0000"', "1", "null"]
 LONGEST = 65_536
 
 
@@ -86,6 +91,10 @@ def number_at_an_edge(text, chance):
     return text[: number.start()] + chance.choice(EDGES).encode() + text[number.end() :]
 
 
+def band_exchanged(text, chance):
+    return re.sub(rb'(?<="Band":)"B\d"', lambda _: chance.choice(BAND_TEXTS).encode(), text)
+
+
 def member_doubled(text, chance):
     members = re.findall(rb'"\w+":(?:"[^"]*"|[\w.]+)', text)
     if not members:
@@ -114,6 +123,7 @@ def lengthened(text, chance):
 
 
 CHANGES = [octet_changed, octet_changed, dropped, doubled, exchanged, number_at_an_edge, number_at_an_edge, member_doubled, escaped, nested]
+CHANGES_OF_LIMITS = [*CHANGES, band_exchanged, band_exchanged]
 
 
 def changed(text, chance):
@@ -122,7 +132,7 @@ def changed(text, chance):
         return lengthened(text, chance)
     for _ in range(chance.choice([1, 1, 1, 2, 3])):
         if text:
-            text = chance.choice(CHANGES)(text, chance)
+            text = chance.choice(CHANGES_OF_LIMITS if b'"Band"' in text else CHANGES)(text, chance)
     return text
 
 

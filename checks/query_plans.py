@@ -3,8 +3,9 @@
 
     checks/query_plans.py
 
-It takes the texts of the statements from `crates/desk_rows/src/*.rt`, makes the tables and indexes in a file by those that begin
-with CREATE, and asks `EXPLAIN QUERY PLAN` of each SELECT and UPDATE. A plan that scans a table or sorts rows fails, but for a look
+It takes the texts of the statements from `crates/desk_rows/src/*.rt`, makes the tables and indexes in a file by the batch of those
+that begin with CREATE, and asks `EXPLAIN QUERY PLAN` of each SELECT and UPDATE. A CREATE beside the batch, as that of a move from
+an older schema, has to be a statement of the batch too. A plan that scans a table or sorts rows fails, but for a look
 at the first row in the order of the rowid, which SQLite calls a scan too and ends after one row, for meta, which has one row, and
 for the sort of a device's uplinks in a range of time. It prints a line for each statement and at the end how many there were, and
 by which key or index.
@@ -42,13 +43,17 @@ def is_bad(text, step):
 
 def main():
     texts = list(statements())
-    tables = [text for _, text in texts if text.startswith("CREATE")]
+    creates = [text for _, text in texts if text.startswith("CREATE")]
+    batch = max(creates, key=len)
+    strange = [text for text in creates if text != batch and text not in batch.split("; ")]
     asked = [(name, text) for name, text in texts if not text.startswith("CREATE") and name != "tests.rt"]
+    for text in strange:
+        print("FAILED not in the batch |", text)
     failed = 0
     ways = {}
     with tempfile.TemporaryDirectory() as folder:
         conn = sqlite3.connect(Path(folder) / "desk.db")
-        conn.executescript(tables[0])
+        conn.executescript(batch)
         for name, text in asked:
             many = len(set(re.findall(r"\?\d", text)))
             steps = [row[3] for row in conn.execute("EXPLAIN QUERY PLAN " + text, [None] * many)]
@@ -61,7 +66,7 @@ def main():
     for way, count in sorted(ways.items()):
         print(count, way)
     print(f"SQLite {sqlite3.sqlite_version}: {len(asked) - failed} of {len(asked)} statements look through no table")
-    return 1 if failed or not asked else 0
+    return 1 if failed or strange or not asked else 0
 
 
 if __name__ == "__main__":

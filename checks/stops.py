@@ -3,12 +3,12 @@
 
     checks/stops.py [--built] [--streams 20] [--runs 200] [--size 120] [--seed 1]
 
-A desk over files in memory hears the ten messages of the test, once for each number of calls that the one file passes on before it
-fails, and then for each of the other, until it meets no stop any more. Each stream (mixed_operation.py, of few devices: repeats, copies,
-changed and refused messages, downlinks) is heard so many times with a random number of calls. What is there after a stop is opened again twice: as a process
-leaves it that has ended, and as a machine does that has lost all that wasn't synced. Each time its rows have to be those of a desk that
-wasn't stopped, before the message under way or with it; and the rest has to be told what it is told without a stop, and to leave the
-same rows.
+A desk over files in memory hears the ten messages of the test, once for each number of calls that the one file passes on
+before it fails, and then for each of the other, until it meets no stop any more. Each stream (mixed_operation.py, of few
+devices: repeats, copies, changed and refused messages, downlinks, limits) is heard so many times with a random number of
+calls. What is there after a stop is opened again twice: as a process leaves it that has ended, and as a machine does that
+has lost all that wasn't synced. Each time its rows have to be those of a desk that wasn't stopped, before the message
+under way or with it; and the rest has to be told what it is told without a stop, and to leave the same rows.
 
 The runs are those of the test `stops::given_lines` of desk_cli, which `rt test` proves and builds first, or with --built the test
 that it built last. It prints how many runs met a stop, and fails where one isn't as it should be.

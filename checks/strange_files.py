@@ -3,9 +3,10 @@
 
     checks/strange_files.py [--built]
 
-A text, a file of zeros, somebody's database, a desk's file of version 7, one whose row of meta is gone or tells a bad name, and one with a
-table more. An empty file becomes a desk's. The files go to the test `stored_lines` of desk_cli, which `rt test` proves and builds
-first, or with --built the test that it built last.
+A text, a file of zeros, somebody's database, and a desk's file: of version 7, of schema 1, with the tables of the one
+schema and the version of the other, without its row of meta, with a bad name in it, and with a table more. An empty file
+becomes a desk's. The files go to the test `stored_lines` of desk_cli, which `rt test` proves and builds first, or with
+--built the test that it built last.
 """
 
 import argparse
@@ -23,6 +24,9 @@ TEST = "tests::stored_lines::lines_over_the_named_store"
 # what sqlite3 does to a desk's file
 CHANGED = {
     "another version": "UPDATE meta SET version = 7",
+    "schema 1": "DROP TABLE band_limit; UPDATE meta SET version = 1",
+    "version 1 with the tables of schema 2": "UPDATE meta SET version = 1",
+    "version 2 with the tables of schema 1": "DROP TABLE band_limit",
     "no row of meta": "DELETE FROM meta",
     "a receiver that is no name": "UPDATE meta SET receiver = 'the desk'",
     "a table more": "CREATE TABLE note (id INTEGER PRIMARY KEY) STRICT",
@@ -36,7 +40,7 @@ def is_opened(file):
 
 def execute(file, text):
     conn = sqlite3.connect(file)
-    conn.execute(text)
+    conn.executescript(text)
     conn.commit()
     conn.close()
 

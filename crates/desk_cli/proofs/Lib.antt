@@ -5,6 +5,7 @@ pub mod FoundAgain
 pub mod Imported
 pub mod Inited
 pub mod LinesAnswered
+pub mod Migrated
 pub mod Numerals
 pub mod OnTables
 pub mod Opened

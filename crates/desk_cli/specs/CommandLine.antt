@@ -10,17 +10,19 @@ use Rattle.desk_cli.specs.commands.Hear.{hear_app, hear_named}
 use Rattle.desk_cli.specs.commands.Importing.{import_app, import_named}
 use Rattle.desk_cli.specs.commands.Init.{init_app, init_named}
 use Rattle.desk_cli.specs.commands.Lines.{lines_app, lines_named}
+use Rattle.desk_cli.specs.commands.Migrating.{migrate_app, migrate_named}
 use Rattle.desk_cli.specs.commands.Reports.{bands_app, bands_named, report_app, report_named}
 use Rattle.desk_cli.specs.commands.Serving.{serve_app, serve_named}
 use Rattle.desk_cli.specs.Named.{Named, refused}
 use Rattle.desk_cli.specs.Options.{config_of}
 
--- a command line with the commands that read messages or records, and the one that makes a file for them
+-- a command line with the commands that read messages or records, and those that make a file for them and move it
 abbrev pub with_readers : App → App
 with_readers app =
-    with_subcommand (with_subcommand (with_subcommand (with_subcommand app
+    with_subcommand (with_subcommand (with_subcommand (with_subcommand (with_subcommand app
     lines_app.top)
     init_app.top)
+    migrate_app.top)
     hear_app.top)
     import_app.top
 
@@ -38,6 +40,7 @@ abbrev pub named_with : Text → List Row → Named
 named_with name rows =
     if bytes_eq name (codes "lines") then lines_named (config_of rows)
     else if bytes_eq name (codes "init") then init_named rows
+    else if bytes_eq name (codes "migrate") then migrate_named rows
     else if bytes_eq name (codes "hear") then hear_named rows
     else if bytes_eq name (codes "import") then import_named rows
     else if bytes_eq name (codes "serve") then serve_named rows

@@ -9,7 +9,7 @@ use Rattle.registry_core.specs.declared.messages.Envelope.{Envelope}
 use Rattle.registry_core.specs.Heard.{state_of}
 use Rattle.registry_core.specs.Settings.{Settings}
 use Rattle.desk_http.specs.Reports.{IsBandAnswer}
-use Rattle.desk_cli.specs.Named.{Asked, lines, init, hear, import, serve, report, bands, check}
+use Rattle.desk_cli.specs.Named.{Asked, lines, init, migrate, hear, import, serve, report, bands, check}
 use Rattle.desk_cli.specs.OnTables.{IsLeft, KeepsHeard}
 use Rattle.desk_cli.specs.Printing.{IsOwnersMonth, PrintsBy}
 use Rattle.desk_cli.specs.commands.Checking.{IsCheck}
@@ -17,6 +17,7 @@ use Rattle.desk_cli.specs.commands.Hear.{HearsBy}
 use Rattle.desk_cli.specs.commands.Importing.{ImportsBy}
 use Rattle.desk_cli.specs.commands.Init.{InitsBy}
 use Rattle.desk_cli.specs.commands.Lines.{AnswersLines}
+use Rattle.desk_cli.specs.commands.Migrating.{MigratesBy}
 use Rattle.desk_cli.specs.commands.Serving.{ServesBy}
 use Rattle.desk_cli.specs.declared.faults.Fault.{Fault}
 use Rattle.desk_cli.specs.declared.faults.Fault.TheVariants.{File}
@@ -38,6 +39,7 @@ module _ {S T : Type 0} (g : Ghosts S) (Opens : Text → Held S → Type 0) (giv
   abbrev pub DoesAsked : Asked → Type 0
   DoesAsked (lines c) = OnOk result (AnswersLines left rest before after c) × (given_back ≡ None)
   DoesAsked (init file c) = OnFile Opens given_back result file (Unit {0}) (λ conn back. InitsBy g conn back c result)
+  DoesAsked (migrate file) = OnFile Opens given_back result file (Unit {0}) (λ conn back. MigratesBy g conn back result)
   DoesAsked (hear file) =
       OnFile Opens given_back result file (Keeps left rest × Keeps before after) (λ conn back. OnDesk g conn back (λ c heard. HearsBy g back c heard left rest before after result))
   DoesAsked (import file sender) =

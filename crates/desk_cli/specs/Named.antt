@@ -8,7 +8,7 @@ use Rattle.clap.specs.declared.error.kind.ErrorKind.{ErrorKind}
 use Rattle.clap.specs.declared.error.kind.ErrorKind.TheVariants.{OutOfMemory}
 use Rattle.registry_core.specs.Settings.{Settings}
 use Rattle.desk_cli.specs.declared.commands.Command.{Command}
-use Rattle.desk_cli.specs.declared.commands.Command.TheVariants.{Lines, Init, Hear, Import, Serve, Report, Bands, Check}
+use Rattle.desk_cli.specs.declared.commands.Command.TheVariants.{Lines, Init, Migrate, Hear, Import, Serve, Report, Bands, Check}
 use Rattle.desk_cli.specs.declared.usage.BadValue.{BadValue}
 use Rattle.desk_cli.specs.declared.usage.Usage.{Usage}
 use Rattle.desk_cli.specs.declared.usage.Usage.TheVariants.{Words, Value, NotText, Memory}
@@ -17,6 +17,7 @@ use Rattle.desk_cli.specs.declared.usage.Usage.TheVariants.{Words, Value, NotTex
 pub data Asked : Type 0 where
   lines : Settings → Asked
   init : Text → Settings → Asked
+  migrate : Text → Asked
   hear : Text → Asked
   -- the file and the sender
   import : Text → Text → Asked
@@ -31,6 +32,7 @@ pub data Asked : Type 0 where
 abbrev pub asked_of : Command → Asked
 asked_of (Lines config) = lines config
 asked_of (Init file config) = init file.now config
+asked_of (Migrate file) = migrate file.now
 asked_of (Hear file) = hear file.now
 asked_of (Import file sender) = import file.now sender
 asked_of (Serve file port connections) = serve file.now port connections

@@ -4,5 +4,6 @@ pub mod Hear
 pub mod Importing
 pub mod Init
 pub mod Lines
+pub mod Migrating
 pub mod Reports
 pub mod Serving

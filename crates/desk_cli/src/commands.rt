@@ -11,6 +11,7 @@ mod hear;
 mod importing;
 mod init;
 mod lines;
+mod migrating;
 mod reports;
 mod serving;
 
@@ -27,6 +28,8 @@ pub use init::init_command;
 use init::{init_app, init_of};
 pub use lines::lines_command;
 use lines::{lines_app, lines_of};
+pub use migrating::migrate_command;
+use migrating::{migrate_app, migrate_of};
 use radio_core::Name;
 use registry_core::Config;
 pub use reports::{bands_command, report_command};
@@ -46,6 +49,10 @@ pub enum Command<'a> {
     Init {
         file: &'a str,
         config: Config,
+    },
+    /// Moves a desk's file from schema 1 to schema 2.
+    Migrate {
+        file: &'a str,
     },
     /// Answers the messages of standard input, one a line, for the desk in a file.
     Hear {
@@ -97,12 +104,13 @@ pub(crate) fn desk_app<'a>(alloc: Global) -> Result<clap::Command<'a>, AllocErro
         .subcommand(check_app(alloc)?)
 }
 
-/// A command line with the commands that read messages or records, and the one that makes a file for them.
+/// A command line with the commands that read messages or records, and those that make a file for them and move it.
 fn with_readers<'a>(alloc: Global, desk: clap::Command<'a>) -> Result<clap::Command<'a>, AllocError>
     ensures { IfOk result (λ c. app_of c ≡ with_readers (app_of desk.entry)) }
 {
     desk.subcommand(lines_app(alloc)?)?
         .subcommand(init_app(alloc)?)?
+        .subcommand(migrate_app(alloc)?)?
         .subcommand(hear_app(alloc)?)?
         .subcommand(import_app(alloc)?)
 }
@@ -132,6 +140,8 @@ fn command_with<'a>(
         lines_of(options)
     } else if name == "init" {
         init_of(options)
+    } else if name == "migrate" {
+        migrate_of(options)
     } else if name == "hear" {
         hear_of(options)
     } else if name == "import" {

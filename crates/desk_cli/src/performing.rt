@@ -10,12 +10,13 @@ ghost use Rattle.desk_cli.specs.commands.Checking.{IsCheck};
 ghost use Rattle.desk_cli.specs.commands.Hear.{HearsBy};
 ghost use Rattle.desk_cli.specs.commands.Importing.{ImportsBy};
 ghost use Rattle.desk_cli.specs.commands.Init.{InitsBy};
+ghost use Rattle.desk_cli.specs.commands.Migrating.{MigratesBy};
 ghost use Rattle.desk_cli.specs.commands.Serving.{ServesBy};
 ghost use Rattle.std.specs.Prelude.{None};
 
 use crate::commands::{
     Command, bands_command, check_command, hear_command, import_command, init_command,
-    lines_command, report_command, serve_command,
+    lines_command, migrate_command, report_command, serve_command,
 };
 use crate::faults::Fault;
 use crate::files::Files;
@@ -44,6 +45,7 @@ pub(crate) fn perform<S: Alter, N: Files<S>, B: Network, R: Read, W: Write>(
     match command {
         Command::Lines { config } => (lines_command(alloc, config, reader, answers), None),
         Command::Init { file, config } => init_file(alloc, files, file, *config),
+        Command::Migrate { file } => migrate_file(alloc, files, file),
         Command::Hear { file } => hear_file(alloc, files, file, reader, answers),
         Command::Import { file, sender } => {
             import_file(alloc, files, file, sender, reader, answers)
@@ -72,6 +74,18 @@ fn init_file<S: Alter, N: Files<S>>(
     match files.make(file) {
         Ok(conn) => {
             let (done, conn) = init_command(alloc, conn, config);
+            (done, Some(conn))
+        }
+        Err(fault) => (Err(fault), None),
+    }
+}
+
+fn migrate_file<S: Alter, N: Files<S>>(alloc: Global, files: N, file: &str) -> Performed<S>
+    ensures { OnFile (N.opens files) result.1 result.0 file.now (Unit {0}) (λ conn back. MigratesBy S.Store conn back result.0) }
+{
+    match files.open(file) {
+        Ok(conn) => {
+            let (done, conn) = migrate_command(alloc, conn);
             (done, Some(conn))
         }
         Err(fault) => (Err(fault), None),

@@ -4,8 +4,10 @@ mod downlinks;
 mod failing;
 mod importing;
 mod joins;
+mod limits;
 mod lines;
 mod lists;
+mod migrating;
 mod refused_memory;
 mod report_sizes;
 mod reports;
@@ -127,6 +129,7 @@ fn rows_hold<R: Abort + AllocGlobal, K: Opened>(rt: &R) -> Result<(), Fail> {
     runs::have_their_outcomes::<R, K>(rt)?;
     runs::hours_have_their_outcomes::<R, K>(rt)?;
     runs::texts_have_limits::<R, K>(rt)?;
+    limits::bands_show_limits::<R, K>(rt)?;
     importing::reports_are_heard_in_order::<R, K>(rt)?;
     reports::the_worked_report::<R, K>(rt)?;
     reports::months_have_edges::<R, K>(rt)?;

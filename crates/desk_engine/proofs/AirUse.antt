@@ -9,7 +9,7 @@ use Rattle.std.proofs.lemmas.List.Sorted.{length_permutation, sum_by-IsPermutati
 use Rattle.std.proofs.lemmas.List.Sums.{sum_by_push}
 use Rattle.radio_core.specs.declared.bands.Band.{Band}
 use Rattle.radio_core.specs.declared.bands.Band.TheVariants.{B1, B2, B3, B4, B5, B6}
-use Rattle.radio_core.specs.Bands.{band_number, bands, limit_of}
+use Rattle.radio_core.specs.Bands.{band_number, bands}
 use Rattle.duty_core.specs.Computed.{peak_of}
 use Rattle.duty_core.specs.Laws.{PeakIgnoresOrder, PeakIsComputed, PeakIsUnique}
 use Rattle.duty_core.specs.Use.{Interval}
@@ -96,13 +96,14 @@ device_line_is s from to device digits columns shown line uplinks has digits_are
     is ∙ ap (λ d. f d uplinks shown) digits_are ∙ ap (λ n. f (sixteen_digits device) n shown) (has.count ∙ in_some_band sent)
     ∙ ap (λ c. f (sixteen_digits device) (length sent) c) (shown_are ∙ has.text)
 
-pub band_line_is : (band : Band) (used : CountedUse) (told : Use) (columns shown line : List ℕ) → use_shown used ≡ told → columns ≡ band_columns (use_shown used) → shown ≡ columns
-    → line ≡ codes "B" ++ (decimal (band_number band) ++ (codes "," ++ (decimal (limit_of band) ++ (codes "," ++ (decimal used.count ++ (shown ++ line_feed ∷ []))))))
-    → line ≡ band_line band (limit_of band) told
+pub band_line_is : (band : Band) (limit standing : ℕ) (used : CountedUse) (told : Use) (columns shown line : List ℕ) → limit ≡ standing → use_shown used ≡ told → columns ≡ band_columns (use_shown used) → shown ≡ columns
+    → line ≡ codes "B" ++ (decimal (band_number band) ++ (codes "," ++ (decimal limit ++ (codes "," ++ (decimal used.count ++ (shown ++ line_feed ∷ []))))))
+    → line ≡ band_line band standing told
 unfolding band_line
-band_line_is band used told columns shown line is columns_are shown_are written =
-    let f : ℕ → List ℕ → List ℕ = λ n c. codes "B" ++ (decimal (band_number band) ++ (codes "," ++ (decimal (limit_of band) ++ (codes "," ++ (decimal n ++ (c ++ line_feed ∷ [])))))) in
-    written ∙ ap (λ n. f n shown) (ap (λ (u : Use). u.count) is) ∙ ap (λ c. f told.count c) (shown_are ∙ columns_are ∙ ap band_columns is)
+band_line_is band limit standing used told columns shown line stands is columns_are shown_are written =
+    let with_limit : ℕ → List ℕ = λ most. codes "B" ++ (decimal (band_number band) ++ (codes "," ++ (decimal most ++ (codes "," ++ (decimal used.count ++ (shown ++ line_feed ∷ [])))))) in
+    let f : ℕ → List ℕ → List ℕ = λ n c. codes "B" ++ (decimal (band_number band) ++ (codes "," ++ (decimal standing ++ (codes "," ++ (decimal n ++ (c ++ line_feed ∷ [])))))) in
+    written ∙ ap with_limit stands ∙ ap (λ n. f n shown) (ap (λ (u : Use). u.count) is) ∙ ap (λ c. f told.count c) (shown_are ∙ columns_are ∙ ap band_columns is)
 
 pub columns_on : (sent : List Uplink) (done all : List Band) (uplinks n : ℕ) (columns pair shown new : List ℕ) (band : Band) (used : CountedUse) → HasColumns sent done uplinks columns
     → use_shown used ≡ use_computed (in_band band sent) → pair ≡ band_columns (use_shown used) → shown ≡ pair → all ≡ done ++ band ∷ [] → n ≡ used.count → new ≡ columns ++ shown

@@ -1,5 +1,5 @@
 -- What one CREATE of a batch makes, and that it is never refused.
-use Rattle.std.proofs.Common.{◌≡◌, inl, inr, ℕ, ◌≤◌, List, [], ◌∷◌, ◌++◌, length, slice_get, true, false, IsTrue, Some, None, Ok, Err, sym, ap, subst, subst₂, ◌∙◌}
+use Rattle.std.proofs.Common.{◌≡◌, inl, inr, ℕ, ◌≤◌, List, [], ◌∷◌, ◌++◌, length, slice_get, Bool, true, false, IsTrue, Some, None, Ok, Err, sym, ap, subst, subst₂, ◌∙◌}
 use Rattle.std.specs.List.{AllByRecursion}
 use Rattle.std.proofs.lemmas.Bool.{cases_Bool}
 use Rattle.sqlite_trees.specs.Tree.{Trees}
@@ -25,14 +25,14 @@ use Rattle.desk_rows.proofs.CreateRefusals.{accepts_table, accepts_index, no_tab
 use Rattle.desk_rows.proofs.TurnedDown.{WritesRows, executed, not_ended, table_writes, index_writes}
 use Rattle.desk_rows.proofs.InsertLemmas.{went, same_value}
 
-module _ (sql : List ℕ) (old new : State) (schema : Schema) (has : old.now.schema ≡ schema) (command : Command) (is : command_of (understood schema sql) ≡ command)
+module _ (in_batch : Bool) (sql : List ℕ) (old new : State) (schema : Schema) (has : old.now.schema ≡ schema) (command : Command) (is : command_of (understood schema sql) ≡ command)
     (plain : IsPlain (understood schema sql)) where
-  ran_as : (count : ℕ) → ExecutesIn true sql [] old new (Ok count) → Runs old new None command (statement_of sql (understood schema sql)) [] count
+  ran_as : (count : ℕ) → ExecutesIn in_batch sql [] old new (Ok count) → Runs old new None command (statement_of sql (understood schema sql)) [] count
   unfolding ExecutesIn
   ran_as count h =
       let known = sym h.1.is ∙ ap (λ s. understood s sql) has in
       let bare = subst IsPlain (sym known) plain in
-      let ran : Runs old new h.0.returning h.0.command (text_of sql h.0) (timed [] h.0.formats h.1.now) count = elim (cases_Bool (shows_rows true h.0)) [
+      let ran : Runs old new h.0.returning h.0.command (text_of sql h.0) (timed [] h.0.formats h.1.now) count = elim (cases_Bool (shows_rows in_batch h.0)) [
         | inl shows ↦ absurd (let e = (rw shows at h.2).0 in cc)
         | inr runs ↦ rw runs at h.2
       ] in
@@ -51,29 +51,52 @@ one_more : (trees : Trees) (table : Table) (tables : List Table) → AllByRecurs
 one_more trees table [] all one = (one, tt)
 one_more trees table (t ∷ tables) all one = (all.0, one_more trees table tables all.1 one)
 
+-- what a CREATE TABLE leaves, whatever the other tables hold
+pub record HasMade (before : Schema) (table : Table) (old new : State) : Type 0 where
+  pub schema : new.now.schema ≡ created before table
+  pub empty : new.now.trees (next_tree before) ≡ []
+  pub others : KeepsRows before.tables old.now.trees new.now.trees
+  pub sound : IsDatabase new.now
+  pub is_open : IsTrue new.is_open
+
+-- in a batch, or alone
+module _ (in_batch : Bool) (sql : List ℕ) (before : Schema) (table : Table) (is : command_of (understood before sql) ≡ CreateTable)
+    (plain : IsPlain (understood before sql)) (means : table_defined_by (statement_of sql (understood before sql)) ≡ Ok table)
+    (old new : State) (has : old.now.schema ≡ before) (count : ℕ) (h : ExecutesIn in_batch sql [] old new (Ok count)) where
+  pub table_made : lacks_sequence (created before table) ≡ false → HasMade before table old new
+  table_made counted =
+      let w = ran_as in_batch sql old new before has CreateTable is plain count h in
+      let all = went w.changed in
+      let first = went all.1 in
+      let made = first.1 in
+      let both : Ok made.table ≡ Ok table = sym made.defined ∙ means in
+      let same : made.table ≡ table = cc in
+      let schema : first.0.schema ≡ created before table = made.is ∙ ap (λ s. created s made.table) has ∙ ap (created before) same in
+      let plain : lacks_sequence first.0.schema ≡ false = ap lacks_sequence schema ∙ counted in
+      let now : new.now ≡ first.0 = ap (λ (p : Tally × Database). p.1) (same_value all.2) ∙ same_value (rw plain at first.2) in
+      record {
+        schema = ap (λ (d : Database). d.schema) now ∙ schema;
+        empty = ap (λ (d : Database). d.trees (next_tree before)) now ∙ subst (λ s. first.0.trees (next_tree s) ≡ []) has made.empty;
+        others = subst (λ (d : Database). KeepsRows before.tables old.now.trees d.trees) (sym now)
+            (subst (λ (s : Schema). KeepsRows s.tables old.now.trees first.0.trees) has made.others);
+        sound = w.sound;
+        is_open = w.shown.is_open;
+      }
+
 table_leads : (sql : List ℕ) (before : Schema) (table : Table) → command_of (understood before sql) ≡ CreateTable → IsPlain (understood before sql)
     → table_defined_by (statement_of sql (understood before sql)) ≡ Ok table → lacks_sequence (created before table) ≡ false → Leads sql before (created before table)
 table_leads sql before table is plain means counted old new count has empty h =
-    let w = ran_as sql old new before has CreateTable is plain count h in
-    let all = went w.changed in
-    let first = went all.1 in
-    let made = first.1 in
-    let both : Ok made.table ≡ Ok table = sym made.defined ∙ means in
-    let same : made.table ≡ table = cc in
-    let schema : first.0.schema ≡ created before table = made.is ∙ ap (λ s. created s made.table) has ∙ ap (created before) same in
-    let plain : lacks_sequence first.0.schema ≡ false = ap lacks_sequence schema ∙ counted in
-    let now : new.now ≡ first.0 = ap (λ (p : Tally × Database). p.1) (same_value all.2) ∙ same_value (rw plain at first.2) in
-    let old_ones = still_empty old.now.trees first.0.trees old.now.schema.tables made.others empty in
-    let listed = subst (λ (s : Schema). AllByRecursion (λ t. first.0.trees t.tree ≡ []) s.tables) has old_ones in
-    let new_one = subst (λ s. first.0.trees (next_tree s) ≡ []) has made.empty in
-    let every : AllByRecursion (λ t. first.0.trees t.tree ≡ []) (created before table).tables = one_more first.0.trees (record table { tree = next_tree before }) before.tables listed new_one in
-    let emptied : IsEmptied first.0 = subst (λ (s : Schema). AllByRecursion (λ t. first.0.trees t.tree ≡ []) s.tables) (sym schema) every in
-    (ap (λ (d : Database). d.schema) now ∙ schema, subst IsEmptied (sym now) emptied, w.sound, w.shown.is_open)
+    let made = table_made true sql before table is plain means old new has count h counted in
+    let old_ones = still_empty old.now.trees new.now.trees before.tables made.others
+    (subst (λ (s : Schema). AllByRecursion (λ t. old.now.trees t.tree ≡ []) s.tables) has empty) in
+    let every : AllByRecursion (λ t. new.now.trees t.tree ≡ []) (created before table).tables =
+    one_more new.now.trees (record table { tree = next_tree before }) before.tables old_ones made.empty in
+    (made.schema, subst (λ (s : Schema). AllByRecursion (λ t. new.now.trees t.tree ≡ []) s.tables) (sym made.schema) every, made.sound, made.is_open)
 
 index_leads : (sql : List ℕ) (before : Schema) (at : ℕ) (table : Table) (index : Index) → command_of (understood before sql) ≡ CreateIndex at → slice_get before.tables at ≡ Some table
     → IsPlain (understood before sql) → index_defined_by table (statement_of sql (understood before sql)) ≡ Ok index → Leads sql before (indexed before table index)
 index_leads sql before at table index is there plain means old new count has empty h =
-    let w = ran_as sql old new before has (CreateIndex at) is plain count h in
+    let w = ran_as true sql old new before has (CreateIndex at) is plain count h in
     let text = statement_of sql (understood before sql) in
     let does = subst (λ s. Does old.step_limit (mode_of old) [] (record old.now { schema = s }) text None (CreateIndex at) (Ok (w.tally, new.now))) has w.changed in
     let db : Database = record old.now { schema = before } in
@@ -111,10 +134,10 @@ pub record IsStep (sql : List ℕ) (before after : Schema) : Type 1 where
   pub spared : IsSpared sql before
 
 module _ (sql : List ℕ) (before : Schema) (command : Command) (text : IsCommand sql before command) where
-  is_command : command_of (understood before sql) ≡ command
+  pub is_command : command_of (understood before sql) ≡ command
   is_command = ap command_of text.means ∙ text.is
 
-  is_plain : IsPlain (understood before sql)
+  pub is_plain : IsPlain (understood before sql)
   is_plain = subst IsPlain (sym text.means) text.plain
 
   spared : (writes : WritesRows command)

@@ -1,24 +1,18 @@
 -- The UPDATEs of a device by its DevEUI: its owner, and its floor.
-use Rattle.std.proofs.Common.{◌≡◌, inl, inr, ℕ, ◌+◌, ◌<◌, ◌^◌, ◌&&◌, pos, List, [], ◌∷◌, codes, filter, length, option_map, Bool, true, false, not, Option, Some, None, Result, refl, sym, ap, subst, ◌∙◌, arith, eqb-true}
+use Rattle.std.proofs.Common.{◌≡◌, inl, inr, ℕ, ◌<◌, ◌^◌, pos, List, [], ◌∷◌, codes, filter, length, Bool, true, Option, Some, None, Result, refl, sym, subst, ◌∙◌, arith, eqb-true}
 use Rattle.std.specs.List.{AllByRecursion}
-use Rattle.std.specs.Ordering.{is_ne}
-use Rattle.std.proofs.lemmas.Bool.{and_from, both_ways, eq-eqb, not-true}
-use Rattle.sqlite_value.specs.declared.value.Value.TheVariants.{Int, Text}
+use Rattle.std.proofs.lemmas.Bool.{eq-eqb}
+use Rattle.sqlite_value.specs.declared.value.Value.TheVariants.{Text}
 use Rattle.sqlite_value.specs.Keys.{plain}
-use Rattle.sqlite_value.specs.Order.{Row}
-use Rattle.sqlite_trees.specs.Tree.{rowid}
-use Rattle.sqlite_sql.specs.Ops.{binary}
 use Rattle.sqlite_sql.specs.Term.{col}
 use Rattle.sqlite_tied.specs.Compute.{everything}
-use Rattle.sqlite_schema.specs.declared.schema.Constraint.TheVariants.{Unique}
 use Rattle.sqlite_schema.specs.declared.schema.Index.{Index}
 use Rattle.sqlite_schema.specs.declared.schema.Kind.TheVariants.{Integer}
-use Rattle.sqlite_schema.specs.Rules.{Keeps, agree, clashes, differ, guards}
+use Rattle.sqlite_schema.specs.Rules.{agree}
 use Rattle.sqlite_rules.specs.Cast.{cast}
 use Rattle.sqlite_rules.specs.Lists.{Has}
 use Rattle.sqlite_rules.specs.Steps.{PassAlone}
-use Rattle.sqlite_rules.proofs.ListLemmas.{all_has, has_filtered, some_from, test_has}
-use Rattle.sqlite_rules.proofs.RuleLemmas.{keeps_at}
+use Rattle.sqlite_rules.proofs.ListLemmas.{all_has}
 use Rattle.sqlite.specs.Effect.{Database}
 use Rattle.sqlite.specs.Listing.{understood}
 use Rattle.sqlite.specs.State.{State}
@@ -26,19 +20,18 @@ use Rattle.sqlite_keyed.specs.Lists.{update_where}
 use Rattle.registry_core.specs.Ranges.{IsEui, IsName}
 use Rattle.desk_rows.specs.Calls.{Changes}
 use Rattle.desk_rows.specs.Rows.{Rows, Holds, DeviceRow, IsDevice, device_cells, number, eui, or_null, is_device}
-use Rattle.desk_rows.specs.Schema.{desk_schema, desk_indexes, unique_index, device_table}
+use Rattle.desk_rows.specs.Schema.{unique_index, device_table}
 use Rattle.desk_rows.specs.declared.faults.RowFault.{RowFault}
 use Rattle.desk_rows.specs.order.Changes.{moved}
 use Rattle.desk_rows.specs.order.Keys.{HasOnly, floor_set}
 use Rattle.desk_rows.specs.steps.Statements.{HasWritten}
 use Rattle.desk_rows.proofs.ByKey.{has_eui}
-use Rattle.desk_rows.proofs.ChangedRows.{changed_where, all_changed, numbered_changed, zip_high, zip_stands}
+use Rattle.desk_rows.proofs.ChangedRows.{changed_where, all_changed, numbered_changed}
 use Rattle.desk_rows.proofs.InsertLemmas.{cast_null, cast_int}
-use Rattle.desk_rows.proofs.NumberedLemmas.{ints_rise}
-use Rattle.desk_rows.proofs.Ordered.{encode, find_head, found_row, found_same, head, zip_all, zip_from}
-use Rattle.desk_rows.proofs.ReadLemmas.{truth_again}
+use Rattle.desk_rows.proofs.OneWithKey.{few_with_key, numbered_below, one_of_few}
+use Rattle.desk_rows.proofs.Ordered.{encode, zip_all, zip_from}
 use Rattle.desk_rows.proofs.Terms.{is, and_true, one_key, eui_equal}
-use Rattle.desk_rows.proofs.UpdateLemmas.{AreFew, IsTwice, few}
+use Rattle.desk_rows.proofs.UpdateLemmas.{AreFew}
 use Rattle.desk_rows.proofs.Updating.{IsUpdate, changed_by}
 
 abbrev owner_text : List ℕ
@@ -66,10 +59,6 @@ device_passes : (n : ℕ) (d : DeviceRow) (floor : Option ℕ) → d.floor ≡ f
 device_passes n d None is = rw is (record { typed = refl; present = refl; checked = refl })
 device_passes n d (Some floor) is = rw is (record { typed = refl; present = refl; checked = refl })
 
-differ_below : (n m : ℕ) → n < m → differ (Int (pos n)) (Int (pos m)) ≡ true
-unfolding binary
-differ_below n m low = truth_again _ ∙ ap is_ne (ints_rise n m low)
-
 -- ---- one device has the DevEUI
 
 abbrev device_index : Index
@@ -83,59 +72,29 @@ module _ (db : Database) (r : Rows) (has : Holds db r) (dev_eui : ℕ) (in_range
   all = zip_from 1 r.devices
 
   fits : (b : ℕ × DeviceRow) → Has all b → IsDevice b.1
-  fits b there = all_has (λ (b : ℕ × DeviceRow). IsDevice b.1) all b (zip_all IsDevice 1 r.devices has.in_range.devices) there
+  fits b there = all_has (λ (b : ℕ × DeviceRow). IsDevice b.1) all b (zip_all IsDevice 1 r.devices has.ten.in_range.devices) there
 
   alike : (d : DeviceRow) → IsDevice d → has_eui dev_eui d ≡ is_device dev_eui d
   alike d d_fits = eui_equal d.dev_eui dev_eui d_fits.dev_eui in_range
 
-  stands : (b : ℕ × DeviceRow) → Has all b → Has (db.trees 9) (encode device_cells b)
-  stands b there = subst (λ l. Has l (encode device_cells b)) (sym has.device) (zip_stands device_cells 1 r.devices b there)
-
-  unclashed : (row : Row) → Has (db.trees 9) row → clashes plain (1 ∷ []) (db.trees 9) row ≡ false
-  unclashed row there =
-      let keeps : Keeps Unique desk_schema db.trees = subst (λ s. Keeps Unique s db.trees) has.schema (has.sound.obeys.rules Unique) in
-      let passes = keeps_at Unique desk_schema db.trees device_table row keeps (inr (inr (inr (inr (inr (inl refl)))))) there in
-      not-true _ (test_has (λ i. not (guards i device_table && clashes i.order i.columns (db.trees 9) row)) desk_indexes device_index passes
-      (inr (inr (inr (inr (inl refl))))))
-
-  -- two with one DevEUI would clash
-  two_clash : (b c : ℕ × DeviceRow) → IsTwice test 1 r.devices b c → ⊥
-  two_clash b c (at_b, at_c, is_b, is_c, low) =
-      let b_fits = (fits b at_b).dev_eui in
-      let c_fits = (fits c at_c).dev_eui in
+  agreed : (b c : ℕ × DeviceRow) → Has all b → Has all c → test b ≡ true → test c ≡ true
+      → agree plain (1 ∷ []) (encode device_cells b) (1 ∷ []) (encode device_cells c) ≡ true
+  agreed b c at_b at_c is_b is_c =
       let b_is : b.1.dev_eui ≡ dev_eui = eqb-true b.1.dev_eui dev_eui (sym (alike b.1 (fits b at_b)) ∙ is_b) in
       let c_is : c.1.dev_eui ≡ dev_eui = eqb-true c.1.dev_eui dev_eui (sym (alike c.1 (fits c at_c)) ∙ is_c) in
-      let row = encode device_cells c in
-      both_ways _ (unclashed row (stands c at_c))
-      (some_from (λ (other : Row). agree plain (1 ∷ []) other (1 ∷ []) row && differ (rowid other) (rowid row)) (db.trees 9) (encode device_cells b)
-      (stands b at_b)
-      (and_from _ _ (one_key _ _ ∙ eui_equal b.1.dev_eui c.1.dev_eui b_fits c_fits ∙ eq-eqb b.1.dev_eui c.1.dev_eui (b_is ∙ sym c_is))
-      (differ_below b.0 c.0 low)))
+      one_key _ _ ∙ eui_equal b.1.dev_eui c.1.dev_eui (fits b at_b).dev_eui (fits c at_c).dev_eui
+      ∙ eq-eqb b.1.dev_eui c.1.dev_eui (b_is ∙ sym c_is)
 
   few_devices : AreFew (filter test all)
-  few_devices = few test 1 r.devices two_clash
+  few_devices =
+      few_with_key db has.ten.schema has.ten.sound device_table (inr (inr (inr (inr (inr (inl refl)))))) device_index
+      (inr (inr (inr (inr (inl refl))))) refl device_cells r.devices has.ten.device test agreed
 
-  -- where there is one, it is the one that passes
   one_device : HasOnly (is_device dev_eui) r.devices → (b : ℕ × DeviceRow) × (filter test all ≡ b ∷ [])
-  one_device only = go few_devices
-    where
-      found : option_map (λ (b : ℕ × DeviceRow). b.1) (head (filter test all)) ≡ Some only.row
-      found =
-          ap (option_map (λ (b : ℕ × DeviceRow). b.1)) (find_head test all) ∙ found_row (has_eui dev_eui) 1 r.devices
-          ∙ found_same IsDevice (has_eui dev_eui) (is_device dev_eui) alike r.devices has.in_range.devices
-          ∙ sym (find_head (is_device dev_eui) r.devices) ∙ ap head only.only
-
-      go : AreFew (filter test all) → (b : ℕ × DeviceRow) × (filter test all ≡ b ∷ [])
-      go (inr one) = one
-      go (inl none) = absurd (let e = sym (ap (λ l. option_map (λ (b : ℕ × DeviceRow). b.1) (head l)) none) ∙ found in cc)
-
-  numbered_below : (b : ℕ × DeviceRow) → filter test all ≡ b ∷ [] → length r.devices < 2 ^ 63 → b.0 < 2 ^ 63
-  numbered_below b one small =
-      let high : b.0 < 1 + length r.devices = zip_high 1 r.devices b (has_filtered test all b (subst (λ l. Has l b) (sym one) (inl refl))).0 in
-      omega (arith, high, small)
+  one_device = one_of_few IsDevice (has_eui dev_eui) (is_device dev_eui) alike r.devices has.ten.in_range.devices few_devices
 
   changed_rows : (f : DeviceRow → DeviceRow) → numbered_changed test f 1 r.devices ≡ update_where (is_device dev_eui) f r.devices
-  changed_rows f = changed_where IsDevice test (is_device dev_eui) f (λ b b_fits. alike b.1 b_fits) 1 r.devices has.in_range.devices
+  changed_rows f = changed_where IsDevice test (is_device dev_eui) f (λ b b_fits. alike b.1 b_fits) 1 r.devices has.ten.in_range.devices
 
 all_updated : (test : DeviceRow → Bool) (f : DeviceRow → DeviceRow) → ((d : DeviceRow) → IsDevice d → IsDevice (f d))
     → (xs : List DeviceRow) → AllByRecursion IsDevice xs → AllByRecursion IsDevice (update_where test f xs)
@@ -154,7 +113,7 @@ module _ {old new : State} (dev_eui : ℕ) (in_range : IsEui dev_eui) where
       → HasWritten owner_text (eui dev_eui ∷ Text owner ∷ []) old new result
       → Changes old new result (Unit {0}) (IsThere dev_eui) (λ r. record r { devices = update_where (is_device dev_eui) (moved owner) r.devices })
   device_moved owner is_name = changed_by owner_update (eui dev_eui ∷ Text owner ∷ []) old new refl (inr (inr (inr (inr (inr (inl refl)))))) refl refl
-      device_cells (λ r. r.devices) (λ r has. has.device) (λ b. has_eui dev_eui b.1) (λ b. and_true _) (moved owner)
+      device_cells (λ r. r.devices) (λ r has. has.ten.device) (λ b. has_eui dev_eui b.1) (λ b. and_true _) (moved owner)
       (λ b i. cast_int (pos b.0) i ∷ eui b.1.dev_eui ∷ eui b.1.device.join_eui ∷ Text owner ∷ cast_floor b.1.floor i ∷ [])
       (λ r has. few_devices old.now r has dev_eui in_range) (λ r. update_where (is_device dev_eui) (moved owner) r.devices)
       (λ r has. changed_rows old.now r has dev_eui in_range (moved owner)) _ (λ r. refl)
@@ -177,14 +136,14 @@ module _ {old new : State} (dev_eui : ℕ) (in_range : IsEui dev_eui) where
           one_column = refl;
           in_no_key = refl;
           referred = refl;
-          small = numbered_below old.now r has dev_eui in_range one.0 one.1 may.1;
+          small = numbered_below (λ b. has_eui dev_eui b.1) r.devices one.0 one.1 may.1;
         },
       ))
 
   pub device_floored : (session : ℕ) {result : Result (Unit {0}) RowFault} → HasWritten floor_text (eui dev_eui ∷ number session ∷ []) old new result
       → Changes old new result (Unit {0}) (IsThere dev_eui) (λ r. record r { devices = update_where (is_device dev_eui) (floor_set session) r.devices })
   device_floored session = changed_by floor_update (eui dev_eui ∷ number session ∷ []) old new refl (inr (inr (inr (inr (inr (inl refl)))))) refl refl
-      device_cells (λ r. r.devices) (λ r has. has.device) (λ b. has_eui dev_eui b.1) (λ b. and_true _) (floor_set session)
+      device_cells (λ r. r.devices) (λ r has. has.ten.device) (λ b. has_eui dev_eui b.1) (λ b. and_true _) (floor_set session)
       (λ b i. cast_int (pos b.0) i ∷ eui b.1.dev_eui ∷ eui b.1.device.join_eui ∷ Text b.1.device.owner ∷ cast_int (pos session) i ∷ [])
       (λ r has. few_devices old.now r has dev_eui in_range) (λ r. update_where (is_device dev_eui) (floor_set session) r.devices)
       (λ r has. changed_rows old.now r has dev_eui in_range (floor_set session)) _ (λ r. refl)
@@ -207,6 +166,6 @@ module _ {old new : State} (dev_eui : ℕ) (in_range : IsEui dev_eui) where
           one_column = refl;
           in_no_key = refl;
           referred = refl;
-          small = numbered_below old.now r has dev_eui in_range one.0 one.1 may.1;
+          small = numbered_below (λ b. has_eui dev_eui b.1) r.devices one.0 one.1 may.1;
         },
       ))

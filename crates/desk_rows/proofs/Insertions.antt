@@ -85,7 +85,7 @@ schema_kept {sql} {many} {at} {terms} {width} text params old new has bare there
 -- ---- keys
 
 pub apart : IsAscending (λ (a b : Table). a.tree ≡ b.tree → ⊥) desk_tables
-apart = ((λ e. omega (arith, e), (λ e. omega (arith, e), (λ e. omega (arith, e), (λ e. omega (arith, e), (λ e. omega (arith, e), (λ e. omega (arith, e), (λ e. omega (arith, e), (λ e. omega (arith, e), (λ e. omega (arith, e), tt))))))))), ((λ e. omega (arith, e), (λ e. omega (arith, e), (λ e. omega (arith, e), (λ e. omega (arith, e), (λ e. omega (arith, e), (λ e. omega (arith, e), (λ e. omega (arith, e), (λ e. omega (arith, e), tt)))))))), ((λ e. omega (arith, e), (λ e. omega (arith, e), (λ e. omega (arith, e), (λ e. omega (arith, e), (λ e. omega (arith, e), (λ e. omega (arith, e), (λ e. omega (arith, e), tt))))))), ((λ e. omega (arith, e), (λ e. omega (arith, e), (λ e. omega (arith, e), (λ e. omega (arith, e), (λ e. omega (arith, e), (λ e. omega (arith, e), tt)))))), ((λ e. omega (arith, e), (λ e. omega (arith, e), (λ e. omega (arith, e), (λ e. omega (arith, e), (λ e. omega (arith, e), tt))))), ((λ e. omega (arith, e), (λ e. omega (arith, e), (λ e. omega (arith, e), (λ e. omega (arith, e), tt)))), ((λ e. omega (arith, e), (λ e. omega (arith, e), (λ e. omega (arith, e), tt))), ((λ e. omega (arith, e), (λ e. omega (arith, e), tt)), ((λ e. omega (arith, e), tt), (tt, tt))))))))))
+apart = ((λ e. omega (arith, e), (λ e. omega (arith, e), (λ e. omega (arith, e), (λ e. omega (arith, e), (λ e. omega (arith, e), (λ e. omega (arith, e), (λ e. omega (arith, e), (λ e. omega (arith, e), (λ e. omega (arith, e), (λ e. omega (arith, e), tt)))))))))), ((λ e. omega (arith, e), (λ e. omega (arith, e), (λ e. omega (arith, e), (λ e. omega (arith, e), (λ e. omega (arith, e), (λ e. omega (arith, e), (λ e. omega (arith, e), (λ e. omega (arith, e), (λ e. omega (arith, e), tt))))))))), ((λ e. omega (arith, e), (λ e. omega (arith, e), (λ e. omega (arith, e), (λ e. omega (arith, e), (λ e. omega (arith, e), (λ e. omega (arith, e), (λ e. omega (arith, e), (λ e. omega (arith, e), tt)))))))), ((λ e. omega (arith, e), (λ e. omega (arith, e), (λ e. omega (arith, e), (λ e. omega (arith, e), (λ e. omega (arith, e), (λ e. omega (arith, e), (λ e. omega (arith, e), tt))))))), ((λ e. omega (arith, e), (λ e. omega (arith, e), (λ e. omega (arith, e), (λ e. omega (arith, e), (λ e. omega (arith, e), (λ e. omega (arith, e), tt)))))), ((λ e. omega (arith, e), (λ e. omega (arith, e), (λ e. omega (arith, e), (λ e. omega (arith, e), (λ e. omega (arith, e), tt))))), ((λ e. omega (arith, e), (λ e. omega (arith, e), (λ e. omega (arith, e), (λ e. omega (arith, e), tt)))), ((λ e. omega (arith, e), (λ e. omega (arith, e), (λ e. omega (arith, e), tt))), ((λ e. omega (arith, e), (λ e. omega (arith, e), tt)), ((λ e. omega (arith, e), tt), (tt, tt)))))))))))
 
 not_taken : (n m : ℕ) (xs : List Row) (cells : Row) → n + length xs ≤ m → is_taken (numbered_from n xs) (Int (pos m) ∷ cells) ≡ false
 not_taken n m [] cells low = refl
@@ -228,10 +228,10 @@ module _ {sql : List ℕ} {many at : ℕ} {terms : List Term} {width : ℕ} (tex
     write = wrote.write;
     schema = λ sure inside has. ran_well result (wrote.runs sure inside) (schema_kept text actual old new has bare there loose.0 loose.1);
     made = λ sure inside fits r has. ran_well result (wrote.runs sure inside) (λ count ran.
-        let did = row_added text params old new has.schema bare there source one cells (xs r) x (stored r has) casts count (subst (λ p. Executes sql p old new (Ok count)) (are fits) ran) in
-        holds_with old.now new.now r (after r) bare.tree (table_of cells (xs r ++ x ∷ [])) has did.0 did.3 (ranges r has.in_range) did.2 did.1 (is_after r));
+        let did = row_added text params old new has.ten.schema bare there source one cells (xs r) x (stored r has) casts count (subst (λ p. Executes sql p old new (Ok count)) (are fits) ran) in
+        holds_with old.now new.now r (after r) bare.tree (table_of cells (xs r ++ x ∷ [])) has did.0 did.3 (ranges r has.ten.in_range) did.2 did.1 (is_after r));
     in_order = λ sure inside unlimited fits r has free.
-        insert_in_order text params old new has.schema has.sound bare there listed source one typed many_is unlimited cells (xs r) x (stored r has) casts free.1
-        (obeys r has free.0 (stored r has) (keeps text params old new has.schema has.sound bare there listed source one typed many_is unlimited cells (xs r) x (stored r has) casts free.1) free.1)
+        insert_in_order text params old new has.ten.schema has.ten.sound bare there listed source one typed many_is unlimited cells (xs r) x (stored r has) casts free.1
+        (obeys r has free.0 (stored r has) (keeps text params old new has.ten.schema has.ten.sound bare there listed source one typed many_is unlimited cells (xs r) x (stored r has) casts free.1) free.1)
         result (subst (λ p. IfErr result (λ fault. (e : Error) × (fault ≡ fault_of e) × ExecutesInside 0 sql p old new (Err e))) (are fits) (wrote.fails sure inside));
   }

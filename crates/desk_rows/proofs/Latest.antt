@@ -31,7 +31,7 @@ use Rattle.registry_core.specs.Ranges.{IsEui}
 use Rattle.desk_rows.specs.Schema.{desk_schema}
 use Rattle.desk_rows.specs.Calls.{Reads}
 use Rattle.desk_rows.specs.steps.Queries.{Finds}
-use Rattle.desk_rows.specs.Rows.{Rows, Holds, SessionRow, IsSession, IsUplink, booking_cells, device_cells, name_cells, reply_cells, sender_cells, session_cells, uplink_cells, eui, number, kind_number, table_of, last_number}
+use Rattle.desk_rows.specs.Rows.{Rows, Holds, SessionRow, IsSession, IsUplink, booking_cells, device_cells, limit_cells, name_cells, reply_cells, sender_cells, session_cells, uplink_cells, eui, number, kind_number, table_of, last_number}
 use Rattle.desk_rows.specs.declared.faults.RowFault.{RowFault}
 use Rattle.desk_rows.proofs.Lookups.{IsLookup, finds, says_so}
 use Rattle.desk_rows.proofs.Ordered.{Asked, query_of, falling, encode, zip_from, head, first_sorted, map_same, map_twice}
@@ -208,6 +208,13 @@ last_booking_lookup : IsLookup last_booking_text 0 (last_of 17)
 unfolding understood everything
 last_booking_lookup = record { names = _; compiled = _; means = refl; command = refl; plain = (refl, refl); whole = omega arith; given = refl; unlisted = refl }
 
+abbrev last_limit_text : List ℕ
+last_limit_text = codes "SELECT rowid FROM band_limit ORDER BY rowid DESC LIMIT 1"
+
+last_limit_lookup : IsLookup last_limit_text 0 (last_of 22)
+unfolding understood everything
+last_limit_lookup = record { names = _; compiled = _; means = refl; command = refl; plain = (refl, refl); whole = omega arith; given = refl; unlisted = refl }
+
 -- one falling key is two, the same again
 once : (a b : ℕ) → ordering_then (int_cmp (pos b) (pos a)) Equal ≡ ordering_then (int_cmp (pos b) (pos a)) (ordering_then (int_cmp (pos b) (pos a)) Equal)
 once a b = go (int_cmp (pos b) (pos a)) refl
@@ -231,28 +238,31 @@ module _ {sql : List ℕ} {tree : ℕ} (text : IsLookup sql 0 (last_of tree)) (t
 
 module _ {old new : State} {result : Result (Option ℕ) RowFault} where
   pub last_sender_told : Finds last_sender_text [] old new (λ n. n) (λ n. number n ∷ []) (λ n. Unit {0}) result → Reads old new result (λ r n. n ≡ last_number r.senders)
-  last_sender_told = last_told last_sender_lookup refl sender_cells (λ r. r.senders) (λ r has. has.sender)
+  last_sender_told = last_told last_sender_lookup refl sender_cells (λ r. r.senders) (λ r has. has.ten.sender)
 
   pub last_reply_told : Finds last_reply_text [] old new (λ n. n) (λ n. number n ∷ []) (λ n. Unit {0}) result → Reads old new result (λ r n. n ≡ last_number r.replies)
-  last_reply_told = last_told last_reply_lookup refl reply_cells (λ r. r.replies) (λ r has. has.reply)
+  last_reply_told = last_told last_reply_lookup refl reply_cells (λ r. r.replies) (λ r has. has.ten.reply)
 
   pub last_owner_told : Finds last_owner_text [] old new (λ n. n) (λ n. number n ∷ []) (λ n. Unit {0}) result → Reads old new result (λ r n. n ≡ last_number r.owners)
-  last_owner_told = last_told last_owner_lookup refl name_cells (λ r. r.owners) (λ r has. has.owner)
+  last_owner_told = last_told last_owner_lookup refl name_cells (λ r. r.owners) (λ r has. has.ten.owner)
 
   pub last_gateway_told : Finds last_gateway_text [] old new (λ n. n) (λ n. number n ∷ []) (λ n. Unit {0}) result → Reads old new result (λ r n. n ≡ last_number r.gateways)
-  last_gateway_told = last_told last_gateway_lookup refl name_cells (λ r. r.gateways) (λ r has. has.gateway)
+  last_gateway_told = last_told last_gateway_lookup refl name_cells (λ r. r.gateways) (λ r has. has.ten.gateway)
 
   pub last_device_told : Finds last_device_text [] old new (λ n. n) (λ n. number n ∷ []) (λ n. Unit {0}) result → Reads old new result (λ r n. n ≡ last_number r.devices)
-  last_device_told = last_told last_device_lookup refl device_cells (λ r. r.devices) (λ r has. has.device)
+  last_device_told = last_told last_device_lookup refl device_cells (λ r. r.devices) (λ r has. has.ten.device)
 
   pub last_session_told : Finds last_session_text [] old new (λ n. n) (λ n. number n ∷ []) (λ n. Unit {0}) result → Reads old new result (λ r n. n ≡ last_number r.sessions)
-  last_session_told = last_told last_session_lookup refl session_cells (λ r. r.sessions) (λ r has. has.session)
+  last_session_told = last_told last_session_lookup refl session_cells (λ r. r.sessions) (λ r has. has.ten.session)
 
   pub last_uplink_told : Finds last_uplink_text [] old new (λ n. n) (λ n. number n ∷ []) (λ n. Unit {0}) result → Reads old new result (λ r n. n ≡ last_number r.uplinks)
-  last_uplink_told = last_told last_uplink_lookup refl uplink_cells (λ r. r.uplinks) (λ r has. has.uplink)
+  last_uplink_told = last_told last_uplink_lookup refl uplink_cells (λ r. r.uplinks) (λ r has. has.ten.uplink)
 
   pub last_booking_told : Finds last_booking_text [] old new (λ n. n) (λ n. number n ∷ []) (λ n. Unit {0}) result → Reads old new result (λ r n. n ≡ last_number r.bookings)
-  last_booking_told = last_told last_booking_lookup refl booking_cells (λ r. r.bookings) (λ r has. has.booking)
+  last_booking_told = last_told last_booking_lookup refl booking_cells (λ r. r.bookings) (λ r has. has.ten.booking)
+
+  pub last_limit_told : Finds last_limit_text [] old new (λ n. n) (λ n. number n ∷ []) (λ n. Unit {0}) result → Reads old new result (λ r n. n ≡ last_number r.limits)
+  last_limit_told = last_told last_limit_lookup refl limit_cells (λ r. r.limits) (λ r has. has.limit)
 
 -- ---- the last nonce of a device, the last counter of a session
 
@@ -291,20 +301,20 @@ module _ {old new : State} where
   pub last_nonce_told : (device : ℕ) → IsEui device → {result : Result (Option ℕ) RowFault} → Finds last_nonce_text (eui device ∷ []) old new (λ n. n) (λ n. number n ∷ []) (λ n. n < 2 ^ 16) result
       → Reads old new result (λ r nonce. nonce ≡ greatest (map (λ (s : SessionRow). s.session.nonce) (filter (λ (s : SessionRow). s.session.device == device) r.sessions)))
   last_nonce_told device in_range found = says_so
-      (greatest_found last_nonce_lookup (eui device ∷ []) refl refl session_cells (λ r. r.sessions) (λ r has. has.session) (λ b. of_device device b.1) (λ b. and_true (of_device device b.1)) (λ b. b.1.session.nonce) (λ b. refl)
+      (greatest_found last_nonce_lookup (eui device ∷ []) refl refl session_cells (λ r. r.sessions) (λ r has. has.ten.session) (λ b. of_device device b.1) (λ b. and_true (of_device device b.1)) (λ b. b.1.session.nonce) (λ b. refl)
       (λ b c. ap₂ (λ u v. ordering_then u (ordering_then v Equal)) (value_cmp-Int (pos c.1.session.nonce) (pos b.1.session.nonce)) (value_cmp-Int (pos c.0) (pos b.0))) (λ n. n < 2 ^ 16)
       (λ r has. subst (λ o. IfSome o (λ n. n < 2 ^ 16)) (sym (ap greatest (unnumbered (λ (s : SessionRow). s.session.nonce) (of_device device) 1 r.sessions)))
-      (greatest_below (2 ^ 16) _ (all_passing (λ (s : SessionRow). s.session.nonce) (of_device device) IsSession (2 ^ 16) (λ s fits. fits.nonce) r.sessions has.in_range.sessions))) found)
+      (greatest_below (2 ^ 16) _ (all_passing (λ (s : SessionRow). s.session.nonce) (of_device device) IsSession (2 ^ 16) (λ s fits. fits.nonce) r.sessions has.ten.in_range.sessions))) found)
       (λ r has n is. is ∙ ap greatest (unnumbered (λ (s : SessionRow). s.session.nonce) (of_device device) 1 r.sessions
-      ∙ ap (map (λ (s : SessionRow). s.session.nonce)) (filtered_alike IsSession (of_device device) (λ s. s.session.device == device) (λ s fits. eui_equal s.session.device device fits.device in_range) r.sessions has.in_range.sessions)))
+      ∙ ap (map (λ (s : SessionRow). s.session.nonce)) (filtered_alike IsSession (of_device device) (λ s. s.session.device == device) (λ s fits. eui_equal s.session.device device fits.device in_range) r.sessions has.ten.in_range.sessions)))
 
   pub last_counter_told : (session : ℕ) → {result : Result (Option ℕ) RowFault} → Finds last_counter_text (number session ∷ []) old new (λ n. n) (λ n. number n ∷ []) (λ n. n < 2 ^ 32) result
       → Reads old new result (λ r counter. counter ≡ last_counter r.uplinks session)
   last_counter_told session found = says_so
-      (greatest_found last_counter_lookup (number session ∷ []) refl refl uplink_cells (λ r. r.uplinks) (λ r has. has.uplink) (λ b. of_session session b.1)
+      (greatest_found last_counter_lookup (number session ∷ []) refl refl uplink_cells (λ r. r.uplinks) (λ r has. has.ten.uplink) (λ b. of_session session b.1)
       (λ b. ap₂ (λ s t. s && (t && true)) (number_equal b.1.session session) (number_equal (kind_number b.1.kind) 1 ∙ data_kind b.1.kind) ∙ ap (λ t. (b.1.session == session) && t) (and_true (is_data b.1.kind))) (λ b. b.1.counter) (λ b. refl)
       (λ b c. ap₂ (λ u v. ordering_then u (ordering_then v Equal)) (value_cmp-Int (pos c.1.counter) (pos b.1.counter)) (value_cmp-Int (pos c.0) (pos b.0))) (λ n. n < 2 ^ 32)
       (λ r has. subst (λ o. IfSome o (λ n. n < 2 ^ 32)) (sym (ap greatest (unnumbered (λ (u : Uplink). u.counter) (of_session session) 1 r.uplinks)))
-      (greatest_below (2 ^ 32) _ (all_passing (λ (u : Uplink). u.counter) (of_session session) IsUplink (2 ^ 32) (λ u fits. fits.counter) r.uplinks has.in_range.uplinks))) found)
+      (greatest_below (2 ^ 32) _ (all_passing (λ (u : Uplink). u.counter) (of_session session) IsUplink (2 ^ 32) (λ u fits. fits.counter) r.uplinks has.ten.in_range.uplinks))) found)
       (λ r has n is. is ∙ ap greatest (unnumbered (λ (u : Uplink). u.counter) (of_session session) 1 r.uplinks
-      ∙ ap (map (λ (u : Uplink). u.counter)) (filtered_alike IsUplink (of_session session) (is_data_of session) (λ u fits. turned (u.session == session) (is_data u.kind)) r.uplinks has.in_range.uplinks)))
+      ∙ ap (map (λ (u : Uplink). u.counter)) (filtered_alike IsUplink (of_session session) (is_data_of session) (λ u fits. turned (u.session == session) (is_data u.kind)) r.uplinks has.ten.in_range.uplinks)))

@@ -13,13 +13,16 @@ pub mod Inserts
 pub mod Joined
 pub mod LaterLemmas
 pub mod Latest
+pub mod LimitUpdates
 pub mod Lookups
 pub mod MakingLemmas
 pub mod MetaLemmas
 pub mod MetaTexts
+pub mod MigratingLemmas
 pub mod NextDevice
 pub mod NumberedLemmas
 pub mod NumberedUpdates
+pub mod OneWithKey
 pub mod OrderLemmas
 pub mod Ordered
 pub mod QueryLemmas
@@ -30,6 +33,7 @@ pub mod SchemaBatch
 pub mod SchemaTexts
 pub mod SpanQueries
 pub mod Tables
+pub mod TakenNames
 pub mod Terms
 pub mod TurnedDown
 pub mod Unrefused

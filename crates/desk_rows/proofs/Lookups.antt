@@ -180,14 +180,14 @@ module _ {sql : List ℕ} {many : ℕ} {trees : List ℕ} {a : Asked trees} (tex
   IsFirst want = (rows : List Row) → IsAnswer (query_of a) (overlay old.now.trees []) params rows → head rows ≡ want
 
   found_is : HasCleanDisk new → (r : Rows) → Holds old.now r → (want : Option Row) → IsFirst want → IfOk (found_of answer) (λ found. found ≡ want)
-  found_is sure r has want first = go (found_of answer) (found_answers text params old new has.schema answer (run.ran sure))
+  found_is sure r has want first = go (found_of answer) (found_answers text params old new has.ten.schema answer (run.ran sure))
     where
       go : (f : Result (Option Row) RowFault) → IfOk f (λ found. (rows : List Row) × (head rows ≡ found) × IsAnswer (query_of a) (overlay old.now.trees []) params rows) → IfOk f (λ found. found ≡ want)
       go (Ok found) it = sym it.1 ∙ first it.0 it.2
       go (Err f) it = tt
 
   found_even : HasCleanDisk new → old.step_limit ≡ None → (r : Rows) → Holds old.now r → IfErr (found_of answer) IsEven
-  found_even sure unlimited r has = found_in_order text params old new has.schema many_is typed unlimited answer (run.ran sure)
+  found_even sure unlimited r has = found_in_order text params old new has.ten.schema many_is typed unlimited answer (run.ran sure)
 
   -- whether there is a first row
   pub knows : (result : Result Bool RowFault) → result ≡ known_of (found_of answer) → (want : Rows → Option Row) → ((r : Rows) → Holds old.now r → IsFirst (want r))

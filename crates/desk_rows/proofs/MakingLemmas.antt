@@ -43,9 +43,9 @@ tables_refused {S} g old new e ran has inside =
     even_unless e (λ told. never_refused S g (length from_meta) old new e has none inside told ran)
 
 abbrev meta_text : List ℕ
-meta_text = codes "INSERT INTO meta (version, receiver, operator, base, addresses) VALUES (1, ?1, ?2, ?3, ?4)"
+meta_text = codes "INSERT INTO meta (version, receiver, operator, base, addresses) VALUES (2, ?1, ?2, ?3, ?4)"
 
-meta_insert : IsInsert meta_text 4 0 (lit Null ∷ lit Null ∷ lit (Int (pos 1)) ∷ col 0 0 ∷ col 0 1 ∷ col 0 2 ∷ col 0 3 ∷ []) 7
+meta_insert : IsInsert meta_text 4 0 (lit Null ∷ lit Null ∷ lit (Int (pos 2)) ∷ col 0 0 ∷ col 0 1 ∷ col 0 2 ∷ col 0 3 ∷ []) 7
 unfolding understood everything
 meta_insert = record { compiled = _; means = refl; command = refl; plain = (refl, refl); whole = omega arith; given = refl }
 
@@ -55,29 +55,32 @@ meta_params c = Text c.receiver ∷ Text c.operator ∷ number c.base ∷ number
 emptied : (db : Database) → IsBare db → AllByRecursion (λ (t : Table). db.trees t.tree ≡ []) desk_tables
 emptied db bare = subst (λ (s : Schema). AllByRecursion (λ t. db.trees t.tree ≡ []) s.tables) bare.schema bare.empty
 
-casts : (c : Settings) → cast_row (uncounted meta_table) (Null ∷ meta_cells c) ≡ Null ∷ meta_cells c
-casts c = λ i. cast_null i ∷ cast_null i ∷ cast_int (pos 1) i ∷ Text c.receiver ∷ Text c.operator ∷ cast_int (pos c.base) i ∷ cast_int (pos c.addresses) i ∷ []
+casts : (c : Settings) → cast_row (uncounted meta_table) (Null ∷ meta_cells 2 c) ≡ Null ∷ meta_cells 2 c
+casts c = λ i. cast_null i ∷ cast_null i ∷ cast_int (pos 2) i ∷ Text c.receiver ∷ Text c.operator ∷ cast_int (pos c.base) i ∷ cast_int (pos c.addresses) i ∷ []
 
 module _ (old new : State) (c : Settings) (bare : IsBare old.now) where
   settings_held : (count : ℕ) → Executes meta_text (meta_params c) old new (Ok count) → Holds new.now (settings_rows c)
   settings_held count ran =
       let none = emptied old.now bare in
-      let did = row_added meta_insert (meta_params c) old new bare.schema meta_table refl (Null ∷ meta_cells c) refl meta_cells [] c none.0 (casts c) count ran in
+      let did = row_added meta_insert (meta_params c) old new bare.schema meta_table refl (Null ∷ meta_cells 2 c) refl (meta_cells 2) [] c none.0 (casts c) count ran in
       let k = did.2 in
       record {
-        schema = did.0;
-        sound = did.3;
-        in_range = record { devices = tt; sessions = tt; uplinks = tt; copies = tt; bookings = tt };
-        meta = did.1;
-        sender = k.1.0 (λ e. omega (arith, e)) ∙ none.1.0;
-        reply = k.1.1.0 (λ e. omega (arith, e)) ∙ none.1.1.0;
-        owner = k.1.1.1.0 (λ e. omega (arith, e)) ∙ none.1.1.1.0;
-        gateway = k.1.1.1.1.0 (λ e. omega (arith, e)) ∙ none.1.1.1.1.0;
-        device = k.1.1.1.1.1.0 (λ e. omega (arith, e)) ∙ none.1.1.1.1.1.0;
-        session = k.1.1.1.1.1.1.0 (λ e. omega (arith, e)) ∙ none.1.1.1.1.1.1.0;
-        uplink = k.1.1.1.1.1.1.1.0 (λ e. omega (arith, e)) ∙ none.1.1.1.1.1.1.1.0;
-        copy = k.1.1.1.1.1.1.1.1.0 (λ e. omega (arith, e)) ∙ none.1.1.1.1.1.1.1.1.0;
-        booking = k.1.1.1.1.1.1.1.1.1.0 (λ e. omega (arith, e)) ∙ none.1.1.1.1.1.1.1.1.1.0;
+        ten = record {
+          schema = did.0;
+          sound = did.3;
+          in_range = record { devices = tt; sessions = tt; uplinks = tt; copies = tt; bookings = tt };
+          meta = did.1;
+          sender = k.1.0 (λ e. omega (arith, e)) ∙ none.1.0;
+          reply = k.1.1.0 (λ e. omega (arith, e)) ∙ none.1.1.0;
+          owner = k.1.1.1.0 (λ e. omega (arith, e)) ∙ none.1.1.1.0;
+          gateway = k.1.1.1.1.0 (λ e. omega (arith, e)) ∙ none.1.1.1.1.0;
+          device = k.1.1.1.1.1.0 (λ e. omega (arith, e)) ∙ none.1.1.1.1.1.0;
+          session = k.1.1.1.1.1.1.0 (λ e. omega (arith, e)) ∙ none.1.1.1.1.1.1.0;
+          uplink = k.1.1.1.1.1.1.1.0 (λ e. omega (arith, e)) ∙ none.1.1.1.1.1.1.1.0;
+          copy = k.1.1.1.1.1.1.1.1.0 (λ e. omega (arith, e)) ∙ none.1.1.1.1.1.1.1.1.0;
+          booking = k.1.1.1.1.1.1.1.1.1.0 (λ e. omega (arith, e)) ∙ none.1.1.1.1.1.1.1.1.1.0;
+        };
+        limit = k.1.1.1.1.1.1.1.1.1.1.0 (λ e. omega (arith, e)) ∙ none.1.1.1.1.1.1.1.1.1.1.0;
       }
 
   pub settings_made : {result : Result (Unit {0}) RowFault} → HasWritten meta_text (meta_params c) old new result → HasCleanDisk new → IsTrue old.in_transaction → OnOk result (Holds new.now (settings_rows c))
@@ -86,5 +89,5 @@ module _ (old new : State) (c : Settings) (bare : IsBare old.now) where
   pub settings_in_order : {result : Result (Unit {0}) RowFault} → HasWritten meta_text (meta_params c) old new result → HasCleanDisk new → IsTrue old.in_transaction → old.step_limit ≡ None → IfErr result IsEven
   settings_in_order {result} wrote sure inside unlimited =
       let none = emptied old.now bare in
-      insert_in_order meta_insert (meta_params c) old new bare.schema bare.sound meta_table refl (inl refl) (Null ∷ meta_cells c) refl refl refl unlimited meta_cells [] c none.0 (casts c) (omega arith)
+      insert_in_order meta_insert (meta_params c) old new bare.schema bare.sound meta_table refl (inl refl) (Null ∷ meta_cells 2 c) refl refl refl unlimited (meta_cells 2) [] c none.0 (casts c) (omega arith)
       (record { datatype = refl; not_null = refl; check = refl; keyed = refl; referred = refl; unique = refl }) result (wrote.fails sure inside)

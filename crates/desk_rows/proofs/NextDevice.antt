@@ -119,8 +119,8 @@ module _ {old new : State} (owner : List ℕ) where
   first_told {result} found = says_so (finds first_lookup (Text owner ∷ []) old new found.answer found.run refl refl result found.is_read
       (first_of (is_next_of owner None))
       (λ r has. (
-        in_range (is_next_of owner None) r has.in_range.devices,
-        λ rows answer. first_sorted first_asked _ device_cells r.devices has.device (Text owner ∷ []) (λ b. is_next_of owner None b.1)
+        in_range (is_next_of owner None) r has.ten.in_range.devices,
+        λ rows answer. first_sorted first_asked _ device_cells r.devices has.ten.device (Text owner ∷ []) (λ b. is_next_of owner None b.1)
             (λ b. ap (λ t. t && true) (text_equal b.1.device.owner owner)) (λ b. eui b.1.dev_eui ∷ []) (λ b. refl) by_eui untied
             (λ b c. ap₂ (λ u v. ordering_then u (ordering_then v Equal)) (value_cmp-Blob (to_be_bytes w64 b.1.dev_eui) (to_be_bytes w64 c.1.dev_eui))
             (value_cmp-Int (pos b.0) (pos c.0))) rows answer
@@ -135,8 +135,8 @@ module _ {old new : State} (owner : List ℕ) where
     after_told {result} found = says_so (finds after_lookup (Text owner ∷ eui after ∷ []) old new found.answer found.run refl refl result found.is_read
         (first_of (passes owner after))
         (λ r has. (
-          in_range (passes owner after) r has.in_range.devices,
-          λ rows answer. first_sorted after_asked _ device_cells r.devices has.device (Text owner ∷ eui after ∷ []) (λ b. passes owner after b.1)
+          in_range (passes owner after) r has.ten.in_range.devices,
+          λ rows answer. first_sorted after_asked _ device_cells r.devices has.ten.device (Text owner ∷ eui after ∷ []) (λ b. passes owner after b.1)
               (λ b. ap₂ (λ s t. s && t) (text_equal b.1.device.owner owner) (and_true (is_above b.1.dev_eui after))) (λ b. eui b.1.dev_eui ∷ [])
               (λ b. refl) by_eui untied
               (λ b c. ap₂ (λ u v. ordering_then u (ordering_then v Equal)) (value_cmp-Blob (to_be_bytes w64 b.1.dev_eui) (to_be_bytes w64 c.1.dev_eui))
@@ -145,7 +145,7 @@ module _ {old new : State} (owner : List ℕ) where
               ∙ sym (map_twice (λ n. eui n ∷ []) (λ (b : ℕ × DeviceRow). b.1.dev_eui) (slice_get (rows_by by_eui (passes owner after) r.devices) 0)),
         )))
         (λ r has next is. sym (map_same next) ∙ is ∙ ap (λ l. option_map (λ (b : ℕ × DeviceRow). b.1.dev_eui) (slice_get l 0))
-        (rows_alike by_eui IsDevice (passes owner after) (is_next_of owner (Some after)) (same_pass owner after low) r.devices has.in_range.devices))
+        (rows_alike by_eui IsDevice (passes owner after) (is_next_of owner (Some after)) (same_pass owner after low) r.devices has.ten.in_range.devices))
 
   pub above_told : (after : Option ℕ) {found result : Result (Option ℕ) RowFault} → result ≡ above_only after found
       → Reads old new found (λ r next. next ≡ first_by (λ d. d.dev_eui) by_eui (is_next_of owner after) r.devices)
@@ -176,6 +176,6 @@ module _ {old new : State} (owner : List ℕ) where
       even r has (Ok None) h e = tt
       even r has (Ok (Some n)) h e =
           let passes : is_after after n ≡ true = subst (λ o. IfSome o (λ m. is_after after m ≡ true)) (sym h)
-          (rising_first owner after r has.in_range.devices) in
+          (rising_first owner after r has.ten.in_range.devices) in
           rw passes tt
       even r has (Err f) h e = e

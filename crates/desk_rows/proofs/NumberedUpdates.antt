@@ -53,7 +53,7 @@ module _ {old new : State} (n k : ℕ) (in_range : IsWhole n) where
       → Changes old new result (Unit {0}) (λ r. (row : SessionRow) × (item_at r.sessions n ≡ Some row))
       (λ r. record r { sessions = item_changed (next_down_set k) r.sessions n })
   next_down_changed = changed_by next_down_update (number n ∷ number k ∷ []) old new refl (inr (inr (inr (inr (inr (inr (inl refl))))))) refl refl
-      session_cells (λ r. r.sessions) (λ r has. has.session) (λ b. b.0 == n) (λ b. and_true _ ∙ number_equal b.0 n) (next_down_set k)
+      session_cells (λ r. r.sessions) (λ r has. has.ten.session) (λ b. b.0 == n) (λ b. and_true _ ∙ number_equal b.0 n) (next_down_set k)
       (λ b i. cast_int (pos b.0) i ∷ cast_null i ∷ eui b.1.session.device ∷ cast_int (pos b.1.session.nonce) i ∷ cast_int (pos k) i ∷ [])
       (λ r has. few_numbers n 1 r.sessions) (λ r. item_changed (next_down_set k) r.sessions n)
       (λ r has. changed_at (next_down_set k) n r.sessions) _ (λ r. refl)
@@ -95,7 +95,7 @@ module _ {old new : State} (n : ℕ) (sent : Bool) (in_range : IsWhole n) (stand
       (λ r. record r { bookings = item_changed (ended_row sent) r.bookings n })
   booking_ended = changed_by end_update (number n ∷ number (standing_number standing) ∷ []) old new refl
       (inr (inr (inr (inr (inr (inr (inr (inr (inr (inl refl)))))))))) refl refl
-      booking_cells (λ r. r.bookings) (λ r has. has.booking) (λ b. b.0 == n) (λ b. and_true _ ∙ number_equal b.0 n) (ended_row sent)
+      booking_cells (λ r. r.bookings) (λ r has. has.ten.booking) (λ b. b.0 == n) (λ b. and_true _ ∙ number_equal b.0 n) (ended_row sent)
       (λ b i. cast_int (pos b.0) i ∷ cast_null i ∷ cast_int (pos b.1.booking.uplink) i ∷ Text b.1.booking.gateway ∷ cast_int (pos b.1.session) i
       ∷ cast_int (pos (kind_number b.1.kind)) i ∷ cast_int (pos (band_number b.1.booking.band)) i ∷ cast_int b.1.booking.span.start i
       ∷ cast_int (pos b.1.booking.span.len) i

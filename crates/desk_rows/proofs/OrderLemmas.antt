@@ -9,6 +9,7 @@ pub mod Following
 pub mod Framing
 pub mod Free
 pub mod Keys
+pub mod Limits
 pub mod Looking
 pub mod LookingUp
 pub mod Named

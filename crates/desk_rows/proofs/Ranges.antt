@@ -115,11 +115,11 @@ all_told {sql} text params {old} {new} many_is typed {seen = seen} {shows = show
     survives = λ has up sure. survives_weaker _ _ _ _ (λ _ db. never_commits sql params old db (plain_now text params old new has)) found.survives;
     leaves = λ has up sure. left text params old new has seen shows Fits result (found.ends (plain_now text params old new has) sure);
   };
-  told = λ sure r has. told text params old new has.schema seen shows Fits (want r) (are r has) result
-      (found.ends (plain_now text params old new has.schema) sure);
+  told = λ sure r has. told text params old new has.ten.schema seen shows Fits (want r) (are r has) result
+      (found.ends (plain_now text params old new has.ten.schema) sure);
   in_order = λ sure unlimited r has.
-      even text params old new has.schema seen shows Fits (want r) (are r has) many_is typed unlimited result
-      (found.ends (plain_now text params old new has.schema) sure);
+      even text params old new has.ten.schema seen shows Fits (want r) (are r has) many_is typed unlimited result
+      (found.ends (plain_now text params old new has.ten.schema) sure);
 }
 
 -- ---- rows in an order

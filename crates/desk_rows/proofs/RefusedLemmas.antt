@@ -6,6 +6,7 @@ use Rattle.sqlite_value.specs.Order.{Row}
 use Rattle.sqlite_trees.specs.Tree.{Trees}
 use Rattle.sqlite_sql.specs.Term.{Term}
 use Rattle.sqlite_typing.specs.Types.{accepts_terms}
+use Rattle.sqlite_schema.specs.declared.schema.Schema.{Schema}
 use Rattle.sqlite_schema.specs.declared.schema.Table.{Table}
 use Rattle.sqlite_schema.specs.declared.schema.Among.{Among}
 use Rattle.sqlite_schema.specs.declared.schema.Among.TheVariants.{All}
@@ -41,7 +42,7 @@ none_refers among (r ∷ rows) = (refl, none_refers among rows)
 -- the desk has no foreign key
 pub refers : (among : Among) (db : Trees) → Refers among desk_schema db
 refers among db =
-    (none_refers among (db 0), (none_refers among (db 1), (none_refers among (db 3), (none_refers among (db 5), (none_refers among (db 7), (none_refers among (db 9), (none_refers among (db 11), (none_refers among (db 13), (none_refers among (db 15), (none_refers among (db 17), tt))))))))))
+    (none_refers among (db 0), (none_refers among (db 1), (none_refers among (db 3), (none_refers among (db 5), (none_refers among (db 7), (none_refers among (db 9), (none_refers among (db 11), (none_refers among (db 13), (none_refers among (db 15), (none_refers among (db 17), (none_refers among (db 22), tt)))))))))))
 
 pub no_work : (n : ℕ) (db : Trees) (why : Option Refusal) → Leads desk_schema Enforced n db [] (Err why) → ⊥
 no_work zero db why h = let e = h.1 in cc
@@ -59,15 +60,15 @@ not_oversized why s stop e big is same some = cc
 
 -- ---- a statement inside a transaction, told as Refused
 
-module _ (sql : List ℕ) (params : Row) (old new : State) (has : old.now.schema ≡ desk_schema) (command : Command) (writes : WritesRows command)
-    (compiled : Compiled) (means : understood desk_schema sql ≡ Ok compiled) (is : compiled.command ≡ command)
+module _ {schema : Schema} (sql : List ℕ) (params : Row) (old new : State) (has : old.now.schema ≡ schema) (command : Command) (writes : WritesRows command)
+    (compiled : Compiled) (means : understood schema sql ≡ Ok compiled) (is : compiled.command ≡ command)
     (plain : (compiled.returning ≡ None) × (compiled.formats ≡ [])) (whole : length sql ≤ compiled.tail) (many : length params ≡ length compiled.names) where
   abbrev pub IsTurnedDown : Error → Type 0
-  IsTurnedDown = turned.IsTurnedDown false desk_schema sql params old new has command writes compiled means is plain whole many
+  IsTurnedDown = turned.IsTurnedDown false schema sql params old new has command writes compiled means is plain whole many
 
   turned_down : (e : Error) → fault_of e ≡ Refused → ExecutesInside 0 sql params old new (Err e) → IsTurnedDown e
-  turned_down e told (inl ran) = turned.executed false desk_schema sql params old new has command writes compiled means is plain whole many e told ran.0
-  turned_down e told (inr ends) = absurd (turned.not_ended false desk_schema sql params old new has command writes compiled means is plain whole many ends.0)
+  turned_down e told (inl ran) = turned.executed false schema sql params old new has command writes compiled means is plain whole many e told ran.0
+  turned_down e told (inr ends) = absurd (turned.not_ended false schema sql params old new has command writes compiled means is plain whole many ends.0)
 
   -- where the database never refuses it, it fails only for memory, the disk or a size
   pub in_order_unless : ((e : Error) → IsTurnedDown e → ⊥) → (r : Result (Unit {0}) RowFault)

@@ -5,7 +5,7 @@ use Rattle.sqlite_tied.specs.Compute.{everything}
 use Rattle.sqlite_value.specs.Order.{value_cmp}
 use Rattle.sqlite_trees.specs.Sound.{fits_kind, is_free_name, begins, same_name}
 use Rattle.sqlite.specs.Listing.{understood}
-use Rattle.desk_rows.specs.Schema.{desk_tables, desk_indexes, meta_table, sender_table, reply_table, owner_table, gateway_table, device_table, session_table, uplink_table, copy_table, booking_table}
+use Rattle.desk_rows.specs.Schema.{desk_tables, desk_indexes, meta_table, sender_table, reply_table, owner_table, gateway_table, device_table, session_table, uplink_table, copy_table, booking_table, limit_table}
 use Rattle.desk_rows.proofs.BatchSteps.{IsStep, table_step, index_step}
 
 abbrev pub after : ℕ → ℕ → Schema
@@ -51,7 +51,10 @@ abbrev pub booking_start_text : List ℕ
 booking_start_text = codes " CREATE INDEX booking_start ON booking (gateway, start);"
 
 abbrev pub booking_uplink_text : List ℕ
-booking_uplink_text = codes " CREATE INDEX booking_uplink ON booking (uplink)"
+booking_uplink_text = codes " CREATE INDEX booking_uplink ON booking (uplink);"
+
+abbrev pub limit_text : List ℕ
+limit_text = codes " CREATE TABLE band_limit (gateway TEXT NOT NULL, band INTEGER NOT NULL, value INTEGER NOT NULL, PRIMARY KEY (gateway, band)) STRICT"
 
 pub meta_step : IsStep meta_text (after 0 0) (after 1 0)
 unfolding understood everything fits_kind is_free_name begins same_name value_cmp lib.Ieee.is_nan lib.Ieee.lt
@@ -135,4 +138,10 @@ pub booking_uplink_step : IsStep booking_uplink_text (after 10 11) (after 10 12)
 unfolding understood everything fits_kind is_free_name begins same_name value_cmp lib.Ieee.is_nan lib.Ieee.lt
 booking_uplink_step =
     index_step booking_uplink_text (after 10 11) 9 booking_table _
+    (record { compiled = _; means = refl; is = refl; plain = (refl, refl); whole = omega arith; given = refl }) refl refl refl
+
+pub limit_step : IsStep limit_text (after 10 12) (after 11 13)
+unfolding understood everything fits_kind is_free_name begins same_name value_cmp lib.Ieee.is_nan lib.Ieee.lt
+limit_step =
+    table_step limit_text (after 10 12) (record limit_table { tree = 0 })
     (record { compiled = _; means = refl; is = refl; plain = (refl, refl); whole = omega arith; given = refl }) refl refl refl

@@ -61,7 +61,7 @@ module _ {old new : State} (gateway : List ℕ) where
       (λ s. s) span_shown IsSpan result
       → Reads old new result (λ r spans. spans.items ≡ spans_by booking_span (by_start (λ (b : BookingRow). (booking_span b).start))
       (λ b. stands_in gateway band b.booking) r.bookings)
-  of_told band found = spans_told of_lookup (Text gateway ∷ number (band_number band) ∷ []) refl refl booking_cells (λ r. r.bookings) (λ r has. has.booking)
+  of_told band found = spans_told of_lookup (Text gateway ∷ number (band_number band) ∷ []) refl refl booking_cells (λ r. r.bookings) (λ r has. has.ten.booking)
       (λ b. stands_in gateway band b.booking)
       (λ b. ap₂ (λ s t. s && t) (text_equal b.1.booking.gateway gateway)
       (ap₂ (λ s t. s && t) (number_equal (band_number b.1.booking.band) (band_number band)) (and_true _ ∙ stands b.1.booking.standing))
@@ -69,7 +69,7 @@ module _ {old new : State} (gateway : List ℕ) where
       booking_span (λ b. refl)
       (λ b c. ap₂ (λ u v. ordering_then u (ordering_then v Equal)) (value_cmp-Int (booking_span b.1).start (booking_span c.1).start)
       (value_cmp-Int (pos b.0) (pos c.0)))
-      IsBooking (λ r has. has.in_range.bookings) (λ b fits. (fits.start, fits.len)) found
+      IsBooking (λ r has. has.ten.in_range.bookings) (λ b fits. (fits.start, fits.len)) found
 
 -- ---- between two starts
 
@@ -136,7 +136,7 @@ module _ {old new : State} (gateway : List ℕ) (after before : ℤ) where
       (λ s. s) span_shown IsSpan result
       → Reads old new result (λ r spans. spans.items ≡ spans_by booking_span (by_start (λ (b : BookingRow). (booking_span b).start))
       (λ b. stands_at gateway b.booking && starts_between after before (booking_span b)) r.bookings)
-  all_near found = spans_told all_lookup (Text gateway ∷ Int after ∷ Int before ∷ []) refl refl booking_cells (λ r. r.bookings) (λ r has. has.booking)
+  all_near found = spans_told all_lookup (Text gateway ∷ Int after ∷ Int before ∷ []) refl refl booking_cells (λ r. r.bookings) (λ r has. has.ten.booking)
       (λ b. stands_at gateway b.booking && starts_between after before (booking_span b))
       (λ b. ap₂ (λ s t. s && t) (text_equal b.1.booking.gateway gateway) (ap₂ (λ s t. s && t) (int_above (booking_span b.1).start after)
       (ap₂ (λ s t. s && t) (int_below (booking_span b.1).start before) (and_true _ ∙ stands b.1.booking.standing)))
@@ -145,14 +145,14 @@ module _ {old new : State} (gateway : List ℕ) (after before : ℤ) where
       booking_span (λ b. refl)
       (λ b c. ap₂ (λ u v. ordering_then u (ordering_then v Equal)) (value_cmp-Int (booking_span b.1).start (booking_span c.1).start)
       (value_cmp-Int (pos b.0) (pos c.0)))
-      IsBooking (λ r has. has.in_range.bookings) (λ b fits. (fits.start, fits.len)) found
+      IsBooking (λ r has. has.ten.in_range.bookings) (λ b fits. (fits.start, fits.len)) found
 
   pub one_near : (band : Band) {result : Result (Vec Interval Global) RowFault}
       → FindsAll one_text (Text gateway ∷ Int after ∷ Int before ∷ number (band_number band) ∷ []) old new (λ s. s) span_shown IsSpan result
       → Reads old new result (λ r spans. spans.items ≡ spans_by booking_span (by_start (λ (b : BookingRow). (booking_span b).start))
       (λ b. stands_in gateway band b.booking && starts_between after before (booking_span b)) r.bookings)
   one_near band found = spans_told one_lookup (Text gateway ∷ Int after ∷ Int before ∷ number (band_number band) ∷ []) refl refl booking_cells
-      (λ r. r.bookings) (λ r has. has.booking)
+      (λ r. r.bookings) (λ r has. has.ten.booking)
       (λ b. stands_in gateway band b.booking && starts_between after before (booking_span b))
       (λ b. ap₂ (λ s t. s && t) (text_equal b.1.booking.gateway gateway) (ap₂ (λ s t. s && t) (int_above (booking_span b.1).start after)
       (ap₂ (λ s t. s && t) (int_below (booking_span b.1).start before)
@@ -162,7 +162,7 @@ module _ {old new : State} (gateway : List ℕ) (after before : ℤ) where
       booking_span (λ b. refl)
       (λ b c. ap₂ (λ u v. ordering_then u (ordering_then v Equal)) (value_cmp-Int (booking_span b.1).start (booking_span c.1).start)
       (value_cmp-Int (pos b.0) (pos c.0)))
-      IsBooking (λ r has. has.in_range.bookings) (λ b fits. (fits.start, fits.len)) found
+      IsBooking (λ r has. has.ten.in_range.bookings) (λ b fits. (fits.start, fits.len)) found
 
 -- what lies between the two starts is what is near the one
 pub near_told : {old new : State} (after before start : ℤ) → ((a : Interval) → IsStart a.start → is_near start a ≡ starts_between after before a) →
@@ -175,4 +175,4 @@ near_told after before start near test reads = says_so reads
     (λ r has spans is. is ∙ ap (map (λ (row : ℕ × BookingRow). booking_span row.1))
     (rows_alike (by_start (λ (b : BookingRow). (booking_span b).start)) IsBooking
     (λ b. test b && starts_between after before (booking_span b)) (λ b. test b && is_near start (booking_span b))
-    (λ b fits. ap (λ t. test b && t) (sym (near (booking_span b) fits.start))) r.bookings has.in_range.bookings))
+    (λ b fits. ap (λ t. test b && t) (sym (near (booking_span b) fits.start))) r.bookings has.ten.in_range.bookings))

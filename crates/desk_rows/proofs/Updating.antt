@@ -1,6 +1,6 @@
 -- The general lemmas on an UPDATE of one column, which is in no key: what it changes, and when it is never refused.
 use Rattle.std.proofs.Common.{◌≡◌, inl, inr, ℕ, ◌≤◌, ◌^◌, ◌-◌, pos, List, [], ◌∷◌, map, filter, length, slice_get, Bool, true, false, cond, Some, None, Ok, Result, refl, sym, ap, subst, ◌∙◌}
-use Rattle.std.specs.Prelude.{nat_le, unwrap_or}
+use Rattle.std.specs.Prelude.{nat_le, unwrap_or, IfErr, IsTrue}
 use Rattle.std.specs.List.{list_all}
 use Rattle.sqlite_value.specs.Order.{Row}
 use Rattle.sqlite_trees.specs.Tree.{Trees, put_row, without_rowid}
@@ -23,10 +23,11 @@ use Rattle.sqlite.specs.Command.TheVariants.{Update}
 use Rattle.sqlite.specs.Effect.{IsDatabase}
 use Rattle.sqlite.specs.Listing.{understood}
 use Rattle.sqlite.specs.Program.{overlay}
-use Rattle.sqlite.specs.State.{State, Executes, text_of}
+use Rattle.sqlite.specs.State.{State, HasCleanDisk, Executes, text_of}
 use Rattle.sqlite.specs.declared.error.Error.{Error}
 use Rattle.sqlite.proofs.Callers.{IsPlain, command_of}
 use Rattle.desk_rows.specs.Calls.{Changes}
+use Rattle.desk_rows.specs.Faults.{IsEven}
 use Rattle.desk_rows.specs.Rows.{Rows, Holds, InRange, table_of}
 use Rattle.desk_rows.specs.Schema.{desk_schema, desk_tables}
 use Rattle.desk_rows.specs.declared.faults.RowFault.{RowFault}
@@ -62,7 +63,7 @@ overlay_none db t = elim (nat_le (2 ^ 31) t) as (λ b. unwrap_or (cond b (slice_
 
 module _ {sql : List ℕ} {many at : ℕ} {table : Table} {terms project : List Term} (text : IsUpdate sql many at table terms project)
     (params : Row) (old new : State) (has : old.now.schema ≡ desk_schema) (there : slice_get desk_tables at ≡ Some table) where
-  ran : (count : ℕ) → Executes sql params old new (Ok count)
+  pub ran : (count : ℕ) → Executes sql params old new (Ok count)
       → (rows : List Row) × IsAnswer (over_one table.tree terms (col 1 0 ∷ project)) (overlay old.now.trees []) params rows × (new.now.schema ≡ desk_schema)
       × (new.now.trees table.tree ≡ edited old.now.trees (edit_of old.now.trees table (ids_of rows) Given 1 rows))
       × KeepsOthers table.tree old.now.trees new.now.trees × IsDatabase new.now
@@ -100,7 +101,7 @@ module _ (table : Table) (terms project : List Term) (params : Row) (old : State
       ap edit_by (rows_are (inr (b, one)) rows given ∙ ap (map shown) one)
       ∙ ap (λ (r : Row). record { table = table; gone = pos b.0 ∷ []; news = r ∷ [] }) (casts b)
 
-  table_is : AreFew passing → (rows : List Row) → IsGiven rows → edited old.now.trees (edit_by rows) ≡ table_of cells (numbered_changed p f 1 xs)
+  pub table_is : AreFew passing → (rows : List Row) → IsGiven rows → edited old.now.trees (edit_by rows) ≡ table_of cells (numbered_changed p f 1 xs)
   table_is (inl none) rows given =
       ap (λ rs. edited old.now.trees (edit_by rs)) (rows_are (inl none) rows given ∙ ap (map shown) none) ∙ stored
       ∙ ap (table_of cells) (sym (none_changed p f 1 xs none))
@@ -108,6 +109,38 @@ module _ (table : Table) (terms project : List Term) (params : Row) (old : State
       let b = one.0 in
       ap (edited old.now.trees) (edit_is b one.1 rows given) ∙ ap (λ l. put_row (encode cells (b.0, f b.1)) (without_rowid (pos b.0) l)) stored
       ∙ put_changed p f cells 1 xs b one.1
+
+-- ---- when it is refused
+
+-- where one row passes, and obeys the rules with what is changed, it never is
+module _ {sql : List ℕ} {many at : ℕ} {table : Table} {terms project : List Term} (text : IsUpdate sql many at table terms project)
+    (params : Row) (old new : State) (has : old.now.schema ≡ desk_schema) (sound : IsDatabase old.now)
+    (there : slice_get desk_tables at ≡ Some table) (listed : Has desk_tables table)
+    (typed : accepts_program desk_schema [] (over_one table.tree terms (col 1 0 ∷ project)) params ≡ true) (many_is : length params ≡ many)
+    {X : Type 0} (cells : X → Row) (xs : List X) (stored : old.now.trees table.tree ≡ table_of cells xs)
+    (p : ℕ × X → Bool) (tests : (b : ℕ × X) → list_all (holds (params ∷ encode cells b ∷ [])) terms ≡ p b)
+    (f : X → X) (casts : (b : ℕ × X) → cast_row table (eval_all project (params ∷ encode cells b ∷ [])) ≡ encode cells (b.0, f b.1)) where
+  abbrev pub Obeys : ℕ × X → Type 0
+  Obeys b = (keeps : Keeps Unique desk_schema old.now.trees) (stood : Has (old.now.trees table.tree) (encode cells b))
+      → Passes desk_schema apart old.now.trees table listed keeps b.0 (cells b.1) (cells (f b.1)) stood
+
+  never : old.step_limit ≡ None → (b : ℕ × X) → filter p (zip_from 1 xs) ≡ b ∷ [] → Obeys b → (e : Error)
+      → IsTurnedDown sql params old new has (update_of at table terms project) (update_writes at _) text.compiled text.means text.command text.plain
+      text.whole (many_is ∙ text.given) e → ⊥
+  never unlimited b one obeys e turned =
+      let cause = update_cause old params at table terms (col 1 0 ∷ project) typed unlimited there (text_of sql text.compiled) e turned in
+      let keeps : Keeps Unique desk_schema old.now.trees = subst (λ s. Keeps Unique s old.now.trees) has (sound.obeys.rules Unique) in
+      let numbered : Has (zip_from 1 xs) b = (has_filtered p (zip_from 1 xs) b (subst (λ l. Has l b) (sym one) (inl refl))).0 in
+      let stood : Has (old.now.trees table.tree) (encode cells b) = subst (λ l. Has l (encode cells b)) (sym stored) (zip_stands cells 1 xs b numbered) in
+      let is = edit_is table terms project params old cells xs stored p tests f casts b one cause.0 cause.1 in
+      not_refused desk_schema apart old.now.trees table listed keeps b.0 (cells b.1) (cells (f b.1)) stood (obeys keeps stood) cause.2
+      (subst (λ it. IsRefused desk_schema Enforced old.now.trees it cause.2) is cause.3)
+
+  pub update_in_order : old.step_limit ≡ None → (b : ℕ × X) → filter p (zip_from 1 xs) ≡ b ∷ [] → Obeys b → {result : Result (Unit {0}) RowFault}
+      → HasWritten sql params old new result → HasCleanDisk new → IsTrue old.in_transaction → IfErr result IsEven
+  update_in_order unlimited b one obeys {result} wrote sure inside =
+      in_order_unless sql params old new has (update_of at table terms project) (update_writes at _) text.compiled text.means text.command
+      text.plain text.whole (many_is ∙ text.given) (never unlimited b one obeys) result (wrote.fails sure inside)
 
 -- ---- what an UPDATE does to the rows
 
@@ -122,36 +155,20 @@ module _ {sql : List ℕ} {many at : ℕ} {table : Table} {terms project : List 
     (ys : Rows → List X) (done : (r : Rows) → Holds old.now r → numbered_changed p f 1 (xs r) ≡ ys r)
     (after : Rows → Rows) (is_after : (r : Rows) → tables (after r) ≡ with_table table.tree (table_of cells (ys r)) (tables r))
     (ranges : (r : Rows) → InRange r → InRange (after r)) where
-  abbrev Obeys : ℕ × X → Type 0
-  Obeys b = (keeps : Keeps Unique desk_schema old.now.trees) (stood : Has (old.now.trees table.tree) (encode cells b))
-      → Passes desk_schema apart old.now.trees table listed keeps b.0 (cells b.1) (cells (f b.1)) stood
-
-  module _ (May : Rows → Type 0) (found : (r : Rows) → Holds old.now r → May r → (b : ℕ × X) × (filter p (zip_from 1 (xs r)) ≡ b ∷ []) × Obeys b) where
-    never : (has : old.now.schema ≡ desk_schema) → old.step_limit ≡ None → (r : Rows) → Holds old.now r → May r → (e : Error)
-        → IsTurnedDown sql params old new has (update_of at table terms project) (update_writes at _) text.compiled text.means text.command text.plain
-        text.whole (many_is ∙ text.given) e → ⊥
-    never _ unlimited r has may e turned =
-        let one = found r has may in
-        let b = one.0 in
-        let cause = update_cause old params at table terms (col 1 0 ∷ project) typed unlimited there (text_of sql text.compiled) e turned in
-        let keeps : Keeps Unique desk_schema old.now.trees = subst (λ s. Keeps Unique s old.now.trees) has.schema (has.sound.obeys.rules Unique) in
-        let numbered : Has (zip_from 1 (xs r)) b = (has_filtered p (zip_from 1 (xs r)) b (subst (λ l. Has l b) (sym one.1) (inl refl))).0 in
-        let stood : Has (old.now.trees table.tree) (encode cells b) =
-        subst (λ l. Has l (encode cells b)) (sym (stored r has)) (zip_stands cells 1 (xs r) b numbered) in
-        let is = edit_is table terms project params old cells (xs r) (stored r has) p tests f casts b one.1 cause.0 cause.1 in
-        not_refused desk_schema apart old.now.trees table listed keeps b.0 (cells b.1) (cells (f b.1)) stood (one.2 keeps stood) cause.2
-        (subst (λ it. IsRefused desk_schema Enforced old.now.trees it cause.2) is cause.3)
-
+  module _ (May : Rows → Type 0)
+      (found : (r : Rows) (has : Holds old.now r) → May r → (b : ℕ × X) × (filter p (zip_from 1 (xs r)) ≡ b ∷ [])
+      × Obeys text params old new has.ten.schema has.ten.sound there listed typed many_is cells (xs r) (stored r has) p tests f casts b) where
     pub changed_by : {result : Result (Unit {0}) RowFault} → HasWritten sql params old new result → Changes old new result (Unit {0}) May after
     changed_by {result} wrote = record {
       write = wrote.write;
       schema = λ sure inside has. ran_well result (wrote.runs sure inside) (schema_kept text params old new has there);
       made = λ sure inside fits r has. ran_well result (wrote.runs sure inside) (λ count it.
-          let did = ran text params old new has.schema there count it in
+          let did = ran text params old new has.ten.schema there count it in
           let is = table_is table terms project params old cells (xs r) (stored r has) p tests f casts (few r has) did.0 did.1 in
-          holds_with old.now new.now r (after r) table.tree (table_of cells (ys r)) has did.2 did.5 (ranges r has.in_range) did.4
+          holds_with old.now new.now r (after r) table.tree (table_of cells (ys r)) has did.2 did.5 (ranges r has.ten.in_range) did.4
           (did.3 ∙ is ∙ ap (table_of cells) (done r has)) (is_after r));
       in_order = λ sure inside unlimited fits r has may.
-          in_order_unless sql params old new has.schema (update_of at table terms project) (update_writes at _) text.compiled text.means text.command
-          text.plain text.whole (many_is ∙ text.given) (never has.schema unlimited r has may) result (wrote.fails sure inside);
+          let one = found r has may in
+          update_in_order text params old new has.ten.schema has.ten.sound there listed typed many_is cells (xs r) (stored r has) p tests f casts unlimited
+          one.0 one.1 one.2 {result = result} wrote sure inside;
     }

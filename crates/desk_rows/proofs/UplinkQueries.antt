@@ -108,9 +108,9 @@ module _ (dev_eui : ℕ) (low : IsEui dev_eui) (band : Band) (from to : ℤ) whe
       (λ r. spans_by interval_of order (is_uplink_of r.sessions dev_eui band from to) r.uplinks)
       (λ r has. (
         all_map (λ (b : ℕ × Uplink). IsUplink b.1) IsSpan (λ b. interval_of b.1) (λ b fits. (whole_start b.1.start fits.start, fits.airtime)) _
-            (rows_all IsUplink IsUplink order (is_uplink_of r.sessions dev_eui band from to) (λ u fits passes. fits) r.uplinks has.in_range.uplinks),
+            (rows_all IsUplink IsUplink order (is_uplink_of r.sessions dev_eui band from to) (λ u fits passes. fits) r.uplinks has.ten.in_range.uplinks),
         λ rows answer. joined_sorted asked _ (eui dev_eui ∷ Int from ∷ Int to ∷ number (band_number band) ∷ [])
-            session_cells r.sessions has.session uplink_cells r.uplinks has.uplink (λ (u : Uplink). u.session) is_own is_within
+            session_cells r.sessions has.ten.session uplink_cells r.uplinks has.ten.uplink (λ (u : Uplink). u.session) is_own is_within
             (λ b. ap₂ (λ s t. s && t) (number_equal b.1.1.session b.0.0) (ap₂ (λ s t. s && t) refl
             (ap₂ (λ s t. s && t) (int_from (pos b.1.1.start) from) (ap₂ (λ s t. s && t) (int_below (pos b.1.1.start) to)
             (and_true _ ∙ number_equal (band_number b.1.1.band) (band_number band))))))
@@ -118,7 +118,7 @@ module _ (dev_eui : ℕ) (low : IsEui dev_eui) (band : Band) (from to : ℤ) whe
             (λ b c. ap₂ (λ u v. ordering_then u (ordering_then v Equal)) (value_cmp-Int (pos b.1.start) (pos c.1.start)) (value_cmp-Int (pos b.0) (pos c.0)))
             rows answer
             ∙ ap (λ l. map (λ (b : ℕ × Uplink). span_shown (interval_of b.1)) (sort_by order l))
-            (filter_same _ _ (λ (b : ℕ × Uplink). same_pass r.sessions has.in_range.sessions b.1) (zip_from 1 r.uplinks))
+            (filter_same _ _ (λ (b : ℕ × Uplink). same_pass r.sessions has.ten.in_range.sessions b.1) (zip_from 1 r.uplinks))
             ∙ sym (map-map span_shown (λ (b : ℕ × Uplink). interval_of b.1) _),
       )))
       (λ r has spans is. sym (map-id spans.items) ∙ is)

@@ -23,7 +23,7 @@ use Rattle.sqlite_value.specs.declared.value.Value.TheVariants.{Int}
 use Rattle.sqlite_value.specs.Order.{Row, column, bytes}
 use Rattle.sqlite_trees.specs.Tree.{Trees}
 use Rattle.sqlite.specs.Effect.{Database}
-use Rattle.desk_rows.specs.Rows.{SenderRow, ReplyRow, DeviceRow, SessionRow, CopyRow, BookingRow, IsDevice, IsSession, Rows, Holds, role_number, kind_number, standing_number, numbered_from, table_of, sender_cells, reply_cells, name_cells, device_cells, session_cells, uplink_cells, copy_cells, booking_cells, or_null, number}
+use Rattle.desk_rows.specs.Rows.{SenderRow, ReplyRow, DeviceRow, SessionRow, CopyRow, BookingRow, LimitRow, IsDevice, IsSession, Rows, Holds, role_number, kind_number, standing_number, numbered_from, table_of, sender_cells, reply_cells, name_cells, device_cells, session_cells, uplink_cells, copy_cells, booking_cells, limit_cells, or_null, number}
 
 -- ---- values
 
@@ -144,6 +144,9 @@ booking_in r = record {
   kind = kind_in (column r 5);
 }
 
+abbrev pub limit_in : Row → LimitRow
+limit_in r = record { gateway = bytes (column r 1); limit = record { band = band_in (column r 2); most = nat_in (column r 3) } }
+
 -- ---- tables
 
 decoded : {X : Type 0} (P : X → Type 0) (cells : X → Row) (of : Row → X) → ((n : ℕ) (x : X) → P x → of (Int (pos n) ∷ cells x) ≡ x)
@@ -176,23 +179,24 @@ rows_in db = record {
   uplinks = map uplink_in (db 13);
   copies = map copy_in (db 15);
   bookings = map booking_in (db 17);
+  limits = map limit_in (db 22);
 }
 
 module _ (db : Database) (r : Rows) (h : Holds db r) where
   settings_is : r.settings ≡ first_of (map settings_in (db.trees 0))
-  settings_is = ap (λ rows. first_of (map settings_in rows)) (sym h.meta)
+  settings_is = ap (λ rows. first_of (map settings_in rows)) (sym h.ten.meta)
 
   senders_are : r.senders ≡ map sender_in (db.trees 1)
-  senders_are = again (λ x. Unit {0}) sender_cells sender_in (λ n x p i. record { name = x.name; role = role_again x.role i }) r.senders (every r.senders) (db.trees 1) h.sender
+  senders_are = again (λ x. Unit {0}) sender_cells sender_in (λ n x p i. record { name = x.name; role = role_again x.role i }) r.senders (every r.senders) (db.trees 1) h.ten.sender
 
   replies_are : r.replies ≡ map reply_in (db.trees 3)
-  replies_are = again (λ x. Unit {0}) reply_cells reply_in (λ n x p. refl) r.replies (every r.replies) (db.trees 3) h.reply
+  replies_are = again (λ x. Unit {0}) reply_cells reply_in (λ n x p. refl) r.replies (every r.replies) (db.trees 3) h.ten.reply
 
   owners_are : r.owners ≡ map name_in (db.trees 5)
-  owners_are = again (λ x. Unit {0}) name_cells name_in (λ n x p. refl) r.owners (every r.owners) (db.trees 5) h.owner
+  owners_are = again (λ x. Unit {0}) name_cells name_in (λ n x p. refl) r.owners (every r.owners) (db.trees 5) h.ten.owner
 
   gateways_are : r.gateways ≡ map name_in (db.trees 7)
-  gateways_are = again (λ x. Unit {0}) name_cells name_in (λ n x p. refl) r.gateways (every r.gateways) (db.trees 7) h.gateway
+  gateways_are = again (λ x. Unit {0}) name_cells name_in (λ n x p. refl) r.gateways (every r.gateways) (db.trees 7) h.ten.gateway
 
   devices_are : r.devices ≡ map device_in (db.trees 9)
   devices_are = again IsDevice device_cells device_in
@@ -200,19 +204,19 @@ module _ (db : Database) (r : Rows) (h : Holds db r) where
         dev_eui = from_be_bytes-to_be_bytes_8 x.dev_eui p.dev_eui i;
         device = record { join_eui = from_be_bytes-to_be_bytes_8 x.device.join_eui p.join_eui i; owner = x.device.owner };
         floor = option_again x.floor i;
-      }) r.devices h.in_range.devices (db.trees 9) h.device
+      }) r.devices h.ten.in_range.devices (db.trees 9) h.ten.device
 
   sessions_are : r.sessions ≡ map session_in (db.trees 11)
   sessions_are = again IsSession session_cells session_in
-      (λ n x p i. record { session = record { device = from_be_bytes-to_be_bytes_8 x.session.device p.device i; nonce = x.session.nonce }; next_down = x.next_down }) r.sessions h.in_range.sessions (db.trees 11) h.session
+      (λ n x p i. record { session = record { device = from_be_bytes-to_be_bytes_8 x.session.device p.device i; nonce = x.session.nonce }; next_down = x.next_down }) r.sessions h.ten.in_range.sessions (db.trees 11) h.ten.session
 
   uplinks_are : r.uplinks ≡ map uplink_in (db.trees 13)
   uplinks_are = again (λ x. Unit {0}) uplink_cells uplink_in
-      (λ n x p i. record { session = x.session; kind = kind_again x.kind i; counter = x.counter; octets = x.octets; start = x.start; airtime = x.airtime; band = band_again x.band i }) r.uplinks (every r.uplinks) (db.trees 13) h.uplink
+      (λ n x p i. record { session = x.session; kind = kind_again x.kind i; counter = x.counter; octets = x.octets; start = x.start; airtime = x.airtime; band = band_again x.band i }) r.uplinks (every r.uplinks) (db.trees 13) h.ten.uplink
 
   copies_are : r.copies ≡ map copy_in (db.trees 15)
   copies_are = again (λ x. Unit {0}) copy_cells copy_in
-      (λ n x p i. record { uplink = x.uplink; gateway = x.gateway; reception = record { end = x.reception.end; rate = record { freq = x.reception.rate.freq; dr = dr_again x.reception.rate.dr i } } }) r.copies (every r.copies) (db.trees 15) h.copy
+      (λ n x p i. record { uplink = x.uplink; gateway = x.gateway; reception = record { end = x.reception.end; rate = record { freq = x.reception.rate.freq; dr = dr_again x.reception.rate.dr i } } }) r.copies (every r.copies) (db.trees 15) h.ten.copy
 
   bookings_are : r.bookings ≡ map booking_in (db.trees 17)
   bookings_are = again (λ x. Unit {0}) booking_cells booking_in
@@ -226,7 +230,11 @@ module _ (db : Database) (r : Rows) (h : Holds db r) where
         };
         session = x.session;
         kind = kind_again x.kind i;
-      }) r.bookings (every r.bookings) (db.trees 17) h.booking
+      }) r.bookings (every r.bookings) (db.trees 17) h.ten.booking
+
+  limits_are : r.limits ≡ map limit_in (db.trees 22)
+  limits_are = again (λ x. Unit {0}) limit_cells limit_in
+      (λ n x p i. record { gateway = x.gateway; limit = record { band = band_again x.limit.band i; most = x.limit.most } }) r.limits (every r.limits) (db.trees 22) h.limit
 
   -- the rows are those that the trees stand for
   pub held_again : r ≡ rows_in db.trees
@@ -241,4 +249,5 @@ module _ (db : Database) (r : Rows) (h : Holds db r) where
     uplinks = uplinks_are i;
     copies = copies_are i;
     bookings = bookings_are i;
+    limits = limits_are i;
   }

@@ -4,6 +4,7 @@ pub mod Decode
 pub mod Faults
 pub mod Making
 pub mod Meta
+pub mod Migrating
 pub mod Replies
 pub mod Rows
 pub mod Schema

@@ -10,7 +10,7 @@ use Rattle.desk_rows.specs.Schema.{desk_schema}
 abbrev pub IsEmptied : Database → Type 0
 IsEmptied db = AllByRecursion (λ t. db.trees t.tree ≡ []) db.schema.tables
 
--- the ten tables with their indexes are there and nothing else, and no row
+-- the eleven tables with their indexes are there and nothing else, and no row
 pub record IsBare (db : Database) : Type 0 where
   pub schema : db.schema ≡ desk_schema
   pub sound : IsDatabase db
@@ -18,4 +18,4 @@ pub record IsBare (db : Database) : Type 0 where
 
 -- the settings alone
 abbrev pub settings_rows : Settings → Rows
-settings_rows c = record { settings = c; senders = []; replies = []; owners = []; gateways = []; devices = []; sessions = []; uplinks = []; copies = []; bookings = [] }
+settings_rows c = record { settings = c; senders = []; replies = []; owners = []; gateways = []; devices = []; sessions = []; uplinks = []; copies = []; bookings = []; limits = [] }

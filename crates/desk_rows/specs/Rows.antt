@@ -1,4 +1,4 @@
--- The typed rows of the ten tables, and how they stand in a database.
+-- The typed rows of the tables, and how they stand in a database.
 use Rattle.std.specs.Prelude.{◌≡◌, ◌==◌, ◌&&◌, Bool, bytes_eq, ℕ, ◌+◌, ◌<◌, ◌≤◌, ◌^◌, pos, List, [], ◌∷◌, length, map, Option, Some, None}
 use Rattle.std.specs.Int.{to_be_bytes, w64}
 use Rattle.std.specs.List.{AllByRecursion}
@@ -16,11 +16,13 @@ use Rattle.registry_core.specs.declared.facts.Standing.TheVariants.{Booked, Sent
 use Rattle.registry_core.specs.declared.facts.Uplink.{Uplink}
 use Rattle.registry_core.specs.declared.messages.Role.{Role}
 use Rattle.registry_core.specs.declared.messages.Role.TheVariants.{Operator, Radio}
+use Rattle.registry_core.specs.Limits.{Limit}
 use Rattle.registry_core.specs.Ranges.{IsEui, IsName}
 use Rattle.registry_core.specs.Settings.{Settings}
 use Rattle.registry_core.specs.Wholes.{IsWhole}
 use Rattle.sqlite_value.specs.declared.value.Value.{Value}
 use Rattle.sqlite_value.specs.declared.value.Value.TheVariants.{Null, Int, Text, Blob}
+use Rattle.sqlite_schema.specs.declared.schema.Schema.{Schema}
 use Rattle.sqlite_value.specs.Order.{Row}
 use Rattle.sqlite.specs.Effect.{Database, IsDatabase}
 use Rattle.desk_rows.specs.Schema.{desk_schema}
@@ -86,6 +88,11 @@ pub record BookingRow : Type 0 where
   pub session : ℕ
   pub kind : Kind
 
+-- the limit of a gateway's band: the one that was set last
+pub record LimitRow : Type 0 where
+  pub gateway : List ℕ
+  pub limit : Limit
+
 -- what the tables hold, each in the order in which its rows were added
 pub record Rows : Type 0 where
   pub settings : Settings
@@ -98,6 +105,7 @@ pub record Rows : Type 0 where
   pub uplinks : List Uplink
   pub copies : List CopyRow
   pub bookings : List BookingRow
+  pub limits : List LimitRow
 
 -- ---- keys
 
@@ -119,10 +127,15 @@ is_uplink session kind counter u = u.session == session && (kind_number u.kind =
 abbrev pub is_copy : ℕ → List ℕ → CopyRow → Bool
 is_copy uplink gateway c = c.uplink == uplink && bytes_eq c.gateway gateway
 
+-- a band by its number
+abbrev pub is_limit : List ℕ → ℕ → LimitRow → Bool
+is_limit gateway band l = bytes_eq l.gateway gateway && band_number l.limit.band == band
+
 -- ---- cells: a row without its rowid, where the column of an INTEGER PRIMARY KEY holds NULL
 
-abbrev pub meta_cells : Settings → Row
-meta_cells c = Null ∷ number 1 ∷ Text c.receiver ∷ Text c.operator ∷ number c.base ∷ number c.addresses ∷ []
+-- under the version of the schema
+abbrev pub meta_cells : ℕ → Settings → Row
+meta_cells version c = Null ∷ number version ∷ Text c.receiver ∷ Text c.operator ∷ number c.base ∷ number c.addresses ∷ []
 
 abbrev pub sender_cells : SenderRow → Row
 sender_cells s = Text s.name ∷ number (role_number s.role) ∷ []
@@ -149,6 +162,9 @@ abbrev pub booking_cells : BookingRow → Row
 booking_cells b =
     Null ∷ number b.booking.uplink ∷ Text b.booking.gateway ∷ number b.session ∷ number (kind_number b.kind) ∷ number (band_number b.booking.band)
     ∷ Int b.booking.span.start ∷ number b.booking.span.len ∷ number (standing_number b.booking.standing) ∷ []
+
+abbrev pub limit_cells : LimitRow → Row
+limit_cells l = Text l.gateway ∷ number (band_number l.limit.band) ∷ number l.limit.most ∷ []
 
 -- ---- tables
 
@@ -198,12 +214,13 @@ pub record InRange (r : Rows) : Type 0 where
   pub copies : AllByRecursion IsCopy r.copies
   pub bookings : AllByRecursion IsBooking r.bookings
 
--- The database has the schema and nothing else, and its ten tables hold exactly these rows.
-pub record Holds (db : Database) (r : Rows) : Type 0 where
-  pub schema : db.schema ≡ desk_schema
+-- The database has this schema and nothing else, meta tells this version of it, and the ten tables that each version has
+-- hold exactly these rows.
+pub record HoldsTen (version : ℕ) (desk : Schema) (db : Database) (r : Rows) : Type 0 where
+  pub schema : db.schema ≡ desk
   pub sound : IsDatabase db
   pub in_range : InRange r
-  pub meta : db.trees 0 ≡ table_of meta_cells (r.settings ∷ [])
+  pub meta : db.trees 0 ≡ table_of (meta_cells version) (r.settings ∷ [])
   pub sender : db.trees 1 ≡ table_of sender_cells r.senders
   pub reply : db.trees 3 ≡ table_of reply_cells r.replies
   pub owner : db.trees 5 ≡ table_of name_cells r.owners
@@ -213,3 +230,8 @@ pub record Holds (db : Database) (r : Rows) : Type 0 where
   pub uplink : db.trees 13 ≡ table_of uplink_cells r.uplinks
   pub copy : db.trees 15 ≡ table_of copy_cells r.copies
   pub booking : db.trees 17 ≡ table_of booking_cells r.bookings
+
+-- The database has schema 2 and nothing else, and its eleven tables hold exactly these rows.
+pub record Holds (db : Database) (r : Rows) : Type 0 where
+  pub ten : HoldsTen 2 desk_schema db r
+  pub limit : db.trees 22 ≡ table_of limit_cells r.limits

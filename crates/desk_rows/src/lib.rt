@@ -1,4 +1,4 @@
-//! Statements on the ten tables.
+//! Statements on the eleven tables, and those of a move from the ten tables of schema 1.
 #![tactic(auto)]
 
 mod bookings;
@@ -8,8 +8,10 @@ mod devices;
 mod faults;
 mod gateways;
 pub mod laws;
+mod limits;
 mod making;
 mod meta;
+mod migrating;
 pub mod order;
 mod owners;
 mod queries;
@@ -28,8 +30,10 @@ pub use devices::{
 };
 pub use faults::{RowFault, fault_of};
 pub use gateways::{gateway_is_known, insert_gateway, last_gateway};
+pub use limits::{change_limit, insert_limit, last_limit, limit_at};
 pub use making::{create_tables, insert_settings};
 pub use meta::read_settings;
+pub use migrating::{create_limits, raise_version};
 pub use owners::{insert_owner, last_owner, owner_is_known};
 pub use replies::{Texts, insert_reply, last_reply, texts_of};
 pub use senders::{insert_sender, last_sender, role_of};

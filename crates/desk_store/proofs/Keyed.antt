@@ -4,10 +4,13 @@ use Rattle.std.specs.Prelude.{◌==◌, ◌&&◌, bytes_eq, nat_eq}
 use Rattle.std.specs.Cmp.{nat_eq_equiv}
 use Rattle.std.specs.Cmp.Lexicographic.{nat_list_eq_equiv}
 use Rattle.std.proofs.lemmas.Bool.{eqb-true, eq-eqb}
+use Rattle.std.proofs.lemmas.Slice.Eq.{bytes_eq-Decides}
 use Rattle.indexmap.specs.IndexMap.{IndexMap, Updates, get}
+use Rattle.radio_core.specs.Bands.{band_number}
 use Rattle.registry_core.specs.declared.facts.Reception.{Reception}
-use Rattle.registry_core.specs.State.{at_name, at_number, copies_with}
-use Rattle.desk_store.specs.Facts.{copies_of, same_copy}
+use Rattle.registry_core.specs.Limits.{Limit}
+use Rattle.registry_core.specs.State.{at_name, at_number, copies_with, limits_with}
+use Rattle.desk_store.specs.Facts.{copies_of, limits_of, same_key}
 
 -- functions with one value at each argument are one
 at_each : {X Y : Type 0} {f g : X → Y} → ((x : X) → f x ≡ g x) → f ≡ g
@@ -19,6 +22,13 @@ copy_key copies number gateway reception n at true is = rw (eqb-true n number is
     (ap (λ b. cond b (Some reception) (copies number at)) (nat_list_eq_equiv.symm gateway at))
 copy_key copies number gateway reception n at false is = rw (nat_eq_equiv.symm number n, is) refl
 
+limit_key : (limits : List ℕ → ℕ → Option ℕ) (gateway : List ℕ) (limit : Limit) (at : List ℕ) (n : ℕ) (named same : Bool) → bytes_eq at gateway ≡ named → (n == band_number limit.band) ≡ same
+    → cond (nat_eq (band_number limit.band) n && bytes_eq gateway at) (Some limit.most) (limits at n) ≡ limits_with limits gateway limit at n
+limit_key limits gateway limit at n true true is by = rw (nat_eq_equiv.symm (band_number limit.band) n, nat_list_eq_equiv.symm gateway at, is, by) refl
+limit_key limits gateway limit at n true false is by = rw (nat_eq_equiv.symm (band_number limit.band) n, is, by) (ap (λ name. limits name n) ((bytes_eq-Decides at gateway).0 is))
+limit_key limits gateway limit at n false true is by = rw (nat_eq_equiv.symm (band_number limit.band) n, nat_list_eq_equiv.symm gateway at, is, by) refl
+limit_key limits gateway limit at n false false is by = rw (nat_eq_equiv.symm (band_number limit.band) n, is, by) refl
+
 module _ {S : Type 0} where
   pub at_name-updated : {X : Type 0} (old new : IndexMap (List ℕ) X S) (name : List ℕ) (x : X) → Updates bytes_eq old new name (Some x)
       → get bytes_eq new ≡ at_name (get bytes_eq old) name (Some x)
@@ -29,7 +39,12 @@ module _ {S : Type 0} where
   at_number-updated old new number x updates = at_each (λ other. updates.0 other ∙ ap (λ b. cond b (Some x) (get nat_eq old other)) (nat_eq_equiv.symm number other))
 
   pub copies_with-updated : (old new : IndexMap (ℕ × List ℕ) Reception S) (number : ℕ) (gateway : List ℕ) (reception : Reception)
-      → Updates same_copy old new (number, gateway) (Some reception)
+      → Updates same_key old new (number, gateway) (Some reception)
       → copies_of new ≡ copies_with (copies_of old) number gateway reception
   copies_with-updated old new number gateway reception updates = at_each (λ n. at_each (λ at.
       updates.0 (n, at) ∙ copy_key (copies_of old) number gateway reception n at (n == number) refl))
+
+  pub limits_with-updated : (old new : IndexMap (ℕ × List ℕ) ℕ S) (gateway : List ℕ) (limit : Limit) → Updates same_key old new (band_number limit.band, gateway) (Some limit.most)
+      → limits_of new ≡ limits_with (limits_of old) gateway limit
+  limits_with-updated old new gateway limit updates = at_each (λ at. at_each (λ n.
+      updates.0 (n, at) ∙ limit_key (limits_of old) gateway limit at n (bytes_eq at gateway) (n == band_number limit.band) refl refl))

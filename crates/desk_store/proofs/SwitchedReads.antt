@@ -1,5 +1,5 @@
 -- A look-up of the store behind a switch, from one of its lists.
-use Rattle.std.proofs.Common.{◌≡◌, ◌∙◌, ℕ, Bool, true, false, Option, None, refl, ap, sym}
+use Rattle.std.proofs.Common.{◌≡◌, ◌∙◌, ℕ, Bool, true, false, Option, None, refl, ap}
 use Rattle.std.specs.Prelude.{◌||◌}
 use Rattle.desk_store.specs.declared.faults.StoreFault.{StoreFault}
 use Rattle.desk_store.specs.declared.lists.Lists.{Lists}

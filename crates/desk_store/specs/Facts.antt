@@ -7,13 +7,17 @@ use Rattle.registry_core.specs.State.{State}
 use Rattle.desk_store.specs.declared.facts.Facts.{Facts}
 use Rattle.desk_store.specs.Devices.{devices_of}
 
--- two pairs of an uplink's number and a gateway's name are the same
-abbrev pub same_copy : ℕ × List ℕ → ℕ × List ℕ → Bool
-same_copy a b = nat_eq a.0 b.0 && bytes_eq a.1 b.1
+-- two pairs of a number and a gateway's name are the same
+abbrev pub same_key : ℕ × List ℕ → ℕ × List ℕ → Bool
+same_key a b = nat_eq a.0 b.0 && bytes_eq a.1 b.1
 
 -- the copies by their uplinks' numbers and their gateways
 abbrev pub copies_of : {S : Type 0} → IndexMap (ℕ × List ℕ) Reception S → ℕ → List ℕ → Option Reception
-copies_of copies number gateway = get same_copy copies (number, gateway)
+copies_of copies number gateway = get same_key copies (number, gateway)
+
+-- the limits by their gateways and their bands' numbers
+abbrev pub limits_of : {S : Type 0} → IndexMap (ℕ × List ℕ) ℕ S → List ℕ → ℕ → Option ℕ
+limits_of limits gateway band = get same_key limits (band, gateway)
 
 abbrev pub facts_of : Facts → State
 facts_of facts = record {
@@ -25,4 +29,5 @@ facts_of facts = record {
   uplinks = facts.traffic.uplinks;
   copies = copies_of facts.copies;
   bookings = facts.traffic.bookings;
+  limits = limits_of facts.limits;
 }

@@ -1,9 +1,9 @@
 -- What the store means that fails when it is told to.
-use Rattle.std.specs.Prelude.{◌≡◌, false, List}
+use Rattle.std.specs.Prelude.{◌≡◌, false}
 use Rattle.desk_store.specs.declared.switched.Failure.{Failure}
-use Rattle.desk_store.specs.declared.switched.Failure.TheVariants.{Memory, Disk, DiskAfter, NotADesk}
+use Rattle.desk_store.specs.declared.switched.Failure.TheVariants.{NotADesk}
 use Rattle.desk_store.specs.declared.switched.Switched.{Switched}
-use Rattle.desk_store.specs.Kept.{IsOneOf, Kept}
+use Rattle.desk_store.specs.Kept.{IsOneOf}
 use Rattle.desk_store.specs.Lists.{kept_of, settings_of}
 use Rattle.desk_store.specs.Meaning.{Meaning}
 

@@ -1,7 +1,7 @@
 //! The registry's facts in the plain form: what has a key in maps and sets, and what is numbered in lists.
 ghost use Rattle.std.specs.Prelude.{◌≡◌, ◌+◌, [], ◌∷◌, ◌++◌, length, IfOk, OnOk, OnErr};
 ghost use Rattle.registry_core.specs.State.{copies_with, opening, state_with};
-ghost use Rattle.registry_core.specs.declared.effects.Effect.TheVariants.{AddsCopy, AddsSession, AddsUplink};
+ghost use Rattle.registry_core.specs.declared.effects.Effect.TheVariants.{AddsCopy, AddsSession, AddsUplink, SetsLimit};
 ghost use Rattle.desk_store.specs.Facts.{copies_of, facts_of};
 
 use crate::devices::Devices;
@@ -9,7 +9,7 @@ use crate::sessions::Sessions;
 use crate::traffic::Traffic;
 use indexmap::{IndexMap, IndexSet};
 use radio_core::Name;
-use registry_core::{Config, Effect, Reception, Role, Session, Uplink};
+use registry_core::{BandLimit, Config, Effect, Reception, Role, Session, Uplink};
 use std::alloc::{AllocError, Global};
 
 /// The registry's facts. Contracts see what they are by `facts_of`.
@@ -23,6 +23,8 @@ pub(crate) struct Facts {
     pub(crate) traffic: Traffic,
     /// By the uplink's number and the gateway.
     pub(crate) copies: IndexMap<(u64, Name), Reception>,
+    /// By the band's number and the gateway: only those that were set.
+    pub(crate) limits: IndexMap<(u8, Name), u64>,
 }
 
 impl Facts {
@@ -40,6 +42,7 @@ impl Facts {
             sessions: Sessions::new(alloc),
             traffic: Traffic::new(alloc),
             copies: IndexMap::new(alloc),
+            limits: IndexMap::new(alloc),
         })
     }
 
@@ -79,6 +82,7 @@ impl Facts {
             } => self.add_copy(uplink, gateway, reception)?,
             Effect::AddsBooking { booking } => self.traffic.push_booking(booking)?,
             Effect::EndsBooking { booking, sent } => self.traffic.end_booking(booking, sent)?,
+            Effect::SetsLimit { gateway, limit } => self.set_limit(gateway, limit)?,
         }
         Ok(())
     }
@@ -130,6 +134,16 @@ impl Facts {
         ensures err { OnErr result (facts_of self.new ≡ facts_of self.old) }
     {
         self.copies.insert((uplink, gateway), reception)?;
+        Ok(())
+    }
+
+    /// The gateway's band has this limit, or all stays.
+    fn set_limit(&mut self, gateway: Name, limit: BandLimit) -> Result<(), AllocError>
+        ensures ok { OnOk result (facts_of self.new ≡ state_with (facts_of self.old) (SetsLimit gateway limit)) }
+        ensures err { OnErr result (facts_of self.new ≡ facts_of self.old) }
+    {
+        self.limits
+            .insert((limit.band().get(), gateway), limit.most())?;
         Ok(())
     }
 }

@@ -235,6 +235,11 @@ impl Looks for Switched {
         self.lists.near(gateway, band, start)
     }
 
+    fn limit_of(&mut self, gateway: &Name, band: Band) -> Result<u64, StoreFault> {
+        self.turn()?;
+        self.lists.limit_of(gateway, band)
+    }
+
     fn counts(&mut self) -> Result<Counts, StoreFault> {
         self.turn()?;
         self.lists.counts()

@@ -45,13 +45,13 @@ asks_then {a = a} {b = b} {c = c} {result = result} {Told = Told} {Says = Says} 
     record {
       read = reads_then a b c (is_ok result) one.read two.read;
       told = λ clean up r has of.
-          let same = (one.read.leaves has.schema up (early clean)).0 in
+          let same = (one.read.leaves has.ten.schema up (early clean)).0 in
           let said = one.told (early clean) up r has (first r of) in
           ok_then result (Told r) (Says r) (says r of said) (two.told clean same.is_open r (subst (λ d. Holds d r) (sym same.now_is) has) (second r of said));
       in_order = λ clean up unlimited r has of may.
-          let same = (one.read.leaves has.schema up (early clean)).0 in
+          let same = (one.read.leaves has.ten.schema up (early clean)).0 in
           let said = one.told (early clean) up r has (first r of) in
-          let limit = (one.read.survives has.schema up (early clean)).limit in
+          let limit = (one.read.survives has.ten.schema up (early clean)).limit in
           two.in_order clean same.is_open (limit ∙ unlimited) r (subst (λ d. Holds d r) (sym same.now_is) has) (second r of said) (late r of may said);
     }
 

@@ -6,8 +6,9 @@ use Rattle.std.proofs.lemmas.List.{length-map}
 use Rattle.registry_core.specs.Settings.{Settings}
 use Rattle.registry_core.specs.State.{State}
 use Rattle.desk_store.specs.Kept.{Kept}
-use Rattle.desk_rows.specs.Rows.{DeviceRow, Rows, SenderRow, last_number}
-use Rattle.desk_tables.specs.Totals.{HaveIt}
+use Rattle.desk_rows.specs.Rows.{DeviceRow, LimitRow, Rows, SenderRow, last_number}
+use Rattle.desk_rows.specs.order.RowsOf.{limit_key, same_band}
+use Rattle.desk_tables.specs.Totals.{HaveIt, has_limit}
 use Rattle.desk_tables.specs.steps.LookUps.{RowsTell}
 
 -- the last number is how many there are
@@ -62,4 +63,14 @@ devices_many r c kept last n tell is shown = record {
   are_all = λ dev_eui. ap (λ (s : State). is_some (s.devices dev_eui)) tell.are.is
       ∙ found_any (λ (d : DeviceRow). d.dev_eui) (λ (d : DeviceRow). d.device) (λ other. nat_eq other dev_eui) r.devices;
   many = shown ∙ ap (λ o. unwrap_or o 0) is ∙ many_rows r.devices ∙ sym (length-map r.devices (λ (d : DeviceRow). d.dev_eui));
+}
+
+pub limits_many : (r : Rows) (c : Settings) (kept : Kept) (last : Option ℕ) (n : ℕ) → RowsTell c kept r → last ≡ last_number r.limits → n ≡ unwrap_or last 0
+    → HaveIt same_band (has_limit kept) n
+limits_many r c kept last n tell is shown = record {
+  all = map limit_key r.limits;
+  each_once = tell.are.keyed.limits;
+  are_all = λ band. ap (λ (s : State). is_some (s.limits band.0 band.1)) tell.are.is
+      ∙ found_any limit_key (λ (l : LimitRow). l.limit.most) (λ other. same_band other band) r.limits;
+  many = shown ∙ ap (λ o. unwrap_or o 0) is ∙ many_rows r.limits ∙ sym (length-map r.limits limit_key);
 }

@@ -1,11 +1,14 @@
 pub mod Absent
+pub mod AdoptingLemmas
 pub mod CallLemmas
 pub mod CommitLemmas
 pub mod CountLemmas
 pub mod EffectLemmas
 pub mod Entries
 pub mod HaveItLemmas
+pub mod LimitLemmas
 pub mod LookUps
+pub mod MigratingLemmas
 pub mod NotedCommits
 pub mod OneSchema
 pub mod OpeningLemmas

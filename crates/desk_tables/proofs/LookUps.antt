@@ -127,13 +127,13 @@ module _ {S : Type 0} (g : Ghosts S) (old : Tables S) (mid : Held S) (up : old.d
     reading = tt;
     held = λ kept clean holds _.
         let stands = holds up in
-        let has = stands.desk.in_order.held.schema in
+        let has = stands.desk.in_order.held.ten.schema in
         let open_was = stands.settled.open_still in
         stands_on g old mid old.down old.foreign kept
         (unchanged_before (state g old.conn) (state g mid) stands.settled (read.survives has open_was clean) (read.leaves has open_was clean)) stands;
     left = λ kept all clean holds left.
         let stands = holds up in
-        leaves_on g old mid old.down old.foreign all clean (read.survives stands.desk.in_order.held.schema stands.settled.open_still clean) left;
+        leaves_on g old mid old.down old.foreign all clean (read.survives stands.desk.in_order.held.ten.schema stands.settled.open_still clean) left;
     unavailable = λ kept clean holds. tt;
   }
 
@@ -162,14 +162,14 @@ module _ {S : Type 0} (g : Ghosts S) (old : Tables S) (mid : Held S) (up : old.d
       reading = disk_or_as told (store_fault (reading_fault fault)) (λ f. IsOfReading (Some f)) tt (of_reading fault) settles.same;
       held = λ kept clean holds still.
           let stands = holds up in
-          let has = stands.desk.in_order.held.schema in
+          let has = stands.desk.in_order.held.ten.schema in
           let open_was = stands.settled.open_still in
           stands_on g old new (is_disk (Some told) || old.down) (is_foreign (Some told) || old.foreign) kept
           (failed_before (state g old.conn) (state g mid) (state g new) (reading_fault fault) told stands.settled read
           (read.survives has open_was (early clean)) (read.leaves has open_was (early clean)) settles clean (not_disk still)) stands;
       left = λ kept all clean holds left.
           let stands = holds up in
-          let first = read.survives stands.desk.in_order.held.schema stands.settled.open_still (early clean) in
+          let first = read.survives stands.desk.in_order.held.ten.schema stands.settled.open_still (early clean) in
           leaves_on g old new (is_disk (Some told) || old.down) (is_foreign (Some told) || old.foreign) all clean
           (survives_then (state g old.conn) (state g mid) (state g new) (λ _. ⊥) (λ _. ⊥) (λ _. ⊥) (λ _ db none. none) (λ _ db none. none) first settles.survives) left;
       unavailable = λ kept clean holds.
@@ -198,7 +198,7 @@ module _ {S T : Type 0} (g : Ghosts S) (old : Tables S) (mid : Held S) (new : Ta
       let clean_mid : HasCleanDisk (state g mid) = subst (λ (k : Tables S). HasCleanDisk (state g k.conn)) told.1 clean in
       let says = reads.told clean_mid stands.desk.in_order.rows stands.desk.in_order.held in
       subst (λ r. IfOk r (P kept)) (sym told.0)
-      (says old.config kept (record { are = stands.desk.in_order.are; entries = stands.desk.in_order.entries; in_range = stands.desk.in_order.held.in_range; few = stands.desk.few }))
+      (says old.config kept (record { are = stands.desk.in_order.are; entries = stands.desk.in_order.entries; in_range = stands.desk.in_order.held.ten.in_range; few = stands.desk.few }))
   kept_told (Err fault) result P up reads (t, is, fails) = λ kept clean holds. subst (λ r. IfOk r (P kept)) (sym is) tt
 
 -- ---- look-ups in a row

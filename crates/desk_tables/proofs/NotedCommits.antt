@@ -63,7 +63,7 @@ module _ {S : Type 0} (g : Ghosts S) (old : Tables S) (e : Envelope) (message : 
       Commits (state g old.conn) (state g mid) done (IsThereFor effect) (IsOpenToBoth effect e) (rows_with effect (reply_row e message answer))
 
   ready : (kept : Kept) → Stands g old kept → IsReady (state g old.conn)
-  ready kept it = record { is_open = it.settled.open_still; schema = it.desk.in_order.held.schema; committed = it.settled.committed }
+  ready kept it = record { is_open = it.settled.open_still; schema = it.desk.in_order.held.ten.schema; committed = it.settled.committed }
 
   there : (kept : Kept) (it : Stands g old kept) → Fits effect kept.facts → IsThereFor effect it.desk.in_order.rows
   there kept it fits = changed old.config kept.facts it.desk.in_order.rows effect it.desk.in_order.are fits

@@ -38,7 +38,7 @@ module _ {D : Type 0} {g : Ghosts D} (files : Files D) where
   found_desk conn c kept opened found held =
       let now = (file_state conn).now in
       let trees : now.trees ≡ held.trees = ap (λ (d : Database). d.trees) opened.0.clean ∙ found.holds held.trees held.database in
-      let listed : IsSound desk_schema now.trees = subst (IsSound desk_schema) (sym trees) held.desk.in_order.held.sound in
+      let listed : IsSound desk_schema now.trees = subst (IsSound desk_schema) (sym trees) held.desk.in_order.held.ten.sound in
       let live = opened.1 opened.0.is_open in
       let schema : now.schema ≡ desk_schema = one_schema now.trees desk_schema now.schema refl listed live.0 in
       let same : now ≡ record { schema = desk_schema; trees = held.trees } = ap₂ (λ s t. record { schema = s; trees = t }) schema trees in
@@ -47,7 +47,7 @@ module _ {D : Type 0} {g : Ghosts D} (files : Files D) where
   -- what a crash of the store before left holds a desk
   pub left_desk : (before : Tables (FileStore D g)) (all : List Kept) → AreLeftBy before all files → ∥ ((kept : Kept) × IsOneOf all kept × HoldDesk g files before.config kept) ∥₁
   left_desk before all left =
-      let sound : AreDatabases (store.recovers before.conn.store) = λ db may. (desk_schema, (left.leaves db may).2.in_order.held.sound) in
+      let sound : AreDatabases (store.recovers before.conn.store) = λ db may. (desk_schema, (left.leaves db may).2.in_order.held.ten.sound) in
       ∥∥₁_map (opens_again before.conn.store left.numbered sound (image_of g files) left.left) (λ found.
       let it = left.leaves found.0 found.1 in
       let r : (kept : Kept) × IsOneOf all kept × HoldDesk g files before.config kept =

@@ -6,7 +6,7 @@ use Rattle.std.proofs.lemmas.Option.{slice_get_within}
 use Rattle.std.specs.List.{AllByRecursion}
 use Rattle.sqlite_trees.proofs.ListLemmas.{all-slice_get}
 use Rattle.registry_core.specs.declared.effects.Effect.{Effect}
-use Rattle.registry_core.specs.declared.effects.Effect.TheVariants.{Nothing, AddsSender, AddsOwner, AddsGateway, AddsDevice, MovesDevice, AddsSession, AddsUplink, AddsCopy, AddsBooking, EndsBooking}
+use Rattle.registry_core.specs.declared.effects.Effect.TheVariants.{Nothing, AddsSender, AddsOwner, AddsGateway, AddsDevice, MovesDevice, AddsSession, AddsUplink, AddsCopy, AddsBooking, EndsBooking, SetsLimit}
 use Rattle.registry_core.specs.declared.facts.Uplink.{Uplink}
 use Rattle.registry_core.specs.Bookings.{is_down_of}
 use Rattle.registry_core.specs.Fits.{Fits}
@@ -83,6 +83,7 @@ module _ (c : Settings) (r : Rows) (rows : AreRowsOf c (facts_in r) r) (room : l
       let few = within (bookings_in r.bookings) number fits.booking fits.there in
       let all = length-map r.bookings (λ (b : BookingRow). b.booking) in
       is_whole r.bookings number rows.few.bookings (omega (arith, few, all))
+  wholes (SetsLimit gateway limit) fits = is_whole r.limits (length r.limits) rows.few.limits (omega arith)
 
 -- of rows of facts that the effect fits
 pub numbers_are_whole : (c : Settings) (facts : State) (r : Rows) (effect : Effect) → AreRowsOf c facts r → Fits effect facts

@@ -1,4 +1,4 @@
--- Tables in order: the ten tables hold exactly the rows of a configuration, of facts and of entries.
+-- Tables in order: they hold exactly the rows of a configuration, of facts and of entries.
 use Rattle.std.specs.Prelude.{◌≡◌, ◌≤◌, length, map}
 use Rattle.registry_core.specs.Heard.{most_heard}
 use Rattle.registry_core.specs.Settings.{Settings}
@@ -18,18 +18,28 @@ entry_in r = record { sender = r.sender; transaction = r.number; message = r.mes
 abbrev pub kept_in : Rows → Kept
 kept_in r = record { facts = facts_in r; entries = map entry_in r.replies }
 
+-- ---- whichever schema says what rows a database holds
+
 -- the database holds these facts and entries under this configuration, and nothing else
-pub record IsInOrder (c : Settings) (db : Database) (kept : Kept) : Type 0 where
+pub record IsInOrderBy (Has : Database → Rows → Type 0) (c : Settings) (db : Database) (kept : Kept) : Type 0 where
   pub rows : Rows
-  pub held : Holds db rows
+  pub held : Has db rows
   pub are : AreRowsOf c kept.facts rows
   pub entries : kept.entries ≡ map entry_in rows.replies
 
 -- the database's tables are in order for this, the configuration is one that a desk can have, and no more was heard than may be
-pub record IsOfDesk (c : Settings) (kept : Kept) (db : Database) : Type 0 where
-  pub in_order : IsInOrder c db kept
+pub record IsOfDeskBy (Has : Database → Rows → Type 0) (c : Settings) (kept : Kept) (db : Database) : Type 0 where
+  pub in_order : IsInOrderBy Has c db kept
   pub config : IsConfig c
   pub few : length kept.entries ≤ most_heard
+
+-- ---- the eleven tables of schema 2
+
+abbrev pub IsInOrder : Settings → Database → Kept → Type 0
+IsInOrder = IsInOrderBy Holds
+
+abbrev pub IsOfDesk : Settings → Kept → Database → Type 0
+IsOfDesk = IsOfDeskBy Holds
 
 -- the same of what a crash leaves: the schema is the desk's
 abbrev pub AreOfDesk : Settings → Kept → Trees → Type 0

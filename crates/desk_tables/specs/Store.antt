@@ -75,7 +75,7 @@ module _ {S : Type 0} (g : Ghosts S) where
       let stands = holds up in
       let trees : (state g k.conn).now.trees ≡ db = ap (λ (d : Database). d.trees) stands.settled.committed ∙ sym (settled k.conn.store db stands.settled.open_still may) in
       let same : (state g k.conn).now ≡ record { schema = desk_schema; trees = db } =
-      ap₂ (λ schema trees. record { schema = schema; trees = trees }) stands.desk.in_order.held.schema trees in
+      ap₂ (λ schema trees. record { schema = schema; trees = trees }) stands.desk.in_order.held.ten.schema trees in
       (kept, inl refl, subst (IsOfDesk k.config kept) same stands.desk)
 
   -- While it isn't down, it holds one thing at most.

@@ -1,9 +1,11 @@
 -- What the clauses of private functions and the proofs say.
+pub mod Adopting
 pub mod Calls
 pub mod Counting
 pub mod Effects
 pub mod Faults
 pub mod Keeping
 pub mod LookUps
+pub mod Migrating
 pub mod Settling
 pub mod Shape

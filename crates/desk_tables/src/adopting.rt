@@ -15,6 +15,7 @@ ghost use Rattle.desk_tables.specs.Adopting.{IsGivenBack, IsStore, opening_kept}
 ghost use Rattle.desk_tables.specs.InOrder.{AreOfDesk, IsOfDesk};
 ghost use Rattle.desk_tables.specs.Opening.{IsTaken, TreesHold};
 ghost use Rattle.desk_tables.specs.Store.{meaning_of};
+ghost use Rattle.desk_tables.specs.steps.Adopting.{IsAdopted};
 
 use crate::counting::counted;
 use crate::faults::store_fault;
@@ -75,26 +76,39 @@ impl<S: Alter> Tables<S> {
         requires idle { conn.in_transaction ≡ false }
         requires unlimited { conn.step_limit ≡ None }
         ensures desk { IfOk result (λ t. (meaning_of S.Store).sound t → (conn.schema ≡ desk_schema)
-            × TellsMeta (state S.Store conn).now.trees (pos 1) ((meaning_of S.Store).configuration t)) }
+            × TellsMeta (state S.Store conn).now.trees (pos 2) ((meaning_of S.Store).configuration t)) }
         ensures in_order { (c : Settings) (kept : Kept) → IsOfDesk c kept (state S.Store conn).now
             → IfOk result (λ t. (meaning_of S.Store).sound t → IsStore (meaning_of S.Store) t c kept) }
         ensures unavailable { (c : Settings) (kept : Kept) → IsOfDesk c kept (state S.Store conn).now
             → IfErr result (λ back. HasCleanDisk (state S.Store back.1) → IsUnavailability back.0) }
         ensures stranger { IfErr result (λ back. HasCleanDisk (state S.Store back.1) → back.0 ≡ NotADesk → conn.schema ≡ desk_schema
-            → (c : Settings) → TellsMeta (state S.Store conn).now.trees (pos 1) c → (r : Rows) → ¬ Holds (state S.Store conn).now r) }
+            → (c : Settings) → TellsMeta (state S.Store conn).now.trees (pos 2) c → (r : Rows) → ¬ Holds (state S.Store conn).now r) }
         ensures version { IfErr result (λ back. HasCleanDisk (state S.Store back.1) → back.0 ≡ SchemaVersion → HasMeta conn.schema
-            × ((version : ℤ) × (c : Settings) × TellsMeta (state S.Store conn).now.trees version c × (version ≢ pos 1))) }
-        ensures other_version { HasMeta conn.schema → (version : ℤ) (c : Settings) → TellsMeta (state S.Store conn).now.trees version c → version ≢ pos 1
+            × ((version : ℤ) × (c : Settings) × TellsMeta (state S.Store conn).now.trees version c × (version ≢ pos 2))) }
+        ensures other_version { HasMeta conn.schema → (version : ℤ) (c : Settings) → TellsMeta (state S.Store conn).now.trees version c → version ≢ pos 2
             → IfErr result (λ back. HasCleanDisk (state S.Store back.1) → back.0 ≢ NotADesk) }
         ensures never { IfErr result (λ back. back.0 ≢ Exists) }
         ensures clean { IfOk result (λ t. (meaning_of S.Store).sound t → HasCleanDisk (state S.Store conn)) }
         ensures given_back { IfErr result (λ back. IsGivenBack (state S.Store conn) (state S.Store back.1) (λ _. ⊥)) }
     {
         let mut conn = conn;
-        let config = match open_desk(&mut conn) {
-            Ok(config) => config,
-            Err(fault) => return Err((fault, conn)),
-        };
+        match open_desk(&mut conn) {
+            Ok(config) => Tables::adopt(alloc, conn, config),
+            Err(fault) => Err((fault, conn)),
+        }
+    }
+
+    /// The store over a connection whose tables are a desk's of this configuration, with what they hold counted.
+    pub(crate) fn adopt(
+        alloc: Global,
+        conn: Connection<S>,
+        config: Config,
+    ) -> Result<Tables<S>, (StoreFault, Connection<S>)>
+        requires idle { conn.in_transaction ≡ false }
+        requires unlimited { conn.step_limit ≡ None }
+        ensures { IsAdopted S.Store conn config result }
+    {
+        let mut conn = conn;
         match counted(&mut conn) {
             Ok((heard, counts)) => Ok(Tables {
                 conn,

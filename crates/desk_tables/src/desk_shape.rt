@@ -1,9 +1,10 @@
-//! Whether a schema is the desk's.
+//! Whether a schema is the desk's, and whether it is that of schema 1.
 ghost use Rattle.std.specs.Prelude.{◌≡◌, ◌↔◌, ◌&&◌, IsTrue, not};
 ghost use Rattle.std.specs.List.{list_any};
 ghost use Rattle.sqlite_catalog.specs.Change.{is_used};
 ghost use Rattle.desk_rows.specs.Meta.{HasMeta};
-ghost use Rattle.desk_rows.specs.Schema.{desk_schema, no_schema};
+ghost use Rattle.desk_rows.specs.Migrating.{limit_name};
+ghost use Rattle.desk_rows.specs.Schema.{desk_schema, first_schema, no_schema};
 ghost use Rattle.desk_tables.specs.Opening.{IsTaken};
 
 use crate::shape::ColumnShape::{Optional, Required};
@@ -27,7 +28,19 @@ const META: TableShape<'static> = TableShape {
     key: Rowid,
 };
 
-/// In the order in which they are made.
+/// The one that schema 1 lacks.
+const LIMIT: TableShape<'static> = TableShape {
+    name: b"band_limit",
+    tree: 22,
+    columns: &[
+        Required(b"gateway", Text),
+        Required(b"band", Integer),
+        Required(b"value", Integer),
+    ],
+    key: Places(&[1, 2]),
+};
+
+/// In the order in which they are made, and so are the indexes: schema 1 has the first ones.
 const TABLES: &[TableShape<'static>] = &[
     META,
     TableShape {
@@ -125,7 +138,11 @@ const TABLES: &[TableShape<'static>] = &[
         ],
         key: Rowid,
     },
+    LIMIT,
 ];
+
+/// How many of the tables schema 1 has.
+const FIRST_TABLES: usize = 10;
 
 const INDEXES: &[IndexShape<'static>] = &[
     IndexShape {
@@ -212,7 +229,17 @@ const INDEXES: &[IndexShape<'static>] = &[
         columns: &[2],
         is_unique: false,
     },
+    IndexShape {
+        name: b"sqlite_autoindex_band_limit_1",
+        tree: 23,
+        table: 22,
+        columns: &[1, 2],
+        is_unique: true,
+    },
 ];
+
+/// How many of the indexes schema 1 has.
+const FIRST_INDEXES: usize = 12;
 
 /// Whether the first table is the one that tells the version, and there is no view.
 pub(crate) fn has_meta(schema: &Schema) -> bool
@@ -240,6 +267,15 @@ pub(crate) fn is_desk(schema: &Schema) -> bool
         && schema.views.is_empty()
 }
 
+/// Whether it is schema 1, and there is nothing else.
+pub(crate) fn is_first_schema(schema: &Schema) -> bool
+    ensures { IsTrue result ↔ (schema.now ≡ first_schema) }
+{
+    are_tables(schema.tables.as_slice(), &TABLES[..FIRST_TABLES])
+        && are_indexes(schema.indexes.as_slice(), &INDEXES[..FIRST_INDEXES])
+        && schema.views.is_empty()
+}
+
 fn is_any_table(schema: &Schema, shapes: &[TableShape<'_>]) -> bool
     ensures { result ≡ list_any (λ shape. is_used schema.now shape.name.now) shapes.now }
 {
@@ -259,4 +295,12 @@ pub(crate) fn is_taken(schema: &Schema) -> bool
     ensures { IsTrue result ↔ IsTaken schema.now }
 {
     is_any_table(schema, TABLES) || is_any_index(schema, INDEXES)
+}
+
+/// Whether the name of the table that schema 1 lacks is taken.
+pub(crate) fn is_limit_taken(schema: &Schema) -> bool
+    ensures { result ≡ is_used schema.now limit_name }
+{
+    let table = &LIMIT;
+    is_used(schema, table.name)
 }

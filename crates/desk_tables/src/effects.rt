@@ -2,6 +2,7 @@
 pub(crate) mod basis;
 mod bookings;
 mod copies;
+mod limits;
 mod sessions;
 mod uplinks;
 pub(crate) mod writing;

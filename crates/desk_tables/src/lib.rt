@@ -1,4 +1,4 @@
-//! A store over the ten tables.
+//! A store over the eleven tables.
 #![tactic(auto)]
 
 mod adopting;
@@ -10,6 +10,7 @@ mod faults;
 mod keeping;
 mod looks;
 mod making;
+mod migrating;
 mod opening;
 mod reopening;
 mod settle;

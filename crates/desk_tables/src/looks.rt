@@ -8,6 +8,7 @@ ghost use Rattle.desk_rows.specs.Rows.{is_uplink};
 ghost use Rattle.desk_tables.specs.Store.{meaning_of};
 
 mod devices;
+mod limits;
 mod names;
 mod sessions;
 mod spans;
@@ -168,6 +169,12 @@ impl<S: Alter> Looks for Tables<S> {
     ) -> Result<Vec<Span>, StoreFault> {
         self.up()?;
         let answer = spans::near(self.alloc, &mut self.conn, gateway, band, start);
+        self.tell(answer)
+    }
+
+    fn limit_of(&mut self, gateway: &Name, band: Band) -> Result<u64, StoreFault> {
+        self.up()?;
+        let answer = limits::limit_of(&mut self.conn, gateway, band);
         self.tell(answer)
     }
 

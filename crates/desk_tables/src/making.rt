@@ -36,7 +36,7 @@ fn insert_first_rows<S: Alter>(tx: &mut Transaction<'_, S>, config: &Config) -> 
 }
 
 /// What doesn't commit for want of memory doesn't for the disk.
-fn commit_fault(error: Error) -> RowFault
+pub(crate) fn commit_fault(error: Error) -> RowFault
     ensures { IsEven result }
 {
     match error {

@@ -1,7 +1,6 @@
 //! Adopting the tables that a database has.
 ghost use Rattle.std.specs.Prelude.{◌≡◌, ◌≢◌, ℤ, pos, false, None, Err, IsTrue, IfOk, IfErr, OnOk, OnErr};
 ghost use Rattle.registry_core.specs.Settings.{Settings};
-ghost use Rattle.sqlite_trees.specs.Tree.{Trees};
 ghost use Rattle.sqlite.specs.Held.{state};
 ghost use Rattle.sqlite.specs.State.{HasCleanDisk, IsUnchanged, Survives};
 ghost use Rattle.desk_store.specs.Calls.{IsUnavailability};
@@ -9,7 +8,6 @@ ghost use Rattle.desk_store.specs.declared.faults.StoreFault.TheVariants.{Exists
 ghost use Rattle.desk_rows.specs.Meta.{HasMeta, IsConfig, TellsMeta};
 ghost use Rattle.desk_rows.specs.Rows.{Holds, Rows};
 ghost use Rattle.desk_rows.specs.Schema.{desk_schema};
-ghost use Rattle.desk_tables.specs.Opening.{TreesHold};
 
 use crate::desk_shape::{has_meta, is_desk};
 use crate::faults::store_fault;
@@ -18,21 +16,21 @@ use desk_store::StoreFault;
 use registry_core::Config;
 use sqlite::{Alter, Connection};
 
-/// The configuration of the desk that the database holds: `NotADesk` where the schema or the row of meta isn't a desk's,
-/// `SchemaVersion` where that row tells another version, whatever tables there are beside it.
-pub(crate) fn open_desk<S: Alter>(conn: &mut Connection<S>) -> Result<Config, StoreFault>
+/// The configuration that the row of meta tells beside this version, whatever tables there are beside it: `NotADesk` where there
+/// is no such table, or no row of it in shape, `SchemaVersion` where that row tells another version.
+pub(crate) fn config_at<S: Alter>(
+    conn: &mut Connection<S>,
+    version: i64,
+) -> Result<Config, StoreFault>
     requires idle { conn.old.in_transaction ≡ false }
     requires unlimited { conn.old.step_limit ≡ None }
-    ensures desk { HasCleanDisk (state S.Store conn.new) → IfOk result (λ c. (conn.old.schema ≡ desk_schema) × TellsMeta (state S.Store conn.old).now.trees (pos 1) c) }
-    ensures in_order { HasCleanDisk (state S.Store conn.new) → (r : Rows) → Holds (state S.Store conn.old).now r → IfOk result (λ c. c ≡ r.settings) }
-    ensures left { HasCleanDisk (state S.Store conn.new) → (r : Rows) → Holds (state S.Store conn.old).now r
-        → OnOk result ((trees : Trees) → (state S.Store conn.new).may_leave trees → TreesHold trees r) }
-    ensures unavailable { HasCleanDisk (state S.Store conn.new) → (r : Rows) → Holds (state S.Store conn.old).now r → IsConfig r.settings → IfErr result IsUnavailability }
-    ensures stranger { HasCleanDisk (state S.Store conn.new) → result ≡ Err NotADesk → conn.old.schema ≡ desk_schema → (c : Settings) → ¬ TellsMeta (state S.Store conn.old).now.trees (pos 1) c }
-    ensures version { HasCleanDisk (state S.Store conn.new) → result ≡ Err SchemaVersion
-        → HasMeta conn.old.schema × ((version : ℤ) × (c : Settings) × TellsMeta (state S.Store conn.old).now.trees version c × (version ≢ pos 1)) }
-    ensures other_version { HasCleanDisk (state S.Store conn.new) → HasMeta conn.old.schema → (version : ℤ) (c : Settings)
-        → TellsMeta (state S.Store conn.old).now.trees version c → version ≢ pos 1 → result ≢ Err NotADesk }
+    ensures told { HasCleanDisk (state S.Store conn.new) → IfOk result (λ c. HasMeta conn.old.schema × TellsMeta (state S.Store conn.old).now.trees version c) }
+    ensures in_order { HasCleanDisk (state S.Store conn.new) → HasMeta conn.old.schema → (c : Settings) → TellsMeta (state S.Store conn.old).now.trees version c
+        → IfErr result IsUnavailability }
+    ensures stranger { HasCleanDisk (state S.Store conn.new) → result ≡ Err NotADesk → HasMeta conn.old.schema
+        → (told : ℤ) (c : Settings) → ¬ TellsMeta (state S.Store conn.old).now.trees told c }
+    ensures other_version { HasCleanDisk (state S.Store conn.new) → result ≡ Err SchemaVersion
+        → HasMeta conn.old.schema × ((told : ℤ) × (c : Settings) × TellsMeta (state S.Store conn.old).now.trees told c × (told ≢ version)) }
     ensures never { result ≢ Err Exists }
     ensures same { HasCleanDisk (state S.Store conn.new) → OnOk result (IsUnchanged (state S.Store conn.old) (state S.Store conn.new)) }
     ensures undone { HasCleanDisk (state S.Store conn.new) → IsTrue (state S.Store conn.new).is_open
@@ -46,13 +44,38 @@ pub(crate) fn open_desk<S: Alter>(conn: &mut Connection<S>) -> Result<Config, St
     if !has_meta(conn.schema()) {
         return Err(StoreFault::NotADesk);
     }
-    let (version, config) = match read_settings(conn) {
+    let (told, config) = match read_settings(conn) {
         Ok(told) => told,
         Err(fault) => return Err(store_fault(fault)),
     };
-    if version != 1 {
+    if told != version {
         return Err(StoreFault::SchemaVersion);
     }
+    Ok(config)
+}
+
+/// The configuration of the desk that the database holds: `NotADesk` where the schema or the row of meta isn't a desk's,
+/// `SchemaVersion` where that row tells another version, whatever tables there are beside it.
+pub(crate) fn open_desk<S: Alter>(conn: &mut Connection<S>) -> Result<Config, StoreFault>
+    requires idle { conn.old.in_transaction ≡ false }
+    requires unlimited { conn.old.step_limit ≡ None }
+    ensures desk { HasCleanDisk (state S.Store conn.new) → IfOk result (λ c. (conn.old.schema ≡ desk_schema) × TellsMeta (state S.Store conn.old).now.trees (pos 2) c) }
+    ensures in_order { HasCleanDisk (state S.Store conn.new) → (r : Rows) → Holds (state S.Store conn.old).now r → IfOk result (λ c. c ≡ r.settings) }
+    ensures unavailable { HasCleanDisk (state S.Store conn.new) → (r : Rows) → Holds (state S.Store conn.old).now r → IsConfig r.settings → IfErr result IsUnavailability }
+    ensures stranger { HasCleanDisk (state S.Store conn.new) → result ≡ Err NotADesk → conn.old.schema ≡ desk_schema → (c : Settings) → ¬ TellsMeta (state S.Store conn.old).now.trees (pos 2) c }
+    ensures version { HasCleanDisk (state S.Store conn.new) → result ≡ Err SchemaVersion
+        → HasMeta conn.old.schema × ((version : ℤ) × (c : Settings) × TellsMeta (state S.Store conn.old).now.trees version c × (version ≢ pos 2)) }
+    ensures other_version { HasCleanDisk (state S.Store conn.new) → HasMeta conn.old.schema → (version : ℤ) (c : Settings)
+        → TellsMeta (state S.Store conn.old).now.trees version c → version ≢ pos 2 → result ≢ Err NotADesk }
+    ensures never { result ≢ Err Exists }
+    ensures same { HasCleanDisk (state S.Store conn.new) → OnOk result (IsUnchanged (state S.Store conn.old) (state S.Store conn.new)) }
+    ensures undone { HasCleanDisk (state S.Store conn.new) → IsTrue (state S.Store conn.new).is_open
+        → OnErr result (((state S.Store conn.new).now ≡ (state S.Store conn.old).now) × ((state S.Store conn.new).committed ≡ (state S.Store conn.old).committed)) }
+    ensures settled { HasCleanDisk (state S.Store conn.new) → IsTrue (state S.Store conn.new).is_open → (state S.Store conn.new).now ≡ (state S.Store conn.new).committed }
+    ensures idle { conn.new.in_transaction ≡ false }
+    ensures crash { Survives (state S.Store conn.old) (state S.Store conn.new) (λ _. ⊥) }
+{
+    let config = config_at(conn, 2)?;
     if !is_desk(conn.schema()) {
         return Err(StoreFault::NotADesk);
     }

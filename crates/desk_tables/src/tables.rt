@@ -10,7 +10,7 @@ use registry_core::Config;
 use sqlite::{Alter, Connection};
 use std::alloc::Global;
 
-/// A store over the ten tables. After a fault of the disk it is down for good.
+/// A store over the eleven tables. After a fault of the disk it is down for good.
 #[derive(Drop)]
 pub struct Tables<S: Alter> {
     pub(crate) conn: Connection<S>,

@@ -39,7 +39,8 @@ message head value =
     (either (is (codes "JoinHeard")) _ _ (body _ head)
     (either (is (codes "FrameHeard")) _ _ (body _ head)
     (either (is (codes "DownBook")) _ _ (body _ head)
-    (either (is (codes "DownDone")) _ _ (body _ head) (unknown head)))))))))
+    (either (is (codes "DownDone")) _ _ (body _ head)
+    (either (is (codes "LimitSet")) _ _ (body _ head) (unknown head))))))))))
 
 with_any : (head : Head) (read : Result Message WireFault) → IsNoMemory read → IsNoMemory (with_message head read)
 with_any head (Ok message) p = record { no = λ e. cc }

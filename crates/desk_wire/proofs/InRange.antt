@@ -1,12 +1,16 @@
 -- What is read is in the ranges of the types.
-use Rattle.std.proofs.Common.{ℕ, ◌<◌, ◌^◌, List, Bool, true, false, Option, Some, None, IfSome, option_map, if◌then◌else◌, Result, Ok, Err, nat_lt, codes, refl, arith}
-use Rattle.std.proofs.lemmas.Bool.{ltb-true}
+use Rattle.std.proofs.Common.{ℕ, ◌<◌, ◌^◌, List, Bool, true, false, Option, Some, None, IfSome, option_map, if◌then◌else◌, Result, Ok, Err, nat_lt, codes, refl, arith, ◌≡◌}
+use Rattle.std.specs.Prelude.{nat_le}
+use Rattle.std.proofs.lemmas.Bool.{leb-true, ltb-true}
 use Rattle.serde_json.specs.Data.{Data}
+use Rattle.radio_core.specs.declared.bands.Band.{Band}
+use Rattle.radio_core.specs.Bands.{limit_of}
 use Rattle.radio_core.specs.Names.{is_name}
 use Rattle.registry_core.specs.declared.messages.Message.{Message}
+use Rattle.registry_core.specs.Limits.{IsLimit}
 use Rattle.registry_core.specs.Ranges.{IsName, IsOctets, IsEui, IsReport, IsMessage, IsEnvelope}
-use Rattle.desk_wire.specs.Bodies.{sender_add_of, owner_add_of, gateway_add_of, device_add_of, device_move_of, join_heard_of, frame_heard_of, down_book_of, down_done_of}
-use Rattle.desk_wire.specs.Members.{text_at, name_at, unsigned_at, whole_at, is_null_at, whole_or_null_at, data_rate_at, octets_at, type_name_at, eui_at, role_at, join_verdict_at, window_at, boolean_at}
+use Rattle.desk_wire.specs.Bodies.{sender_add_of, owner_add_of, gateway_add_of, device_add_of, device_move_of, join_heard_of, frame_heard_of, down_book_of, down_done_of, limit_set_of}
+use Rattle.desk_wire.specs.Members.{text_at, name_at, unsigned_at, whole_at, is_null_at, whole_or_null_at, data_rate_at, octets_at, type_name_at, eui_at, role_at, join_verdict_at, window_at, band_at, limit_at, boolean_at}
 use Rattle.desk_wire.specs.Reading.{reads_value, value_of, envelope_of, common_members_of, envelope_addressed, message_of, with_message}
 use Rattle.desk_wire.specs.Reports.{rate_of, report_of}
 use Rattle.desk_wire.specs.Laws.{ReadsInRange}
@@ -14,7 +18,7 @@ use Rattle.desk_wire.specs.declared.heads.Head.{Head}
 use Rattle.desk_wire.specs.declared.reading.CommonMembers.{CommonMembers}
 use Rattle.desk_wire.specs.declared.faults.WireFault.{WireFault}
 use Rattle.desk_wire.proofs.HexTexts.{octets_kept, eui_kept}
-use Rattle.desk_wire.proofs.Kept.{Keeps, any, after, mapped, made, tested, KeepsOk, done, ok_if_found, either, refused}
+use Rattle.desk_wire.proofs.Kept.{Keeps, any, after, mapped, made, missing, tested, KeepsOk, done, ok_if_found, either, refused}
 
 -- ---- members in their forms
 
@@ -138,6 +142,21 @@ down_done_kept value =
     after _ (any (boolean_at (codes "Sent") value)) (λ sent _.
     made (omega (arith, b))))
 
+limit_at_kept : (member : List ℕ) (band : Band) (value : Data) → Keeps IsLimit (limit_at member band value)
+limit_at_kept member band value = after _ (any (unsigned_at member value)) (λ most _. within most (nat_le most (limit_of band)) refl)
+  where
+    within : (most : ℕ) (b : Bool) → nat_le most (limit_of band) ≡ b → Keeps IsLimit (if b then Some (record { band = band; most = most }) else None)
+    within most true is = made (leb-true most (limit_of band) is)
+    within most false is = missing
+
+limit_set_kept : (value : Data) → Keeps IsMessage (limit_set_of value)
+unfolding limit_set_of
+limit_set_kept value =
+    after _ (name_kept (codes "Gateway") value) (λ gateway g.
+    after _ (any (band_at (codes "Band") value)) (λ band _.
+    after _ (limit_at_kept (codes "Limit") band value) (λ limit l.
+    made (g, l))))
+
 message_kept : (head : Head) (value : Data) → KeepsOk IsMessage (message_of head value)
 unfolding message_of
 message_kept head value =
@@ -150,7 +169,8 @@ message_kept head value =
     (either _ (ok_if_found _ (frame_heard_kept value))
     (either _ (ok_if_found _ (down_book_kept value))
     (either _ (ok_if_found _ (down_done_kept value))
-    refused))))))))
+    (either _ (ok_if_found _ (limit_set_kept value))
+    refused)))))))))
 
 -- ---- the envelope
 

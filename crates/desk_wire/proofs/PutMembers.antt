@@ -4,7 +4,7 @@ use Rattle.serde_json.specs.Data.{object, no_members, put}
 use Rattle.registry_core.specs.declared.answers.Answer.{Answer}
 use Rattle.registry_core.specs.declared.answers.Answer.TheVariants.{Success, JoinSuccess, FrameSuccess, DownSuccess, Refused}
 use Rattle.registry_core.specs.declared.messages.Message.{Message}
-use Rattle.registry_core.specs.declared.messages.Message.TheVariants.{SenderAdd, OwnerAdd, GatewayAdd, DeviceAdd, DeviceMove, JoinHeard, FrameHeard, DownBook, DownDone}
+use Rattle.registry_core.specs.declared.messages.Message.TheVariants.{SenderAdd, OwnerAdd, GatewayAdd, DeviceAdd, DeviceMove, JoinHeard, FrameHeard, DownBook, DownDone, LimitSet}
 use Rattle.desk_wire.specs.Answers.{result_value, answer_value}
 use Rattle.desk_wire.specs.steps.Outcomes.{with_outcome}
 use Rattle.desk_wire.specs.TypeNames.{type_name_of}
@@ -23,6 +23,7 @@ put_message receiver sender transaction (JoinHeard report verdict) = refl
 put_message receiver sender transaction (FrameHeard report verdict) = refl
 put_message receiver sender transaction (DownBook uplink gateway window octets) = refl
 put_message receiver sender transaction (DownDone booking sent) = refl
+put_message receiver sender transaction (LimitSet gateway limit) = refl
 
 pub put_answer : (receiver : List ℕ) (head : Head) (answer : Answer)
     → object (with_outcome answer (put (codes "Result") (result_value answer) (with_envelope (head.type_name ++ codes "Ans") receiver head.sender head.transaction no_members)))

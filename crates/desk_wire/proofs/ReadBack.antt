@@ -2,7 +2,7 @@
 use Rattle.std.proofs.Common.{◌≡◌, ℕ, ◌<◌, ◌≤◌, ◌^◌, List, nat_lt, true, Option, Some, None, IfSome, Ok, IsUtf8, codes, refl, ap, subst, ◌∙◌, arith}
 use Rattle.std.specs.Str.{bytes_eq}
 use Rattle.std.proofs.lemmas.Str.{is_utf8-from_IsUtf8}
-use Rattle.std.proofs.lemmas.Bool.{lt-ltb}
+use Rattle.std.proofs.lemmas.Bool.{le-leb, lt-ltb}
 use Rattle.std.proofs.lemmas.Slice.Eq.{bytes_eq-Decides}
 use Rattle.serde_json.specs.Data.{Data, string, boolean, Members, no_members}
 use Rattle.serde_json.specs.Read.{read, of_json, max_depth}
@@ -10,6 +10,9 @@ use Rattle.json.specs.Tree.{depth}
 use Rattle.serde_json.specs.Written.{compact_text, outline}
 use Rattle.serde_json.proofs.Numbers.{number_of-decimal}
 use Rattle.json.proofs.Printed.Utf8.{IsUtf8-are_ascii}
+use Rattle.radio_core.specs.declared.bands.Band.{Band}
+use Rattle.radio_core.specs.declared.bands.Band.TheVariants.{B1, B2, B3, B4, B5, B6}
+use Rattle.radio_core.specs.Bands.{limit_of}
 use Rattle.radio_core.specs.DataRates.{dr_number}
 use Rattle.registry_core.specs.declared.messages.JoinVerdict.{JoinVerdict}
 use Rattle.registry_core.specs.declared.messages.JoinVerdict.TheVariants.{Good, Bad}
@@ -17,12 +20,14 @@ use Rattle.registry_core.specs.declared.messages.Report.{Report}
 use Rattle.registry_core.specs.declared.messages.Role.{Role}
 use Rattle.registry_core.specs.declared.messages.Role.TheVariants.{Operator, Radio}
 use Rattle.registry_core.specs.declared.messages.Message.{Message}
-use Rattle.registry_core.specs.declared.messages.Message.TheVariants.{SenderAdd, OwnerAdd, GatewayAdd, DeviceAdd, DeviceMove, JoinHeard, FrameHeard, DownBook, DownDone}
+use Rattle.registry_core.specs.declared.messages.Message.TheVariants.{SenderAdd, OwnerAdd, GatewayAdd, DeviceAdd, DeviceMove, JoinHeard, FrameHeard, DownBook, DownDone, LimitSet}
 use Rattle.registry_core.specs.declared.windows.Window.{Window}
 use Rattle.registry_core.specs.declared.windows.Window.TheVariants.{First, Second}
+use Rattle.registry_core.specs.Limits.{IsLimit, Limit}
 use Rattle.registry_core.specs.Ranges.{IsName, IsReport, IsMessage}
 use Rattle.registry_core.specs.Wholes.{IsWhole}
-use Rattle.desk_wire.specs.Bodies.{sender_add_of, owner_add_of, gateway_add_of, device_add_of, device_move_of, join_heard_of, frame_heard_of, down_book_of, down_done_of}
+use Rattle.desk_wire.specs.Bands.{band_name, band_named}
+use Rattle.desk_wire.specs.Bodies.{sender_add_of, owner_add_of, gateway_add_of, device_add_of, device_move_of, join_heard_of, frame_heard_of, down_book_of, down_done_of, limit_set_of}
 use Rattle.desk_wire.specs.Hexadecimal.{octet_digits, eui_digits}
 use Rattle.desk_wire.specs.Members.{whole_or_null_at, whole_or_null}
 use Rattle.desk_wire.specs.Reading.{reads, reads_value, value_of, envelope_of, common_members_of, envelope_addressed, message_of}
@@ -51,6 +56,14 @@ IsUtf8-join_verdict_name : (verdict : JoinVerdict) → IsUtf8 (join_verdict_name
 IsUtf8-join_verdict_name Good = IsUtf8-are_ascii _ refl
 IsUtf8-join_verdict_name Bad = IsUtf8-are_ascii _ refl
 
+IsUtf8-band_name : (band : Band) → IsUtf8 (band_name band)
+IsUtf8-band_name B1 = IsUtf8-are_ascii _ refl
+IsUtf8-band_name B2 = IsUtf8-are_ascii _ refl
+IsUtf8-band_name B3 = IsUtf8-are_ascii _ refl
+IsUtf8-band_name B4 = IsUtf8-are_ascii _ refl
+IsUtf8-band_name B5 = IsUtf8-are_ascii _ refl
+IsUtf8-band_name B6 = IsUtf8-are_ascii _ refl
+
 IsUtf8-type_name_of : (m : Message) → IsUtf8 (type_name_of m)
 IsUtf8-type_name_of (SenderAdd sender role) = IsUtf8-are_ascii _ refl
 IsUtf8-type_name_of (OwnerAdd owner) = IsUtf8-are_ascii _ refl
@@ -61,6 +74,7 @@ IsUtf8-type_name_of (JoinHeard report verdict) = IsUtf8-are_ascii _ refl
 IsUtf8-type_name_of (FrameHeard report verdict) = IsUtf8-are_ascii _ refl
 IsUtf8-type_name_of (DownBook uplink gateway window octets) = IsUtf8-are_ascii _ refl
 IsUtf8-type_name_of (DownDone booking sent) = IsUtf8-are_ascii _ refl
+IsUtf8-type_name_of (LimitSet gateway limit) = IsUtf8-are_ascii _ refl
 
 with_envelope-plain : (type_name receiver sender : List ℕ) (n : ℕ) → IsUtf8 type_name → IsName receiver → IsName sender → n < 2 ^ 64
     → HasPlain (with_envelope type_name sender receiver n no_members)
@@ -100,6 +114,18 @@ window_fits : (window : Window) → window_number window < 2 ^ 64
 window_fits First = omega arith
 window_fits Second = omega arith
 
+-- no limit is above the greatest of the bands' own
+most_fits : (limit : Limit) → IsLimit limit → limit.most < 2 ^ 64
+most_fits limit h = omega (arith, h, bounded limit.band)
+  where
+    bounded : (band : Band) → limit_of band ≤ 360000000
+    bounded B1 = omega arith
+    bounded B2 = omega arith
+    bounded B3 = omega arith
+    bounded B4 = omega arith
+    bounded B5 = omega arith
+    bounded B6 = omega arith
+
 with_body-plain : (m : Message) (ms : Members) → IsMessage m → HasPlain ms → HasPlain (with_body m ms)
 with_body-plain (SenderAdd sender role) ms s h =
     text_put (codes "Sender") sender refl (IsUtf8-name sender s)
@@ -125,6 +151,10 @@ with_body-plain (DownBook uplink gateway window octets) ms m h =
 with_body-plain (DownDone booking sent) ms b h =
     plain_put (codes "Sent") (boolean sent) refl tt
     (whole_put (codes "Booking") booking refl (whole_fits booking b) h)
+with_body-plain (LimitSet gateway limit) ms m h =
+    whole_put (codes "Limit") limit.most refl (most_fits limit m.1)
+    (text_put (codes "Gateway") gateway refl (IsUtf8-name gateway m.0)
+    (text_put (codes "Band") (band_name limit.band) refl (IsUtf8-band_name limit.band) h))
 
 plain : (receiver sender : List ℕ) (n : ℕ) (m : Message) → IsName receiver → IsName sender → n < 2 ^ 64 → IsMessage m
     → IsPlain (message_value receiver sender n m)
@@ -164,6 +194,8 @@ of_json-outline receiver sender n (DownBook uplink gateway window octets) fits h
     rw (number_of-decimal n fits, number_of-decimal uplink (whole_fits uplink h.0), number_of-decimal (window_number window) (window_fits window)) refl
 of_json-outline receiver sender n (DownDone booking sent) fits h =
     rw (number_of-decimal n fits, number_of-decimal booking (whole_fits booking h)) refl
+of_json-outline receiver sender n (LimitSet gateway limit) fits h =
+    rw (number_of-decimal n fits, number_of-decimal limit.most (most_fits limit h.1)) refl
 
 depth-outline : (receiver sender : List ℕ) (n : ℕ) (m : Message) → depth (outline (message_value receiver sender n m)) ≤ max_depth
 depth-outline receiver sender n (SenderAdd added role) = omega arith
@@ -176,6 +208,7 @@ depth-outline receiver sender n (FrameHeard report (Some counter)) = omega arith
 depth-outline receiver sender n (FrameHeard report None) = omega arith
 depth-outline receiver sender n (DownBook uplink gateway window octets) = omega arith
 depth-outline receiver sender n (DownDone booking sent) = omega arith
+depth-outline receiver sender n (LimitSet gateway limit) = omega arith
 
 value_of-text : (d : Data) → IsPlain d → read (compact_text d) ≡ Some d → value_of (compact_text d) ≡ Some d
 value_of-text d plain same = rw (is_utf8-from_IsUtf8 _ (IsUtf8-compact_text d plain)) same
@@ -204,6 +237,7 @@ common_members_of-message receiver sender n (JoinHeard report verdict) r s fits 
 common_members_of-message receiver sender n (FrameHeard report verdict) r s fits = rw (s, r, lt-ltb n (2 ^ 32) fits) refl
 common_members_of-message receiver sender n (DownBook uplink gateway window octets) r s fits = rw (s, r, lt-ltb n (2 ^ 32) fits) refl
 common_members_of-message receiver sender n (DownDone booking sent) r s fits = rw (s, r, lt-ltb n (2 ^ 32) fits) refl
+common_members_of-message receiver sender n (LimitSet gateway limit) r s fits = rw (s, r, lt-ltb n (2 ^ 32) fits) refl
 
 role_named-role_name : (role : Role) → role_named (role_name role) ≡ Some role
 role_named-role_name Operator = refl
@@ -216,6 +250,14 @@ join_verdict_named-join_verdict_name Bad = refl
 window_numbered-window_number : (window : Window) → window_numbered (window_number window) ≡ Some window
 window_numbered-window_number First = refl
 window_numbered-window_number Second = refl
+
+band_named-band_name : (band : Band) → band_named (band_name band) ≡ Some band
+band_named-band_name B1 = refl
+band_named-band_name B2 = refl
+band_named-band_name B3 = refl
+band_named-band_name B4 = refl
+band_named-band_name B5 = refl
+band_named-band_name B6 = refl
 
 whole_below : (n : ℕ) → IsWhole n → nat_lt n (2 ^ 53) ≡ true
 whole_below n h = lt-ltb n (2 ^ 53) (omega (arith, h))
@@ -239,7 +281,7 @@ report_of-heard_value receiver sender n type_name report verdict h =
 
 message_of-message : (receiver sender : List ℕ) (n : ℕ) (m : Message) → IsMessage m
     → message_of (common receiver sender n m).head (message_value receiver sender n m) ≡ Ok m
-unfolding common message_of sender_add_of owner_add_of gateway_add_of device_add_of device_move_of join_heard_of frame_heard_of down_book_of down_done_of
+unfolding common message_of sender_add_of owner_add_of gateway_add_of device_add_of device_move_of join_heard_of frame_heard_of down_book_of down_done_of limit_set_of
 message_of-message receiver sender n (SenderAdd added role) a = rw (a, role_named-role_name role) refl
 message_of-message receiver sender n (OwnerAdd owner) o = rw o refl
 message_of-message receiver sender n (GatewayAdd gateway) g = rw g refl
@@ -261,6 +303,7 @@ message_of-message receiver sender n (DownBook uplink gateway window octets) m =
       octets_in-octet_digits octets m.2.each m.2.few,
     ) refl
 message_of-message receiver sender n (DownDone booking sent) b = rw (whole_below booking b) refl
+message_of-message receiver sender n (LimitSet gateway limit) m = rw (m.0, band_named-band_name limit.band, le-leb limit.most (limit_of limit.band) m.1) refl
 
 -- ---- the whole
 

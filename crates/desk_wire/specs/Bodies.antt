@@ -1,11 +1,9 @@
 -- The members of each type: which message they are, and how a message's are put beside others.
 use Rattle.std.specs.Prelude.{◌^◌, Option, Some, codes}
-use Rattle.serde_json.specs.Data.{Data, put}
+use Rattle.serde_json.specs.Data.{Data}
 use Rattle.registry_core.specs.declared.messages.Message.{Message}
-use Rattle.registry_core.specs.declared.messages.Message.TheVariants.{SenderAdd, OwnerAdd, GatewayAdd, DeviceAdd, DeviceMove, JoinHeard, FrameHeard, DownBook, DownDone}
-use Rattle.registry_core.specs.declared.messages.Role.{Role}
-use Rattle.registry_core.specs.declared.windows.Window.{Window}
-use Rattle.desk_wire.specs.Members.{name_at, whole_at, whole_or_null_at, octets_at, eui_at, role_at, join_verdict_at, window_at, boolean_at}
+use Rattle.registry_core.specs.declared.messages.Message.TheVariants.{SenderAdd, OwnerAdd, GatewayAdd, DeviceAdd, DeviceMove, JoinHeard, FrameHeard, DownBook, DownDone, LimitSet}
+use Rattle.desk_wire.specs.Members.{name_at, whole_at, whole_or_null_at, octets_at, eui_at, role_at, join_verdict_at, window_at, band_at, limit_at, boolean_at}
 use Rattle.desk_wire.specs.Optional.{◌>>=◌}
 use Rattle.desk_wire.specs.Reports.{report_of}
 
@@ -65,3 +63,10 @@ down_done_of value = do
   booking ← whole_at (codes "Booking") (2 ^ 53) value
   sent ← boolean_at (codes "Sent") value
   Some (DownDone booking sent)
+
+unfoldable pub limit_set_of : Data → Option Message
+limit_set_of value = do
+  gateway ← name_at (codes "Gateway") value
+  band ← band_at (codes "Band") value
+  limit ← limit_at (codes "Limit") band value
+  Some (LimitSet gateway limit)

@@ -1,13 +1,17 @@
 -- The members of a JSON object, each in its form, and the members that every message and every answer to one have.
-use Rattle.std.specs.Prelude.{ℕ, List, Bool, Option, Some, None, unwrap_or, option_map, nat_lt, if◌then◌else◌}
+use Rattle.std.specs.Prelude.{ℕ, List, Bool, Option, Some, None, unwrap_or, option_map, nat_le, nat_lt, if◌then◌else◌}
 use Rattle.std.specs.Option.{is_some}
-use Rattle.serde_json.specs.Data.{Data, null, number, unsigned, put}
+use Rattle.serde_json.specs.Data.{Data, null, number, unsigned}
 use Rattle.serde_json.specs.Find.{get, as_null, as_bool, as_str, as_number, as_u64}
+use Rattle.radio_core.specs.Bands.{limit_of}
 use Rattle.radio_core.specs.Names.{is_name}
+use Rattle.radio_core.specs.declared.bands.Band.{Band}
 use Rattle.radio_core.specs.declared.data_rates.DataRate.{DataRate}
 use Rattle.registry_core.specs.declared.messages.JoinVerdict.{JoinVerdict}
 use Rattle.registry_core.specs.declared.messages.Role.{Role}
 use Rattle.registry_core.specs.declared.windows.Window.{Window}
+use Rattle.registry_core.specs.Limits.{Limit}
+use Rattle.desk_wire.specs.Bands.{band_named}
 use Rattle.desk_wire.specs.DataRates.{data_rate_numbered}
 use Rattle.desk_wire.specs.Hexadecimal.{octets_in, eui_in}
 use Rattle.desk_wire.specs.Optional.{◌>>=◌, only_if}
@@ -67,6 +71,17 @@ join_verdict_at member value = text_at member value >>= join_verdict_named
 -- the whole number 1 or 2
 abbrev pub window_at : List ℕ → Data → Option Window
 window_at member value = unsigned_at member value >>= window_numbered
+
+-- `B1` to `B6`
+abbrev pub band_at : List ℕ → Data → Option Band
+band_at member value = text_at member value >>= band_named
+
+-- a whole number up to the band's own limit
+abbrev pub limit_within : Band → ℕ → Option Limit
+limit_within band most = if nat_le most (limit_of band) then Some (record { band = band; most = most }) else None
+
+abbrev pub limit_at : List ℕ → Band → Data → Option Limit
+limit_at member band value = unsigned_at member value >>= limit_within band
 
 -- `true` or `false`
 abbrev pub boolean_at : List ℕ → Data → Option Bool

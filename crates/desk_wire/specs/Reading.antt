@@ -6,7 +6,7 @@ use Rattle.serde_json.specs.Data.{Data}
 use Rattle.serde_json.specs.Read.{read}
 use Rattle.registry_core.specs.declared.messages.Envelope.{Envelope}
 use Rattle.registry_core.specs.declared.messages.Message.{Message}
-use Rattle.desk_wire.specs.Bodies.{sender_add_of, owner_add_of, gateway_add_of, device_add_of, device_move_of, join_heard_of, frame_heard_of, down_book_of, down_done_of}
+use Rattle.desk_wire.specs.Bodies.{sender_add_of, owner_add_of, gateway_add_of, device_add_of, device_move_of, join_heard_of, frame_heard_of, down_book_of, down_done_of, limit_set_of}
 use Rattle.desk_wire.specs.Members.{text_at, name_at, type_name_at, whole_at}
 use Rattle.desk_wire.specs.Optional.{◌>>=◌}
 use Rattle.desk_wire.specs.declared.heads.Head.{Head}
@@ -44,6 +44,7 @@ message_of head value =
     else if bytes_eq head.type_name (codes "FrameHeard") then ok_or (frame_heard_of value) (BadBody head)
     else if bytes_eq head.type_name (codes "DownBook") then ok_or (down_book_of value) (BadBody head)
     else if bytes_eq head.type_name (codes "DownDone") then ok_or (down_done_of value) (BadBody head)
+    else if bytes_eq head.type_name (codes "LimitSet") then ok_or (limit_set_of value) (BadBody head)
     else Err (UnknownType head)
 
 abbrev pub with_message : Head → Result Message WireFault → Result Envelope WireFault

@@ -1,6 +1,6 @@
 -- What a gateway reports of a frame: which report the members are, and how a report's are put beside others.
 use Rattle.std.specs.Prelude.{◌^◌, Option, Some, codes}
-use Rattle.serde_json.specs.Data.{Data, put}
+use Rattle.serde_json.specs.Data.{Data}
 use Rattle.radio_core.specs.declared.data_rates.Rate.{Rate}
 use Rattle.registry_core.specs.declared.messages.Report.{Report}
 use Rattle.desk_wire.specs.Members.{name_at, whole_at, data_rate_at, octets_at}

@@ -3,7 +3,7 @@ use Rattle.std.specs.Prelude.{ℕ, Bool, ◌&&◌, List, length, nat_le, codes}
 use Rattle.std.specs.Char.{is_ascii_alphabetic}
 use Rattle.std.specs.List.{list_all}
 use Rattle.registry_core.specs.declared.messages.Message.{Message}
-use Rattle.registry_core.specs.declared.messages.Message.TheVariants.{SenderAdd, OwnerAdd, GatewayAdd, DeviceAdd, DeviceMove, JoinHeard, FrameHeard, DownBook, DownDone}
+use Rattle.registry_core.specs.declared.messages.Message.TheVariants.{SenderAdd, OwnerAdd, GatewayAdd, DeviceAdd, DeviceMove, JoinHeard, FrameHeard, DownBook, DownDone, LimitSet}
 
 -- 1 to 32 ASCII letters
 abbrev pub is_type_name : List ℕ → Bool
@@ -20,3 +20,4 @@ type_name_of (JoinHeard report verdict) = codes "JoinHeard"
 type_name_of (FrameHeard report verdict) = codes "FrameHeard"
 type_name_of (DownBook uplink gateway window octets) = codes "DownBook"
 type_name_of (DownDone booking sent) = codes "DownDone"
+type_name_of (LimitSet gateway limit) = codes "LimitSet"

@@ -5,8 +5,9 @@ use Rattle.serde_json.specs.Written.{compact_text}
 use Rattle.radio_core.specs.DataRates.{dr_number}
 use Rattle.registry_core.specs.declared.messages.Envelope.{Envelope}
 use Rattle.registry_core.specs.declared.messages.Message.{Message}
-use Rattle.registry_core.specs.declared.messages.Message.TheVariants.{SenderAdd, OwnerAdd, GatewayAdd, DeviceAdd, DeviceMove, JoinHeard, FrameHeard, DownBook, DownDone}
+use Rattle.registry_core.specs.declared.messages.Message.TheVariants.{SenderAdd, OwnerAdd, GatewayAdd, DeviceAdd, DeviceMove, JoinHeard, FrameHeard, DownBook, DownDone, LimitSet}
 use Rattle.registry_core.specs.declared.messages.Report.{Report}
+use Rattle.desk_wire.specs.Bands.{band_name}
 use Rattle.desk_wire.specs.Hexadecimal.{octet_digits, eui_digits}
 use Rattle.desk_wire.specs.Members.{whole_or_null}
 use Rattle.desk_wire.specs.Roles.{role_name}
@@ -99,6 +100,16 @@ message_value receiver sender transaction (DownDone booking sent) = object
     (member (codes "Sent") (boolean sent)
     (member (codes "TransactionID") (number (unsigned transaction))
     no_members)))))))
+message_value receiver sender transaction (LimitSet gateway limit) = object
+    (member (codes "Band") (string (band_name limit.band))
+    (member (codes "Gateway") (string gateway)
+    (member (codes "Limit") (number (unsigned limit.most))
+    (member (codes "MessageType") (string (codes "LimitSet"))
+    (member (codes "ProtocolVersion") (string (codes "1.0"))
+    (member (codes "ReceiverID") (string receiver)
+    (member (codes "SenderID") (string sender)
+    (member (codes "TransactionID") (number (unsigned transaction))
+    no_members))))))))
 
 -- the one text of an envelope for a receiver
 unfoldable pub message_text : List ℕ → Envelope → List ℕ

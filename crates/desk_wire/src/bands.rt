@@ -1,8 +1,23 @@
 //! What sub-bands are called.
 ghost use Rattle.std.specs.Prelude.{◌≡◌};
-ghost use Rattle.desk_wire.specs.Bands.{band_name};
+ghost use Rattle.desk_wire.specs.Bands.{band_name, band_named};
 
 use radio_core::Band;
+
+/// The band of this name, exactly.
+pub(crate) fn band_named(text: &str) -> Option<Band>
+    ensures { result ≡ band_named text.now }
+{
+    match text {
+        "B1" => Some(Band::B1),
+        "B2" => Some(Band::B2),
+        "B3" => Some(Band::B3),
+        "B4" => Some(Band::B4),
+        "B5" => Some(Band::B5),
+        "B6" => Some(Band::B6),
+        _ => None,
+    }
+}
 
 pub(crate) fn band_name(band: Band) -> &'static str
     ensures { result.now ≡ band_name band }

@@ -1,19 +1,20 @@
 //! The members of each type: read as a message, and put beside those of the envelope.
 ghost use Rattle.std.specs.Prelude.{◌≡◌, OnOk};
 ghost use Rattle.serde_json.specs.View.{view, members_view};
-ghost use Rattle.desk_wire.specs.Bodies.{sender_add_of, owner_add_of, gateway_add_of, device_add_of, device_move_of, join_heard_of, frame_heard_of, down_book_of, down_done_of};
-ghost use Rattle.desk_wire.specs.steps.Putting.{with_sender_add, with_owner_add, with_gateway_add, with_device_add, with_device_move, with_join_heard, with_frame_heard, with_down_book, with_down_done};
+ghost use Rattle.desk_wire.specs.Bodies.{sender_add_of, owner_add_of, gateway_add_of, device_add_of, device_move_of, join_heard_of, frame_heard_of, down_book_of, down_done_of, limit_set_of};
+ghost use Rattle.desk_wire.specs.steps.Putting.{with_sender_add, with_owner_add, with_gateway_add, with_device_add, with_device_move, with_join_heard, with_frame_heard, with_down_book, with_down_done, with_limit_set};
 
+use crate::bands::band_name;
 use crate::members::{
-    boolean_at, eui_at, join_verdict_at, name_at, octets_at, put_eui, put_octets, put_text,
-    put_u32_or_null, role_at, u32_or_null_at, whole_at, window_at,
+    band_at, boolean_at, eui_at, join_verdict_at, limit_at, name_at, octets_at, put_eui,
+    put_octets, put_text, put_u32_or_null, role_at, u32_or_null_at, whole_at, window_at,
 };
 use crate::reports::{put_report, report_of};
 use crate::roles::role_name;
 use crate::verdicts::join_verdict_name;
 use crate::windows::window_number;
 use radio_core::{Eui, Name, Octets};
-use registry_core::{JoinVerdict, Message, Report, Role, Whole, Window};
+use registry_core::{BandLimit, JoinVerdict, Message, Report, Role, Whole, Window};
 use serde_json::{Map, Value, put};
 use std::alloc::{AllocError, Global};
 
@@ -106,6 +107,16 @@ pub(crate) fn down_done_of(value: &Value) -> Option<Message>
     let booking = whole_at(value, "Booking")?;
     let sent = boolean_at(value, "Sent")?;
     Some(Message::DownDone { booking, sent })
+}
+
+#[tactic(auto, unfolding(crate::specs::Bodies::limit_set_of))]
+pub(crate) fn limit_set_of(value: &Value) -> Option<Message>
+    ensures { result ≡ limit_set_of (view value.now) }
+{
+    let gateway = name_at(value, "Gateway")?;
+    let band = band_at(value, "Band")?;
+    let limit = limit_at(value, "Limit", band)?;
+    Some(Message::LimitSet { gateway, limit })
 }
 
 pub(crate) fn put_sender_add(
@@ -225,4 +236,18 @@ pub(crate) fn put_down_done(
 {
     put(members, alloc, "Booking", Value::from(booking.get()))?;
     put(members, alloc, "Sent", Value::from(sent))
+}
+
+pub(crate) fn put_limit_set(
+    alloc: Global,
+    members: &mut Map<String, Value>,
+    gateway: &Name,
+    limit: BandLimit,
+) -> Result<(), AllocError>
+    ensures { OnOk result (members_view members.new.entries ≡ with_limit_set gateway.now limit
+        (members_view members.old.entries)) }
+{
+    put_text(alloc, members, "Band", band_name(limit.band()))?;
+    put_text(alloc, members, "Gateway", gateway.as_str())?;
+    put(members, alloc, "Limit", Value::from(limit.most()))
 }

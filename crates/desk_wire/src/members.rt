@@ -3,16 +3,17 @@ ghost use Rattle.std.specs.Prelude.{◌≡◌, ◌^◌, OnOk, option_map};
 ghost use Rattle.serde_json.specs.Data.{string, put};
 ghost use Rattle.serde_json.specs.View.{view, members_view};
 ghost use Rattle.desk_wire.specs.Hexadecimal.{octet_digits, eui_digits, addr_digits};
-ghost use Rattle.desk_wire.specs.Members.{text_at, name_at, type_name_at, whole_at, is_null_at, whole_or_null_at, data_rate_at, octets_at, eui_at, role_at, join_verdict_at, window_at, boolean_at, whole_or_null};
+ghost use Rattle.desk_wire.specs.Members.{text_at, name_at, type_name_at, whole_at, is_null_at, whole_or_null_at, data_rate_at, octets_at, eui_at, role_at, join_verdict_at, window_at, band_at, limit_at, boolean_at, whole_or_null};
 ghost use Rattle.desk_wire.specs.steps.Putting.{with_envelope};
 
+use crate::bands::band_named;
 use crate::hexadecimal::{addr_digits, eui_digits, eui_of, octet_digits, octets_of};
 use crate::roles::role_named;
 use crate::type_names::TypeName;
 use crate::verdicts::join_verdict_named;
 use crate::windows::window_numbered;
-use radio_core::{DataRate, DevAddr, Eui, Name, Octets};
-use registry_core::{JoinVerdict, Role, Whole, Window};
+use radio_core::{Band, DataRate, DevAddr, Eui, Name, Octets};
+use registry_core::{BandLimit, JoinVerdict, Role, Whole, Window};
 use serde_json::{Map, Value, put};
 use std::alloc::{AllocError, Global};
 
@@ -98,6 +99,19 @@ pub(crate) fn window_at(value: &Value, member: &str) -> Option<Window>
     ensures { result ≡ window_at member.now (view value.now) }
 {
     window_numbered(value.get(member)?.as_u64()?)
+}
+
+pub(crate) fn band_at(value: &Value, member: &str) -> Option<Band>
+    ensures { result ≡ band_at member.now (view value.now) }
+{
+    band_named(text_at(value, member)?)
+}
+
+/// A whole number up to the band's own limit.
+pub(crate) fn limit_at(value: &Value, member: &str, band: Band) -> Option<BandLimit>
+    ensures { result ≡ limit_at member.now band (view value.now) }
+{
+    BandLimit::new(band, value.get(member)?.as_u64()?)
 }
 
 pub(crate) fn boolean_at(value: &Value, member: &str) -> Option<bool>

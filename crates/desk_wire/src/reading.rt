@@ -5,7 +5,7 @@ ghost use Rattle.desk_wire.specs.Reading.{common_members_of, message_of, envelop
 
 use crate::bodies::{
     device_add_of, device_move_of, down_book_of, down_done_of, frame_heard_of, gateway_add_of,
-    join_heard_of, owner_add_of, sender_add_of,
+    join_heard_of, limit_set_of, owner_add_of, sender_add_of,
 };
 use crate::faults::WireFault;
 use crate::heads::Head;
@@ -39,6 +39,7 @@ struct CommonMembers {
 /// | FrameHeard | those of a report; Verdict: a whole number of 32 bits, or `null`, or not there, which is `null` |
 /// | DownBook | Uplink: a whole number of 53 bits; Gateway: a name; Window: 1 or 2; PHYPayload: as of a report |
 /// | DownDone | Booking: a whole number of 53 bits; Sent: `true` or `false` |
+/// | LimitSet | Gateway: a name; Band: `B1` to `B6`; Limit: a whole number, 0 to the band's own limit, in microseconds |
 ///
 /// An EUI is a text of 16 hexadecimal digits, the most significant first, in either case, with or without `0x` before
 /// them. The members of a report are Gateway: a name; Time: a whole number of 53 bits, in microseconds since 1970 UTC;
@@ -136,6 +137,7 @@ fn message_of(head: Head, value: &Value) -> Result<Message, WireFault>
         "FrameHeard" => frame_heard_of(value),
         "DownBook" => down_book_of(value),
         "DownDone" => down_done_of(value),
+        "LimitSet" => limit_set_of(value),
         _ => return Err(WireFault::UnknownType(head)),
     };
     message.ok_or(WireFault::BadBody(head))

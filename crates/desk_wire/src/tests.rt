@@ -3,6 +3,7 @@ mod csv_reports;
 mod downlinks;
 mod frames_heard;
 mod heard;
+mod limits;
 
 use crate::{Head, TypeName, head_of, read_message, write_answer, write_message, write_refusal};
 use radio_core::{Eui, Name};

@@ -76,6 +76,7 @@ pub(crate) fn type_name_of(message: &Message) -> TypeName
         Message::FrameHeard { .. } => b"FrameHeard",
         Message::DownBook { .. } => b"DownBook",
         Message::DownDone { .. } => b"DownDone",
+        Message::LimitSet { .. } => b"LimitSet",
     };
     TypeName::new(text).unwrap()
 }

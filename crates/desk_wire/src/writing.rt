@@ -6,7 +6,7 @@ ghost use Rattle.desk_wire.specs.steps.Putting.{with_body};
 
 use crate::bodies::{
     put_device_add, put_device_move, put_down_book, put_down_done, put_frame_heard,
-    put_gateway_add, put_join_heard, put_owner_add, put_sender_add,
+    put_gateway_add, put_join_heard, put_limit_set, put_owner_add, put_sender_add,
 };
 use crate::members::put_envelope;
 use crate::type_names::type_name_of;
@@ -77,5 +77,6 @@ fn put_body(
             octets,
         } => put_down_book(alloc, members, *uplink, gateway, *window, octets),
         Message::DownDone { booking, sent } => put_down_done(alloc, members, *booking, *sent),
+        Message::LimitSet { gateway, limit } => put_limit_set(alloc, members, gateway, *limit),
     }
 }

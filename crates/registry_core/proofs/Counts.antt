@@ -7,16 +7,18 @@ use Rattle.std.proofs.lemmas.List.{length_push}
 use Rattle.std.proofs.lemmas.List.Elements.{All-contains, Contains-append_left, Contains-push}
 use Rattle.std.proofs.lemmas.Map.Made.{IsDistinct-from_AllPairs, is_member-Decides, length-le_from_is_member}
 use Rattle.std.proofs.lemmas.Slice.Eq.{bytes_eq-Decides}
+use Rattle.radio_core.specs.Bands.{band_number}
 use Rattle.registry_core.specs.declared.effects.Effect.{Effect}
-use Rattle.registry_core.specs.declared.effects.Effect.TheVariants.{AddsSender, AddsOwner, AddsGateway, AddsDevice, MovesDevice, AddsSession, AddsUplink, AddsCopy, AddsBooking, EndsBooking}
+use Rattle.registry_core.specs.declared.effects.Effect.TheVariants.{AddsSender, AddsOwner, AddsGateway, AddsDevice, MovesDevice, AddsSession, AddsUplink, AddsCopy, AddsBooking, EndsBooking, SetsLimit}
 use Rattle.registry_core.specs.declared.facts.Device.{Device}
 use Rattle.registry_core.specs.declared.facts.Reception.{Reception}
 use Rattle.registry_core.specs.declared.messages.Envelope.{Envelope}
 use Rattle.registry_core.specs.declared.messages.Role.TheVariants.{Operator}
 use Rattle.registry_core.specs.Counts.{AtMost, FactsAreNoMoreThanMessages}
 use Rattle.registry_core.specs.Heard.{state_after, state_of}
+use Rattle.registry_core.specs.Limits.{Limit}
 use Rattle.registry_core.specs.Settings.{Settings}
-use Rattle.registry_core.specs.State.{State, at_name, at_number, copies_with, devices_with_move, ended, next_uplink, opening, owned_by, state_with}
+use Rattle.registry_core.specs.State.{State, at_name, at_number, copies_with, devices_with_move, ended, limits_with, next_uplink, opening, owned_by, state_with}
 use Rattle.registry_core.specs.Step.{decision_of, step}
 use Rattle.registry_core.proofs.Items.{item_changed_length}
 
@@ -122,6 +124,21 @@ copy_was copies number gateway new key there = by (key.0 == number) (bytes_eq ke
         let g : gateway ≡ key.1 = sym ((bytes_eq-Decides key.1 gateway).0 gateway_is) in
         inr (λ i. (n i, g i))
 
+abbrev has_limit : (List ℕ → ℕ → Option ℕ) → ℕ × List ℕ → Bool
+has_limit limits key = is_some (limits key.1 key.0)
+
+limit_was : (limits : List ℕ → ℕ → Option ℕ) (gateway : List ℕ) (limit : Limit) (key : ℕ × List ℕ) → has_limit (limits_with limits gateway limit) key ≡ true
+    → (has_limit limits key ≡ true) ⊎ ((band_number limit.band, gateway) ≡ key)
+limit_was limits gateway limit key there = by (bytes_eq key.1 gateway) (key.0 == band_number limit.band) refl refl
+  where
+    by : (named same : Bool) → bytes_eq key.1 gateway ≡ named → (key.0 == band_number limit.band) ≡ same → (has_limit limits key ≡ true) ⊎ ((band_number limit.band, gateway) ≡ key)
+    by false same gateway_is is = inl (rw gateway_is at there)
+    by true false gateway_is is = inl (subst (λ name. is_some (limits name key.0) ≡ true) (sym ((bytes_eq-Decides key.1 gateway).0 gateway_is)) (rw (gateway_is, is) at there))
+    by true true gateway_is is =
+        let n : band_number limit.band ≡ key.0 = sym (eqb-true key.0 (band_number limit.band) is) in
+        let g : gateway ≡ key.1 = sym ((bytes_eq-Decides key.1 gateway).0 gateway_is) in
+        inr (λ i. (n i, g i))
+
 -- ---- each change
 
 abbrev has_sender : State → List ℕ → Bool
@@ -157,6 +174,11 @@ copies_more n s (AddsUplink uplink gateway new) h = copies_with_more n s (next_u
 copies_more n s (AddsCopy number gateway new) h = copies_with_more n s number gateway new h
 copies_more n s effect h = listed_more n (has_copy s.copies) h
 
+limits_more : (n : ℕ) (s : State) (effect : Effect) → IsListed n (has_limit s.limits) → IsListed (n + 1) (has_limit (state_with s effect).limits)
+limits_more n s (SetsLimit gateway limit) h =
+    listed_with n (has_limit s.limits) (has_limit (limits_with s.limits gateway limit)) (band_number limit.band, gateway) h (limit_was s.limits gateway limit)
+limits_more n s effect h = listed_more n (has_limit s.limits) h
+
 sessions_more : (s : State) (effect : Effect) → length s.sessions ≤ length s.uplinks → length (state_with s effect).sessions ≤ length (state_with s effect).uplinks
 sessions_more s (AddsSession session uplink gateway new) h = omega (arith, length_push s.sessions session, length_push s.uplinks uplink, h)
 sessions_more s (AddsUplink uplink gateway new) h = omega (arith, length_push s.uplinks uplink, h)
@@ -177,6 +199,7 @@ record IsCounted (n : ℕ) (s : State) : Type 0 where
   by_gateway : IsListed n s.gateways
   by_device : IsListed n (has_device s)
   by_copy : IsListed n (has_copy s.copies)
+  by_limit : IsListed n (has_limit s.limits)
   by_session : length s.sessions ≤ length s.uplinks
   by_item : length s.uplinks + length s.bookings ≤ n
 
@@ -191,6 +214,7 @@ counted_after n c s (e ∷ es) h =
       by_gateway = gateways_more n s effect h.by_gateway;
       by_device = devices_more n s effect h.by_device;
       by_copy = copies_more n s effect h.by_copy;
+      by_limit = limits_more n s effect h.by_limit;
       by_session = sessions_more s effect h.by_session;
       by_item = items_more n s effect h.by_item;
     }))
@@ -206,6 +230,7 @@ opening_counted c = record {
   by_gateway = none_listed;
   by_device = none_listed;
   by_copy = none_listed;
+  by_limit = none_listed;
   by_session = omega arith;
   by_item = omega arith;
 }
@@ -219,6 +244,7 @@ facts_are_no_more_than_messages c heard =
       owners = listed_at_most bytes_eq bytes_eq-Decides _ _ h.by_owner;
       gateways = listed_at_most bytes_eq bytes_eq-Decides _ _ h.by_gateway;
       devices = listed_at_most (λ a b. a == b) (λ a b. (eqb-true a b, eq-eqb a b)) _ _ h.by_device;
+      limits = listed_at_most pair_eq pair_eq-Decides _ _ h.by_limit;
       copies = listed_at_most pair_eq pair_eq-Decides _ _ h.by_copy;
       sessions = h.by_session;
       uplinks_and_bookings = h.by_item;

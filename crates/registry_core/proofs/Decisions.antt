@@ -7,7 +7,7 @@ use Rattle.std.proofs.lemmas.Option.{same_Some}
 use Rattle.radio_core.specs.declared.bands.Band.{Band}
 use Rattle.radio_core.specs.declared.data_rates.DataRate.{DataRate}
 use Rattle.radio_core.specs.declared.frames.Phy.{Phy}
-use Rattle.radio_core.specs.Bands.{band_at, limit_of}
+use Rattle.radio_core.specs.Bands.{band_at}
 use Rattle.radio_core.specs.Counters.{is_candidate}
 use Rattle.radio_core.specs.DataRates.{max_length}
 use Rattle.radio_core.specs.Frames.{frame_of}
@@ -17,7 +17,7 @@ use Rattle.registry_core.specs.declared.answers.Answer.TheVariants.{Success, Ref
 use Rattle.registry_core.specs.declared.answers.Refusal.{Refusal}
 use Rattle.registry_core.specs.declared.answers.Refusal.TheVariants.{WrongRole, Exists, UnknownOwner, UnknownGateway, UnknownDevEui, UnknownDevAddr, BadFrame, OutOfBand, MicFailed, JoinEui, Nonce, Addresses, Replayed, Late, Gap, SessionEnded, NoUplink, DownCounter, Collision, Duty, Answered, NoBooking, Done, Time}
 use Rattle.registry_core.specs.declared.effects.Effect.{Effect}
-use Rattle.registry_core.specs.declared.effects.Effect.TheVariants.{Nothing, AddsSender, AddsOwner, AddsGateway, AddsDevice, MovesDevice, AddsSession, AddsUplink, AddsCopy, AddsBooking, EndsBooking}
+use Rattle.registry_core.specs.declared.effects.Effect.TheVariants.{Nothing, AddsSender, AddsOwner, AddsGateway, AddsDevice, MovesDevice, AddsSession, AddsUplink, AddsCopy, AddsBooking, EndsBooking, SetsLimit}
 use Rattle.registry_core.specs.declared.facts.Device.{Device}
 use Rattle.registry_core.specs.declared.facts.Kind.{Kind}
 use Rattle.registry_core.specs.declared.facts.Kind.TheVariants.{Join, Data}
@@ -32,13 +32,13 @@ use Rattle.registry_core.specs.declared.frames.JoinRequest.{JoinRequest}
 use Rattle.registry_core.specs.declared.messages.Envelope.{Envelope}
 use Rattle.registry_core.specs.declared.messages.JoinVerdict.{JoinVerdict}
 use Rattle.registry_core.specs.declared.messages.Message.{Message}
-use Rattle.registry_core.specs.declared.messages.Message.TheVariants.{SenderAdd, OwnerAdd, GatewayAdd, DeviceAdd, DeviceMove, JoinHeard, FrameHeard, DownBook, DownDone}
+use Rattle.registry_core.specs.declared.messages.Message.TheVariants.{SenderAdd, OwnerAdd, GatewayAdd, DeviceAdd, DeviceMove, JoinHeard, FrameHeard, DownBook, DownDone, LimitSet}
 use Rattle.registry_core.specs.declared.messages.Report.{Report}
 use Rattle.registry_core.specs.declared.messages.Role.{Role}
 use Rattle.registry_core.specs.declared.windows.Window.{Window}
-use Rattle.registry_core.specs.Bookings.{downlinks, downlinks_in, is_answered, is_booked, next_down}
+use Rattle.registry_core.specs.Bookings.{downlinks, downlinks_in, is_answered, is_booked, limit_in, next_down}
 use Rattle.registry_core.specs.Checks.{Checked, ◌>>=◌, ◌>>◌, wants, needs, unless}
-use Rattle.registry_core.specs.Administration.{is_operator, sender_add, owner_add, gateway_add, device_add, device_move}
+use Rattle.registry_core.specs.Administration.{is_operator, sender_add, owner_add, gateway_add, device_add, device_move, limit_set}
 use Rattle.registry_core.specs.Decision.{Decision, decision_or_refusal}
 use Rattle.registry_core.specs.Derived.{address_of, data_with, is_above, is_below, is_below_floor, is_data_with, is_join_with, last_counter, last_nonce, session_with}
 use Rattle.registry_core.specs.DataFrames.{original_data, data_copied, data_added, frame_heard}
@@ -48,6 +48,7 @@ use Rattle.registry_core.specs.Downlinks.{down_added, down_book, down_done, on_a
 use Rattle.registry_core.specs.Heard.{state_after, state_of}
 use Rattle.registry_core.specs.Laws.{tells_copy}
 use Rattle.registry_core.specs.Joins.{is_good, original_join, join_copied, join_added, join_heard}
+use Rattle.registry_core.specs.Limits.{Limit}
 use Rattle.registry_core.specs.Numbered.{item_at}
 use Rattle.registry_core.specs.Settings.{Settings}
 use Rattle.registry_core.specs.State.{State, next_uplink, opening}
@@ -135,6 +136,14 @@ move_decides c s e dev_eui owner =
     after_wants c s (is_some (s.devices dev_eui)) UnknownDevEui _ (λ there.
     after_wants c s (s.owners owner) UnknownOwner _ (λ known.
     succeeds c s (MovesDevice dev_eui owner) (there, known))))
+
+limit_decides : (c : Settings) (s : State) (e : Envelope) (gateway : List ℕ) (limit : Limit) → Decides c s (limit_set s e gateway limit)
+unfolding limit_set
+limit_decides c s e gateway limit =
+    after_wants c s (is_operator (s.senders e.sender)) WrongRole _ (λ _.
+    after_wants c s (s.gateways gateway) UnknownGateway _ (λ known.
+    after_wants c s (hours_within (downlinks_in s.bookings gateway limit.band) limit.most) Duty _ (λ within.
+    succeeds c s (SetsLimit gateway limit) (known, within))))
 
 -- ---- a join
 
@@ -299,7 +308,7 @@ down_added_decides : (c : Settings) (s : State) (number : ℕ) (gateway : List �
 unfolding down_added Decides
 down_added_decides c s number gateway band start span uplink copy known there heard time =
     after_wants c s (is_clear (downlinks s.bookings gateway) span) Collision _ (λ _.
-    after_wants c s (hours_within (downlinks_in s.bookings gateway band ++ span ∷ []) (limit_of band)) Duty _ (λ within. record { allowed = (fits_new, time, within); copy = λ k. cc; refusal = λ x h. cc }))
+    after_wants c s (hours_within (downlinks_in s.bookings gateway band ++ span ∷ []) (limit_in s gateway band)) Duty _ (λ within. record { allowed = (fits_new, time, within); copy = λ k. cc; refusal = λ x h. cc }))
   where
     fits_new : BookingFits (record { uplink = number; gateway = gateway; band = band; span = span; standing = Booked }) s
     fits_new = record {
@@ -347,6 +356,7 @@ decides c s e (JoinHeard report verdict) h = join_decides c s report verdict h
 decides c s e (FrameHeard report verdict) h = frame_decides c s report verdict h
 decides c s e (DownBook uplink gateway window octets) h = book_decides c s uplink gateway window octets
 decides c s e (DownDone booking sent) h = done_decides c s booking sent
+decides c s e (LimitSet gateway limit) h = limit_decides c s e gateway limit
 
 pub is_decision : (c : Settings) (s : State) (e : Envelope) → IsSound c s → IsDecision c s (decision_of c s e)
 unfolding Decides
@@ -375,6 +385,7 @@ fits c s (AddsSession session u gateway reception) k = k.0
 fits c s (AddsUplink u gateway reception) k = k.0
 fits c s (AddsCopy number gateway reception) k = k.0
 fits c s (AddsBooking booking) k = k.0
+fits c s (SetsLimit gateway limit) k = k.0
 fits c s effect k = k
 
 pub decisions_fit : DecisionsFit

@@ -5,7 +5,7 @@ use Rattle.std.specs.Option.{option_map_or}
 use Rattle.std.proofs.lemmas.List.Elements.{All-filter, All-from_recursion, All-map}
 use Rattle.radio_core.specs.declared.bands.Band.{Band}
 use Rattle.radio_core.specs.declared.data_rates.Rate.{Rate}
-use Rattle.radio_core.specs.Bands.{band_at, limit_of}
+use Rattle.radio_core.specs.Bands.{band_at}
 use Rattle.radio_core.specs.TimeOnAir.{AirtimeIsBounded}
 use Rattle.duty_core.specs.Computed.{is_clear, hours_within}
 use Rattle.duty_core.specs.Laws.{HoursWithinByNearOnes, IsClearByNearOnes}
@@ -23,7 +23,7 @@ use Rattle.registry_core.specs.declared.messages.Message.TheVariants.{DownBook, 
 use Rattle.registry_core.specs.declared.views.UplinkView.{UplinkView}
 use Rattle.registry_core.specs.declared.views.View.{View}
 use Rattle.registry_core.specs.declared.windows.Window.{Window}
-use Rattle.registry_core.specs.Bookings.{downlinks, downlinks_in, is_answered, is_booked, next_down, stands_at, stands_in}
+use Rattle.registry_core.specs.Bookings.{downlinks, downlinks_in, is_answered, is_booked, limit_in, next_down, stands_at, stands_in}
 use Rattle.registry_core.specs.steps.ByView.{address_by}
 use Rattle.registry_core.specs.Checks.{Checked, ◌>>=◌, ◌>>◌, wants, needs}
 use Rattle.registry_core.specs.Decision.{Decision}
@@ -34,7 +34,7 @@ use Rattle.registry_core.specs.Frames.{counts_as, downlink_to, frame_at, goes_to
 use Rattle.registry_core.specs.Numbered.{item_at}
 use Rattle.registry_core.specs.Settings.{Settings}
 use Rattle.registry_core.specs.State.{State}
-use Rattle.registry_core.specs.Viewed.{IsView, answered_for, booking_for, gateway_known, near_in, near_in_band_for, near_for, next_down_for, uplink_for, view_of_uplink}
+use Rattle.registry_core.specs.Viewed.{IsView, answered_for, booking_for, gateway_known, in_band_for, limit_at, limit_for, near_for, near_in, next_down_for, uplink_for, view_of_uplink}
 use Rattle.registry_core.specs.Windows.{delay, rate_in, window_of}
 use Rattle.registry_core.proofs.BookedHours.{AreShort, IsKept}
 use Rattle.registry_core.proofs.Decisions.{carried_down}
@@ -50,46 +50,48 @@ clear_same : IsClearByNearOnes → (s : State) (gateway : List ℕ) (near : List
     → IsPermutation (near_ones span.start (downlinks s.bookings gateway)) near → is_clear near span ≡ is_clear (downlinks s.bookings gateway) span
 clear_same by_near s gateway near span short new_short moved = by_near (downlinks s.bookings gateway) near span moved (short_spans (stands_at gateway) s.bookings short) new_short
 
-hours_same : HoursWithinByNearOnes → (s : State) (gateway : List ℕ) (band : Band) (near : List Interval) (span : Interval) → IsKept s.bookings → span.len ≤ greatest_length
+hours_same : HoursWithinByNearOnes → (s : State) (gateway : List ℕ) (band : Band) (near : List Interval) (span : Interval) → IsKept s → span.len ≤ greatest_length
     → IsPermutation (near_ones span.start (downlinks_in s.bookings gateway band)) near
-    → hours_within (near ++ span ∷ []) (limit_of band) ≡ hours_within (downlinks_in s.bookings gateway band ++ span ∷ []) (limit_of band)
+    → hours_within (near ++ span ∷ []) (limit_in s gateway band) ≡ hours_within (downlinks_in s.bookings gateway band ++ span ∷ []) (limit_in s gateway band)
 hours_same by_near s gateway band near span kept new_short moved =
-    by_near (downlinks_in s.bookings gateway band) near span (limit_of band) moved (short_spans (stands_in gateway band) s.bookings kept.short) new_short (λ t. kept.hours gateway band t)
+    by_near (downlinks_in s.bookings gateway band) near span (limit_in s gateway band) moved (short_spans (stands_in gateway band) s.bookings kept.short) new_short (λ t. kept.hours gateway band t)
 
-added_same : (clear : IsClearByNearOnes) (hours : HoursWithinByNearOnes) (s : State) (v : View) (number : ℕ) (gateway : List ℕ) (band : Band) (start : ℕ) (span : Interval) → IsKept s.bookings → span.len ≤ greatest_length
-    → v.bookings ≡ length s.bookings → IsPermutation (near_ones span.start (downlinks s.bookings gateway)) v.near.items → IsPermutation (near_ones span.start (downlinks_in s.bookings gateway band)) v.near_in_band.items
-    → down_added_by v number gateway band start span ≡ down_added s number gateway band start span
+added_same : (clear : IsClearByNearOnes) (hours : HoursWithinByNearOnes) (s : State) (v : View) (number : ℕ) (gateway : List ℕ) (band : Band) (start : ℕ) (span : Interval) → IsKept s → span.len ≤ greatest_length
+    → v.bookings ≡ length s.bookings → IsPermutation (near_ones span.start (downlinks s.bookings gateway)) v.near.items → IsPermutation (near_ones span.start (downlinks_in s.bookings gateway band)) v.in_band.items
+    → v.limit ≡ limit_in s gateway band → down_added_by v number gateway band start span ≡ down_added s number gateway band start span
 unfolding down_added_by down_added
-added_same clear hours s v number gateway band start span kept short count near near_in_band =
-    rw (clear_same clear s gateway v.near.items span kept.short short near, hours_same hours s gateway band v.near_in_band.items span kept short near_in_band, count) refl
+added_same clear hours s v number gateway band start span kept short count near in_band limit =
+    rw (limit, clear_same clear s gateway v.near.items span kept.short short near, hours_same hours s gateway band v.in_band.items span kept short in_band, count) refl
 
 -- ---- the other checks
 
 -- what its band's near ones are, where it has a band
-in_band : (s : State) (gateway : List ℕ) (start : ℕ) (rate : Rate) (band : Band) (near : List Interval) → band_at rate.freq rate.dr ≡ Some band
+near_banded : (s : State) (gateway : List ℕ) (start : ℕ) (rate : Rate) (band : Band) (near : List Interval) → band_at rate.freq rate.dr ≡ Some band
     → IsPermutation (near_in s gateway (start, rate)) near → IsPermutation (near_ones (pos start) (downlinks_in s.bookings gateway band)) near
-in_band s gateway start rate band near is moved = subst (λ found. IsPermutation (option_map_or (λ b. near_ones (pos start) (downlinks_in s.bookings gateway b)) found []) near) is moved
+near_banded s gateway start rate band near is moved = subst (λ found. IsPermutation (option_map_or (λ b. near_ones (pos start) (downlinks_in s.bookings gateway b)) found []) near) is moved
 
 -- from the band on
-banded_same : (clear : IsClearByNearOnes) (hours : HoursWithinByNearOnes) (s : State) (v : View) (number : ℕ) (gateway : List ℕ) (start : ℕ) (rate : Rate) (octets : List ℕ) (found : Option Band) → IsKept s.bookings
+banded_same : (clear : IsClearByNearOnes) (hours : HoursWithinByNearOnes) (s : State) (v : View) (number : ℕ) (gateway : List ℕ) (start : ℕ) (rate : Rate) (octets : List ℕ) (found : Option Band) → IsKept s
     → (on_air start rate octets).len ≤ greatest_length → v.bookings ≡ length s.bookings → IsPermutation (near_ones (pos start) (downlinks s.bookings gateway)) v.near.items
-    → band_at rate.freq rate.dr ≡ found → IsPermutation (near_in s gateway (start, rate)) v.near_in_band.items
+    → band_at rate.freq rate.dr ≡ found → IsPermutation (near_in s gateway (start, rate)) v.in_band.items → v.limit ≡ limit_at s gateway (start, rate)
     → (do
       band ← needs found OutOfBand
       down_added_by v number gateway band start (on_air start rate octets))
     ≡ (do
       band ← needs found OutOfBand
       down_added s number gateway band start (on_air start rate octets))
-banded_same clear hours s v number gateway start rate octets None kept short count near is near_in_band = refl
-banded_same clear hours s v number gateway start rate octets (Some band) kept short count near is near_in_band =
-    added_same clear hours s v number gateway band start (on_air start rate octets) kept short count near (in_band s gateway start rate band v.near_in_band.items is near_in_band)
+banded_same clear hours s v number gateway start rate octets None kept short count near is in_band limit = refl
+banded_same clear hours s v number gateway start rate octets (Some band) kept short count near is in_band limit =
+    added_same clear hours s v number gateway band start (on_air start rate octets) kept short count near (near_banded s gateway start rate band v.in_band.items is in_band)
+    (limit ∙ ap (λ b. option_map_or (limit_in s gateway) b 0) is)
 
 -- from the frame on
 framed_same : (bounded : AirtimeIsBounded) (clear : IsClearByNearOnes) (hours : HoursWithinByNearOnes) (c : Settings) (s : State) (v : View) (number : ℕ)
     (gateway : List ℕ) (uplink : Uplink) (start : ℕ) (rate : Rate) (octets : List ℕ) (told : Option Downlink)
-    → IsKept s.bookings → downlink_to uplink.kind (frame_at rate.dr octets) ≡ told → v.base ≡ c.base → v.answered ≡ is_answered s.bookings number
+    → IsKept s → downlink_to uplink.kind (frame_at rate.dr octets) ≡ told → v.base ≡ c.base → v.answered ≡ is_answered s.bookings number
     → v.next_down ≡ next_down s.bookings s.uplinks uplink.session → v.bookings ≡ length s.bookings
-    → IsPermutation (near_ones (pos start) (downlinks s.bookings gateway)) v.near.items → IsPermutation (near_in s gateway (start, rate)) v.near_in_band.items
+    → IsPermutation (near_ones (pos start) (downlinks s.bookings gateway)) v.near.items → IsPermutation (near_in s gateway (start, rate)) v.in_band.items
+    → v.limit ≡ limit_at s gateway (start, rate)
     → (do
       down ← needs told BadFrame
       wants (goes_to (address_by v uplink.session) down) UnknownDevAddr
@@ -105,15 +107,15 @@ framed_same : (bounded : AirtimeIsBounded) (clear : IsClearByNearOnes) (hours : 
       band ← needs (band_at rate.freq rate.dr) OutOfBand
       down_added s number gateway band start (on_air start rate octets))
 unfolding down_added_by
-framed_same bounded clear hours c s v number gateway uplink start rate octets None kept is base answered next count near near_in_band = refl
-framed_same bounded clear hours c s v number gateway uplink start rate octets (Some down) kept is base answered next count near near_in_band =
+framed_same bounded clear hours c s v number gateway uplink start rate octets None kept is base answered next count near in_band limit = refl
+framed_same bounded clear hours c s v number gateway uplink start rate octets (Some down) kept is base answered next count near in_band limit =
     rw (base, answered, next)
     (ap (λ (rest : Checked Decision). do
       wants (goes_to (address_of c uplink.session) down) UnknownDevAddr
       wants (not (is_answered s.bookings number)) Answered
       wants (counts_as (next_down s.bookings s.uplinks uplink.session) down) DownCounter
       rest)
-    (banded_same clear hours s v number gateway start rate octets (band_at rate.freq rate.dr) kept short count near refl near_in_band))
+    (banded_same clear hours s v number gateway start rate octets (band_at rate.freq rate.dr) kept short count near refl in_band limit))
   where
     short : (on_air start rate octets).len ≤ greatest_length
     short = omega (arith, bounded rate.dr (length octets) false (carried_down uplink.kind rate.dr octets down _ refl is))
@@ -130,12 +132,13 @@ record Shows (s : State) (v : View) (number : ℕ) (gateway : List ℕ) (window 
   seen : v.uplink ≡ option_map (seen_with number copy) uplink
   next_down : v.next_down ≡ option_map_or (λ (u : Uplink). next_down s.bookings s.uplinks u.session) uplink 0
   near : IsPermutation (option_map_or (λ (opens : ℕ × Rate). near_ones (pos opens.0) (downlinks s.bookings gateway)) (opens_at window uplink copy) []) v.near.items
-  near_in_band : IsPermutation (option_map_or (near_in s gateway) (opens_at window uplink copy) []) v.near_in_band.items
+  in_band : IsPermutation (option_map_or (near_in s gateway) (opens_at window uplink copy) []) v.in_band.items
+  limit : v.limit ≡ option_map_or (limit_at s gateway) (opens_at window uplink copy) 0
 
 -- from the uplink on
 uplinked_same : (bounded : AirtimeIsBounded) (clear : IsClearByNearOnes) (hours : HoursWithinByNearOnes) (c : Settings) (s : State) (v : View) (number : ℕ)
     (gateway : List ℕ) (window : Window) (octets : List ℕ) (uplink : Option Uplink) (copy : Option Reception)
-    → IsKept s.bookings → Shows s v number gateway window uplink copy → v.base ≡ c.base → v.answered ≡ is_answered s.bookings number → v.bookings ≡ length s.bookings
+    → IsKept s → Shows s v number gateway window uplink copy → v.base ≡ c.base → v.answered ≡ is_answered s.bookings number → v.bookings ≡ length s.bookings
     → (do
       seen ← needs (option_map (seen_with number copy) uplink) NoUplink
       heard ← needs seen.at_gateway NoUplink
@@ -159,10 +162,10 @@ uplinked_same : (bounded : AirtimeIsBounded) (clear : IsClearByNearOnes) (hours 
 uplinked_same bounded clear hours c s v number gateway window octets None copy kept shows base answered count = refl
 uplinked_same bounded clear hours c s v number gateway window octets (Some uplink) None kept shows base answered count = refl
 uplinked_same bounded clear hours c s v number gateway window octets (Some uplink) (Some copy) kept shows base answered count =
-    framed_same bounded clear hours c s v number gateway uplink (copy.end + delay uplink.kind window) (rate_in window copy.rate) octets _ kept refl base answered shows.next_down count shows.near shows.near_in_band
+    framed_same bounded clear hours c s v number gateway uplink (copy.end + delay uplink.kind window) (rate_in window copy.rate) octets _ kept refl base answered shows.next_down count shows.near shows.in_band shows.limit
 
 book_same : (bounded : AirtimeIsBounded) (clear : IsClearByNearOnes) (hours : HoursWithinByNearOnes) (c : Settings) (s : State) (v : View) (number : ℕ) (gateway : List ℕ) (window : Window) (octets : List ℕ) (uplink : Option Uplink)
-    → item_at s.uplinks number ≡ uplink → IsKept s.bookings → Shows s v number gateway window uplink (s.copies number gateway) → v.gateway_known ≡ s.gateways gateway
+    → item_at s.uplinks number ≡ uplink → IsKept s → Shows s v number gateway window uplink (s.copies number gateway) → v.gateway_known ≡ s.gateways gateway
     → v.base ≡ c.base → v.answered ≡ is_answered s.bookings number → v.bookings ≡ length s.bookings
     → down_book_by v gateway window octets ≡ down_book c s number gateway window octets
 unfolding down_book_by down_book down_added_by
@@ -177,7 +180,7 @@ named_same s number gateway None = refl
 named_same s number gateway (Some uplink) = refl
 
 pub down_book_same : (bounded : AirtimeIsBounded) (clear : IsClearByNearOnes) (hours : HoursWithinByNearOnes) (c : Settings) (s : State) (e : Envelope) (v : View) (number : ℕ) (gateway : List ℕ) (window : Window) (octets : List ℕ)
-    → IsKept s.bookings → e.message ≡ DownBook number gateway window octets → IsView c s e v
+    → IsKept s → e.message ≡ DownBook number gateway window octets → IsView c s e v
     → down_book_by v gateway window octets ≡ down_book c s number gateway window octets
 down_book_same bounded clear hours c s e v number gateway window octets kept same sees =
     book_same bounded clear hours c s v number gateway window octets (item_at s.uplinks number) refl kept
@@ -185,7 +188,8 @@ down_book_same bounded clear hours c s e v number gateway window octets kept sam
       seen = sees.uplink ∙ ap (uplink_for c s) same ∙ named_same s number gateway (item_at s.uplinks number);
       next_down = sees.next_down ∙ ap (next_down_for s) same;
       near = subst (λ m. IsPermutation (near_for s m) v.near.items) same sees.near;
-      near_in_band = subst (λ m. IsPermutation (near_in_band_for s m) v.near_in_band.items) same sees.near_in_band;
+      in_band = subst (λ m. IsPermutation (in_band_for s m) v.in_band.items) same sees.in_band;
+      limit = sees.limit ∙ ap (limit_for s) same;
     })
     (sees.gateway ∙ ap (gateway_known s) same) sees.base (sees.answered ∙ ap (answered_for s) same) sees.bookings
 

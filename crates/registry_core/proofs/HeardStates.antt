@@ -4,20 +4,20 @@ use Rattle.std.specs.Prelude.{◌⊎◌, ◌==◌, is_some, IsTrue}
 use Rattle.std.proofs.lemmas.Bool.{eq-eqb}
 use Rattle.std.proofs.lemmas.List.{length_push}
 use Rattle.radio_core.specs.declared.data_rates.DataRate.{DataRate}
-use Rattle.radio_core.specs.Bands.{band_at, limit_of}
+use Rattle.radio_core.specs.Bands.{band_at}
 use Rattle.radio_core.specs.DataRates.{max_length}
 use Rattle.radio_core.specs.Frames.{frame_of}
 use Rattle.radio_core.specs.TimeOnAir.{airtime_of}
 use Rattle.duty_core.specs.Computed.{hours_within}
 use Rattle.registry_core.specs.declared.effects.Effect.{Effect}
-use Rattle.registry_core.specs.declared.effects.Effect.TheVariants.{AddsSession, AddsUplink, AddsCopy, AddsBooking}
+use Rattle.registry_core.specs.declared.effects.Effect.TheVariants.{AddsSession, AddsUplink, AddsCopy, AddsBooking, SetsLimit}
 use Rattle.registry_core.specs.declared.facts.Kind.{Kind}
 use Rattle.registry_core.specs.declared.facts.Kind.TheVariants.{Join, Data}
 use Rattle.registry_core.specs.declared.facts.Reception.{Reception}
 use Rattle.registry_core.specs.declared.facts.Session.{Session}
 use Rattle.registry_core.specs.declared.facts.Uplink.{Uplink}
 use Rattle.registry_core.specs.declared.frames.DataFrame.{DataFrame}
-use Rattle.registry_core.specs.Bookings.{downlinks_in}
+use Rattle.registry_core.specs.Bookings.{downlinks_in, limit_in}
 use Rattle.registry_core.specs.Derived.{address_of, is_above, is_data_of, is_session_of, last_nonce}
 use Rattle.registry_core.specs.Frames.{data_up}
 use Rattle.registry_core.specs.Fits.{Fits}
@@ -116,13 +116,14 @@ opening_sound c = record {
 }
 
 -- What a change may be: it fits; a session has an address, and a data uplink is one of its frames; copies lie in bands;
--- and a booking has a downlink's time on air, and keeps every hour within the limit.
+-- a booking has a downlink's time on air, and keeps every hour within the limit; and every hour is within a limit that is set.
 abbrev pub IsAllowed : Settings → State → Effect → Type 0
 IsAllowed c s (AddsSession session uplink gateway reception) = Fits (AddsSession session uplink gateway reception) s × (length s.sessions < c.addresses) × IsInBand reception
 IsAllowed c s (AddsUplink uplink gateway reception) = Fits (AddsUplink uplink gateway reception) s × IsFrameOf c uplink × IsInBand reception
 IsAllowed c s (AddsCopy number gateway reception) = Fits (AddsCopy number gateway reception) s × IsInBand reception
 IsAllowed c s (AddsBooking booking) = Fits (AddsBooking booking) s × IsTimeDown booking.span.len
-    × IsTrue (hours_within (downlinks_in s.bookings booking.gateway booking.band ++ booking.span ∷ []) (limit_of booking.band))
+    × IsTrue (hours_within (downlinks_in s.bookings booking.gateway booking.band ++ booking.span ∷ []) (limit_in s booking.gateway booking.band))
+IsAllowed c s (SetsLimit gateway limit) = Fits (SetsLimit gateway limit) s × IsTrue (hours_within (downlinks_in s.bookings gateway limit.band) limit.most)
 IsAllowed c s effect = Fits effect s
 
 -- ---- one more uplink, with its first copy

@@ -17,11 +17,11 @@ use Rattle.registry_core.specs.declared.frames.JoinRequest.{JoinRequest}
 use Rattle.registry_core.specs.declared.messages.Envelope.{Envelope}
 use Rattle.registry_core.specs.declared.messages.JoinVerdict.{JoinVerdict}
 use Rattle.registry_core.specs.declared.messages.Message.{Message}
-use Rattle.registry_core.specs.declared.messages.Message.TheVariants.{SenderAdd, OwnerAdd, GatewayAdd, DeviceAdd, DeviceMove, JoinHeard, FrameHeard, DownBook, DownDone}
+use Rattle.registry_core.specs.declared.messages.Message.TheVariants.{SenderAdd, OwnerAdd, GatewayAdd, DeviceAdd, DeviceMove, JoinHeard, FrameHeard, DownBook, DownDone, LimitSet}
 use Rattle.registry_core.specs.declared.messages.Report.{Report}
 use Rattle.registry_core.specs.declared.messages.Role.{Role}
 use Rattle.registry_core.specs.declared.windows.Window.{Window}
-use Rattle.registry_core.specs.Administration.{sender_add, owner_add, gateway_add, device_add, device_move}
+use Rattle.registry_core.specs.Administration.{sender_add, owner_add, gateway_add, device_add, device_move, limit_set}
 use Rattle.registry_core.specs.Checks.{Checked, ◌>>=◌, ◌>>◌, wants, needs, unless}
 use Rattle.registry_core.specs.CopyLaws.{CopiesAddOneAtMost, CopiesStay, KeepsCopy, copied_uplink, report_in}
 use Rattle.registry_core.specs.DataFrames.{data_added, data_copied, frame_heard, original_data}
@@ -31,6 +31,7 @@ use Rattle.registry_core.specs.Downlinks.{down_added, down_book, down_done}
 use Rattle.registry_core.specs.Frames.{data_up, frame_at, join_request}
 use Rattle.registry_core.specs.Heard.{state_of}
 use Rattle.registry_core.specs.Joins.{is_good, join_added, join_copied, join_heard, original_join}
+use Rattle.registry_core.specs.Limits.{Limit}
 use Rattle.registry_core.specs.Numbered.{item_at}
 use Rattle.registry_core.specs.Settings.{Settings}
 use Rattle.registry_core.specs.State.{State, copies_with, next_uplink, state_with}
@@ -91,6 +92,7 @@ keeps_with s report number uplink copies there octets own others = record {
   sessions = refl;
   uplinks = refl;
   bookings = refl;
+  limits = refl;
 }
 
 copy_keeps : (s : State) (report : Report) (number : ℕ) (uplink : Uplink) (at : Option Reception) → item_at s.uplinks number ≡ Some uplink → uplink.octets ≡ report.octets
@@ -199,6 +201,10 @@ done_tells_none : (s : State) (number : ℕ) (sent : Bool) → TellsNone (down_d
 unfolding down_done
 done_tells_none s number sent = search rules
 
+limit_tells_none : (s : State) (e : Envelope) (gateway : List ℕ) (limit : Limit) → TellsNone (limit_set s e gateway limit)
+unfolding limit_set
+limit_tells_none s e gateway limit = search rules
+
 -- ---- each message
 
 abbrev KeepsOne : State → Message → Checked Decision → Type 0
@@ -218,6 +224,7 @@ keeps c s e (JoinHeard report verdict) = λ number told. (report, refl, join_kee
 keeps c s e (FrameHeard report verdict) = λ number told. (report, refl, frame_keeps c s report verdict number told)
 keeps c s e (DownBook uplink gateway window octets) = never s (DownBook uplink gateway window octets) (down_book c s uplink gateway window octets) (book_tells_none c s uplink gateway window octets)
 keeps c s e (DownDone booking sent) = never s (DownDone booking sent) (down_done s booking sent) (done_tells_none s booking sent)
+keeps c s e (LimitSet gateway limit) = never s (LimitSet gateway limit) (limit_set s e gateway limit) (limit_tells_none s e gateway limit)
 
 pub copies_add_one_at_most : CopiesAddOneAtMost
 copies_add_one_at_most c s e number told = keeps c s e e.message number told

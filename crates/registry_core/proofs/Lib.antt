@@ -1,3 +1,4 @@
+pub mod BandNumbers
 pub mod BookedDownlinks
 pub mod BookedHours
 pub mod BookedUplinks
@@ -17,6 +18,8 @@ pub mod Items
 pub mod JoinOrder
 pub mod JoinsByView
 pub mod KeptCopies
+pub mod LimitLaws
+pub mod LimitsByView
 pub mod NewItems
 pub mod NumberedLaws
 pub mod ReceivedUplinks

@@ -9,16 +9,17 @@ use Rattle.registry_core.specs.declared.facts.Uplink.{Uplink}
 use Rattle.registry_core.specs.declared.messages.Envelope.{Envelope}
 use Rattle.registry_core.specs.declared.messages.JoinVerdict.{JoinVerdict}
 use Rattle.registry_core.specs.declared.messages.Message.{Message}
-use Rattle.registry_core.specs.declared.messages.Message.TheVariants.{SenderAdd, OwnerAdd, GatewayAdd, DeviceAdd, DeviceMove, JoinHeard, FrameHeard, DownBook, DownDone}
+use Rattle.registry_core.specs.declared.messages.Message.TheVariants.{SenderAdd, OwnerAdd, GatewayAdd, DeviceAdd, DeviceMove, JoinHeard, FrameHeard, DownBook, DownDone, LimitSet}
 use Rattle.registry_core.specs.declared.messages.Report.{Report}
 use Rattle.registry_core.specs.declared.messages.Role.{Role}
 use Rattle.registry_core.specs.declared.windows.Window.{Window}
-use Rattle.registry_core.specs.Administration.{sender_add, owner_add, gateway_add, device_add, device_move}
+use Rattle.registry_core.specs.Administration.{sender_add, owner_add, gateway_add, device_add, device_move, limit_set}
 use Rattle.registry_core.specs.Checks.{Checked, ◌>>=◌, ◌>>◌, wants, needs}
 use Rattle.registry_core.specs.DataFrames.{data_added, frame_heard}
 use Rattle.registry_core.specs.Decision.{Decision, decision_or_refusal}
 use Rattle.registry_core.specs.Downlinks.{down_added, down_book, down_done}
 use Rattle.registry_core.specs.Joins.{join_added, join_heard}
+use Rattle.registry_core.specs.Limits.{Limit}
 use Rattle.registry_core.specs.Settings.{Settings}
 use Rattle.registry_core.specs.State.{State}
 use Rattle.registry_core.specs.Step.{checked_decision}
@@ -102,6 +103,10 @@ book_no_uplink : (P : Uplink → Reception → Type 0) (c : Settings) (s : State
 unfolding down_book down_added
 book_no_uplink P c s number gateway window octets = search rules
 
+limit_neither : (s : State) (e : Envelope) (gateway : List ℕ) (limit : Limit) → Lets AddsNeither (limit_set s e gateway limit)
+unfolding limit_set
+limit_neither s e gateway limit = search rules
+
 -- ---- each message
 
 -- a booking is new by the checks of a downlink
@@ -116,6 +121,7 @@ new_booking P c s by e (JoinHeard report verdict) = join_no_booking P c s report
 new_booking P c s by e (FrameHeard report verdict) = frame_no_booking P c s report verdict
 new_booking P c s by e (DownBook uplink gateway window octets) = by uplink gateway window octets
 new_booking P c s by e (DownDone booking sent) = neither_booking P _ (done_neither s booking sent)
+new_booking P c s by e (LimitSet gateway limit) = neither_booking P _ (limit_neither s e gateway limit)
 
 -- an uplink is new by the checks of a join or of a data frame
 pub new_uplink : (P : Uplink → Reception → Type 0) (c : Settings) (s : State) → ((report : Report) (verdict : JoinVerdict) → Lets (OfUplink P) (join_heard c s report verdict))
@@ -129,3 +135,4 @@ new_uplink P c s join frame e (JoinHeard report verdict) = join report verdict
 new_uplink P c s join frame e (FrameHeard report verdict) = frame report verdict
 new_uplink P c s join frame e (DownBook uplink gateway window octets) = book_no_uplink P c s uplink gateway window octets
 new_uplink P c s join frame e (DownDone booking sent) = neither_uplink P _ (done_neither s booking sent)
+new_uplink P c s join frame e (LimitSet gateway limit) = neither_uplink P _ (limit_neither s e gateway limit)

@@ -52,7 +52,7 @@ frames_push (w ∷ us) u v same = (same_frame w w refl, frames_push us u v same)
 differ_first : (s : State) (us : List Uplink) (copies : ℕ → List ℕ → Option Reception) → AreSameFrames s.uplinks us → ((m : ℕ) (at : List ℕ) → s.copies m at ≡ copies m at)
     → SameButFirst s (record s { uplinks = us; copies = copies })
 differ_first s us copies uplinks same =
-    record { senders = refl; owners = refl; gateways = refl; devices = refl; sessions = refl; uplinks = uplinks; copies = same; bookings = refl }
+    record { senders = refl; owners = refl; gateways = refl; devices = refl; sessions = refl; uplinks = uplinks; copies = same; bookings = refl; limits = refl }
 
 -- two copies of an uplink come to the same in either order, whichever of them it is booked as
 both_copies : (s : State) (us : List Uplink) (n : ℕ) (a b : Report) (at_a at_b : Option Reception) → a.gateway ≢ b.gateway → AreSameFrames s.uplinks us

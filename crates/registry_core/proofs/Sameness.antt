@@ -5,17 +5,20 @@ use Rattle.std.proofs.lemmas.Bool.{and_parts, eq-eqb, eqb-true}
 use Rattle.std.proofs.lemmas.Slice.Eq.{bytes_eq-Decides}
 use Rattle.radio_core.specs.declared.data_rates.DataRate.{DataRate}
 use Rattle.radio_core.specs.declared.data_rates.DataRate.TheVariants.{Dr0, Dr1, Dr2, Dr3, Dr4, Dr5, Dr6}
+use Rattle.radio_core.specs.Bands.{band_number}
 use Rattle.radio_core.specs.DataRates.{dr_number}
 use Rattle.registry_core.specs.declared.messages.JoinVerdict.{JoinVerdict}
 use Rattle.registry_core.specs.declared.messages.JoinVerdict.TheVariants.{Good, Bad}
 use Rattle.registry_core.specs.declared.messages.Message.{Message}
-use Rattle.registry_core.specs.declared.messages.Message.TheVariants.{SenderAdd, OwnerAdd, GatewayAdd, DeviceAdd, DeviceMove, JoinHeard, FrameHeard, DownBook, DownDone}
+use Rattle.registry_core.specs.declared.messages.Message.TheVariants.{SenderAdd, OwnerAdd, GatewayAdd, DeviceAdd, DeviceMove, JoinHeard, FrameHeard, DownBook, DownDone, LimitSet}
 use Rattle.registry_core.specs.declared.messages.Report.{Report}
 use Rattle.registry_core.specs.declared.messages.Role.{Role}
 use Rattle.registry_core.specs.declared.messages.Role.TheVariants.{Operator, Radio}
 use Rattle.registry_core.specs.declared.windows.Window.{Window}
 use Rattle.registry_core.specs.declared.windows.Window.TheVariants.{First, Second}
-use Rattle.registry_core.specs.Same.{same_role, same_verdict, same_counter, same_window, same_sent, same_report, same_message, SameMessageTells}
+use Rattle.registry_core.specs.Limits.{Limit}
+use Rattle.registry_core.specs.Same.{same_role, same_verdict, same_counter, same_window, same_sent, same_report, same_limit, same_message, SameMessageTells}
+use Rattle.registry_core.proofs.BandNumbers.{same_band}
 
 equal_bytes : (a b : List ℕ) → bytes_eq a b ≡ true → a ≡ b
 equal_bytes a b h = (bytes_eq-Decides a b).0 h
@@ -107,6 +110,16 @@ equal_reports a b h =
 report_self : (a : Report) → same_report a a ≡ true
 report_self a = rw (bytes_self a.gateway, number_self a.time, number_self a.rate.freq, number_self (dr_number a.rate.dr)) (bytes_self a.octets)
 
+equal_limits : (a b : Limit) → same_limit a b ≡ true → a ≡ b
+equal_limits a b h =
+    let both : ((band_number a.band == band_number b.band) ≡ true) × ((a.most == b.most) ≡ true) = and_parts _ _ h in
+    let band : a.band ≡ b.band = same_band a.band b.band (eqb-true _ _ both.0) in
+    let most : a.most ≡ b.most = eqb-true _ _ both.1 in
+    λ i. record { band = band i; most = most i }
+
+limit_self : (a : Limit) → same_limit a a ≡ true
+limit_self a = rw (number_self (band_number a.band)) (number_self a.most)
+
 equal_messages : (a b : Message) → same_message a b ≡ true → a ≡ b
 unfolding same_message
 equal_messages (SenderAdd a r) (SenderAdd b q) h =
@@ -135,6 +148,9 @@ equal_messages (DownBook n a v o) (DownBook m b w p) h =
 equal_messages (DownDone n a) (DownDone m b) h =
     let both : ((n == m) ≡ true) × (same_sent a b ≡ true) = and_parts _ _ h in
     rw (eqb-true n m both.0, equal_sent a b both.1) refl
+equal_messages (LimitSet a l) (LimitSet b m) h =
+    let both : (bytes_eq a b ≡ true) × (same_limit l m ≡ true) = and_parts _ _ h in
+    rw (equal_bytes a b both.0, equal_limits l m both.1) refl
 equal_messages _ _ h = cc
 
 same_self : (a : Message) → same_message a a ≡ true
@@ -148,6 +164,7 @@ same_self (JoinHeard a v) = rw (report_self a) (verdict_self v)
 same_self (FrameHeard a v) = rw (report_self a) (counter_self v)
 same_self (DownBook n a v o) = rw (number_self n, bytes_self a, window_self v) (bytes_self o)
 same_self (DownDone n a) = rw (number_self n) (sent_self a)
+same_self (LimitSet a l) = rw (bytes_self a) (limit_self l)
 
 pub same_message_tells : SameMessageTells
 same_message_tells a b = (equal_messages a b, λ same. subst (λ m. same_message a m ≡ true) same (same_self a))

@@ -5,17 +5,18 @@ use Rattle.registry_core.specs.declared.answers.Answer.TheVariants.{Refused}
 use Rattle.registry_core.specs.declared.messages.Envelope.{Envelope}
 use Rattle.registry_core.specs.declared.messages.JoinVerdict.{JoinVerdict}
 use Rattle.registry_core.specs.declared.messages.Message.{Message}
-use Rattle.registry_core.specs.declared.messages.Message.TheVariants.{SenderAdd, OwnerAdd, GatewayAdd, DeviceAdd, DeviceMove, JoinHeard, FrameHeard, DownBook, DownDone}
+use Rattle.registry_core.specs.declared.messages.Message.TheVariants.{SenderAdd, OwnerAdd, GatewayAdd, DeviceAdd, DeviceMove, JoinHeard, FrameHeard, DownBook, DownDone, LimitSet}
 use Rattle.registry_core.specs.declared.messages.Report.{Report}
 use Rattle.registry_core.specs.declared.messages.Role.{Role}
 use Rattle.registry_core.specs.declared.windows.Window.{Window}
-use Rattle.registry_core.specs.Administration.{sender_add, owner_add, gateway_add, device_add, device_move}
+use Rattle.registry_core.specs.Administration.{sender_add, owner_add, gateway_add, device_add, device_move, limit_set}
 use Rattle.registry_core.specs.Checks.{Checked}
 use Rattle.registry_core.specs.DataFrames.{data_added, frame_heard}
 use Rattle.registry_core.specs.Decision.{Decision, decision_or_refusal}
 use Rattle.registry_core.specs.Downlinks.{down_added, down_book, down_done}
 use Rattle.registry_core.specs.Joins.{join_added, join_heard}
 use Rattle.registry_core.specs.Laws.{IsStepRefusal, StepsRefuseByNumber}
+use Rattle.registry_core.specs.Limits.{Limit}
 use Rattle.registry_core.specs.Settings.{Settings}
 use Rattle.registry_core.specs.State.{State}
 use Rattle.registry_core.specs.Step.{checked_decision}
@@ -64,6 +65,10 @@ done_refuses : (s : State) (number : ℕ) (sent : Bool) → Refuses (down_done s
 unfolding down_done
 done_refuses s number sent = search rules
 
+limit_refuses : (s : State) (e : Envelope) (gateway : List ℕ) (limit : Limit) → Refuses (limit_set s e gateway limit)
+unfolding limit_set
+limit_refuses s e gateway limit = search rules
+
 refuses : (c : Settings) (s : State) (e : Envelope) (m : Message) → Refuses (checked_decision c s e m)
 refuses c s e (SenderAdd sender role) = sender_refuses s e sender role
 refuses c s e (OwnerAdd owner) = owner_refuses s e owner
@@ -74,6 +79,7 @@ refuses c s e (JoinHeard report verdict) = join_refuses c s report verdict
 refuses c s e (FrameHeard report verdict) = frame_refuses c s report verdict
 refuses c s e (DownBook uplink gateway window octets) = book_refuses c s uplink gateway window octets
 refuses c s e (DownDone booking sent) = done_refuses s booking sent
+refuses c s e (LimitSet gateway limit) = limit_refuses s e gateway limit
 
 pub steps_refuse_by_number : StepsRefuseByNumber
 steps_refuse_by_number c s e refusal told = subst AnswersByNumber told (refuses c s e e.message)

@@ -1,13 +1,16 @@
 -- The messages of an operator: what each asks, in order, and what it adds. Checks and refusals are this project's.
 use Rattle.std.specs.Prelude.{ℕ, Bool, true, false, not, List, Option, Some, is_none, is_some, Ok}
+use Rattle.duty_core.specs.Computed.{hours_within}
 use Rattle.registry_core.specs.declared.answers.Answer.TheVariants.{Success}
-use Rattle.registry_core.specs.declared.answers.Refusal.TheVariants.{WrongRole, Exists, UnknownOwner, UnknownDevEui}
-use Rattle.registry_core.specs.declared.effects.Effect.TheVariants.{AddsSender, AddsOwner, AddsGateway, AddsDevice, MovesDevice}
+use Rattle.registry_core.specs.declared.answers.Refusal.TheVariants.{WrongRole, Exists, UnknownOwner, UnknownGateway, UnknownDevEui, Duty}
+use Rattle.registry_core.specs.declared.effects.Effect.TheVariants.{AddsSender, AddsOwner, AddsGateway, AddsDevice, MovesDevice, SetsLimit}
 use Rattle.registry_core.specs.declared.messages.Envelope.{Envelope}
 use Rattle.registry_core.specs.declared.messages.Role.{Role}
 use Rattle.registry_core.specs.declared.messages.Role.TheVariants.{Operator}
+use Rattle.registry_core.specs.Bookings.{downlinks_in}
 use Rattle.registry_core.specs.Checks.{Checked, ◌>>◌, wants}
 use Rattle.registry_core.specs.Decision.{Decision}
+use Rattle.registry_core.specs.Limits.{Limit}
 use Rattle.registry_core.specs.State.{State}
 
 abbrev pub is_operator : Option Role → Bool
@@ -50,3 +53,11 @@ device_move s e dev_eui owner = do
   wants (is_some (s.devices dev_eui)) UnknownDevEui
   wants (s.owners owner) UnknownOwner
   Ok (MovesDevice dev_eui owner, Success)
+
+-- an operator sets the limit of a gateway's band, where no hour of it holds more downlinks that aren't dropped
+unfoldable pub limit_set : State → Envelope → List ℕ → Limit → Checked Decision
+limit_set s e gateway limit = do
+  wants (is_operator (s.senders e.sender)) WrongRole
+  wants (s.gateways gateway) UnknownGateway
+  wants (hours_within (downlinks_in s.bookings gateway limit.band) limit.most) Duty
+  Ok (SetsLimit gateway limit, Success)

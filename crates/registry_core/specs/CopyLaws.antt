@@ -50,6 +50,7 @@ pub record KeepsCopy (report : Report) (number : ℕ) (before after : State) : T
   pub sessions : after.sessions ≡ before.sessions
   pub uplinks : after.uplinks ≡ before.uplinks
   pub bookings : after.bookings ≡ before.bookings
+  pub limits : after.limits ≡ before.limits
 
 -- what is answered as a copy is a report, and adds no more than that
 abbrev pub CopiesAddOneAtMost : Type 0

@@ -1,7 +1,7 @@
 -- What a change asks of the facts that it is made to.
 use Rattle.std.specs.Prelude.{◌≡◌, ℕ, ◌+◌, false, List, length, Some, None, is_some, IsTrue}
 use Rattle.registry_core.specs.declared.effects.Effect.{Effect}
-use Rattle.registry_core.specs.declared.effects.Effect.TheVariants.{Nothing, AddsSender, AddsOwner, AddsGateway, AddsDevice, MovesDevice, AddsSession, AddsUplink, AddsCopy, AddsBooking, EndsBooking}
+use Rattle.registry_core.specs.declared.effects.Effect.TheVariants.{Nothing, AddsSender, AddsOwner, AddsGateway, AddsDevice, MovesDevice, AddsSession, AddsUplink, AddsCopy, AddsBooking, EndsBooking, SetsLimit}
 use Rattle.registry_core.specs.declared.facts.Booking.{Booking}
 use Rattle.registry_core.specs.declared.facts.Kind.TheVariants.{Join, Data}
 use Rattle.registry_core.specs.declared.facts.Session.{Session}
@@ -65,6 +65,7 @@ Fits (AddsUplink uplink gateway reception) s = UplinkFits uplink gateway s
 Fits (AddsCopy number gateway reception) s = CopyFits number gateway s
 Fits (AddsBooking booking) s = BookingFits booking s
 Fits (EndsBooking number sent) s = EndFits number s
+Fits (SetsLimit gateway limit) s = IsTrue (s.gateways gateway)
 
 -- whatever was heard, what a step changes fits
 abbrev pub DecisionsFit : Type 0

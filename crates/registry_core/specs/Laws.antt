@@ -127,7 +127,7 @@ adds_sender _ = false
 abbrev pub SendersStay : Type 0
 SendersStay = (c : Settings) (s : State) (e : Envelope) → adds_sender e.message ≡ false → (step c s e).0.senders ≡ s.senders
 
--- what is kept of senders, owners, gateways and devices is changed by messages of operators alone
+-- what is kept of senders, owners, gateways, devices and limits is changed by messages of operators alone
 abbrev pub OperatorsKeepTheRegister : Type 0
 OperatorsKeepTheRegister = (c : Settings) (s : State) (e : Envelope) → is_operator (s.senders e.sender) ≡ false → let after : State = (step c s e).0 in
-    (after.senders ≡ s.senders) × (after.owners ≡ s.owners) × (after.gateways ≡ s.gateways) × (after.devices ≡ s.devices)
+    (after.senders ≡ s.senders) × (after.owners ≡ s.owners) × (after.gateways ≡ s.gateways) × (after.devices ≡ s.devices) × (after.limits ≡ s.limits)

@@ -14,6 +14,8 @@ pub mod Frames
 pub mod Heard
 pub mod Joins
 pub mod Laws
+pub mod LimitLaws
+pub mod Limits
 pub mod Numbered
 pub mod NumberedLaws
 pub mod Ranges

@@ -3,8 +3,9 @@ use Rattle.std.specs.Prelude.{ℕ, ◌^◌, ◌<◌, ◌≤◌, List, length, ge
 use Rattle.radio_core.specs.Names.{is_name}
 use Rattle.registry_core.specs.declared.messages.Envelope.{Envelope}
 use Rattle.registry_core.specs.declared.messages.Message.{Message}
-use Rattle.registry_core.specs.declared.messages.Message.TheVariants.{SenderAdd, OwnerAdd, GatewayAdd, DeviceAdd, DeviceMove, JoinHeard, FrameHeard, DownBook, DownDone}
+use Rattle.registry_core.specs.declared.messages.Message.TheVariants.{SenderAdd, OwnerAdd, GatewayAdd, DeviceAdd, DeviceMove, JoinHeard, FrameHeard, DownBook, DownDone, LimitSet}
 use Rattle.registry_core.specs.declared.messages.Report.{Report}
+use Rattle.registry_core.specs.Limits.{IsLimit}
 use Rattle.registry_core.specs.Settings.{Settings, IsBlock}
 use Rattle.registry_core.specs.Wholes.{IsWhole}
 
@@ -36,6 +37,7 @@ IsMessage (JoinHeard report verdict) = IsReport report
 IsMessage (FrameHeard report verdict) = IsReport report × IfSome verdict (λ counter. counter < 2 ^ 32)
 IsMessage (DownBook uplink gateway window octets) = IsWhole uplink × IsName gateway × IsOctets octets
 IsMessage (DownDone booking sent) = IsWhole booking
+IsMessage (LimitSet gateway limit) = IsName gateway × IsLimit limit
 
 pub record IsEnvelope (e : Envelope) : Type 0 where
   pub sender : IsName e.sender

@@ -34,6 +34,7 @@ pub record SameButFirst (a b : State) : Type 0 where
   pub uplinks : AreSameFrames a.uplinks b.uplinks
   pub copies : (number : ℕ) (gateway : List ℕ) → a.copies number gateway ≡ b.copies number gateway
   pub bookings : a.bookings ≡ b.bookings
+  pub limits : a.limits ≡ b.limits
 
 abbrev pub is_success : Answer → Bool
 is_success (Refused refusal) = false

@@ -2,6 +2,7 @@
 -- What has a name or an EUI is looked up by it, so that nothing depends on an order in which a store keeps it. Sessions,
 -- uplinks and bookings are numbered by their place from 1, in the order in which they were accepted.
 use Rattle.std.specs.Prelude.{ℕ, ◌+◌, ◌==◌, Bool, true, false, List, [], ◌∷◌, ◌++◌, length, Option, Some, None, option_map, bytes_eq, if◌then◌else◌}
+use Rattle.radio_core.specs.Bands.{band_number}
 use Rattle.registry_core.specs.declared.facts.Booking.{Booking}
 use Rattle.registry_core.specs.declared.facts.Device.{Device}
 use Rattle.registry_core.specs.declared.facts.Reception.{Reception}
@@ -11,7 +12,8 @@ use Rattle.registry_core.specs.declared.facts.Uplink.{Uplink}
 use Rattle.registry_core.specs.declared.messages.Role.{Role}
 use Rattle.registry_core.specs.declared.messages.Role.TheVariants.{Operator}
 use Rattle.registry_core.specs.declared.effects.Effect.{Effect}
-use Rattle.registry_core.specs.declared.effects.Effect.TheVariants.{Nothing, AddsSender, AddsOwner, AddsGateway, AddsDevice, MovesDevice, AddsSession, AddsUplink, AddsCopy, AddsBooking, EndsBooking}
+use Rattle.registry_core.specs.declared.effects.Effect.TheVariants.{Nothing, AddsSender, AddsOwner, AddsGateway, AddsDevice, MovesDevice, AddsSession, AddsUplink, AddsCopy, AddsBooking, EndsBooking, SetsLimit}
+use Rattle.registry_core.specs.Limits.{Limit}
 use Rattle.registry_core.specs.Numbered.{item_changed}
 use Rattle.registry_core.specs.Settings.{Settings}
 
@@ -31,6 +33,8 @@ pub record State : Type 0 where
   -- the copy of an uplink, by its number, at a gateway
   pub copies : ℕ → List ℕ → Option Reception
   pub bookings : List Booking
+  -- the limit that was set for a gateway's band, by the band's number
+  pub limits : List ℕ → ℕ → Option ℕ
 
 -- what is looked up by a name, with this at the name
 abbrev pub at_name : {X : Type 0} → (List ℕ → X) → List ℕ → X → List ℕ → X
@@ -51,6 +55,7 @@ opening c = record {
   uplinks = [];
   copies = λ _ _. None;
   bookings = [];
+  limits = λ _ _. None;
 }
 
 -- ---- changes
@@ -101,6 +106,13 @@ ended sent booking = record booking { standing = if sent then Sent else Dropped 
 abbrev pub with_end : State → ℕ → Bool → State
 with_end s number sent = record s { bookings = item_changed (ended sent) s.bookings number }
 
+-- the limits, with this one at the gateway
+abbrev pub limits_with : (List ℕ → ℕ → Option ℕ) → List ℕ → Limit → List ℕ → ℕ → Option ℕ
+limits_with limits gateway limit = at_name limits gateway (at_number (limits gateway) (band_number limit.band) (Some limit.most))
+
+abbrev pub with_limit : State → List ℕ → Limit → State
+with_limit s gateway limit = record s { limits = limits_with s.limits gateway limit }
+
 -- the number that the next uplink gets
 abbrev pub next_uplink : State → ℕ
 next_uplink s = length s.uplinks + 1
@@ -118,3 +130,4 @@ state_with s (AddsUplink uplink gateway reception) = with_copy (with_uplink s up
 state_with s (AddsCopy number gateway reception) = with_copy s number gateway reception
 state_with s (AddsBooking booking) = with_booking s booking
 state_with s (EndsBooking number sent) = with_end s number sent
+state_with s (SetsLimit gateway limit) = with_limit s gateway limit

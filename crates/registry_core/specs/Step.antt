@@ -3,8 +3,8 @@
 use Rattle.registry_core.specs.declared.answers.Answer.{Answer}
 use Rattle.registry_core.specs.declared.messages.Envelope.{Envelope}
 use Rattle.registry_core.specs.declared.messages.Message.{Message}
-use Rattle.registry_core.specs.declared.messages.Message.TheVariants.{SenderAdd, OwnerAdd, GatewayAdd, DeviceAdd, DeviceMove, JoinHeard, FrameHeard, DownBook, DownDone}
-use Rattle.registry_core.specs.Administration.{sender_add, owner_add, gateway_add, device_add, device_move}
+use Rattle.registry_core.specs.declared.messages.Message.TheVariants.{SenderAdd, OwnerAdd, GatewayAdd, DeviceAdd, DeviceMove, JoinHeard, FrameHeard, DownBook, DownDone, LimitSet}
+use Rattle.registry_core.specs.Administration.{sender_add, owner_add, gateway_add, device_add, device_move, limit_set}
 use Rattle.registry_core.specs.Checks.{Checked}
 use Rattle.registry_core.specs.DataFrames.{frame_heard}
 use Rattle.registry_core.specs.Decision.{Decision, decision_or_refusal}
@@ -24,6 +24,7 @@ checked_decision c s e (JoinHeard report verdict) = join_heard c s report verdic
 checked_decision c s e (FrameHeard report verdict) = frame_heard c s report verdict
 checked_decision c s e (DownBook uplink gateway window octets) = down_book c s uplink gateway window octets
 checked_decision c s e (DownDone booking sent) = down_done s booking sent
+checked_decision c s e (LimitSet gateway limit) = limit_set s e gateway limit
 
 -- what the envelope changes, and what it is answered
 abbrev pub decision_of : Settings → State → Envelope → Decision

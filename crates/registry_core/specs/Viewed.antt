@@ -14,11 +14,11 @@ use Rattle.registry_core.specs.declared.facts.Uplink.{Uplink}
 use Rattle.registry_core.specs.declared.frames.JoinRequest.{JoinRequest}
 use Rattle.registry_core.specs.declared.messages.Envelope.{Envelope}
 use Rattle.registry_core.specs.declared.messages.Message.{Message}
-use Rattle.registry_core.specs.declared.messages.Message.TheVariants.{SenderAdd, OwnerAdd, GatewayAdd, DeviceAdd, DeviceMove, JoinHeard, FrameHeard, DownBook, DownDone}
+use Rattle.registry_core.specs.declared.messages.Message.TheVariants.{SenderAdd, OwnerAdd, GatewayAdd, DeviceAdd, DeviceMove, JoinHeard, FrameHeard, DownBook, DownDone, LimitSet}
 use Rattle.registry_core.specs.declared.views.SessionView.{SessionView}
 use Rattle.registry_core.specs.declared.views.UplinkView.{UplinkView}
 use Rattle.registry_core.specs.declared.views.View.{View}
-use Rattle.registry_core.specs.Bookings.{downlinks, downlinks_in, is_answered, next_down}
+use Rattle.registry_core.specs.Bookings.{downlinks, downlinks_in, is_answered, limit_in, next_down}
 use Rattle.registry_core.specs.Decision.{Decision}
 use Rattle.registry_core.specs.Derived.{last_nonce, join_with, session_with, data_with, last_counter, is_below_floor}
 use Rattle.registry_core.specs.Frames.{data_up, join_request}
@@ -49,6 +49,7 @@ gateway_known s (GatewayAdd gateway) = s.gateways gateway
 gateway_known s (JoinHeard report verdict) = s.gateways report.gateway
 gateway_known s (FrameHeard report verdict) = s.gateways report.gateway
 gateway_known s (DownBook uplink gateway window octets) = s.gateways gateway
+gateway_known s (LimitSet gateway limit) = s.gateways gateway
 gateway_known s _ = false
 
 -- the join request that it tells of
@@ -135,8 +136,17 @@ near_for s m = option_map_or (λ (opens : ℕ × Rate). near_ones (pos opens.0) 
 abbrev pub near_in : State → List ℕ → ℕ × Rate → List Interval
 near_in s gateway opens = option_map_or (λ band. near_ones (pos opens.0) (downlinks_in s.bookings gateway band)) (band_at opens.1.freq opens.1.dr) []
 
-abbrev pub near_in_band_for : State → Message → List Interval
-near_in_band_for s m = option_map_or (near_in s (gateway_for m)) (window_for s m) []
+-- In the band of a limit that is to be set, all of the gateway's downlinks that aren't dropped.
+abbrev pub in_band_for : State → Message → List Interval
+in_band_for s (LimitSet gateway limit) = downlinks_in s.bookings gateway limit.band
+in_band_for s m = option_map_or (near_in s (gateway_for m)) (window_for s m) []
+
+-- the limit of its gateway's band
+abbrev pub limit_at : State → List ℕ → ℕ × Rate → ℕ
+limit_at s gateway opens = option_map_or (limit_in s gateway) (band_at opens.1.freq opens.1.dr) 0
+
+abbrev pub limit_for : State → Message → ℕ
+limit_for s m = option_map_or (limit_at s (gateway_for m)) (window_for s m) 0
 
 -- ---- the view
 
@@ -158,9 +168,10 @@ pub record IsView (c : Settings) (s : State) (e : Envelope) (v : View) : Type 0 
   pub answered : v.answered ≡ answered_for s e.message
   pub next_down : v.next_down ≡ next_down_for s e.message
   pub booking : v.booking ≡ booking_for s e.message
+  pub limit : v.limit ≡ limit_for s e.message
   -- in any order
   pub near : IsPermutation (near_for s e.message) v.near.items
-  pub near_in_band : IsPermutation (near_in_band_for s e.message) v.near_in_band.items
+  pub in_band : IsPermutation (in_band_for s e.message) v.in_band.items
 
 -- And this is one step of the registry.
 abbrev pub IsStep : Message → View → Decision → Type 0

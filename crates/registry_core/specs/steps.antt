@@ -2,3 +2,4 @@
 pub mod ByView
 pub mod Checked
 pub mod DownlinksByView
+pub mod LimitsByView

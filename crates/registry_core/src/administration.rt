@@ -1,13 +1,18 @@
 //! What the messages of an operator change and how they are answered: one function for each, its checks in their order.
-ghost use Rattle.registry_core.specs.declared.messages.Message.TheVariants.{SenderAdd, OwnerAdd, GatewayAdd, DeviceAdd, DeviceMove};
+ghost use Rattle.registry_core.specs.declared.messages.Message.TheVariants.{SenderAdd, OwnerAdd, GatewayAdd, DeviceAdd, DeviceMove, LimitSet};
+ghost use Rattle.std.specs.Prelude.{◌≡◌};
 ghost use Rattle.registry_core.specs.steps.Checked.{IsChecked};
+ghost use Rattle.registry_core.specs.steps.LimitsByView.{limit_set_by};
 
 use crate::answers::{Answer, Refusal};
 use crate::checks::wants;
 use crate::effects::Effect;
 use crate::facts::Device;
+use crate::hours::fit;
+use crate::limits::BandLimit;
 use crate::messages::Role;
 use crate::views::View;
+use duty_core::laws::{computed_forms_tell, order_is_ignored};
 use radio_core::{Eui, Name};
 
 /// An operator adds a sender with its role.
@@ -70,4 +75,29 @@ pub(crate) fn device_move(
     wants(view.device.is_some(), Refusal::UnknownDevEui)?;
     wants(view.owner_known, Refusal::UnknownOwner)?;
     Ok((Effect::MovesDevice { dev_eui, owner }, Answer::Success))
+}
+
+/// An operator sets the limit of a gateway's band, where every hour of the band keeps it already.
+pub(crate) fn limit_set(
+    gateway: Name,
+    limit: BandLimit,
+    view: &View,
+) -> Result<(Effect, Answer), Refusal>
+    ensures { IsChecked (LimitSet gateway limit) view.now result }
+{
+    // the order of the view's downlinks makes no difference
+    order_is_ignored();
+    computed_forms_tell();
+    limit_kept(gateway, limit, view)
+}
+
+/// The checks of a limit, on the view's downlinks.
+#[tactic(auto, unfolding(crate::specs::steps::LimitsByView::limit_set_by))]
+fn limit_kept(gateway: Name, limit: BandLimit, view: &View) -> Result<(Effect, Answer), Refusal>
+    ensures { result ≡ limit_set_by view.now gateway limit }
+{
+    wants(view.role == Role::Operator, Refusal::WrongRole)?;
+    wants(view.gateway_known, Refusal::UnknownGateway)?;
+    wants(fit(&view.in_band, limit.most()), Refusal::Duty)?;
+    Ok((Effect::SetsLimit { gateway, limit }, Answer::Success))
 }

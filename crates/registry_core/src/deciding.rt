@@ -4,7 +4,9 @@ ghost use Rattle.registry_core.specs.Decision.{decision_or_refusal};
 ghost use Rattle.registry_core.specs.Viewed.{IsStep};
 ghost use Rattle.registry_core.specs.steps.Checked.{IsChecked};
 
-use crate::administration::{device_add, device_move, gateway_add, owner_add, sender_add};
+use crate::administration::{
+    device_add, device_move, gateway_add, limit_set, owner_add, sender_add,
+};
 use crate::answers::{Answer, Refusal};
 use crate::data_frames::frame_heard;
 use crate::downlinks::{down_book, down_done};
@@ -55,5 +57,6 @@ fn checked_decision(message: &Message, view: &View) -> Result<(Effect, Answer), 
             octets,
         } => down_book(*uplink, gateway, *window, octets, view),
         Message::DownDone { booking, sent } => down_done(*booking, *sent, view),
+        Message::LimitSet { gateway, limit } => limit_set(*gateway, *limit, view),
     }
 }

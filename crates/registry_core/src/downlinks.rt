@@ -1,7 +1,6 @@
 //! What a downlink changes and how it is answered, and what became of it (LoRaWAN L2 1.0.4, Class A).
-ghost use Rattle.std.specs.Prelude.{◌≡◌, ◌^◌, ◌<◌, ◌≤◌, [], ◌∷◌, ◌++◌, length};
+ghost use Rattle.std.specs.Prelude.{◌≡◌, ◌^◌, ◌<◌, ◌≤◌, length};
 ghost use Rattle.radio_core.specs.DataRates.{max_length};
-ghost use Rattle.duty_core.specs.Computed.{hours_within};
 ghost use Rattle.registry_core.specs.steps.ByView.{HasRoom};
 ghost use Rattle.registry_core.specs.Downlinks.{on_air};
 ghost use Rattle.registry_core.specs.steps.DownlinksByView.{down_added_by, down_book_by, down_done_by};
@@ -14,13 +13,14 @@ use crate::checks::wants;
 use crate::effects::Effect;
 use crate::facts::{Booking, Standing};
 use crate::frames::downlink_at;
+use crate::hours::fit_with;
 use crate::views::View;
 use crate::wholes::Whole;
 use crate::windows::{Window, receive};
 use duty_core::laws::{computed_forms_tell, near_ones_test};
-use duty_core::{Span, clear, fits, in_order, sweep_fits};
+use duty_core::{Span, clear};
 use radio_core::laws::airtime_is_bounded;
-use radio_core::{Band, Name, Octets, Rate, airtime, band_of, limit};
+use radio_core::{Band, Name, Octets, Rate, airtime, band_of};
 
 /// A gateway is to answer an uplink of which it has a copy, in a receive window.
 pub(crate) fn down_book(
@@ -77,10 +77,7 @@ fn down_added(
     ensures { HasRoom view.now → result ≡ down_added_by view.now uplink gateway.now band start span }
 {
     wants(clear(&view.near, span), Refusal::Collision)?;
-    wants(
-        keeps_hours(&view.near_in_band, span, limit(band)),
-        Refusal::Duty,
-    )?;
+    wants(fit_with(&view.in_band, span, view.limit), Refusal::Duty)?;
     let booking = Booking {
         uplink,
         gateway: *gateway,
@@ -95,16 +92,6 @@ fn down_added(
         start,
     };
     Ok((Effect::AddsBooking { booking }, answer))
-}
-
-/// Whether every hour keeps the limit with the new span: by one sweep through the spans where they stand in order of start.
-fn keeps_hours(spans: &[Span], new: Span, most: u64) -> bool
-    ensures { result ≡ hours_within (spans.now ++ new ∷ []) most }
-{
-    if in_order(spans) {
-        return sweep_fits(spans, new, most);
-    }
-    fits(spans, new, most)
 }
 
 /// When a downlink is on the air, where the data rate carries so many octets. It has no payload CRC.

@@ -1,5 +1,6 @@
 //! What a message changes in the registry.
 use crate::facts::{Booking, Device, Reception, Session, Uplink};
+use crate::limits::BandLimit;
 use crate::messages::Role;
 use radio_core::{Eui, Name};
 
@@ -52,5 +53,10 @@ pub enum Effect {
     EndsBooking {
         booking: u64,
         sent: bool,
+    },
+    /// The gateway's band has this limit, in place of the one that it had.
+    SetsLimit {
+        gateway: Name,
+        limit: BandLimit,
     },
 }

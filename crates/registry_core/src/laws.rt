@@ -8,6 +8,7 @@ ghost use Rattle.registry_core.specs.DownlinkLaws.{BookedExactly, CopiesLieInBan
 ghost use Rattle.registry_core.specs.Fits.{DecisionsFit};
 ghost use Rattle.registry_core.specs.Heard.{FirstAnswersStay, HeardListsStay, NewNumbersAreDecided, NothingIsHeard, UsedNumbersAreRefused};
 ghost use Rattle.registry_core.specs.Laws.{AddressesAreApart, AddressesLieInBlock, CopiesBookNothing, CountersAgreeWithFrames, CountersRise, DataCopiesAreFound, FramesAreBookedOnce, JoinCopiesAreFound, NoncesRise, OperatorsKeepTheRegister, RefusalsChangeNothing, SendersStay, SessionsAreFound, SessionsHaveJoins, StepsRefuseByNumber, UplinksHaveCopies, UplinksHaveSessions, UplinksStay};
+ghost use Rattle.registry_core.specs.LimitLaws.{LimitsAreWithin, OtherLimitsStay, SetExactly, SetLimitsStand};
 ghost use Rattle.registry_core.specs.NumberedLaws.{FirstIsFirst, GreatestIsMost, OneIsChanged};
 ghost use Rattle.registry_core.specs.Ranges.{IsEnvelope, IsMessage, IsName, IsOctets, IsReport, IsSettings};
 ghost use Rattle.registry_core.specs.ReportOrder.{DataInAnyOrder, JoinsInAnyOrder};
@@ -215,6 +216,27 @@ pub fn booked_exactly()
     computed_forms_tell();
 }
 
+/// A limit is set exactly where an operator sends it, the gateway is known, and every sliding hour of its band keeps it
+/// already.
+pub fn limits_are_set_exactly()
+    ensures { SetExactly }
+{
+    computed_forms_tell();
+}
+
+/// A limit that is set stands for its gateway's band, in place of a lower or a higher one, and for no other gateway or band.
+#[tactic(auto, using(crate::proofs::LimitLaws::set_limits_stand, crate::proofs::LimitLaws::other_limits_stay))]
+pub fn set_limits_stand()
+    ensures set { SetLimitsStand }
+    ensures others { OtherLimitsStay }
+{}
+
+/// Whatever was heard, no limit is above the band's own.
+#[tactic(auto, using(crate::proofs::LimitLaws::limits_are_within))]
+pub fn limits_are_within()
+    ensures { LimitsAreWithin }
+{}
+
 /// Whatever was heard, what a gateway received of an uplink lies in a band.
 #[tactic(auto, using(crate::proofs::DownlinkLaws::copies_lie_in_bands))]
 pub fn copies_lie_in_bands()
@@ -245,7 +267,7 @@ pub fn steps_refuse_by_number()
     ensures { StepsRefuseByNumber }
 {}
 
-/// What is kept of senders, owners, gateways and devices is changed by messages of operators alone.
+/// What is kept of senders, owners, gateways, devices and limits is changed by messages of operators alone.
 pub fn operators_keep_the_register()
     ensures { OperatorsKeepTheRegister }
 {}
@@ -310,6 +332,10 @@ fn message_keeps_ranges(message: &Message)
         }
         Message::DownDone { booking, sent: _ } => {
             let _booking = booking.get();
+        }
+        Message::LimitSet { gateway, limit } => {
+            name_keeps_form(gateway);
+            let _most = limit.most();
         }
     }
 }

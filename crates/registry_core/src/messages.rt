@@ -1,4 +1,5 @@
 //! Messages, after reading.
+use crate::limits::BandLimit;
 use crate::wholes::Whole;
 use crate::windows::Window;
 use radio_core::{Eui, Name, Octets, Rate};
@@ -69,6 +70,11 @@ pub enum Message {
     DownDone {
         booking: Whole,
         sent: bool,
+    },
+    /// The gateway's band has this limit from now on.
+    LimitSet {
+        gateway: Name,
+        limit: BandLimit,
     },
 }
 

@@ -39,10 +39,12 @@ pub struct View {
     pub next_down: u64,
     /// How the booking that the message names stands.
     pub booking: Option<Standing>,
+    /// The limit of the gateway's band, for a new downlink.
+    pub limit: u64,
     /// When the gateway is on the air near a new downlink, in all bands.
     pub near: Vec<Span>,
-    /// And in the new downlink's band.
-    pub near_in_band: Vec<Span>,
+    /// When it is on the air in the band: near a new downlink, or at any time where the message sets the band's limit.
+    pub in_band: Vec<Span>,
 }
 
 /// What the registry holds of a session for one message.

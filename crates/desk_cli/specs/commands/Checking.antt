@@ -37,19 +37,20 @@ eight_digits n = let shown = digits 16 false n in replicate (8 - length shown) 4
 -- what the desk was made with
 abbrev pub settings_lines : Settings → List ℕ → List ℕ
 settings_lines c lines =
-    value_line (codes "schema") (codes "1")
+    value_line (codes "schema") (codes "2")
     (value_line (codes "receiver") c.receiver
     (value_line (codes "operator") c.operator
     (value_line (codes "base") (eight_digits c.base)
     (value_line (codes "addresses") (decimal c.addresses) lines))))
 
--- how many there are of what has a name or a DevEUI
+-- how many there are of what has a name or a DevEUI, and of the limits that were set
 abbrev pub named_lines : Totals → List ℕ → List ℕ
 named_lines t lines =
     value_line (codes "senders") (decimal t.senders)
     (value_line (codes "owners") (decimal t.owners)
     (value_line (codes "gateways") (decimal t.gateways)
-    (value_line (codes "devices") (decimal t.devices) lines)))
+    (value_line (codes "devices") (decimal t.devices)
+    (value_line (codes "limits") (decimal t.limits) lines))))
 
 -- and of what is numbered
 abbrev pub numbered_lines : Totals → List ℕ

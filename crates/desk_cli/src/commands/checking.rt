@@ -52,8 +52,8 @@ pub(crate) fn check_of<'a>(options: &ArgMatches<'a>) -> Result<Command<'a>, Usag
     Ok(Command::Check { file })
 }
 
-/// Prints what the desk of the connection's database was made with, and how many senders, owners, gateways, devices, sessions,
-/// uplinks, bookings and replies it holds, a line each, and gives the connection back.
+/// Prints what the desk of the connection's database was made with, and how many senders, owners, gateways, devices, limits,
+/// sessions, uplinks, bookings and replies it holds, a line each, and gives the connection back.
 ///
 /// With `File` the writer failed. Nothing is changed.
 pub fn check_command<S: Alter, W: Write>(
@@ -112,7 +112,7 @@ fn settings_lines(alloc: Global, config: &Config, lines: &str) -> Result<String,
     let operator = config.operator().as_str();
     let addresses = config.addresses();
     format!(in alloc;
-        "schema: 1\nreceiver: {receiver}\noperator: {operator}\nbase: {base}\naddresses: {addresses}\n{lines}"
+        "schema: 2\nreceiver: {receiver}\noperator: {operator}\nbase: {base}\naddresses: {addresses}\n{lines}"
     )
 }
 
@@ -123,7 +123,7 @@ fn digits_of(alloc: Global, address: u32) -> Result<String, AllocError>
     format!(in alloc; "{address:08x}")
 }
 
-/// The lines of what has a name or a DevEUI, before these.
+/// The lines of what has a name or a DevEUI, and of the limits that were set, before these.
 fn named_lines(alloc: Global, totals: &Totals, lines: &str) -> Result<String, AllocError>
     ensures { IfOk result (λ text. string_bytes text ≡ named_lines totals.now lines.now) }
 {
@@ -132,10 +132,11 @@ fn named_lines(alloc: Global, totals: &Totals, lines: &str) -> Result<String, Al
         owners,
         gateways,
         devices,
+        limits,
         ..
     } = *totals;
     format!(in alloc;
-        "senders: {senders}\nowners: {owners}\ngateways: {gateways}\ndevices: {devices}\n{lines}"
+        "senders: {senders}\nowners: {owners}\ngateways: {gateways}\ndevices: {devices}\nlimits: {limits}\n{lines}"
     )
 }
 

@@ -14,7 +14,7 @@ const COUNTER: Told = Plain(0, "fcntdown", "Other");
 
 const COLLISION: Told = Plain(0, "collision", "XmitFailed");
 
-const DUTY: Told = Plain(0, "duty", "XmitFailed");
+pub(super) const DUTY: Told = Plain(0, "duty", "XmitFailed");
 
 const NO_BOOKING: Told = Plain(0, "booking", "Other");
 
@@ -30,7 +30,7 @@ pub(super) const UP_1: &str = "400000a00100010011223344";
 
 pub(super) const UP_2: &str = "400000a00100020011223344";
 
-const UP_3: &str = "400000a00100030011223344";
+pub(super) const UP_3: &str = "400000a00100030011223344";
 
 const UP_4: &str = "400000a00100040011223344";
 
@@ -40,11 +40,11 @@ pub(super) const DOWN_0: &str = "600000a00100000055667788";
 
 pub(super) const DOWN_1: &str = "600000a00100010055667788";
 
-const DOWN_2: &str = "600000a00100020055667788";
+pub(super) const DOWN_2: &str = "600000a00100020055667788";
 
-const DOWN_3: &str = "600000a00100030055667788";
+pub(super) const DOWN_3: &str = "600000a00100030055667788";
 
-const DOWN_4: &str = "600000a00100040055667788";
+pub(super) const DOWN_4: &str = "600000a00100040055667788";
 
 /// FCnt 0, and 33 octets in all.
 const DOWN_OF_33: &str = "600000a00100000001000000000000000000000000000000000000000055667788";

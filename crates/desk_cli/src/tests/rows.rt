@@ -19,7 +19,7 @@ pub(crate) enum Told {
 
 pub(crate) const SUCCESS: Told = Plain(0, "", "Success");
 
-const ROLE: Told = Plain(0, "role", "Other");
+pub(crate) const ROLE: Told = Plain(0, "role", "Other");
 
 pub(crate) const EXISTS: Told = Plain(0, "exists", "Other");
 

@@ -5,6 +5,7 @@ use super::downlinks::{
     WORKED_DOWNLINKS,
 };
 use super::joins::{JOINS, ONE_ADDRESS};
+use super::limits::{FIRST_LIMITS, LIMITS, LOWERED};
 use super::rows::{ADDED, MALFORMED, OWNERS, REGISTRY, REQUEST, Row, SETUP, deliveries_of};
 use super::{Opened, deliver_each, expect, expect_told, opening};
 use desk_engine::{deliver, run};
@@ -75,7 +76,9 @@ pub(super) fn hours_have_their_outcomes<R: Abort + AllocGlobal, K: Opened>(
     for rows in [&HOURS[..], &HOURS_ABOVE] {
         expect_run::<R, K>(rt, 65_536, &[&SETUP[..], &HOUR_BEGUN, rows])?;
     }
-    Ok(())
+    let lowered = [&SETUP[..], &HOUR_BEGUN, &HOURS, &LIMITS, &LOWERED];
+    expect_run::<R, K>(rt, 65_536, &lowered)?;
+    expect_run::<R, K>(rt, 65_536, &[&SETUP[..], &FIRST_LIMITS])
 }
 
 /// The worked request and so many spaces.

@@ -40,7 +40,7 @@ pub(super) static MESSAGES: [Row; 10] = [
     Asks("bridge", 14, "DownDone", DROPPED_1, SUCCESS),
 ];
 
-static TABLES: [&str; 10] = [
+static TABLES: [&str; 11] = [
     "SELECT * FROM meta ORDER BY rowid",
     "SELECT * FROM sender ORDER BY rowid",
     "SELECT * FROM reply ORDER BY rowid",
@@ -51,11 +51,12 @@ static TABLES: [&str; 10] = [
     "SELECT * FROM uplink ORDER BY rowid",
     "SELECT * FROM copy ORDER BY rowid",
     "SELECT * FROM booking ORDER BY rowid",
+    "SELECT * FROM band_limit ORDER BY rowid",
 ];
 
 type OnFiles<D> = FileStore<D>;
 
-type Fused = Fuse<Memory>;
+pub(super) type Fused = Fuse<Memory>;
 
 pub(super) fn deliveries(alloc: Global) -> Result<Vec<Delivery>, Fail> {
     let mut deliveries = Vec::new(alloc);
@@ -90,7 +91,7 @@ pub(super) fn opened<S: Alter + Drop>(
     Ok(Box::new(alloc, tables)?)
 }
 
-/// Each row of the ten tables, as a text, and the desk closed and opened again.
+/// Each row of the eleven tables, as a text, and the desk closed and opened again.
 pub(super) fn rows_of<S: Alter + Drop>(
     alloc: Global,
     tables: Box<Tables<S>>,
@@ -221,12 +222,20 @@ fn run<R: Abort + AllocGlobal>(
 
 // ---- and after it
 
-/// The file's octets, in one that isn't fused.
-fn copied(alloc: Global, file: &Fused) -> Result<Memory, Fail> {
-    let mut copy = Memory::new(alloc);
-    copy.write_at(0, file.inner().bytes())?;
-    copy.sync()?;
-    Ok(copy)
+/// A file of these octets.
+pub(super) fn file_of(alloc: Global, octets: &[u8]) -> Result<Memory, Fail> {
+    let mut file = Memory::new(alloc);
+    file.write_at(0, octets)?;
+    file.sync()?;
+    Ok(file)
+}
+
+/// The octets of the files, in files that aren't fused.
+pub(super) fn copied(alloc: Global, files: &Files<Fused>) -> Result<Files<Memory>, Fail> {
+    Ok(Files {
+        log: file_of(alloc, files.log.inner().bytes())?,
+        db: file_of(alloc, files.db.inner().bytes())?,
+    })
 }
 
 /// The desk that the files hold. Where it wasn't made it is made now.
@@ -234,10 +243,7 @@ fn reopened<R: Abort + AllocGlobal>(
     rt: &R,
     files: &Files<Fused>,
 ) -> Result<Box<Tables<OnFiles<Memory>>>, Fail> {
-    let files = Files {
-        log: copied(rt.alloc(), &files.log)?,
-        db: copied(rt.alloc(), &files.db)?,
-    };
+    let files = copied(rt.alloc(), files)?;
     if !files.may_be_used() {
         return Err("not usable".into());
     }

@@ -62,8 +62,9 @@ fn view(alloc: Global) -> Result<View, Fail> {
         answered: false,
         next_down: 0,
         booking: None,
+        limit: 360_000_000,
         near: million(alloc)?,
-        near_in_band: million(alloc)?,
+        in_band: million(alloc)?,
     })
 }
 

@@ -1,4 +1,4 @@
-//! The ten tables and desks in them, over connections and files in memory: calls of desk_rows and of desk_tables, for what no
+//! The eleven tables and desks in them, over connections and files in memory: calls of desk_rows and of desk_tables, for what no
 //! worked row shows. Each step is a function of its own: a proof that carries the clauses of many calls takes minutes.
 mod keeping;
 mod opening;

@@ -7,8 +7,8 @@ use crate::endings::{Ending, ending_of};
 use crate::usage::{BadValue, Usage};
 use clap::error::ErrorKind;
 use helps::{
-    BANDS_HELP, CHECK_HELP, HEAR_HELP, HELP, IMPORT_HELP, INIT_HELP, LINES_HELP, REPORT_HELP,
-    SERVE_HELP,
+    BANDS_HELP, CHECK_HELP, HEAR_HELP, HELP, IMPORT_HELP, INIT_HELP, LINES_HELP, MIGRATE_HELP,
+    REPORT_HELP, SERVE_HELP,
 };
 use std::alloc::Global;
 use std::process::Abort;
@@ -66,7 +66,7 @@ fn words_that_name_nothing(rt: HostRuntime) -> Result<(), Fail> {
     Ok(())
 }
 
-static PRINTED: [(&[&str], &str); 16] = [
+static PRINTED: [(&[&str], &str); 17] = [
     (
         &["desk"],
         "error: a command is needed\n\nUsage: desk [COMMAND]\n\nFor more information, try '--help'.\n",
@@ -74,6 +74,7 @@ static PRINTED: [(&[&str], &str); 16] = [
     (&["desk", "--help"], HELP),
     (&["desk", "lines", "--help"], LINES_HELP),
     (&["desk", "init", "--help"], INIT_HELP),
+    (&["desk", "migrate", "--help"], MIGRATE_HELP),
     (&["desk", "hear", "--help"], HEAR_HELP),
     (&["desk", "import", "--help"], IMPORT_HELP),
     (&["desk", "serve", "--help"], SERVE_HELP),

@@ -1,7 +1,7 @@
 -- What holds of each row, and of each two, in a list with one row more, or with its rows changed.
 use Rattle.std.proofs.Common.{◌≡◌, ℕ, zero, suc, Bool, true, false, cond, List, [], ◌∷◌, ◌++◌, map, filter, find, Option, Some, None, refl, sym, ◌∙◌, ap, subst, slice_get, ◌<◌, arith}
-use Rattle.std.specs.List.{AllByRecursion, IsDistinct}
-use Rattle.std.proofs.lemmas.Bool.{both_ways}
+use Rattle.std.specs.List.{AllByRecursion, IsDistinct, list_any}
+use Rattle.std.proofs.lemmas.Bool.{both_ways, or_parts}
 use Rattle.registry_core.specs.Numbered.{item_at, item_changed, place_changed}
 
 -- ---- each row
@@ -100,3 +100,7 @@ none_by p y false rest here is = (here, is)
 pub none_found : {X : Type 0} (p : X → Bool) (xs : List X) → find p xs ≡ None → AllByRecursion (λ x. p x ≡ false) xs
 none_found p [] is = tt
 none_found p (y ∷ ys) is = let parts = none_by p y (p y) (find p ys) refl is in (parts.0, none_found p ys parts.1)
+
+pub none_of : {X : Type 0} (p : X → Bool) (xs : List X) → list_any p xs ≡ false → AllByRecursion (λ x. p x ≡ false) xs
+none_of p [] none = tt
+none_of p (x ∷ xs) none = let parts = or_parts (p x) (list_any p xs) none in (parts.0, none_of p xs parts.1)

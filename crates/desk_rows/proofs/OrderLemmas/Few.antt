@@ -2,12 +2,13 @@
 use Rattle.std.proofs.Common.{◌≡◌, ℕ, ◌+◌, ◌≤◌, List, [], ◌∷◌, ◌++◌, length, length-append, refl, ap, ◌∙◌, arith}
 use Rattle.std.proofs.lemmas.List.{length-map}
 use Rattle.registry_core.specs.declared.effects.Effect.{Effect}
-use Rattle.registry_core.specs.declared.effects.Effect.TheVariants.{Nothing, AddsSender, AddsOwner, AddsGateway, AddsDevice, MovesDevice, AddsSession, AddsUplink, AddsCopy, AddsBooking, EndsBooking}
+use Rattle.registry_core.specs.declared.effects.Effect.TheVariants.{Nothing, AddsSender, AddsOwner, AddsGateway, AddsDevice, MovesDevice, AddsSession, AddsUplink, AddsCopy, AddsBooking, EndsBooking, SetsLimit}
 use Rattle.registry_core.specs.declared.facts.Kind.{Kind}
 use Rattle.registry_core.specs.declared.facts.Kind.TheVariants.{Join, Data}
 use Rattle.desk_rows.specs.Rows.{Rows, ReplyRow, SessionRow}
 use Rattle.desk_rows.specs.order.Changes.{counted_down, ended_row, kind_at, rows_with, session_at, sessions_counted}
 use Rattle.desk_rows.specs.order.RowsOf.{IsFew}
+use Rattle.desk_rows.proofs.OrderLemmas.Limits.{limits_few}
 use Rattle.desk_rows.proofs.OrderLemmas.Numbering.{length-item_changed}
 
 -- as many as before, or one more
@@ -31,9 +32,9 @@ few_by : (old new : Rows) (reply : ReplyRow) → new.replies ≡ old.replies ++ 
     → IsOneMoreAtMost old.senders new.senders → IsOneMoreAtMost old.owners new.owners → IsOneMoreAtMost old.gateways new.gateways
     → IsOneMoreAtMost old.devices new.devices
     → IsOneMoreAtMost old.sessions new.sessions → IsOneMoreAtMost old.uplinks new.uplinks → IsOneMoreAtMost old.copies new.copies
-    → IsOneMoreAtMost old.bookings new.bookings
+    → IsOneMoreAtMost old.bookings new.bookings → IsOneMoreAtMost old.limits new.limits
     → IsFew new
-few_by old new reply is few senders owners gateways devices sessions uplinks copies bookings =
+few_by old new reply is few senders owners gateways devices sessions uplinks copies bookings limits =
     let more : length new.replies ≡ length old.replies + 1 = ap length is ∙ length-append old.replies (reply ∷ []) in
     record {
       senders = omega (arith, few.senders, senders, more);
@@ -44,39 +45,43 @@ few_by old new reply is few senders owners gateways devices sessions uplinks cop
       uplinks = omega (arith, few.uplinks, uplinks, more);
       copies = omega (arith, few.copies, copies, more);
       bookings = omega (arith, few.bookings, bookings, more);
+      limits = omega (arith, few.limits, limits, more);
     }
 
 pub few_with : (r : Rows) (effect : Effect) (reply : ReplyRow) → IsFew r → IsFew (rows_with effect reply r)
 few_with r Nothing reply few =
     few_by r _ reply refl few (none r.senders) (none r.owners) (none r.gateways) (none r.devices) (none r.sessions) (none r.uplinks) (none r.copies)
-    (none r.bookings)
+    (none r.bookings) (none r.limits)
 few_with r (AddsSender name role) reply few =
     few_by r _ reply refl few (one r.senders _) (none r.owners) (none r.gateways) (none r.devices) (none r.sessions) (none r.uplinks) (none r.copies)
-    (none r.bookings)
+    (none r.bookings) (none r.limits)
 few_with r (AddsOwner name) reply few =
     few_by r _ reply refl few (none r.senders) (one r.owners _) (none r.gateways) (none r.devices) (none r.sessions) (none r.uplinks) (none r.copies)
-    (none r.bookings)
+    (none r.bookings) (none r.limits)
 few_with r (AddsGateway name) reply few =
     few_by r _ reply refl few (none r.senders) (none r.owners) (one r.gateways _) (none r.devices) (none r.sessions) (none r.uplinks) (none r.copies)
-    (none r.bookings)
+    (none r.bookings) (none r.limits)
 few_with r (AddsDevice dev_eui device) reply few =
     few_by r _ reply refl few (none r.senders) (none r.owners) (none r.gateways) (one r.devices _) (none r.sessions) (none r.uplinks) (none r.copies)
-    (none r.bookings)
+    (none r.bookings) (none r.limits)
 few_with r (MovesDevice dev_eui owner) reply few =
     few_by r _ reply refl few (none r.senders) (none r.owners) (none r.gateways) (changed r.devices _ (length-map r.devices _)) (none r.sessions)
-    (none r.uplinks) (none r.copies) (none r.bookings)
+    (none r.uplinks) (none r.copies) (none r.bookings) (none r.limits)
 few_with r (AddsSession session uplink gateway reception) reply few =
     few_by r _ reply refl few (none r.senders) (none r.owners) (none r.gateways) (none r.devices) (one r.sessions _) (one r.uplinks _) (one r.copies _)
-    (none r.bookings)
+    (none r.bookings) (none r.limits)
 few_with r (AddsUplink uplink gateway reception) reply few =
     few_by r _ reply refl few (none r.senders) (none r.owners) (none r.gateways) (changed r.devices _ (length-map r.devices _)) (none r.sessions)
-    (one r.uplinks _) (one r.copies _) (none r.bookings)
+    (one r.uplinks _) (one r.copies _) (none r.bookings) (none r.limits)
 few_with r (AddsCopy number gateway reception) reply few =
     few_by r _ reply refl few (none r.senders) (none r.owners) (none r.gateways) (none r.devices) (none r.sessions) (none r.uplinks) (one r.copies _)
-    (none r.bookings)
+    (none r.bookings) (none r.limits)
 few_with r (AddsBooking booking) reply few =
     few_by r _ reply refl few (none r.senders) (none r.owners) (none r.gateways) (none r.devices)
-    (counted (kind_at r.uplinks booking.uplink) (session_at r.uplinks booking.uplink) r.sessions) (none r.uplinks) (none r.copies) (one r.bookings _)
+    (counted (kind_at r.uplinks booking.uplink) (session_at r.uplinks booking.uplink) r.sessions) (none r.uplinks) (none r.copies) (one r.bookings _) (none r.limits)
 few_with r (EndsBooking number sent) reply few =
     few_by r _ reply refl few (none r.senders) (none r.owners) (none r.gateways) (none r.devices) (none r.sessions) (none r.uplinks) (none r.copies)
-    (changed r.bookings _ (length-item_changed (ended_row sent) r.bookings number))
+    (changed r.bookings _ (length-item_changed (ended_row sent) r.bookings number)) (none r.limits)
+few_with r (SetsLimit gateway limit) reply few =
+    few_by r _ reply refl few (none r.senders) (none r.owners) (none r.gateways) (none r.devices) (none r.sessions) (none r.uplinks) (none r.copies)
+    (none r.bookings) (limits_few r.limits gateway limit)

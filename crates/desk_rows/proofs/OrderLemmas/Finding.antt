@@ -1,7 +1,8 @@
 -- What is found in a list with one row more, or with its rows changed.
-use Rattle.std.proofs.Common.{◌≡◌, Bool, true, false, cond, List, [], ◌∷◌, ◌++◌, map, find, Option, Some, None, option_map, is_some, refl, sym, ◌∙◌, ap}
+use Rattle.std.proofs.Common.{◌≡◌, Bool, true, false, cond, List, [], ◌∷◌, ◌++◌, map, find, Option, Some, None, option_map, is_some, refl, sym, ◌∙◌, ap, ap₂}
 use Rattle.std.specs.Option.{option_or}
 use Rattle.std.proofs.lemmas.List.Folds.{find-append}
+use Rattle.sqlite_keyed.specs.Lists.{update_where}
 
 -- ---- one row more
 
@@ -53,3 +54,13 @@ passes_by p y x false rest here later is = later is
 pub found_passes : {X : Type 0} (p : X → Bool) (xs : List X) (x : X) → find p xs ≡ Some x → p x ≡ true
 found_passes p [] x is = let no : None ≡ Some x = is in cc
 found_passes p (y ∷ ys) x is = passes_by p y x (p y) (find p ys) refl (found_passes p ys x) is
+
+-- a change of those that pass a test, which leaves their keys
+module _ {X K : Type 0} (key : X → K) (test : X → Bool) (change : X → X) (stays : (x : X) → key (change x) ≡ key x) where
+  pub key_by : (x : X) (b : Bool) → key (cond b (change x) x) ≡ key x
+  key_by x true = stays x
+  key_by x false = refl
+
+  pub keys_changed : (xs : List X) → map key xs ≡ map key (update_where test change xs)
+  keys_changed [] = refl
+  keys_changed (x ∷ xs) = ap₂ (λ k ks. k ∷ ks) (sym (key_by x (test x))) (keys_changed xs)

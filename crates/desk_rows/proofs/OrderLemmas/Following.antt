@@ -6,7 +6,7 @@ use Rattle.std.specs.Option.{option_map_or}
 use Rattle.std.proofs.lemmas.Bool.{and_right, both_ways, ne_eqb}
 use Rattle.std.proofs.lemmas.List.{length-map, map-append}
 use Rattle.registry_core.specs.declared.effects.Effect.{Effect}
-use Rattle.registry_core.specs.declared.effects.Effect.TheVariants.{Nothing, AddsSender, AddsOwner, AddsGateway, AddsDevice, MovesDevice, AddsSession, AddsUplink, AddsCopy, AddsBooking, EndsBooking}
+use Rattle.registry_core.specs.declared.effects.Effect.TheVariants.{Nothing, AddsSender, AddsOwner, AddsGateway, AddsDevice, MovesDevice, AddsSession, AddsUplink, AddsCopy, AddsBooking, EndsBooking, SetsLimit}
 use Rattle.registry_core.specs.declared.facts.Booking.{Booking}
 use Rattle.registry_core.specs.declared.facts.Kind.TheVariants.{Join}
 use Rattle.registry_core.specs.declared.facts.Session.{Session}
@@ -25,10 +25,12 @@ use Rattle.desk_rows.proofs.OrderLemmas.Counters.{HasDowns, HasFloor, answers_en
 use Rattle.desk_rows.proofs.OrderLemmas.Counting.{filter_none}
 use Rattle.desk_rows.proofs.OrderLemmas.Each.{all_at, all_map, all_so, all_with}
 use Rattle.desk_rows.proofs.OrderLemmas.Few.{few_with}
+use Rattle.desk_rows.proofs.OrderLemmas.Finding.{keys_changed}
 use Rattle.desk_rows.proofs.OrderLemmas.Keys.{devices_with, named_once_with, senders_with, sessions_with}
+use Rattle.desk_rows.proofs.OrderLemmas.Limits.{limits_keyed}
 use Rattle.desk_rows.proofs.OrderLemmas.Named.{HasDevice, copies_with, device_changed, device_with, session_kept, session_new, session_there}
 use Rattle.desk_rows.proofs.OrderLemmas.Numbering.{item_end, item_past, item_there, item_with}
-use Rattle.desk_rows.proofs.OrderLemmas.Telling.{counted_shown, device_told, euis_changed, facts_with, there_changed}
+use Rattle.desk_rows.proofs.OrderLemmas.Telling.{counted_shown, device_told, facts_with, there_changed}
 
 sessions_more : (sessions : List SessionRow) (session : Session) → sessions_in (sessions ++ session_row session ∷ []) ≡ sessions_in sessions ++ session ∷ []
 sessions_more sessions session = map-append (λ (s : SessionRow). s.session) sessions (session_row session ∷ [])
@@ -136,6 +138,8 @@ counted_with r (EndsBooking number sent) reply names fits counted = record {
   next_downs = λ n s at. counted.next_downs n s at ∙ sym (next_down_ended r.bookings r.uplinks number sent n);
   bookings = answers_ended r.uplinks r.bookings number sent counted.bookings;
 }
+counted_with r (SetsLimit gateway limit) reply names fits counted =
+    record { floors = counted.floors; next_downs = counted.next_downs; bookings = counted.bookings }
 
 -- ---- what rows name
 
@@ -150,6 +154,7 @@ names_with r (AddsCopy number gateway reception) reply fits names = record {
   copies = all_with (IsOfUplink r.uplinks) r.copies (copy_row number gateway reception) names.copies fits.uplink;
 }
 names_with r (EndsBooking number sent) reply fits names = record { sessions = names.sessions; uplinks = names.uplinks; copies = names.copies }
+names_with r (SetsLimit gateway limit) reply fits names = record { sessions = names.sessions; uplinks = names.uplinks; copies = names.copies }
 names_with r (AddsDevice dev_eui device) reply fits names =
     record {
       sessions = device_with r.devices (device_row dev_eui device ∷ []) (sessions_in r.sessions) names.sessions;
@@ -191,13 +196,14 @@ names_with r (AddsBooking booking) reply fits names =
 -- ---- keys
 
 keyed_with : (r : Rows) (effect : Effect) (reply : ReplyRow) → Fits effect (facts_in r) → IsKeyed r → IsKeyed (rows_with effect reply r)
-keyed_with r Nothing reply fits keyed = record { senders = keyed.senders; owners = keyed.owners; gateways = keyed.gateways; devices = keyed.devices; sessions = keyed.sessions }
+keyed_with r Nothing reply fits keyed = record { senders = keyed.senders; owners = keyed.owners; gateways = keyed.gateways; devices = keyed.devices; sessions = keyed.sessions; limits = keyed.limits }
 keyed_with r (AddsSender name role) reply fits keyed = record {
   senders = senders_with r.senders (sender_row name role) fits keyed.senders;
   owners = keyed.owners;
   gateways = keyed.gateways;
   devices = keyed.devices;
   sessions = keyed.sessions;
+  limits = keyed.limits;
 }
 keyed_with r (AddsOwner name) reply fits keyed = record {
   senders = keyed.senders;
@@ -205,6 +211,7 @@ keyed_with r (AddsOwner name) reply fits keyed = record {
   gateways = keyed.gateways;
   devices = keyed.devices;
   sessions = keyed.sessions;
+  limits = keyed.limits;
 }
 keyed_with r (AddsGateway name) reply fits keyed = record {
   senders = keyed.senders;
@@ -212,22 +219,25 @@ keyed_with r (AddsGateway name) reply fits keyed = record {
   gateways = named_once_with r.gateways name fits keyed.gateways;
   devices = keyed.devices;
   sessions = keyed.sessions;
+  limits = keyed.limits;
 }
-keyed_with r (AddsCopy number gateway reception) reply fits keyed = record { senders = keyed.senders; owners = keyed.owners; gateways = keyed.gateways; devices = keyed.devices; sessions = keyed.sessions }
-keyed_with r (EndsBooking number sent) reply fits keyed = record { senders = keyed.senders; owners = keyed.owners; gateways = keyed.gateways; devices = keyed.devices; sessions = keyed.sessions }
+keyed_with r (AddsCopy number gateway reception) reply fits keyed = record { senders = keyed.senders; owners = keyed.owners; gateways = keyed.gateways; devices = keyed.devices; sessions = keyed.sessions; limits = keyed.limits }
+keyed_with r (EndsBooking number sent) reply fits keyed = record { senders = keyed.senders; owners = keyed.owners; gateways = keyed.gateways; devices = keyed.devices; sessions = keyed.sessions; limits = keyed.limits }
 keyed_with r (AddsDevice dev_eui device) reply fits keyed = record {
   senders = keyed.senders;
   owners = keyed.owners;
   gateways = keyed.gateways;
   devices = devices_with r.devices (device_row dev_eui device) fits.0 keyed.devices;
   sessions = keyed.sessions;
+  limits = keyed.limits;
 }
 keyed_with r (MovesDevice dev_eui owner) reply fits keyed = record {
   senders = keyed.senders;
   owners = keyed.owners;
   gateways = keyed.gateways;
-  devices = subst (IsDistinct nat_eq) (euis_changed (is_device dev_eui) (moved owner) (λ d. refl) r.devices) keyed.devices;
+  devices = subst (IsDistinct nat_eq) (keys_changed (λ (d : DeviceRow). d.dev_eui) (is_device dev_eui) (moved owner) (λ d. refl) r.devices) keyed.devices;
   sessions = keyed.sessions;
+  limits = keyed.limits;
 }
 keyed_with r (AddsSession session uplink gateway reception) reply fits keyed = record {
   senders = keyed.senders;
@@ -235,14 +245,16 @@ keyed_with r (AddsSession session uplink gateway reception) reply fits keyed = r
   gateways = keyed.gateways;
   devices = keyed.devices;
   sessions = subst (IsDistinct same_join) (sym (sessions_more r.sessions session)) (sessions_with (sessions_in r.sessions) session fits.nonce keyed.sessions);
+  limits = keyed.limits;
 }
 keyed_with r (AddsUplink uplink gateway reception) reply fits keyed = record {
   senders = keyed.senders;
   owners = keyed.owners;
   gateways = keyed.gateways;
   devices = subst (IsDistinct nat_eq)
-      (euis_changed (λ d. is_of_device (sessions_in r.sessions) d.dev_eui uplink.session) (raised uplink.session) (λ d. refl) r.devices) keyed.devices;
+      (keys_changed (λ (d : DeviceRow). d.dev_eui) (λ d. is_of_device (sessions_in r.sessions) d.dev_eui uplink.session) (raised uplink.session) (λ d. refl) r.devices) keyed.devices;
   sessions = keyed.sessions;
+  limits = keyed.limits;
 }
 keyed_with r (AddsBooking booking) reply fits keyed = record {
   senders = keyed.senders;
@@ -250,6 +262,15 @@ keyed_with r (AddsBooking booking) reply fits keyed = record {
   gateways = keyed.gateways;
   devices = keyed.devices;
   sessions = subst (IsDistinct same_join) (counted_shown (kind_at r.uplinks booking.uplink) (session_at r.uplinks booking.uplink) r.sessions) keyed.sessions;
+  limits = keyed.limits;
+}
+keyed_with r (SetsLimit gateway limit) reply fits keyed = record {
+  senders = keyed.senders;
+  owners = keyed.owners;
+  gateways = keyed.gateways;
+  devices = keyed.devices;
+  sessions = keyed.sessions;
+  limits = limits_keyed r.limits gateway limit keyed.limits;
 }
 
 -- ---- all
@@ -266,6 +287,7 @@ settings_with r (AddsSession session uplink gateway reception) reply = refl
 settings_with r (AddsUplink uplink gateway reception) reply = refl
 settings_with r (AddsBooking booking) reply = refl
 settings_with r (EndsBooking number sent) reply = refl
+settings_with r (SetsLimit gateway limit) reply = refl
 
 pub rows_follow : RowsFollowFacts
 rows_follow c facts r effect reply are fits =

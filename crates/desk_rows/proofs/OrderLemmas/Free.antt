@@ -3,8 +3,9 @@ use Rattle.std.proofs.Common.{◌≡◌, ℕ, ◌+◌, ◌<◌, ◌≤◌, ◌==
 use Rattle.std.specs.Prelude.{IsTrue}
 use Rattle.std.specs.List.{AllByRecursion, list_any}
 use Rattle.std.proofs.lemmas.Bool.{and_left, and_right, ne_eqb, or_from}
+use Rattle.radio_core.specs.Bands.{band_number}
 use Rattle.registry_core.specs.declared.effects.Effect.{Effect}
-use Rattle.registry_core.specs.declared.effects.Effect.TheVariants.{Nothing, AddsSender, AddsOwner, AddsGateway, AddsDevice, MovesDevice, AddsSession, AddsUplink, AddsCopy, AddsBooking, EndsBooking}
+use Rattle.registry_core.specs.declared.effects.Effect.TheVariants.{Nothing, AddsSender, AddsOwner, AddsGateway, AddsDevice, MovesDevice, AddsSession, AddsUplink, AddsCopy, AddsBooking, EndsBooking, SetsLimit}
 use Rattle.registry_core.specs.declared.facts.Kind.{Kind}
 use Rattle.registry_core.specs.declared.facts.Kind.TheVariants.{Join, Data}
 use Rattle.registry_core.specs.declared.facts.Session.{Session}
@@ -12,7 +13,7 @@ use Rattle.registry_core.specs.declared.facts.Uplink.{Uplink}
 use Rattle.registry_core.specs.Derived.{is_above, is_data, is_data_of, last_counter}
 use Rattle.registry_core.specs.Fits.{Fits}
 use Rattle.registry_core.specs.Heard.{most_heard}
-use Rattle.desk_rows.specs.Rows.{Rows, CopyRow, DeviceRow, SenderRow, SessionRow, kind_number, is_copy, is_device, is_sender, is_uplink}
+use Rattle.desk_rows.specs.Rows.{Rows, CopyRow, DeviceRow, LimitRow, SenderRow, SessionRow, kind_number, is_copy, is_device, is_limit, is_sender, is_uplink}
 use Rattle.desk_rows.specs.order.Facts.{facts_in, sessions_in}
 use Rattle.desk_rows.specs.order.Keys.{HasRoom, IsFreeFor, KeysAreFree}
 use Rattle.desk_rows.specs.order.RowsOf.{IsFew, IsOfSession, same_join}
@@ -27,7 +28,7 @@ none_any p [] each = refl
 none_any p (x ∷ xs) each = or_from (p x) _ each.0 (none_any p xs each.1)
 
 -- no row is found, so none has the key
-none_has : {X V : Type 0} (show : X → V) (p : X → Bool) (xs : List X) → option_map show (find p xs) ≡ None → list_any p xs ≡ false
+pub none_has : {X V : Type 0} (show : X → V) (p : X → Bool) (xs : List X) → option_map show (find p xs) ≡ None → list_any p xs ≡ false
 none_has show p xs none = none_any p xs (none_found p xs (none_shown show (find p xs) none))
 
 none_of_shown : {X Y : Type 0} (f : X → Y) (p : Y → Bool) (xs : List X) → AllByRecursion (λ y. p y ≡ false) (map f xs) → list_any (λ x. p (f x)) xs ≡ false
@@ -110,6 +111,10 @@ free_for r (AddsCopy number gateway reception) named few fits below = record {
 }
 free_for r (AddsBooking booking) named few fits below = room r.bookings r.replies (omega (arith, few.bookings)) below
 free_for r (EndsBooking number sent) named few fits below = tt
+free_for r (SetsLimit gateway limit) named few fits below = λ none. record {
+  key = none_has (λ (l : LimitRow). l.limit.most) (is_limit gateway (band_number limit.band)) r.limits none;
+  room = room r.limits r.replies (omega (arith, few.limits)) below;
+}
 
 pub keys_are_free : KeysAreFree
 keys_are_free c facts r effect are fits below =

@@ -2,7 +2,7 @@
 use Rattle.std.proofs.Common.{◌≡◌, ℕ, ◌<◌, ◌==◌, ◌&&◌, Bool, true, false, List, [], ◌∷◌, ◌++◌, map, None, refl, sym, ap, subst, arith}
 use Rattle.std.specs.Prelude.{bytes_eq, nat_eq, IsTrue}
 use Rattle.std.specs.List.{AllByRecursion, IsDistinct, list_any}
-use Rattle.std.proofs.lemmas.Bool.{and_right, ne_eqb, or_parts}
+use Rattle.std.proofs.lemmas.Bool.{and_right, ne_eqb}
 use Rattle.std.proofs.lemmas.List.{map-append}
 use Rattle.registry_core.specs.declared.facts.Session.{Session}
 use Rattle.registry_core.specs.Derived.{is_above, is_session_of, last_nonce}
@@ -10,16 +10,12 @@ use Rattle.desk_rows.specs.Rows.{DeviceRow, SenderRow, is_device, is_sender}
 use Rattle.desk_rows.specs.order.Facts.{is_name_row}
 use Rattle.desk_rows.specs.order.RowsOf.{same_join}
 use Rattle.desk_rows.proofs.OrderLemmas.Counting.{above_each}
-use Rattle.desk_rows.proofs.OrderLemmas.Each.{all_map, all_so, distinct_with, none_found}
+use Rattle.desk_rows.proofs.OrderLemmas.Each.{all_map, all_so, distinct_with, none_found, none_of}
 use Rattle.desk_rows.proofs.OrderLemmas.Finding.{none_shown}
 use Rattle.desk_rows.proofs.OrderLemmas.Telling.{device_told, role_told}
 
 abbrev pub sender_names : List SenderRow → List (List ℕ)
 sender_names senders = map (λ (s : SenderRow). s.name) senders
-
-none_of : {X : Type 0} (p : X → Bool) (xs : List X) → list_any p xs ≡ false → AllByRecursion (λ x. p x ≡ false) xs
-none_of p [] none = tt
-none_of p (x ∷ xs) none = let parts = or_parts (p x) (list_any p xs) none in (parts.0, none_of p xs parts.1)
 
 pub named_once_with : (names : List (List ℕ)) (name : List ℕ) → list_any (is_name_row name) names ≡ false → IsDistinct bytes_eq names
     → IsDistinct bytes_eq (names ++ name ∷ [])

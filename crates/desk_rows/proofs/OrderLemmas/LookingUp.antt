@@ -11,7 +11,7 @@ use Rattle.registry_core.specs.Settings.{Settings}
 use Rattle.registry_core.specs.State.{State}
 use Rattle.desk_rows.specs.Rows.{Rows, BookingRow, DeviceRow, SessionRow, is_device}
 use Rattle.desk_rows.specs.order.Facts.{bookings_in, sessions_in}
-use Rattle.desk_rows.specs.order.LookUps.{CountersTell, CountsTell, FramesTell, LastOnesTell, LookUpsTell, NumbersTell, RowsAreItems, floor_in, is_data_row, is_row_of_device}
+use Rattle.desk_rows.specs.order.LookUps.{CountersTell, CountsTell, FramesTell, LastOnesTell, LimitsTell, LookUpsTell, NumbersTell, RowsAreItems, floor_in, is_data_row, is_row_of_device}
 use Rattle.desk_rows.specs.order.RowsOf.{AreRowsOf, floor_of}
 use Rattle.desk_rows.proofs.OrderLemmas.Counters.{HasFloor, next_down_none}
 use Rattle.desk_rows.proofs.OrderLemmas.Counting.{filter_alike}
@@ -19,6 +19,7 @@ use Rattle.desk_rows.proofs.OrderLemmas.Each.{all_found}
 use Rattle.desk_rows.proofs.OrderLemmas.Finding.{found_passes}
 use Rattle.desk_rows.proofs.OrderLemmas.Following.{no_floor}
 use Rattle.desk_rows.proofs.OrderLemmas.Framing.{always, data_found, data_row_alike, join_found}
+use Rattle.desk_rows.proofs.OrderLemmas.Limits.{limit_stands}
 use Rattle.desk_rows.proofs.OrderLemmas.Looking.{any_shown, below_floor, first_falling, first_zipped, last_number, nonces_shown, row_numbered}
 use Rattle.desk_rows.proofs.OrderLemmas.Numbering.{item_at-map}
 
@@ -91,6 +92,16 @@ module _ (c : Settings) (facts : State) (r : Rows) (are : AreRowsOf c facts r) w
   frames_tell : FramesTell facts r
   frames_tell = subst (λ s. FramesTell s r) (sym are.is) (record { join = join_found r are.names are.keyed; data_up = data_found r.uplinks })
 
+  limits_tell : LimitsTell facts r
+  limits_tell = subst (λ s. LimitsTell s r) (sym are.is) (record { standing = λ gateway band. refl; set = λ gateway limit. limit_stands r.limits gateway limit })
+
 pub look_ups_tell : LookUpsTell
-look_ups_tell c facts r are =
-    (rows_are_items r, counters_tell c facts r are, last_ones_tell c facts r are, numbers_tell c facts r are, counts_tell c facts r are, frames_tell c facts r are)
+look_ups_tell c facts r are = (
+  rows_are_items r,
+  counters_tell c facts r are,
+  last_ones_tell c facts r are,
+  numbers_tell c facts r are,
+  counts_tell c facts r are,
+  frames_tell c facts r are,
+  limits_tell c facts r are,
+)

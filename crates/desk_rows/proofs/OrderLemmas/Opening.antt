@@ -25,8 +25,8 @@ opening_told c = record {
   };
   counted = record { floors = tt; next_downs = λ n s at. absurd (none_at n s at); bookings = tt };
   names = record { sessions = tt; uplinks = tt; copies = tt };
-  keyed = record { senders = (tt, tt); owners = tt; gateways = tt; devices = tt; sessions = tt };
-  few = record { senders = omega arith; owners = omega arith; gateways = omega arith; devices = omega arith; sessions = omega arith; uplinks = omega arith; copies = omega arith; bookings = omega arith };
+  keyed = record { senders = (tt, tt); owners = tt; gateways = tt; devices = tt; sessions = tt; limits = tt };
+  few = record { senders = omega arith; owners = omega arith; gateways = omega arith; devices = omega arith; sessions = omega arith; uplinks = omega arith; copies = omega arith; bookings = omega arith; limits = omega arith };
 }
   where
     none_at : (n : ℕ) (s : SessionRow) → item_at (opening_rows c).sessions n ≡ Some s → ⊥

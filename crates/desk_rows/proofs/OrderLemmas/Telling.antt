@@ -1,5 +1,5 @@
 -- The rows with an effect tell the facts with it.
-use Rattle.std.proofs.Common.{◌≡◌, ℕ, ◌==◌, ◌&&◌, ◌||◌, Bool, true, false, cond, List, [], ◌∷◌, ◌++◌, map, find, Option, Some, None, option_map, is_some, refl, sym, ap, ap₂, subst, ◌∙◌}
+use Rattle.std.proofs.Common.{◌≡◌, ℕ, ◌==◌, ◌&&◌, ◌||◌, Bool, true, false, cond, List, [], ◌∷◌, ◌++◌, find, Option, Some, None, option_map, is_some, refl, sym, ap, subst, ◌∙◌}
 use Rattle.std.specs.Prelude.{bytes_eq}
 use Rattle.std.specs.List.{list_any}
 use Rattle.std.specs.Cmp.{nat_eq_equiv}
@@ -9,7 +9,7 @@ use Rattle.std.proofs.lemmas.List.{map-append}
 use Rattle.std.proofs.lemmas.List.Folds.{list_any-append}
 use Rattle.std.proofs.lemmas.Slice.Eq.{bytes_eq-Decides}
 use Rattle.registry_core.specs.declared.effects.Effect.{Effect}
-use Rattle.registry_core.specs.declared.effects.Effect.TheVariants.{Nothing, AddsSender, AddsOwner, AddsGateway, AddsDevice, MovesDevice, AddsSession, AddsUplink, AddsCopy, AddsBooking, EndsBooking}
+use Rattle.registry_core.specs.declared.effects.Effect.TheVariants.{Nothing, AddsSender, AddsOwner, AddsGateway, AddsDevice, MovesDevice, AddsSession, AddsUplink, AddsCopy, AddsBooking, EndsBooking, SetsLimit}
 use Rattle.registry_core.specs.declared.facts.Device.{Device}
 use Rattle.registry_core.specs.declared.facts.Kind.{Kind}
 use Rattle.registry_core.specs.declared.facts.Kind.TheVariants.{Join, Data}
@@ -22,7 +22,8 @@ use Rattle.sqlite_keyed.specs.Lists.{update_where}
 use Rattle.desk_rows.specs.Rows.{Rows, SenderRow, ReplyRow, DeviceRow, SessionRow, CopyRow, BookingRow, is_copy, is_device, is_sender}
 use Rattle.desk_rows.specs.order.Changes.{booking_row, copy_row, counted_down, device_row, ended_row, kind_at, moved, raised, rows_with, sender_row, session_at, session_row, sessions_counted}
 use Rattle.desk_rows.specs.order.Facts.{facts_in, is_name_row, sessions_in}
-use Rattle.desk_rows.proofs.OrderLemmas.Finding.{find-map, found_passes, none_shown, shown_with}
+use Rattle.desk_rows.proofs.OrderLemmas.Finding.{find-map, found_passes, key_by, none_shown, shown_with}
+use Rattle.desk_rows.proofs.OrderLemmas.Limits.{limit_with}
 use Rattle.desk_rows.proofs.OrderLemmas.Numbering.{map-item_changed, map_unchanged}
 
 -- ---- a row with a name
@@ -66,13 +67,9 @@ device_with devices dev_eui device free other =
 
 -- a change of those that pass a test, which leaves the DevEUI
 module _ (test : DeviceRow → Bool) (change : DeviceRow → DeviceRow) (stays : (d : DeviceRow) → (change d).dev_eui ≡ d.dev_eui) where
-  eui_by : (d : DeviceRow) (b : Bool) → (cond b (change d) d).dev_eui ≡ d.dev_eui
-  eui_by d true = stays d
-  eui_by d false = refl
-
   pub found_changed : (dev_eui : ℕ) (devices : List DeviceRow)
       → find (is_device dev_eui) (update_where test change devices) ≡ option_map (λ d. cond (test d) (change d) d) (find (is_device dev_eui) devices)
-  found_changed dev_eui devices = find-map (is_device dev_eui) (λ d. cond (test d) (change d) d) (λ d. ap (λ n. n == dev_eui) (eui_by d (test d))) devices
+  found_changed dev_eui devices = find-map (is_device dev_eui) (λ d. cond (test d) (change d) d) (λ d. ap (λ n. n == dev_eui) (key_by (λ (d : DeviceRow). d.dev_eui) test change stays d (test d))) devices
 
 module _ (devices : List DeviceRow) (dev_eui : ℕ) (owner : List ℕ) where
   moved_at : (d : DeviceRow) (b : Bool) → (d.dev_eui == dev_eui) ≡ b
@@ -115,12 +112,6 @@ there_changed test change stays devices other =
         ≡ is_some (option_map (λ (d : DeviceRow). d.device) o)
     same None = refl
     same (Some d) = refl
-
-pub euis_changed : (test : DeviceRow → Bool) (change : DeviceRow → DeviceRow) → ((d : DeviceRow) → (change d).dev_eui ≡ d.dev_eui)
-    → (devices : List DeviceRow)
-    → map (λ (d : DeviceRow). d.dev_eui) devices ≡ map (λ (d : DeviceRow). d.dev_eui) (update_where test change devices)
-euis_changed test change stays [] = refl
-euis_changed test change stays (d ∷ ds) = ap₂ (λ n ns. n ∷ ns) (sym (eui_by test change stays d (test d))) (euis_changed test change stays ds)
 
 -- a raised floor changes no fact
 pub raised_with : (test : DeviceRow → Bool) (number : ℕ) (devices : List DeviceRow) (other : ℕ)
@@ -195,3 +186,5 @@ facts_with r (AddsBooking booking) reply fits = λ i. record (facts_in r) {
 facts_with r (EndsBooking number sent) reply fits = λ i. record (facts_in r) {
   bookings = sym (map-item_changed (λ (b : BookingRow). b.booking) (ended_row sent) (ended sent) (λ b. refl) r.bookings number) i;
 }
+facts_with r (SetsLimit gateway limit) reply fits =
+    λ i. record (facts_in r) { limits = λ at band. limit_with r.limits gateway limit at band i }

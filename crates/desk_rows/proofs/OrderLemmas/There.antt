@@ -1,43 +1,47 @@
 -- The rows that an effect changes are there, each once.
-use Rattle.std.proofs.Common.{◌≡◌, ℕ, suc, ◌+◌, ◌<◌, ◌≤◌, ◌==◌, ◌&&◌, Bool, true, false, cond, List, [], ◌∷◌, map, filter, find, Option, Some, None, option_map, is_some, slice_get, refl, sym, ap, ap₂, subst, ◌∙◌, arith}
+use Rattle.std.proofs.Common.{◌≡◌, ℕ, suc, ◌+◌, ◌<◌, ◌≤◌, ◌==◌, ◌&&◌, Bool, true, false, cond, List, [], ◌∷◌, ◌++◌, map, filter, find, Option, Some, None, option_map, is_some, slice_get, refl, sym, ap, ap₂, subst, ◌∙◌, arith}
 use Rattle.std.specs.Prelude.{max, nat_eq}
 use Rattle.std.specs.List.{AllByRecursion, IsDistinct}
 use Rattle.std.specs.Option.{option_map_or}
 use Rattle.std.specs.Cmp.{nat_eq_equiv}
 use Rattle.std.proofs.lemmas.Bool.{eqb-true, ltb-false, ltb-true}
+use Rattle.radio_core.specs.Bands.{band_number}
 use Rattle.registry_core.specs.declared.effects.Effect.{Effect}
-use Rattle.registry_core.specs.declared.effects.Effect.TheVariants.{Nothing, AddsSender, AddsOwner, AddsGateway, AddsDevice, MovesDevice, AddsSession, AddsUplink, AddsCopy, AddsBooking, EndsBooking}
+use Rattle.registry_core.specs.declared.effects.Effect.TheVariants.{Nothing, AddsSender, AddsOwner, AddsGateway, AddsDevice, MovesDevice, AddsSession, AddsUplink, AddsCopy, AddsBooking, EndsBooking, SetsLimit}
 use Rattle.registry_core.specs.declared.facts.Booking.{Booking}
 use Rattle.registry_core.specs.declared.facts.Session.{Session}
 use Rattle.registry_core.specs.declared.facts.Uplink.{Uplink}
 use Rattle.registry_core.specs.Derived.{is_above, is_of_device, is_session_of}
 use Rattle.registry_core.specs.Fits.{EndFits, Fits}
+use Rattle.registry_core.specs.Limits.{Limit}
 use Rattle.registry_core.specs.Numbered.{item_at, place_changed}
 use Rattle.registry_core.specs.Settings.{Settings}
 use Rattle.registry_core.specs.State.{State}
 use Rattle.sqlite_keyed.specs.Lists.{update_where}
-use Rattle.desk_rows.specs.Rows.{Rows, BookingRow, DeviceRow, SessionRow, is_device}
-use Rattle.desk_rows.specs.order.Changes.{counted_down, devices_raised, raised, session_at, sessions_counted}
-use Rattle.desk_rows.specs.order.Facts.{facts_in, sessions_in}
-use Rattle.desk_rows.specs.order.Keys.{ChangedRowsAreThere, CountsOne, EndsOne, HasOnly, IsThereFor, RaisesOne, floor_set, next_down_set}
-use Rattle.desk_rows.specs.order.RowsOf.{AreRowsOf, IsOfSession}
+use Rattle.sqlite_keyed.proofs.SliceLemmas.{any_is_found}
+use Rattle.desk_rows.specs.Rows.{Rows, BookingRow, DeviceRow, LimitRow, SessionRow, is_device, is_limit}
+use Rattle.desk_rows.specs.order.Changes.{counted_down, devices_raised, limit_row, limited, raised, session_at, sessions_counted}
+use Rattle.desk_rows.specs.order.Facts.{facts_in, limit_found, sessions_in}
+use Rattle.desk_rows.specs.order.Keys.{ChangedRowsAreThere, CountsOne, EndsOne, HasOnly, IsThereFor, RaisesOne, SetsOne, floor_set, next_down_set}
+use Rattle.desk_rows.specs.order.RowsOf.{AreRowsOf, IsOfSession, limit_key, same_band}
 use Rattle.desk_rows.proofs.OrderLemmas.Counters.{kind_found, session_found}
 use Rattle.desk_rows.proofs.OrderLemmas.Counting.{filter_none}
 use Rattle.desk_rows.proofs.OrderLemmas.Each.{all_at}
+use Rattle.desk_rows.proofs.OrderLemmas.Free.{none_has}
+use Rattle.desk_rows.proofs.OrderLemmas.Limits.{key_is, same_other_way}
 use Rattle.desk_rows.proofs.OrderLemmas.Named.{HasDevice}
 use Rattle.desk_rows.proofs.OrderLemmas.Numbering.{item_changed_as, item_changed_none, item_there, row_there}
 use Rattle.desk_rows.proofs.OrderLemmas.Telling.{device_told}
 
 -- ---- the only row with a key
 
-module _ {X : Type 0} (key : X → ℕ) (k : ℕ) where
-  abbrev has_key : X → Bool
-  has_key x = key x == k
-
+module _ {X K : Type 0} (key : X → K) (same : K → K → Bool) (has_key : X → Bool)
+    (other : (y x : X) → has_key y ≡ true → same (key y) (key x) ≡ false → has_key x ≡ false) where
   -- none of the rows has the key of one before them
-  none_left : (n : ℕ) → n ≡ k → (xs : List X) → AllByRecursion (λ m. nat_eq n m ≡ false) (map key xs) → AllByRecursion (λ x. has_key x ≡ false) xs
-  none_left n is [] apart = tt
-  none_left n is (x ∷ xs) apart = (ap (λ m. key x == m) (sym is) ∙ nat_eq_equiv.symm (key x) n ∙ apart.0, none_left n is xs apart.1)
+  none_left : (y : X) → has_key y ≡ true → (xs : List X) → AllByRecursion (λ m. same (key y) m ≡ false) (map key xs)
+      → AllByRecursion (λ x. has_key x ≡ false) xs
+  none_left y here [] apart = tt
+  none_left y here (x ∷ xs) apart = (other y x here apart.0, none_left y here xs apart.1)
 
   none_changed : (change : X → X) (xs : List X) → AllByRecursion (λ x. has_key x ≡ false) xs → update_where has_key change xs ≡ xs
   none_changed change [] each = refl
@@ -50,10 +54,10 @@ module _ {X : Type 0} (key : X → ℕ) (k : ℕ) where
     only : filter has_key xs ≡ row ∷ []
     changed : (change : X → X) → update_where has_key change xs ≡ place_changed change xs place
 
-  some_by : (y : X) (ys : List X) → AllByRecursion (λ m. nat_eq (key y) m ≡ false) (map key ys) → (b : Bool) → has_key y ≡ b
+  some_by : (y : X) (ys : List X) → AllByRecursion (λ m. same (key y) m ≡ false) (map key ys) → (b : Bool) → has_key y ≡ b
       → is_some (cond b (Some y) (find has_key ys)) ≡ true → (is_some (find has_key ys) ≡ true → IsOnlyAt ys) → IsOnlyAt (y ∷ ys)
   some_by y ys apart true here some later =
-      let none = none_left (key y) (eqb-true (key y) k here) ys apart in
+      let none = none_left y here ys apart in
       record {
         place = 0;
         row = y;
@@ -71,7 +75,7 @@ module _ {X : Type 0} (key : X → ℕ) (k : ℕ) where
         changed = λ change. ap₂ (λ b zs. cond b (change y) y ∷ zs) here (rest.changed change);
       }
 
-  only_at : (xs : List X) → IsDistinct nat_eq (map key xs) → is_some (find has_key xs) ≡ true → IsOnlyAt xs
+  only_at : (xs : List X) → IsDistinct same (map key xs) → is_some (find has_key xs) ≡ true → IsOnlyAt xs
   unfolding IsDistinct
   only_at [] apart some = let no : is_some {T = X} None ≡ true = some in cc
   only_at (y ∷ ys) apart some = some_by y ys apart.0 (has_key y) refl some (only_at ys apart.1)
@@ -84,7 +88,20 @@ only_device : (devices : List DeviceRow) (dev_eui : ℕ) → IsDistinct nat_eq (
     → is_some (device_told devices dev_eui) ≡ true
     → HasOnly (is_device dev_eui) devices
 only_device devices dev_eui apart some =
-    let at = only_at (λ (d : DeviceRow). d.dev_eui) dev_eui devices apart (shown_some (λ (d : DeviceRow). d.device) _ some) in
+    let at =
+    only_at (λ (d : DeviceRow). d.dev_eui) nat_eq (is_device dev_eui)
+    (λ y x here differs. ap (λ n. x.dev_eui == n) (sym (eqb-true y.dev_eui dev_eui here)) ∙ nat_eq_equiv.symm x.dev_eui y.dev_eui ∙ differs)
+    devices apart (shown_some (λ (d : DeviceRow). d.device) _ some) in
+    record { number = suc at.place; row = at.row; there = at.there; only = at.only; changed = at.changed }
+
+only_limit : (limits : List LimitRow) (gateway : List ℕ) (band : ℕ) → IsDistinct same_band (map limit_key limits)
+    → is_some (limit_found limits gateway band) ≡ true
+    → HasOnly (is_limit gateway band) limits
+only_limit limits gateway band apart some =
+    let at =
+    only_at limit_key same_band (is_limit gateway band)
+    (λ y x here differs. ap (same_band (limit_key x)) (sym (key_is (limit_key y) (gateway, band) here)) ∙ same_other_way (limit_key x) (limit_key y) ∙ differs)
+    limits apart (shown_some (λ (l : LimitRow). l.limit.most) _ some) in
     record { number = suc at.place; row = at.row; there = at.there; only = at.only; changed = at.changed }
 
 -- ---- the floor that is raised
@@ -169,6 +186,18 @@ module _ (c : Settings) (facts : State) (r : Rows) (are : AreRowsOf c facts r) w
       let row = row_there (λ (b : BookingRow). b.booking) r.bookings number fits.booking fits.there in
       record { row = row.0; there = row.1; standing = ap (λ (b : Booking). b.standing) row.2 ∙ fits.standing }
 
+  sets_one : (gateway : List ℕ) (limit : Limit) → SetsOne gateway limit r
+  sets_one gateway limit =
+      let test = is_limit gateway (band_number limit.band) in
+      let after = λ (b : Bool). cond b (update_where test (limited limit.most) r.limits) (r.limits ++ limit_row gateway limit ∷ []) in
+      record {
+        adds = λ none. ap after (none_has (λ (l : LimitRow). l.limit.most) test r.limits none);
+        changes = λ some. (
+          only_limit r.limits gateway (band_number limit.band) are.keyed.limits some,
+          ap after (any_is_found test r.limits ∙ shown_some (λ (l : LimitRow). l.limit.most) _ some),
+        );
+      }
+
   there_for : (effect : Effect) → Fits effect (facts_in r) → IsThereFor effect r
   there_for Nothing fits = tt
   there_for (AddsSender name role) fits = tt
@@ -181,6 +210,7 @@ module _ (c : Settings) (facts : State) (r : Rows) (are : AreRowsOf c facts r) w
   there_for (AddsCopy number gateway reception) fits = tt
   there_for (AddsBooking booking) fits = counts_one booking fits.uplink
   there_for (EndsBooking number sent) fits = ends_one number fits
+  there_for (SetsLimit gateway limit) fits = sets_one gateway limit
 
 pub changed_rows_are_there : ChangedRowsAreThere
 changed_rows_are_there c facts r effect are fits = there_for c facts r are effect (subst (Fits effect) are.is fits)

@@ -1,17 +1,18 @@
 -- Worked rows, computed from the definitions alone: what a list of effects leaves in the kept columns.
 use Rattle.std.proofs.Common.{◌≡◌, ℕ, List, [], ◌∷◌, map, length, Option, Some, false, refl}
 use Rattle.std.specs.Prelude.{codes, pos}
-use Rattle.radio_core.specs.declared.bands.Band.TheVariants.{B3}
+use Rattle.radio_core.specs.declared.bands.Band.{Band}
+use Rattle.radio_core.specs.declared.bands.Band.TheVariants.{B1, B3, B4}
 use Rattle.radio_core.specs.declared.data_rates.DataRate.TheVariants.{Dr5}
 use Rattle.registry_core.specs.declared.effects.Effect.{Effect}
-use Rattle.registry_core.specs.declared.effects.Effect.TheVariants.{AddsOwner, AddsGateway, AddsDevice, MovesDevice, AddsSession, AddsUplink, AddsBooking, EndsBooking}
+use Rattle.registry_core.specs.declared.effects.Effect.TheVariants.{AddsOwner, AddsGateway, AddsDevice, MovesDevice, AddsSession, AddsUplink, AddsBooking, EndsBooking, SetsLimit}
 use Rattle.registry_core.specs.declared.facts.Kind.{Kind}
 use Rattle.registry_core.specs.declared.facts.Kind.TheVariants.{Join, Data}
 use Rattle.registry_core.specs.declared.facts.Reception.{Reception}
 use Rattle.registry_core.specs.declared.facts.Standing.{Standing}
 use Rattle.registry_core.specs.declared.facts.Standing.TheVariants.{Booked, Dropped}
 use Rattle.registry_core.specs.declared.facts.Uplink.{Uplink}
-use Rattle.desk_rows.specs.Rows.{Rows, BookingRow, CopyRow, DeviceRow, ReplyRow, SessionRow}
+use Rattle.desk_rows.specs.Rows.{Rows, BookingRow, CopyRow, DeviceRow, LimitRow, ReplyRow, SessionRow}
 use Rattle.desk_rows.specs.order.Changes.{opening_rows, rows_with}
 
 abbrev reply : ReplyRow
@@ -84,3 +85,15 @@ copies_worked = refl
 
 replies_worked : length booked.replies ≡ 15
 replies_worked = refl
+
+-- the gateway's name, the band and the limit
+abbrev limits : List Effect → List (List ℕ × Band × ℕ)
+limits es = map (λ (l : LimitRow). (l.gateway, l.limit.band, l.limit.most)) (rows_of es).limits
+
+abbrev limit_to : List ℕ → Band → ℕ → Effect
+limit_to gateway band most = SetsLimit gateway (record { band = band; most = most })
+
+-- a limit that is set again changes its row, and no other
+limits_worked : limits (limit_to (codes "gw-a") B4 991232 ∷ limit_to (codes "gw-a") B1 0 ∷ limit_to (codes "gw-b") B4 7 ∷ limit_to (codes "gw-a") B4 3600000 ∷ [])
+    ≡ (codes "gw-a", B4, 3600000) ∷ (codes "gw-a", B1, 0) ∷ (codes "gw-b", B4, 7) ∷ []
+limits_worked = refl

@@ -1,8 +1,10 @@
 -- What each effect does to the rows, table by table.
-use Rattle.std.specs.Prelude.{ℕ, ◌+◌, Bool, List, [], ◌∷◌, ◌++◌, length, max, Some, None}
+use Rattle.std.specs.Prelude.{ℕ, ◌+◌, Bool, if◌then◌else◌, List, [], ◌∷◌, ◌++◌, length, max, Some, None}
+use Rattle.std.specs.List.{list_any}
 use Rattle.std.specs.Option.{option_map_or}
+use Rattle.radio_core.specs.Bands.{band_number}
 use Rattle.registry_core.specs.declared.effects.Effect.{Effect}
-use Rattle.registry_core.specs.declared.effects.Effect.TheVariants.{Nothing, AddsSender, AddsOwner, AddsGateway, AddsDevice, MovesDevice, AddsSession, AddsUplink, AddsCopy, AddsBooking, EndsBooking}
+use Rattle.registry_core.specs.declared.effects.Effect.TheVariants.{Nothing, AddsSender, AddsOwner, AddsGateway, AddsDevice, MovesDevice, AddsSession, AddsUplink, AddsCopy, AddsBooking, EndsBooking, SetsLimit}
 use Rattle.registry_core.specs.declared.facts.Booking.{Booking}
 use Rattle.registry_core.specs.declared.facts.Device.{Device}
 use Rattle.registry_core.specs.declared.facts.Kind.{Kind}
@@ -14,11 +16,12 @@ use Rattle.registry_core.specs.declared.messages.Role.{Role}
 use Rattle.registry_core.specs.declared.messages.Role.TheVariants.{Operator}
 use Rattle.registry_core.specs.Derived.{is_of_device}
 use Rattle.registry_core.specs.Fits.{Fits}
+use Rattle.registry_core.specs.Limits.{Limit}
 use Rattle.registry_core.specs.Numbered.{item_at, item_changed}
 use Rattle.registry_core.specs.Settings.{Settings}
 use Rattle.registry_core.specs.State.{State, ended, opening, owned_by, state_with}
 use Rattle.sqlite_keyed.specs.Lists.{update_where}
-use Rattle.desk_rows.specs.Rows.{Rows, SenderRow, ReplyRow, DeviceRow, SessionRow, CopyRow, BookingRow, is_device}
+use Rattle.desk_rows.specs.Rows.{Rows, SenderRow, ReplyRow, DeviceRow, SessionRow, CopyRow, BookingRow, LimitRow, is_device, is_limit}
 use Rattle.desk_rows.specs.order.Facts.{sessions_in}
 use Rattle.desk_rows.specs.order.RowsOf.{AreRowsOf}
 
@@ -63,6 +66,13 @@ booking_row uplinks booking = record { booking = booking; session = session_at u
 abbrev pub ended_row : Bool → BookingRow → BookingRow
 ended_row sent b = record b { booking = ended sent b.booking }
 
+abbrev pub limit_row : List ℕ → Limit → LimitRow
+limit_row gateway limit = record { gateway = gateway; limit = limit }
+
+-- the same band with this limit
+abbrev pub limited : ℕ → LimitRow → LimitRow
+limited most l = record l { limit = record { band = l.limit.band; most = most } }
+
 -- ---- one table each
 
 -- the devices, the one of this session with its floor raised to the session
@@ -73,6 +83,16 @@ devices_raised sessions number devices = update_where (λ d. is_of_device (sessi
 abbrev pub sessions_counted : Kind → ℕ → List SessionRow → List SessionRow
 sessions_counted Join number sessions = sessions
 sessions_counted Data number sessions = item_changed counted_down sessions number
+
+-- a row of the gateway's band, by the band's number
+abbrev pub has_limit : List ℕ → ℕ → List LimitRow → Bool
+has_limit gateway band limits = list_any (is_limit gateway band) limits
+
+-- the limits with this one of the gateway's band: in the band's row, where it has one, and else in a new row
+abbrev pub limits_set : List ℕ → Limit → List LimitRow → List LimitRow
+limits_set gateway limit limits =
+    if has_limit gateway (band_number limit.band) limits then update_where (is_limit gateway (band_number limit.band)) (limited limit.most) limits
+    else limits ++ limit_row gateway limit ∷ []
 
 -- ---- rows with an effect
 
@@ -101,6 +121,7 @@ rows_changed (AddsBooking booking) r = record r {
   bookings = r.bookings ++ booking_row r.uplinks booking ∷ [];
 }
 rows_changed (EndsBooking number sent) r = record r { bookings = item_changed (ended_row sent) r.bookings number }
+rows_changed (SetsLimit gateway limit) r = record r { limits = limits_set gateway limit r.limits }
 
 -- and with the message and its answer, at the end of the replies
 abbrev pub rows_with : Effect → ReplyRow → Rows → Rows
@@ -119,6 +140,7 @@ opening_rows c = record {
   uplinks = [];
   copies = [];
   bookings = [];
+  limits = [];
 }
 
 -- ---- laws

@@ -1,10 +1,10 @@
 -- What the rows of the tables tell: the registry's facts.
-use Rattle.std.specs.Prelude.{ℕ, Bool, List, map, find, option_map, bytes_eq}
+use Rattle.std.specs.Prelude.{ℕ, Bool, List, map, find, Option, option_map, bytes_eq}
 use Rattle.std.specs.List.{list_any}
 use Rattle.registry_core.specs.declared.facts.Booking.{Booking}
 use Rattle.registry_core.specs.declared.facts.Session.{Session}
 use Rattle.registry_core.specs.State.{State}
-use Rattle.desk_rows.specs.Rows.{Rows, SenderRow, DeviceRow, SessionRow, CopyRow, BookingRow, is_copy, is_device, is_sender}
+use Rattle.desk_rows.specs.Rows.{Rows, SenderRow, DeviceRow, SessionRow, CopyRow, BookingRow, LimitRow, is_copy, is_device, is_limit, is_sender}
 
 -- ---- the row with a key
 
@@ -19,6 +19,10 @@ sessions_in rows = map (λ s. s.session) rows
 abbrev pub bookings_in : List BookingRow → List Booking
 bookings_in rows = map (λ b. b.booking) rows
 
+-- the limit in the row of a gateway's band, by the band's number
+abbrev pub limit_found : List LimitRow → List ℕ → ℕ → Option ℕ
+limit_found limits gateway band = option_map (λ (l : LimitRow). l.limit.most) (find (is_limit gateway band) limits)
+
 -- the facts: what has a key is what its row tells, and nothing else is there
 abbrev pub facts_in : Rows → State
 facts_in r = record {
@@ -30,4 +34,5 @@ facts_in r = record {
   uplinks = r.uplinks;
   copies = λ number gateway. option_map (λ (c : CopyRow). c.reception) (find (is_copy number gateway) r.copies);
   bookings = bookings_in r.bookings;
+  limits = limit_found r.limits;
 }

@@ -1,8 +1,9 @@
 -- What each effect finds in the rows: the keys that it adds are free, and the rows that it changes are there, each once.
-use Rattle.std.specs.Prelude.{◌≡◌, ℕ, ◌+◌, ◌<◌, ◌^◌, ◌&&◌, Bool, true, false, List, [], ◌∷◌, filter, length, Some}
+use Rattle.std.specs.Prelude.{◌≡◌, ℕ, ◌+◌, ◌<◌, ◌^◌, ◌&&◌, Bool, true, false, List, [], ◌∷◌, ◌++◌, filter, length, Some, None, is_some, IsTrue}
 use Rattle.std.specs.List.{list_any}
+use Rattle.radio_core.specs.Bands.{band_number}
 use Rattle.registry_core.specs.declared.effects.Effect.{Effect}
-use Rattle.registry_core.specs.declared.effects.Effect.TheVariants.{Nothing, AddsSender, AddsOwner, AddsGateway, AddsDevice, MovesDevice, AddsSession, AddsUplink, AddsCopy, AddsBooking, EndsBooking}
+use Rattle.registry_core.specs.declared.effects.Effect.TheVariants.{Nothing, AddsSender, AddsOwner, AddsGateway, AddsDevice, MovesDevice, AddsSession, AddsUplink, AddsCopy, AddsBooking, EndsBooking, SetsLimit}
 use Rattle.registry_core.specs.declared.facts.Booking.{Booking}
 use Rattle.registry_core.specs.declared.facts.Kind.TheVariants.{Join, Data}
 use Rattle.registry_core.specs.declared.facts.Standing.TheVariants.{Booked}
@@ -10,13 +11,14 @@ use Rattle.registry_core.specs.declared.facts.Uplink.{Uplink}
 use Rattle.registry_core.specs.Derived.{is_above}
 use Rattle.registry_core.specs.Fits.{Fits}
 use Rattle.registry_core.specs.Heard.{most_heard}
+use Rattle.registry_core.specs.Limits.{Limit}
 use Rattle.registry_core.specs.Numbered.{item_at, item_changed}
 use Rattle.registry_core.specs.Settings.{Settings}
 use Rattle.registry_core.specs.State.{State}
 use Rattle.sqlite_keyed.specs.Lists.{update_where}
-use Rattle.desk_rows.specs.Rows.{Rows, BookingRow, DeviceRow, SessionRow, is_copy, is_device, is_sender, is_session, is_uplink}
-use Rattle.desk_rows.specs.order.Changes.{booking_row, devices_raised, kind_at, session_at, sessions_counted}
-use Rattle.desk_rows.specs.order.Facts.{is_name_row}
+use Rattle.desk_rows.specs.Rows.{Rows, BookingRow, DeviceRow, SessionRow, is_copy, is_device, is_limit, is_sender, is_session, is_uplink}
+use Rattle.desk_rows.specs.order.Changes.{booking_row, devices_raised, kind_at, limit_row, limited, limits_set, session_at, sessions_counted}
+use Rattle.desk_rows.specs.order.Facts.{is_name_row, limit_found}
 use Rattle.desk_rows.specs.order.RowsOf.{AreRowsOf}
 
 -- ---- rows that are added
@@ -29,6 +31,10 @@ HasRoom rows = 1 + length rows < 2 ^ 63
 pub record IsFree {X : Type 0} (has_key : X → Bool) (rows : List X) : Type 0 where
   pub key : list_any has_key rows ≡ false
   pub room : HasRoom rows
+
+-- where the gateway's band has no limit, its row can be added
+abbrev pub IsFreeForLimit : List ℕ → Limit → Rows → Type 0
+IsFreeForLimit gateway limit r = limit_found r.limits gateway (band_number limit.band) ≡ None → IsFree (is_limit gateway (band_number limit.band)) r.limits
 
 -- each row that the effect adds can be added
 abbrev pub IsFreeFor : Effect → Rows → Type 0
@@ -45,6 +51,7 @@ IsFreeFor (AddsUplink uplink gateway reception) r =
 IsFreeFor (AddsCopy number gateway reception) r = IsFree (is_copy number gateway) r.copies
 IsFreeFor (AddsBooking booking) r = HasRoom r.bookings
 IsFreeFor (EndsBooking number sent) r = Unit {0}
+IsFreeFor (SetsLimit gateway limit) r = IsFreeForLimit gateway limit r
 
 -- ---- rows that are changed
 
@@ -91,12 +98,20 @@ pub record EndsOne (number : ℕ) (r : Rows) : Type 0 where
   pub there : item_at r.bookings number ≡ Some row
   pub standing : row.booking.standing ≡ Booked
 
+-- The limit of a gateway's band that has none is a row more, and else the one row of the band is changed.
+pub record SetsOne (gateway : List ℕ) (limit : Limit) (r : Rows) : Type 0 where
+  pub adds : limit_found r.limits gateway (band_number limit.band) ≡ None → limits_set gateway limit r.limits ≡ r.limits ++ limit_row gateway limit ∷ []
+  pub changes : IsTrue (is_some (limit_found r.limits gateway (band_number limit.band)))
+      → HasOnly (is_limit gateway (band_number limit.band)) r.limits
+      × (limits_set gateway limit r.limits ≡ update_where (is_limit gateway (band_number limit.band)) (limited limit.most) r.limits)
+
 -- each row that the effect changes is there
 abbrev pub IsThereFor : Effect → Rows → Type 0
 IsThereFor (MovesDevice dev_eui owner) r = HasOnly (is_device dev_eui) r.devices
 IsThereFor (AddsUplink uplink gateway reception) r = RaisesOne uplink r
 IsThereFor (AddsBooking booking) r = CountsOne booking r
 IsThereFor (EndsBooking number sent) r = EndsOne number r
+IsThereFor (SetsLimit gateway limit) r = SetsOne gateway limit r
 IsThereFor effect r = Unit {0}
 
 -- ---- laws

@@ -1,18 +1,23 @@
 -- What look-ups in the rows tell of the facts.
-use Rattle.std.specs.Prelude.{◌≡◌, ℕ, ◌+◌, ◌≤◌, ◌==◌, ◌&&◌, Bool, true, false, List, [], ◌∷◌, filter, length, Option, slice_get, option_map, option_and_then}
+use Rattle.std.specs.Prelude.{◌≡◌, ℕ, ◌+◌, ◌≤◌, ◌==◌, ◌&&◌, Bool, true, false, List, [], ◌∷◌, filter, length, Option, Some, slice_get, option_map, option_and_then}
 use Rattle.std.specs.declared.cmp.Ordering.{Ordering}
 use Rattle.std.specs.List.{list_any}
 use Rattle.std.specs.Option.{option_map_or}
 use Rattle.std.specs.Ordering.{is_gt}
+use Rattle.radio_core.specs.declared.bands.Band.{Band}
+use Rattle.radio_core.specs.Bands.{band_number, limit_of}
 use Rattle.registry_core.specs.declared.facts.Kind.TheVariants.{Join, Data}
 use Rattle.registry_core.specs.declared.facts.Uplink.{Uplink}
-use Rattle.registry_core.specs.Bookings.{is_answer_to, is_answered, next_down}
+use Rattle.registry_core.specs.Bookings.{is_answer_to, is_answered, limit_in, next_down}
 use Rattle.registry_core.specs.Derived.{data_with, is_below, is_below_floor, join_with, last_counter, last_nonce}
+use Rattle.registry_core.specs.Limits.{Limit}
 use Rattle.registry_core.specs.Numbered.{first_that, item_at}
 use Rattle.registry_core.specs.Settings.{Settings}
 use Rattle.registry_core.specs.State.{State}
 use Rattle.sqlite_keyed.specs.Lists.{sort_by}
 use Rattle.desk_rows.specs.Rows.{Rows, BookingRow, DeviceRow, SessionRow, kind_number, is_device, is_session, is_uplink}
+use Rattle.desk_rows.specs.order.Changes.{limits_set}
+use Rattle.desk_rows.specs.order.Facts.{limit_found}
 use Rattle.desk_rows.specs.order.RowsOf.{AreRowsOf}
 use Rattle.std.specs.Prelude.{find}
 
@@ -116,6 +121,13 @@ pub record FramesTell (facts : State) (r : Rows) : Type 0 where
   pub join : (dev_eui nonce : ℕ) → uplink_joined r dev_eui nonce ≡ join_with facts.uplinks facts.sessions dev_eui nonce
   pub data_up : (n counter : ℕ) → row_with (is_uplink n Data counter) r.uplinks ≡ data_with facts.uplinks n counter
 
+-- The limit that is found in the row of a gateway's band is the one that was set, and where there is no row, the band's
+-- own limit stands. After a limit is set, it is the one that is found.
+pub record LimitsTell (facts : State) (r : Rows) : Type 0 where
+  pub standing : (gateway : List ℕ) (band : Band)
+      → option_map_or (λ most. most) (limit_found r.limits gateway (band_number band)) (limit_of band) ≡ limit_in facts gateway band
+  pub set : (gateway : List ℕ) (limit : Limit) → limit_found (limits_set gateway limit r.limits) gateway (band_number limit.band) ≡ Some limit.most
+
 abbrev pub LookUpsTell : Type 0
 LookUpsTell = (c : Settings) (facts : State) (r : Rows) → AreRowsOf c facts r
-    → RowsAreItems r × CountersTell facts r × LastOnesTell facts r × NumbersTell facts r × CountsTell facts r × FramesTell facts r
+    → RowsAreItems r × CountersTell facts r × LastOnesTell facts r × NumbersTell facts r × CountsTell facts r × FramesTell facts r × LimitsTell facts r

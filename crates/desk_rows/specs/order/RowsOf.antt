@@ -2,6 +2,7 @@
 -- and no two rows have one key.
 use Rattle.std.specs.Prelude.{◌≡◌, ℕ, ◌+◌, ◌≤◌, ◌==◌, ◌&&◌, Bool, List, map, filter, length, Option, Some, is_some, bytes_eq, nat_eq, IsTrue}
 use Rattle.std.specs.List.{AllByRecursion, IsDistinct}
+use Rattle.radio_core.specs.Bands.{band_number}
 use Rattle.registry_core.specs.declared.facts.Kind.TheVariants.{Join}
 use Rattle.registry_core.specs.declared.facts.Session.{Session}
 use Rattle.registry_core.specs.declared.facts.Uplink.{Uplink}
@@ -10,7 +11,7 @@ use Rattle.registry_core.specs.Derived.{is_data, is_of_device}
 use Rattle.registry_core.specs.Numbered.{item_at, greatest}
 use Rattle.registry_core.specs.Settings.{Settings}
 use Rattle.registry_core.specs.State.{State}
-use Rattle.desk_rows.specs.Rows.{Rows, SenderRow, DeviceRow, SessionRow, CopyRow, BookingRow}
+use Rattle.desk_rows.specs.Rows.{Rows, SenderRow, DeviceRow, SessionRow, CopyRow, BookingRow, LimitRow}
 use Rattle.desk_rows.specs.order.Facts.{bookings_in, facts_in, sessions_in}
 
 -- ---- kept counters
@@ -59,13 +60,22 @@ pub record NamesRows (r : Rows) : Type 0 where
 abbrev pub same_join : Session → Session → Bool
 same_join a b = a.device == b.device && a.nonce == b.nonce
 
--- no two senders, owners or gateways have one name, no two devices one DevEUI, and no two sessions one device and one nonce
+-- a gateway and a band by its number
+abbrev pub limit_key : LimitRow → List ℕ × ℕ
+limit_key l = (l.gateway, band_number l.limit.band)
+
+abbrev pub same_band : List ℕ × ℕ → List ℕ × ℕ → Bool
+same_band a b = bytes_eq a.0 b.0 && a.1 == b.1
+
+-- No two senders, owners or gateways have one name, no two devices one DevEUI, no two sessions one device and one nonce,
+-- and no two limits one gateway and one band.
 pub record IsKeyed (r : Rows) : Type 0 where
   pub senders : IsDistinct bytes_eq (map (λ (s : SenderRow). s.name) r.senders)
   pub owners : IsDistinct bytes_eq r.owners
   pub gateways : IsDistinct bytes_eq r.gateways
   pub devices : IsDistinct nat_eq (map (λ (d : DeviceRow). d.dev_eui) r.devices)
   pub sessions : IsDistinct same_join (sessions_in r.sessions)
+  pub limits : IsDistinct same_band (map limit_key r.limits)
 
 -- ---- how many
 
@@ -79,6 +89,7 @@ pub record IsFew (r : Rows) : Type 0 where
   pub uplinks : length r.uplinks ≤ length r.replies
   pub copies : length r.copies ≤ length r.replies
   pub bookings : length r.bookings ≤ length r.replies
+  pub limits : length r.limits ≤ length r.replies
 
 -- ---- in order
 

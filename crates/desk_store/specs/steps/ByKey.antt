@@ -1,5 +1,5 @@
 -- Lists in order of a whole number that each item has, its key.
-use Rattle.std.specs.Prelude.{◌≡◌, ℤ, int_lt, Bool, false, List, [], ◌∷◌, if◌then◌else◌}
+use Rattle.std.specs.Prelude.{◌≡◌, ℤ, int_lt, false, List, [], ◌∷◌, if◌then◌else◌}
 use Rattle.std.specs.List.{AllByRecursion}
 
 module _ {X : Type 0} (key : X → ℤ) where

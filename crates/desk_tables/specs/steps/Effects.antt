@@ -1,15 +1,17 @@
 -- What an effect is written by, beside itself: what is read of the rows that stand before it.
 use Rattle.std.specs.Prelude.{◌≡◌, ℕ, ◌+◌, List, length, Option, Some, MatchOption, Result}
+use Rattle.radio_core.specs.Bands.{band_number}
 use Rattle.registry_core.specs.declared.effects.Effect.{Effect}
-use Rattle.registry_core.specs.declared.effects.Effect.TheVariants.{MovesDevice, AddsSession, AddsUplink, AddsCopy, AddsBooking, EndsBooking}
+use Rattle.registry_core.specs.declared.effects.Effect.TheVariants.{MovesDevice, AddsSession, AddsUplink, AddsCopy, AddsBooking, EndsBooking, SetsLimit}
 use Rattle.registry_core.specs.declared.facts.Booking.{Booking}
 use Rattle.registry_core.specs.declared.facts.Uplink.{Uplink}
 use Rattle.registry_core.specs.declared.messages.Envelope.{Envelope}
+use Rattle.registry_core.specs.Limits.{Limit}
 use Rattle.registry_core.specs.Numbered.{item_at, item_changed}
 use Rattle.registry_core.specs.Wholes.{IsWhole}
 use Rattle.sqlite_keyed.specs.Lists.{update_where}
 use Rattle.desk_rows.specs.Rows.{Rows, ReplyRow, SessionRow, is_device, is_reply}
-use Rattle.desk_rows.specs.order.Changes.{booking_row, devices_raised, kind_at, rows_changed, session_at, sessions_counted}
+use Rattle.desk_rows.specs.order.Changes.{booking_row, devices_raised, has_limit, kind_at, rows_changed, session_at, sessions_counted}
 use Rattle.desk_rows.specs.order.Keys.{HasOnly, IsFree, IsFreeFor, IsThereFor, floor_set, next_down_set}
 use Rattle.desk_rows.specs.declared.faults.RowFault.{RowFault}
 use Rattle.sqlite.specs.State.{State}
@@ -56,11 +58,16 @@ IsBasisOfBooking booking r (basis.Booking session kind counter) =
     (booking_row r.uplinks booking ≡ record { booking = booking; session = session; kind = kind }) × IsCounted booking r session counter
 IsBasisOfBooking booking r _ = ⊥
 
+abbrev pub IsBasisOfLimit : List ℕ → Limit → Rows → Basis → Type 0
+IsBasisOfLimit gateway limit r (basis.Limit is_set) = is_set ≡ has_limit gateway (band_number limit.band) r.limits
+IsBasisOfLimit gateway limit r _ = ⊥
+
 -- what was read is what the effect needs of the rows
 abbrev pub IsBasis : Effect → Rows → Basis → Type 0
 IsBasis (AddsSession session uplink gateway reception) r basis = IsBasisOfSession r basis
 IsBasis (AddsUplink uplink gateway reception) r basis = IsBasisOfUplink uplink r basis
 IsBasis (AddsBooking booking) r basis = IsBasisOfBooking booking r basis
+IsBasis (SetsLimit gateway limit) r basis = IsBasisOfLimit gateway limit r basis
 IsBasis effect r basis = Unit {0}
 
 -- ---- which rows it may be written to
@@ -78,6 +85,7 @@ AreWhole (AddsUplink uplink gateway reception) r = IsWhole uplink.session × IsW
 AreWhole (AddsCopy number gateway reception) r = IsWhole number
 AreWhole (AddsBooking booking) r = IsWhole booking.uplink × CountsInWholes booking r
 AreWhole (EndsBooking number sent) r = IsWhole number
+AreWhole (SetsLimit gateway limit) r = IsWhole (length r.limits)
 AreWhole effect r = Unit {0}
 
 -- the keys that the effect adds are free, the rows that it changes are there, and its numbers are in range

@@ -8,11 +8,11 @@ ghost use Rattle.sqlite.specs.Held.{state};
 ghost use Rattle.desk_rows.specs.Rows.{SessionRow, is_device};
 ghost use Rattle.desk_rows.specs.order.Keys.{CountsOne, HasOnly, IsThereFor, RaisesOne};
 ghost use Rattle.desk_tables.specs.steps.Calls.{Asks};
-ghost use Rattle.desk_tables.specs.steps.Effects.{AreWhole, HasSession, IsBasis, IsBasisOfBooking, IsBasisOfUplink, IsNextDown, IsRaised};
+ghost use Rattle.desk_tables.specs.steps.Effects.{AreWhole, HasSession, IsBasis, IsBasisOfBooking, IsBasisOfLimit, IsBasisOfUplink, IsNextDown, IsRaised};
 
-use desk_rows::{RowFault, floor_of, last_uplink, next_down, session, uplink};
-use radio_core::Eui;
-use registry_core::{Booking, Effect, Kind, Session, Uplink, Whole};
+use desk_rows::{RowFault, floor_of, last_uplink, limit_at, next_down, session, uplink};
+use radio_core::{Eui, Name};
+use registry_core::{BandLimit, Booking, Effect, Kind, Session, Uplink, Whole};
 use sqlite::{Alter, Connection};
 
 /// What an effect is written by, beside itself.
@@ -33,6 +33,10 @@ pub(crate) enum Basis {
         session: Whole,
         kind: Kind,
         counter: Option<Whole>,
+    },
+    /// Whether the gateway's band has a row.
+    Limit {
+        is_set: bool,
     },
 }
 
@@ -172,6 +176,19 @@ fn basis_of_uplink<S: Alter>(conn: &mut Connection<S>, uplink: &Uplink) -> Resul
     Ok(Basis::Uplink { number, raises })
 }
 
+fn basis_of_limit<S: Alter>(
+    conn: &mut Connection<S>,
+    gateway: &Name,
+    limit: BandLimit,
+) -> Result<Basis, RowFault>
+    ensures { Asks (state S.Store conn.old) (state S.Store conn.new) result (λ r. Unit {0}) (λ r. Unit {0}) (IsBasisOfLimit gateway.now limit) }
+{
+    let set = limit_at(conn, gateway, limit.band())?;
+    Ok(Basis::Limit {
+        is_set: set.is_some(),
+    })
+}
+
 /// What the effect is written by.
 pub(crate) fn basis_of<S: Alter>(
     conn: &mut Connection<S>,
@@ -185,6 +202,7 @@ pub(crate) fn basis_of<S: Alter>(
         }),
         Effect::AddsUplink { uplink, .. } => basis_of_uplink(conn, uplink),
         Effect::AddsBooking { booking } => basis_of_booking(conn, booking),
+        Effect::SetsLimit { gateway, limit } => basis_of_limit(conn, gateway, *limit),
         _ => Ok(Basis::Nothing),
     }
 }

@@ -3,11 +3,13 @@ use Rattle.std.specs.Prelude.{ℕ, List, Bool, Option, codes}
 use Rattle.serde_json.specs.Data.{Members, string, number, unsigned, boolean, put}
 use Rattle.radio_core.specs.DataRates.{dr_number}
 use Rattle.registry_core.specs.declared.messages.JoinVerdict.{JoinVerdict}
-use Rattle.registry_core.specs.declared.messages.Message.TheVariants.{SenderAdd, OwnerAdd, GatewayAdd, DeviceAdd, DeviceMove, JoinHeard, FrameHeard, DownBook, DownDone}
+use Rattle.registry_core.specs.declared.messages.Message.TheVariants.{SenderAdd, OwnerAdd, GatewayAdd, DeviceAdd, DeviceMove, JoinHeard, FrameHeard, DownBook, DownDone, LimitSet}
 use Rattle.registry_core.specs.declared.messages.Message.{Message}
 use Rattle.registry_core.specs.declared.messages.Report.{Report}
 use Rattle.registry_core.specs.declared.messages.Role.{Role}
 use Rattle.registry_core.specs.declared.windows.Window.{Window}
+use Rattle.registry_core.specs.Limits.{Limit}
+use Rattle.desk_wire.specs.Bands.{band_name}
 use Rattle.desk_wire.specs.Hexadecimal.{octet_digits, eui_digits}
 use Rattle.desk_wire.specs.Members.{whole_or_null}
 use Rattle.desk_wire.specs.Roles.{role_name}
@@ -73,6 +75,12 @@ with_down_done booking sent members =
     put (codes "Sent") (boolean sent)
     (put (codes "Booking") (number (unsigned booking)) members)
 
+abbrev pub with_limit_set : List ℕ → Limit → Members → Members
+with_limit_set gateway limit members =
+    put (codes "Limit") (number (unsigned limit.most))
+    (put (codes "Gateway") (string gateway)
+    (put (codes "Band") (string (band_name limit.band)) members))
+
 -- the members of the message's type, put beside others
 abbrev pub with_body : Message → Members → Members
 with_body (SenderAdd sender role) members = with_sender_add sender role members
@@ -84,3 +92,4 @@ with_body (JoinHeard report verdict) members = with_join_heard report verdict me
 with_body (FrameHeard report verdict) members = with_frame_heard report verdict members
 with_body (DownBook uplink gateway window octets) members = with_down_book uplink gateway window octets members
 with_body (DownDone booking sent) members = with_down_done booking sent members
+with_body (LimitSet gateway limit) members = with_limit_set gateway limit members

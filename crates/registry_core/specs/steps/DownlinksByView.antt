@@ -2,7 +2,7 @@
 use Rattle.std.specs.Prelude.{ℕ, ◌+◌, Bool, not, List, [], ◌∷◌, ◌++◌, Ok}
 use Rattle.radio_core.specs.declared.bands.Band.{Band}
 use Rattle.radio_core.specs.declared.data_rates.Rate.{Rate}
-use Rattle.radio_core.specs.Bands.{band_at, limit_of}
+use Rattle.radio_core.specs.Bands.{band_at}
 use Rattle.duty_core.specs.Computed.{is_clear, hours_within}
 use Rattle.duty_core.specs.Use.{Interval}
 use Rattle.registry_core.specs.declared.answers.Answer.TheVariants.{Success, DownSuccess}
@@ -22,7 +22,7 @@ use Rattle.registry_core.specs.Windows.{window_of}
 unfoldable pub down_added_by : View → ℕ → List ℕ → Band → ℕ → Interval → Checked Decision
 down_added_by v number gateway band start span = do
   wants (is_clear v.near.items span) Collision
-  wants (hours_within (v.near_in_band.items ++ span ∷ []) (limit_of band)) Duty
+  wants (hours_within (v.in_band.items ++ span ∷ []) v.limit) Duty
   Ok (
     AddsBooking (record { uplink = number; gateway = gateway; band = band; span = span; standing = Booked }),
     DownSuccess span.len band (v.bookings + 1) start,

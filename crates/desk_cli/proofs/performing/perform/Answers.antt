@@ -3,6 +3,9 @@ use Rattle.desk_cli.proofs.performing.perform.Goals as goal
 pub returns-in-Init : goal.returns-in-Init
 returns-in-Init g c = rw c.in-Init.is c.init_file.ensures
 
+pub returns-in-Migrate : goal.returns-in-Migrate
+returns-in-Migrate g c = rw c.in-Migrate.is c.migrate_file.ensures
+
 pub returns-in-Import : goal.returns-in-Import
 returns-in-Import g c = rw c.in-Import.is c.import_file.ensures
 

@@ -28,7 +28,7 @@ const OWNER_HEADER: &str =
 
 /// The operator and an owner; the three records of the report that were refused, and the owner's message.
 const HOLDS: &str = "\
-schema: 1
+schema: 2
 receiver: desk
 operator: office
 base: 01a00000
@@ -37,6 +37,7 @@ senders: 1
 owners: 1
 gateways: 0
 devices: 0
+limits: 0
 sessions: 0
 uplinks: 0
 bookings: 0
@@ -52,7 +53,7 @@ type Row = (
     &'static str,
 );
 
-static ROWS: [Row; 15] = [
+static ROWS: [Row; 16] = [
     (
         &[b"desk", b"import", b"f.db", b"--sender", b"office"],
         REPORT,
@@ -67,6 +68,13 @@ static ROWS: [Row; 15] = [
         Ending::Refused,
         "",
         "desk: exists\n",
+    ),
+    (
+        &[b"desk", b"migrate", b"f.db"],
+        "",
+        Ending::Refused,
+        "",
+        "desk: schema\n",
     ),
     (
         &[b"desk", b"import", b"f.db", b"--sender", b"office"],

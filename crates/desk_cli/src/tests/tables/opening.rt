@@ -78,7 +78,7 @@ fn open_after<R: Abort + AllocGlobal>(
 fn another_version_is_told(rt: HostRuntime) -> Result<(), Fail> {
     let version = "UPDATE meta SET version = 7";
     let other = "CREATE TABLE note (id INTEGER PRIMARY KEY)";
-    let own = "UPDATE meta SET version = 1";
+    let own = "UPDATE meta SET version = 2";
     let conn = make(&rt, Connection::open_in_memory(rt.alloc())?, Ok(()))?;
     let conn = open_after(&rt, conn, version, StoreFault::SchemaVersion)?;
     let conn = open_after(&rt, conn, other, StoreFault::SchemaVersion)?;

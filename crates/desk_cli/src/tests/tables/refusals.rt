@@ -27,7 +27,7 @@ fn refused(conn: &mut Conn) -> Result<bool, Fail> {
 }
 
 fn settings_are_read(conn: &mut Conn) -> Result<bool, &'static str> {
-    Ok(read_settings(conn) == Ok((1, town()?)))
+    Ok(read_settings(conn) == Ok((2, town()?)))
 }
 
 fn index_is_taken(conn: &mut Conn) -> bool {

@@ -3,7 +3,7 @@ use super::{bad, refused};
 use crate::commands::Command;
 use crate::usage::BadValue;
 use crate::words::read_words;
-use Want::{Bands, Check, Hear, Import, Init, Report, Serve};
+use Want::{Bands, Check, Hear, Import, Init, Migrate, Report, Serve};
 use clap::error::ErrorKind;
 use radio_core::Name;
 use registry_core::Config;
@@ -14,6 +14,7 @@ use std::test::Fail;
 #[derive(Clone, Copy)]
 enum Want {
     Init(&'static str, u32, u32),
+    Migrate(&'static str),
     Hear(&'static str),
     Import(&'static str, &'static str),
     Serve(&'static str, u16, u32),
@@ -32,6 +33,7 @@ fn command(want: Want) -> Option<Command<'static>> {
             file,
             config: Config::new(name("desk")?, name("office")?, base, addresses)?,
         },
+        Migrate(file) => Command::Migrate { file },
         Hear(file) => Command::Hear { file },
         Import(file, sender) => Command::Import {
             file,
@@ -50,7 +52,7 @@ fn command(want: Want) -> Option<Command<'static>> {
 
 const LONGEST: &str = "abcdefghijklmnopqrstuvwxyz-_.012";
 
-static NAMED: [(&str, Want); 24] = [
+static NAMED: [(&str, Want); 25] = [
     ("desk init town.db", Init("town.db", 0x01a0_0000, 65_536)),
     (
         "desk init town.db --base 00000001 --addresses=7",
@@ -61,6 +63,7 @@ static NAMED: [(&str, Want); 24] = [
         Init("town.db", u32::MAX, 1),
     ),
     ("desk init -- --base", Init("--base", 0x01a0_0000, 65_536)),
+    ("desk migrate town.db", Migrate("town.db")),
     ("desk hear town.db", Hear("town.db")),
     ("desk hear lines", Hear("lines")),
     ("desk hear -", Hear("-")),
@@ -196,13 +199,15 @@ fn values_that_are_bad(rt: HostRuntime) -> Result<(), Fail> {
 }
 
 /// By clap's rules: words that are missing or too many, and options that are given twice or not known.
-static REFUSED: [(&str, ErrorKind); 25] = [
+static REFUSED: [(&str, ErrorKind); 27] = [
     ("desk init", ErrorKind::MissingRequiredArgument),
     (
         "desk init --base 01a00000",
         ErrorKind::MissingRequiredArgument,
     ),
     ("desk init a b", ErrorKind::UnknownArgument),
+    ("desk migrate", ErrorKind::MissingRequiredArgument),
+    ("desk migrate a b", ErrorKind::UnknownArgument),
     ("desk init town.db --sender a", ErrorKind::UnknownArgument),
     ("desk hear", ErrorKind::MissingRequiredArgument),
     ("desk hear a b", ErrorKind::UnknownArgument),

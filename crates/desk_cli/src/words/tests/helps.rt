@@ -6,15 +6,16 @@ A LoRaWAN device registry and airtime desk
 Usage: desk [COMMAND]
 
 Commands:
-  lines   Answers the messages of standard input, one a line, for a new desk in memory
-  init    Makes a file for a new desk
-  hear    Answers the messages of standard input, one a line, for the desk in a file
-  import  Answers the records of a gateway's CSV report on standard input, one a line
-  serve   Serves messages, reports and bands over HTTP on 127.0.0.1
-  report  Prints the report of an owner's month
-  bands   Prints the bands of a gateway
-  check   Prints what a desk's file was made with, and how much it holds
-  help    Print this message or the help of the given subcommand(s)
+  lines    Answers the messages of standard input, one a line, for a new desk in memory
+  init     Makes a file for a new desk
+  migrate  Moves a desk's file from schema 1 to schema 2
+  hear     Answers the messages of standard input, one a line, for the desk in a file
+  import   Answers the records of a gateway's CSV report on standard input, one a line
+  serve    Serves messages, reports and bands over HTTP on 127.0.0.1
+  report   Prints the report of an owner's month
+  bands    Prints the bands of a gateway
+  check    Prints what a desk's file was made with, and how much it holds
+  help     Print this message or the help of the given subcommand(s)
 
 Options:
   -h, --help  Print help
@@ -57,6 +58,23 @@ Options:
 
 Example:
   desk init town.db --base 01a00000
+";
+
+pub(crate) const MIGRATE_HELP: &str = "\
+Moves a desk's file from schema 1 to schema 2
+
+Usage: desk migrate <FILE>
+
+Arguments:
+  <FILE>  The desk's file
+
+Options:
+  -h, --help  Print help
+
+Nothing is printed. All commands but this one take files of schema 2 alone.
+
+Example:
+  desk migrate town.db
 ";
 
 pub(crate) const HEAR_HELP: &str = "\

@@ -1,4 +1,4 @@
-use Rattle.std.proofs.Common.{◌≡◌, ◌∙◌, ap, sym}
+use Rattle.std.proofs.Common.{◌∙◌, ap, sym}
 use Rattle.std.specs.Prelude.{nat_lt}
 use Rattle.registry_core.specs.Bookings.{is_answered, is_answer_to}
 use Rattle.desk_store.proofs.Counted.{any_counted}

@@ -5,7 +5,7 @@ use Rattle.std.specs.Map.{lookup}
 use Rattle.registry_core.specs.declared.messages.Role.TheVariants.{Operator}
 use Rattle.registry_core.specs.State.{at_name}
 use Rattle.desk_store.specs.Devices.{devices_of}
-use Rattle.desk_store.specs.Facts.{same_copy}
+use Rattle.desk_store.specs.Facts.{same_key}
 use Rattle.desk_store.proofs.Keyed.{at_name-updated}
 use Rattle.desk_store.proofs.facts.Facts.opening.Goals as goal
 
@@ -20,6 +20,7 @@ returns c =
       devices = λ dev_eui. devices_of (c.new-3.ensures i) dev_eui;
       sessions = c.new-4.ensures i;
       uplinks = c.new-5.ensures.uplinks i;
-      copies = λ number gateway. lookup (same_copy (number, gateway)) (c.new-6.ensures.empty i);
+      copies = λ number gateway. lookup (same_key (number, gateway)) (c.new-6.ensures.empty i);
       bookings = c.new-5.ensures.bookings i;
+      limits = λ gateway band. lookup (same_key (band, gateway)) (c.new-7.ensures.empty i);
     }

@@ -1,4 +1,4 @@
-use Rattle.std.proofs.Common.{◌≡◌, ap, sym, subst}
+use Rattle.std.proofs.Common.{sym, subst}
 use Rattle.std.proofs.lemmas.Result.{on_err_weaker}
 use Rattle.desk_store.specs.Switched.{IsOfADesk}
 use Rattle.desk_store.proofs.switched.SwitchedKeeper.commit.Goals as goal

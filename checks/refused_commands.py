@@ -1,0 +1,322 @@
+#!/usr/bin/env python3
+"""Refuses each request for memory of the commands on a file in turn.
+
+    checks/refused_commands.py [--program FILE] [--jobs 2] [--only NAME,..] [--folder FOLDER]
+
+Each case is a command on a file, and what it writes where there is memory. It is run for N = 1, 2, 3 .. on a copy of the file with
+its Nth request for memory refused (refusing_heap.py), until it makes fewer than N. Each run has to end as it does with memory, or
+with status 3: with `desk: file` where the file couldn't be opened for it, which then is as it was, and else with `desk: unavailable`,
+after the first lines of what it writes or none. The real SQLite then reads the file: its rows are those of before the message under
+way or those with it, and what was answered is in it. The command once more, with memory, writes what it writes where there always
+was, and leaves those rows.
+
+The cases are `init`, `hear` of no message, which is an opening, and then, of the requests after it, `hear` of each request of docs/MESSAGES.md
+on a file that has heard those before it, which are of all ten messages and told in all ways, `import`, `report`, `bands`, `check`,
+`migrate` of a file of schema 1, and `serve`: a message and both reports, each by two connections. A request by HTTP is answered, or
+told 503, or its connection ends, and the second connection is answered as with memory.
+
+The program is the one that `./desk` proves and builds, or with --program the built one in FILE.
+"""
+
+import argparse
+import shutil
+import sqlite3
+import subprocess
+import sys
+import tempfile
+from concurrent.futures import ThreadPoolExecutor
+from contextlib import closing
+from pathlib import Path
+
+from http_client import asked, body, free_port, get, post
+from messages import PAGE, read_page
+from refusing_heap import build_heap, refusing, requests_of
+
+ROOT = Path(__file__).resolve().parent.parent
+BUILT = ROOT / "crates" / "desk_cli" / "out" / "desk_cli"
+EXAMPLES = ROOT / "examples"
+# the cases of which each request is refused
+WHOLE = ["init", "opening"]
+# by how many requests the words of two commands may differ
+OF_WORDS = 200
+UNAVAILABLE = "desk: unavailable\n"
+UNOPENED = "desk: file\n"
+HELD = "desk: exists\n"
+UNANSWERED = b""
+REFUSED = b"HTTP/1.1 503 "
+
+
+def wants(holds, what):
+    if not holds:
+        raise AssertionError(what)
+
+
+# ---- files
+
+
+def log_of(file):
+    return file.with_name(file.name + "-wal")
+
+
+def copy_to(file, to):
+    shutil.copy(file, to)
+    if log_of(file).exists():
+        shutil.copy(log_of(file), log_of(to))
+
+
+def rows_of(file):
+    """Each table's rows as the real SQLite reads them; none where there is no file, or one that has no table."""
+    if not file.exists():
+        return {}
+    with closing(sqlite3.connect(f"file:{file}?mode=ro", uri=True)) as conn:
+        tables = conn.execute("SELECT name FROM sqlite_schema WHERE type = 'table' ORDER BY rowid").fetchall()
+        return {table: conn.execute(f"SELECT rowid, * FROM {table} ORDER BY rowid").fetchall() for (table,) in tables}
+
+
+# ---- a run
+
+
+class Program:
+    def __init__(self, path, heap):
+        self.path, self.heap = path, heap
+
+    def run(self, words, given, refused=0):
+        """Its status, what it wrote, what it told, and how many requests it made."""
+        words = [self.path, *map(str, words)]
+        ran = subprocess.run(words, input=given, capture_output=True, text=True, env=refusing(self.heap, refused), timeout=60)
+        requests, told = requests_of(ran.stderr)
+        wants(requests, f"{words} with request {refused} refused ends with {ran.returncode} {told!r}")
+        return ran.returncode, ran.stdout, told, requests
+
+    def ends(self, words, given, written, told="", status=0):
+        found = self.run(words, given)
+        wants(found[:3] == (status, written, told), f"{words}: {found}")
+
+
+class Case:
+    """A command on a copy of this file, or on none, the lines that it is given, and what it writes."""
+
+    def __init__(self, name, file, command, *options, given="", written="", again=None):
+        self.name, self.file, self.command, self.options = name, file, command, options
+        self.given, self.written = given, written
+        # how it ends once more where it has done all
+        self.again = again or (0, "", written)
+        # those before this request are of an opening, which has its own case
+        self.first = 1
+
+    def begins(self, folder):
+        file = folder / "town.db"
+        if self.file:
+            copy_to(self.file, file)
+        return file, [self.command, file, *self.options]
+
+    def rows(self, program, folder):
+        """The rows before, and after each line that it writes, or after all where it writes none; and how many requests it made."""
+        file, words = self.begins(folder)
+        states = [rows_of(file)]
+        status, written, told, requests = program.run(words, self.given)
+        wants((status, written, told) == (0, self.written, ""), f"{words}: {status} {written!r} {told!r}")
+        states.append(rows_of(file))
+        return states, requests
+
+    def refuse(self, program, states, place, folder):
+        """What came of the command with this request refused: it was `answered`, the file `unopened`, or it was `unavailable`, or `kept`
+        where the message was heard all the same."""
+        file, words = self.begins(folder)
+        status, written, told, _ = program.run(words, self.given, place)
+        what = f"{self.name}, request {place} refused: {status} {written!r} {told!r}"
+        if (status, told) == (0, ""):
+            wants(written == self.written, what)
+            outcome = "answered"
+        elif (status, told, written) == (3, UNOPENED, ""):
+            outcome = "unopened"
+        else:
+            wants((status, told) == (3, UNAVAILABLE) and self.written.startswith(written), what)
+            outcome = "unavailable"
+        left = rows_of(file)
+        wants(self.is_between(left, states, written, outcome), f"{what}: the rows are {left}")
+        if outcome == "unavailable" and left == states[-1] != states[0]:
+            outcome = "kept"
+        status, written, told, _ = program.run(words, self.given)
+        done = self.again if left == states[-1] else (0, "", self.written)
+        wants((status, told, written) == done, f"{what}; once more it ends with {status} {told!r} {written!r}")
+        wants(rows_of(file) == states[-1], f"{what}; once more it leaves other rows")
+        return outcome
+
+    def is_between(self, left, states, written, outcome):
+        """Whether these are the rows of before or after, and after where it has ended or answered."""
+        if outcome == "unopened":
+            return left == states[0]
+        return left == states[-1] or outcome != "answered" and not written and left == states[0]
+
+
+class Import(Case):
+    """Its messages are heard one after another, so that the first of them may be there."""
+
+    def rows(self, program, folder):
+        states, requests = super().rows(program, folder)
+        header, *records = self.given.splitlines(keepends=True)
+        for count in range(1, len(records)):
+            part = folder / f"part-{count}"
+            part.mkdir()
+            file, words = self.begins(part)
+            program.run(words, header + "".join(records[:count]))
+            states.insert(-1, rows_of(file))
+        return states, requests
+
+    def is_between(self, left, states, written, outcome):
+        if outcome == "unopened":
+            return left == states[0]
+        return left in states[written.count("\n") :] and (outcome != "answered" or left == states[-1])
+
+
+class Served(Case):
+    """A request by two connections, one after the other, of a program that serves two."""
+
+    def __init__(self, name, file, request, wanted):
+        super().__init__(name, file, "serve")
+        self.request, self.wanted = request, wanted
+
+    def serve(self, program, file, refused):
+        """Its status, the two bodies or responses, what it told, and how many requests it made."""
+        port = free_port()
+        words = [program.path, "serve", str(file), "--port", str(port), "--count", "2"]
+        with subprocess.Popen(words, stdout=subprocess.PIPE, stderr=subprocess.PIPE, text=True, env=refusing(program.heap, refused)) as served:
+            responses = []
+            if served.stdout.readline():
+                try:
+                    responses = [self.response(port) for _ in range(2)]
+                except OSError:
+                    served.kill()
+            _, told = served.communicate(timeout=60)
+        requests, told = requests_of(told)
+        wants(requests, f"{self.name} with request {refused} refused ends with {served.returncode} {told!r}")
+        return served.returncode, responses, told, requests
+
+    def response(self, port):
+        try:
+            return asked(port, self.request)
+        except ConnectionResetError:
+            return UNANSWERED
+
+    def rows(self, program, folder):
+        file, _ = self.begins(folder)
+        before = rows_of(file)
+        status, responses, told, requests = self.serve(program, file, 0)
+        wants((status, told, [body(it) for it in responses]) == (0, "", [self.wanted] * 2), f"{self.name}: {status} {told!r} {responses}")
+        return [before, rows_of(file)], requests
+
+    def refuse(self, program, states, place, folder):
+        file, _ = self.begins(folder)
+        status, responses, told, _ = self.serve(program, file, place)
+        what = f"{self.name}, request {place} refused: {status} {responses} {told!r}"
+        if not responses:
+            wants(status == 3 and told in (UNAVAILABLE, UNOPENED), what)
+            wants(rows_of(file) == states[0], f"{what}: the rows are others")
+            return "unopened" if told == UNOPENED else "unavailable"
+        wants((status, told) == (0, ""), what)
+        good = [body(it) == self.wanted for it in responses]
+        wants(all(is_good or it == UNANSWERED or it.startswith(REFUSED) for it, is_good in zip(responses, good)), what)
+        wants(any(good) and rows_of(file) == states[-1], f"{what}: what isn't answered is, at the second connection")
+        return "answered" if all(good) else "unavailable"
+
+
+# ---- the cases
+
+
+def answers_to(requests, answers):
+    """Each request with its answer; an empty line has none."""
+    left = iter(answers)
+    return [(line, next(left) + "\n" if line else "") for line in requests]
+
+
+def schema_1(file):
+    """The file as one was made before there were limits."""
+    with closing(sqlite3.connect(file)) as conn:
+        conn.executescript("DROP TABLE band_limit; UPDATE meta SET version = 1")
+
+
+def cases_in(program, folder):
+    words, requests, answers, _ = read_page(PAGE.read_text().splitlines())
+    messages = answers_to(requests, [line for _, line in answers])
+    yield Case("init", None, "init", again=(1, HELD, ""))
+    file = folder / "opened.db"
+    program.ends(["init", file, *words[1:]], "", "")
+    for number, (line, answer) in enumerate(messages, 1):
+        before = folder / f"before-{number}.db"
+        copy_to(file, before)
+        yield Case(f"message {number}", before, "hear", given=line + "\n", written=answer)
+        program.ends(["hear", file], line + "\n", answer)
+    yield Case("opening", file, "hear")
+    day = folder / "day.db"
+    program.ends(["init", day], "", "")
+    lines = "".join(path.read_text() for path in sorted(EXAMPLES.glob("[1-4]-*.jsonl")))
+    _, told, _, _ = program.run(["hear", day], lines)
+    wants(told.count("\n") == lines.count("\n"), "the examples aren't all answered")
+    imported = folder / "imported.db"
+    copy_to(day, imported)
+    report = (EXAMPLES / "evening-report.csv").read_text()
+    _, written, _, _ = program.run(["import", imported, "--sender", "bridge"], report)
+    yield Import("import", day, "import", "--sender", "bridge", given=report, written=written)
+    yield Case("report", day, "report", "town", "2024-02", written=(EXAMPLES / "owner-report.csv").read_text())
+    yield Case("bands", day, "bands", "gw-a", written=(EXAMPLES / "band-report.csv").read_text())
+    _, counted, _, _ = program.run(["check", day], "")
+    yield Case("check", day, "check", written=counted)
+    first = folder / "first.db"
+    copy_to(day, first)
+    schema_1(first)
+    yield Case("migrate", first, "migrate", again=(1, "desk: schema\n", ""))
+    line, answer = lines.splitlines()[0], told.splitlines()[0]
+    empty = folder / "empty.db"
+    program.ends(["init", empty], "", "")
+    yield Served("serve, a message", empty, post(line), answer)
+    yield Served("serve, a report", day, get("/v1/reports/town/2024-02"), (EXAMPLES / "owner-report.csv").read_text())
+    yield Served("serve, bands", day, get("/v1/bands/gw-a"), (EXAMPLES / "band-report.csv").read_text())
+
+
+def past_opening(case, program, folder):
+    """The case, of the requests after an opening of its file alone."""
+    with tempfile.TemporaryDirectory(dir=folder) as room:
+        file, _ = case.begins(Path(room))
+        case.first = program.run(["hear", file], "")[3] - OF_WORDS
+    return case
+
+
+def refuse_each(case, program, folder, jobs):
+    """Prints what came of the case with each of its requests refused."""
+    with tempfile.TemporaryDirectory(dir=folder) as room:
+        states, requests = case.rows(program, Path(room))
+    came = dict.fromkeys(["answered", "unopened", "unavailable", "kept"], 0)
+
+    def refuse(place):
+        with tempfile.TemporaryDirectory(dir=folder) as room:
+            return case.refuse(program, states, place, Path(room))
+
+    with ThreadPoolExecutor(jobs) as pool:
+        for outcome in pool.map(refuse, range(case.first, requests + 1)):
+            came[outcome] += 1
+    print(f"{case.name}: {requests + 1 - case.first} requests refused in turn:", ", ".join(f"{count} {outcome}" for outcome, count in came.items() if count), flush=True)
+    return came
+
+
+def main():
+    words = argparse.ArgumentParser(description=__doc__, formatter_class=argparse.RawDescriptionHelpFormatter)
+    words.add_argument("--program", type=Path, metavar="FILE", help="the built program, in place of ./desk's")
+    words.add_argument("--jobs", type=int, default=2)
+    words.add_argument("--only", default="", metavar="NAME,..", help="the cases whose names begin so")
+    words.add_argument("--folder", type=Path, help="where the files stand while it runs")
+    given = words.parse_args()
+    if not given.program:
+        # the first call may prove and build the program
+        subprocess.run([ROOT / "desk", "lines"], stdin=subprocess.DEVNULL, check=True)
+    wanted = tuple(given.only.split(","))
+    with tempfile.TemporaryDirectory(dir=given.folder) as folder:
+        folder = Path(folder)
+        program = Program((given.program or BUILT).resolve(), build_heap(folder))
+        for case in cases_in(program, folder):
+            if case.name.startswith(wanted):
+                refuse_each(case if case.name in WHOLE else past_opening(case, program, folder), program, folder, given.jobs)
+
+
+if __name__ == "__main__":
+    main()

@@ -1,0 +1,56 @@
+-- `desk migrate`: its words, and what it has done, by how it ended.
+use Rattle.std.specs.Prelude.{◌≡◌, ◌≢◌, ◌⊎◌, ℤ, pos, List, Result, Ok, Err, OnOk, OnErr, IsTrue, codes}
+use Rattle.clap.specs.Simple.{App, new_app, with_rule}
+use Rattle.clap.specs.Walk.{Row}
+use Rattle.sqlite.specs.Effect.{Database}
+use Rattle.sqlite.specs.Held.{Held, state}
+use Rattle.sqlite.specs.State.{HasCleanDisk}
+use Rattle.sqlite_catalog.specs.Change.{is_used}
+use Rattle.sqlite_trees.specs.declared.store.Store.{Ghosts}
+use Rattle.registry_core.specs.declared.messages.Envelope.{Envelope}
+use Rattle.registry_core.specs.Heard.{IsHeard}
+use Rattle.registry_core.specs.Settings.{Settings}
+use Rattle.desk_rows.specs.Meta.{HasMeta, TellsMeta}
+use Rattle.desk_rows.specs.Migrating.{limit_name}
+use Rattle.desk_rows.specs.Schema.{first_schema}
+use Rattle.desk_tables.specs.Adopting.{IsGivenBack}
+use Rattle.desk_tables.specs.Migrating.{IsBackFromMove, IsOfFirstSchema}
+use Rattle.desk_engine.specs.InOrder.{kept_after}
+use Rattle.desk_cli.specs.Named.{Named, migrate, named_as}
+use Rattle.desk_cli.specs.OnTables.{KeepsHeard}
+use Rattle.desk_cli.specs.Options.{◌>>=◌, place_rule, placed}
+use Rattle.desk_cli.specs.declared.faults.Fault.{Fault}
+use Rattle.desk_cli.specs.declared.faults.Fault.TheVariants.{Exists, Schema, Unavailable}
+
+-- its words
+abbrev pub migrate_app : App
+migrate_app = with_rule (new_app (codes "migrate")) (place_rule (codes "file"))
+
+-- what they name
+abbrev pub migrate_named : List Row → Named
+migrate_named rows = named_as do
+  file ← placed (codes "file") rows
+  Ok (migrate file)
+
+-- ---- what it does
+
+-- the database holds exactly the tables of schema 1 of a desk of this configuration that has heard these, in this order
+pub record HasHeardInFirst (c : Settings) (heard : List Envelope) (db : Database) : Type 0 where
+  pub list : IsHeard c heard
+  pub tables : IsOfFirstSchema c (kept_after c heard) db
+
+-- Of a file of schema 1: with status 0 it has schema 2 and keeps all that was heard, and else memory or the disk failed, and a crash
+-- leaves what it left before or the tables moved. Where meta tells another version than 1, or the name of the table that is to be
+-- made is taken, the file is given back as it was.
+pub record MigratesBy {S : Type 0} (g : Ghosts S) (conn back : Held S) {T : Type 0} (result : Result T Fault) : Type 0 where
+  pub moved : (c : Settings) (heard : List Envelope) → HasHeardInFirst c heard (state g conn).now → OnOk result (HasCleanDisk (state g back) → KeepsHeard g back c heard)
+  pub unavailable : (c : Settings) (heard : List Envelope) → HasHeardInFirst c heard (state g conn).now → OnErr result (HasCleanDisk (state g back) → result ≡ Err Unavailable)
+  pub given_back : (c : Settings) (heard : List Envelope) → HasHeardInFirst c heard (state g conn).now
+      → OnErr result (IsBackFromMove c (kept_after c heard) (state g conn) (state g back))
+  pub first : OnOk result (HasCleanDisk (state g back) → conn.schema ≡ first_schema)
+  pub other_version : HasMeta conn.schema → (version : ℤ) (c : Settings) → TellsMeta (state g conn).now.trees version c → version ≢ pos 1
+      → OnErr result (HasCleanDisk (state g back) → (result ≡ Err Schema) ⊎ (result ≡ Err Unavailable))
+  pub taken : HasMeta conn.schema → (c : Settings) → TellsMeta (state g conn).now.trees (pos 1) c → IsTrue (is_used conn.schema limit_name)
+      → OnErr result (HasCleanDisk (state g back) → (result ≡ Err Exists) ⊎ (result ≡ Err Unavailable))
+  pub untouched : (conn.schema ≡ first_schema → (c : Settings) → ¬ TellsMeta (state g conn).now.trees (pos 1) c)
+      → OnErr result (IsGivenBack (state g conn) (state g back) (λ _. ⊥))

@@ -1,0 +1,61 @@
+//! `desk migrate`: a desk's file of schema 1 becomes one of schema 2.
+ghost use Rattle.std.specs.Prelude.{◌≡◌, false, IfOk, None};
+ghost use Rattle.clap.specs.Matches.{found_of};
+ghost use Rattle.clap.specs.Simple.{app_of};
+ghost use Rattle.clap.specs.Walk.{rows_of};
+ghost use Rattle.clap.specs.declared.builder.command.Command.TheViews.{out-Command as fields_of};
+ghost use Rattle.desk_cli.specs.commands.Migrating.{migrate_app, migrate_named, MigratesBy};
+ghost use Rattle.desk_cli.specs.Named.{Tells};
+
+use super::Command;
+use crate::faults::Fault;
+use crate::options::{command, place, placed};
+use crate::usage::Usage;
+use clap::ArgMatches;
+use desk_tables::Tables;
+use sqlite::{Alter, Connection};
+use std::alloc::{AllocError, Global};
+
+const EXAMPLE: &str = "\
+Nothing is printed. All commands but this one take files of schema 2 alone.
+
+Example:
+  desk migrate town.db";
+
+/// Its words: its name and the file.
+pub(crate) fn migrate_app<'a>(alloc: Global) -> Result<clap::Command<'a>, AllocError>
+    ensures app { IfOk result (λ c. app_of c ≡ migrate_app) }
+    ensures local { IfOk result (λ c. (fields_of c).has_globals ≡ false) }
+{
+    let about = "Moves a desk's file from schema 1 to schema 2";
+    let file = place(alloc, "file", "FILE", "The desk's file");
+    command(alloc, "migrate", about, EXAMPLE).arg(file)
+}
+
+/// The command that its words give.
+pub(crate) fn migrate_of<'a>(options: &ArgMatches<'a>) -> Result<Command<'a>, Usage>
+    ensures { Tells (migrate_named (rows_of (found_of options.now))) result }
+{
+    let file = placed(options, "file")?;
+    Ok(Command::Migrate { file })
+}
+
+/// Moves the desk of the connection's database from schema 1 to schema 2, with all that it holds, and gives the connection
+/// back.
+///
+/// `NotADesk` where the row of meta isn't a desk's, `Schema` where it tells another version than 1, then `Exists` where the name
+/// of the table that schema 1 lacks is taken, and `NotADesk` where the rest isn't schema 1: then nothing is changed. With
+/// `Unavailable` too, or the desk was moved, and the fault came after; a crash leaves one or the other.
+pub fn migrate_command<S: Alter>(
+    alloc: Global,
+    conn: Connection<S>,
+) -> (Result<(), Fault>, Connection<S>)
+    requires idle { conn.in_transaction ≡ false }
+    requires unlimited { conn.step_limit ≡ None }
+    ensures { MigratesBy S.Store conn result.1 result.0 }
+{
+    match Tables::migrate(alloc, conn) {
+        Ok(tables) => (Ok(()), tables.close()),
+        Err((fault, conn)) => (Err(fault.into()), conn),
+    }
+}

@@ -1,0 +1,222 @@
+//! A desk of schema 1 is moved to schema 2: with all that it holds, and over a stop at each call of its files.
+use super::stops::{Fused, copied, deliveries, file_of, opened, rows_after_each, rows_of};
+use super::{expect_told, opening};
+use desk_engine::deliver;
+use desk_store::StoreFault;
+use desk_tables::Tables;
+use sqlite::{Alter, Connection, Files, MemStore, Options};
+use sqlite_disk::{Crash, Fuse, Memory};
+use std::alloc::Global;
+use std::process::Abort;
+use std::test::Fail;
+
+/// What made the tables of schema 1.
+const FIRST_SCHEMA: &str =
+    "CREATE TABLE meta (id INTEGER PRIMARY KEY, version INTEGER NOT NULL, receiver TEXT NOT NULL, operator TEXT NOT NULL, base INTEGER NOT NULL, addresses INTEGER NOT NULL) STRICT; CREATE TABLE sender (name TEXT PRIMARY KEY, role INTEGER NOT NULL) STRICT; CREATE TABLE reply (seq INTEGER PRIMARY KEY, sender TEXT NOT NULL, number INTEGER NOT NULL, message BLOB NOT NULL, answer BLOB NOT NULL, UNIQUE (sender, number)) STRICT; CREATE TABLE owner (name TEXT PRIMARY KEY) STRICT; CREATE TABLE gateway (name TEXT PRIMARY KEY) STRICT; CREATE TABLE device (eui BLOB PRIMARY KEY, join_eui BLOB NOT NULL, owner TEXT NOT NULL, floor INTEGER) STRICT; CREATE TABLE session (number INTEGER PRIMARY KEY, device BLOB NOT NULL, nonce INTEGER NOT NULL, next_down INTEGER NOT NULL, UNIQUE (device, nonce)) STRICT; CREATE TABLE uplink (number INTEGER PRIMARY KEY, session INTEGER NOT NULL, kind INTEGER NOT NULL, counter INTEGER NOT NULL, octets BLOB NOT NULL, start INTEGER NOT NULL, airtime INTEGER NOT NULL, band INTEGER NOT NULL, UNIQUE (session, kind, counter)) STRICT; CREATE TABLE copy (uplink INTEGER NOT NULL, gateway TEXT NOT NULL, ended INTEGER NOT NULL, freq INTEGER NOT NULL, dr INTEGER NOT NULL, PRIMARY KEY (uplink, gateway)) STRICT; CREATE TABLE booking (number INTEGER PRIMARY KEY, uplink INTEGER NOT NULL, gateway TEXT NOT NULL, session INTEGER NOT NULL, kind INTEGER NOT NULL, band INTEGER NOT NULL, start INTEGER NOT NULL, airtime INTEGER NOT NULL, state INTEGER NOT NULL) STRICT; CREATE INDEX device_owner ON device (owner, eui); CREATE INDEX uplink_start ON uplink (session, start); CREATE INDEX booking_start ON booking (gateway, start); CREATE INDEX booking_uplink ON booking (uplink)";
+
+/// How each table is read, and how a row is put into it.
+#[rattlefmt::skip]
+static COPIES: [(&str, &str); 10] = [
+    ("SELECT * FROM meta ORDER BY rowid", "INSERT INTO meta VALUES (?1, ?2, ?3, ?4, ?5, ?6)"),
+    ("SELECT * FROM sender ORDER BY rowid", "INSERT INTO sender VALUES (?1, ?2)"),
+    ("SELECT * FROM reply ORDER BY rowid", "INSERT INTO reply VALUES (?1, ?2, ?3, ?4, ?5)"),
+    ("SELECT * FROM owner ORDER BY rowid", "INSERT INTO owner VALUES (?1)"),
+    ("SELECT * FROM gateway ORDER BY rowid", "INSERT INTO gateway VALUES (?1)"),
+    ("SELECT * FROM device ORDER BY rowid", "INSERT INTO device VALUES (?1, ?2, ?3, ?4)"),
+    ("SELECT * FROM session ORDER BY rowid", "INSERT INTO session VALUES (?1, ?2, ?3, ?4)"),
+    ("SELECT * FROM uplink ORDER BY rowid", "INSERT INTO uplink VALUES (?1, ?2, ?3, ?4, ?5, ?6, ?7, ?8)"),
+    ("SELECT * FROM copy ORDER BY rowid", "INSERT INTO copy VALUES (?1, ?2, ?3, ?4, ?5)"),
+    ("SELECT * FROM booking ORDER BY rowid", "INSERT INTO booking VALUES (?1, ?2, ?3, ?4, ?5, ?6, ?7, ?8, ?9)"),
+];
+
+fn copy_rows<S: Alter, T: Alter>(
+    alloc: Global,
+    from: &mut Connection<S>,
+    to: &mut Connection<T>,
+) -> Result<(), Fail> {
+    for (query, insert) in &COPIES {
+        for row in &from.query_all(query, &[])? {
+            let mut values = Vec::new(alloc);
+            for at in 0..row.column_count() {
+                values.push(row.get_ref(at)?)?;
+            }
+            to.execute(insert, &values)?;
+        }
+    }
+    Ok(())
+}
+
+/// The database, which is empty, gets the tables of schema 1 with the rows of a desk that has heard the ten messages.
+fn first_in<R: Abort + AllocGlobal, S: Alter + Drop>(
+    rt: &R,
+    conn: Connection<S>,
+) -> Result<Connection<S>, Fail> {
+    let mut tables = opening::<Tables<MemStore>>(rt.alloc(), 65_536)?;
+    for delivery in &deliveries(rt.alloc())? {
+        let outcome = deliver(rt.alloc(), &mut *tables, delivery.text.as_bytes());
+        expect_told(rt, &outcome, delivery);
+    }
+    let mut from = Box::into_inner(tables).close();
+    let mut conn = conn;
+    conn.execute_batch(FIRST_SCHEMA)?;
+    copy_rows(rt.alloc(), &mut from, &mut conn)?;
+    conn.execute_batch("UPDATE meta SET version = 1")?;
+    Ok(conn)
+}
+
+/// Why the desk of the connection isn't moved, if it isn't.
+fn moved<S: Alter + Drop>(
+    alloc: Global,
+    conn: Connection<S>,
+) -> Result<(Option<StoreFault>, Connection<S>), Fail> {
+    let mut conn = conn;
+    conn.set_step_limit(None);
+    if !conn.is_autocommit() {
+        return Err("in a transaction".into());
+    }
+    Ok(match Tables::migrate(alloc, conn) {
+        Ok(tables) => (None, tables.close()),
+        Err((fault, conn)) => (Some(fault), conn),
+    })
+}
+
+#[test]
+fn a_desk_is_moved_with_all_it_holds(rt: HostRuntime) -> Result<(), Fail> {
+    let deliveries = deliveries(rt.alloc())?;
+    let wanted = rows_after_each(&rt, &deliveries)?;
+    let conn = first_in(&rt, Connection::open_in_memory(rt.alloc())?)?;
+    let (fault, conn) = moved(rt.alloc(), conn)?;
+    assert!(rt; fault.is_none());
+    let (fault, conn) = moved(rt.alloc(), conn)?;
+    assert!(rt; fault == Some(StoreFault::SchemaVersion));
+    let (rows, mut tables) = rows_of(rt.alloc(), opened(rt.alloc(), conn)?)?;
+    assert!(rt; wanted.last() == Some(&rows));
+    for delivery in &deliveries {
+        let outcome = deliver(rt.alloc(), &mut *tables, delivery.text.as_bytes());
+        expect_told(&rt, &outcome, delivery);
+    }
+    Ok(())
+}
+
+/// What is done to a database of schema 1, and why it isn't moved then.
+static UNMOVED: [(&str, StoreFault); 5] = [
+    (
+        "CREATE TABLE Band_Limit (id INTEGER PRIMARY KEY)",
+        StoreFault::Exists,
+    ),
+    (
+        "CREATE INDEX band_limit ON owner (name)",
+        StoreFault::Exists,
+    ),
+    (
+        "CREATE TABLE note (id INTEGER PRIMARY KEY)",
+        StoreFault::NotADesk,
+    ),
+    ("DELETE FROM meta", StoreFault::NotADesk),
+    (
+        "UPDATE meta SET version = 3; CREATE TABLE band_limit (id INTEGER PRIMARY KEY)",
+        StoreFault::SchemaVersion,
+    ),
+];
+
+#[test]
+fn other_tables_are_not_moved(rt: HostRuntime) -> Result<(), Fail> {
+    for (batch, wanted) in &UNMOVED {
+        let mut conn = first_in(&rt, Connection::open_in_memory(rt.alloc())?)?;
+        conn.execute_batch(batch)?;
+        let (fault, _) = moved(rt.alloc(), conn)?;
+        assert!(rt; fault == Some(*wanted), "{batch}");
+    }
+    Ok(())
+}
+
+// ---- over files that stop
+
+/// More than a move makes.
+const MOST_CALLS: u64 = 1_000;
+
+/// The files of a desk of schema 1.
+fn first_files<R: Abort + AllocGlobal>(rt: &R) -> Result<Files<Memory>, Fail> {
+    let files = Files {
+        log: Memory::new(rt.alloc()),
+        db: Memory::new(rt.alloc()),
+    };
+    if !files.may_be_used() {
+        return Err("not usable".into());
+    }
+    let conn = Connection::open_files(rt.alloc(), files, Options::new(1)).map_err(
+        |_| "not opened",
+    )?;
+    Ok(first_in(rt, conn)?.into_store().close())
+}
+
+/// The desk is moved in files that stop, or it isn't; whether the disk failed, and what is there then.
+fn move_in<R: Abort + AllocGlobal>(
+    rt: &R,
+    files: Files<Fused>,
+) -> Result<(bool, Files<Fused>), Fail> {
+    if !files.may_be_used() {
+        return Err("not usable".into());
+    }
+    match Connection::open_files(rt.alloc(), files, Options::new(2)) {
+        Ok(conn) => {
+            let (fault, conn) = moved(rt.alloc(), conn)?;
+            assert!(rt; matches!(fault, None | Some(StoreFault::Disk)));
+            Ok((fault.is_some(), conn.into_store().close()))
+        }
+        Err((_, left)) => Ok((true, left.into_files())),
+    }
+}
+
+/// The desk that is there has schema 1 or schema 2, and these rows.
+fn has_rows<R: Abort + AllocGlobal>(
+    rt: &R,
+    files: &Files<Fused>,
+    wanted: Option<&String>,
+) -> Result<(), Fail> {
+    let files = copied(rt.alloc(), files)?;
+    if !files.may_be_used() {
+        return Err("not usable".into());
+    }
+    let conn = Connection::open_files(rt.alloc(), files, Options::new(3)).map_err(
+        |_| "not opened",
+    )?;
+    let (fault, conn) = moved(rt.alloc(), conn)?;
+    assert!(rt; matches!(fault, None | Some(StoreFault::SchemaVersion)));
+    let (rows, _) = rows_of(rt.alloc(), opened(rt.alloc(), conn)?)?;
+    assert!(rt; wanted == Some(&rows));
+    Ok(())
+}
+
+/// One move in files of which the log passes so many calls on, and both ways on from its stop. Whether it met one.
+fn stops_once<R: Abort + AllocGlobal>(
+    rt: &R,
+    files: &Files<Memory>,
+    calls: u64,
+    wanted: Option<&String>,
+) -> Result<bool, Fail> {
+    let fused = Files {
+        log: Fuse::new(file_of(rt.alloc(), files.log.bytes())?, calls),
+        db: Fuse::new(file_of(rt.alloc(), files.db.bytes())?, u64::MAX),
+    };
+    let (stopped, mut left) = move_in(rt, fused)?;
+    has_rows(rt, &left, wanted)?;
+    left.log.crash();
+    left.db.crash();
+    has_rows(rt, &left, wanted)?;
+    Ok(stopped)
+}
+
+#[test]
+fn a_stop_leaves_one_schema_or_the_other(rt: HostRuntime) -> Result<(), Fail> {
+    let deliveries = deliveries(rt.alloc())?;
+    let wanted = rows_after_each(&rt, &deliveries)?;
+    let files = first_files(&rt)?;
+    for calls in 0..MOST_CALLS {
+        if !stops_once(&rt, &files, calls, wanted.last())? {
+            assert!(rt; calls > 2);
+            return Ok(());
+        }
+    }
+    Err("each move met a stop".into())
+}

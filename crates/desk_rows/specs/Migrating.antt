@@ -1,0 +1,19 @@
+-- A move from schema 1 to schema 2: what holds before its first statement, and between the two.
+use Rattle.std.specs.Prelude.{◌≡◌, ℕ, List, [], codes}
+use Rattle.sqlite.specs.Effect.{Database}
+use Rattle.desk_rows.specs.Rows.{Rows, HoldsTen}
+use Rattle.desk_rows.specs.Schema.{desk_schema, first_schema}
+
+abbrev pub limit_name : List ℕ
+limit_name = codes "band_limit"
+
+-- schema 1 and nothing else, with these rows: no limit was ever set
+pub record HoldsFirst (db : Database) (r : Rows) : Type 0 where
+  pub ten : HoldsTen 1 first_schema db r
+  pub no_limits : r.limits ≡ []
+
+-- the eleventh table is there and empty, and meta still tells version 1
+pub record HoldsBetween (db : Database) (r : Rows) : Type 0 where
+  pub ten : HoldsTen 1 desk_schema db r
+  pub no_limits : r.limits ≡ []
+  pub limit : db.trees 22 ≡ []

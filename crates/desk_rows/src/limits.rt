@@ -1,0 +1,80 @@
+//! The limits that operators set for gateways' bands.
+ghost use Rattle.std.specs.Prelude.{◌≡◌, ◌+◌, ◌<◌, ◌^◌, ◌++◌, [], ◌∷◌, length, false};
+ghost use Rattle.sqlite.specs.Held.{state};
+ghost use Rattle.sqlite_keyed.specs.Lists.{update_where};
+ghost use Rattle.radio_core.specs.Bands.{band_number};
+ghost use Rattle.desk_rows.specs.Calls.{Changes, Reads};
+ghost use Rattle.desk_rows.specs.Rows.{is_limit, last_number};
+ghost use Rattle.desk_rows.specs.order.Changes.{has_limit, limit_row, limited};
+ghost use Rattle.desk_rows.specs.order.Facts.{limit_found};
+ghost use Rattle.desk_rows.specs.order.Keys.{HasOnly};
+
+use crate::faults::RowFault;
+use crate::queries::find;
+use crate::values::{band, number, text};
+use crate::writes::write;
+use radio_core::{Band, Name};
+use registry_core::BandLimit;
+use sqlite::{Alter, Connection, Transaction};
+
+/// The limit that was set for the gateway's band, if one was: the one that was set last.
+pub fn limit_at<S: Alter>(
+    conn: &mut Connection<S>,
+    gateway: &Name,
+    of: Band,
+) -> Result<Option<u64>, RowFault>
+    ensures { Reads (state S.Store conn.old) (state S.Store conn.new) result (λ r limit. limit ≡ limit_found r.limits gateway.now (band_number of)) }
+{
+    find(
+        conn,
+        "SELECT value FROM band_limit WHERE gateway = ?1 AND band = ?2 ORDER BY rowid",
+        &[text(gateway), band(of)],
+    )
+}
+
+/// The number of the last limit, if there is one: how many there are.
+pub fn last_limit<S: Alter>(conn: &mut Connection<S>) -> Result<Option<u64>, RowFault>
+    ensures { Reads (state S.Store conn.old) (state S.Store conn.new) result (λ r number. number ≡ last_number r.limits) }
+{
+    find(
+        conn,
+        "SELECT rowid FROM band_limit ORDER BY rowid DESC LIMIT 1",
+        &[],
+    )
+}
+
+/// Adds the limit of a gateway's band that has none.
+pub fn insert_limit<S: Alter>(
+    tx: &mut Transaction<'_, S>,
+    gateway: &Name,
+    limit: BandLimit,
+) -> Result<(), RowFault>
+    ensures same_reference { tx.new.conn.ghost_name ≡ tx.old.conn.ghost_name }
+    ensures changes { Changes (state S.Store tx.old.conn.now) (state S.Store tx.new.conn.now) result (Unit {0})
+        (λ r. (has_limit gateway.now (band_number limit.band) r.limits ≡ false) × (1 + length r.limits < 2 ^ 63))
+        (λ r. record r { limits = r.limits ++ limit_row gateway.now limit ∷ [] }) }
+{
+    write(
+        tx,
+        "INSERT INTO band_limit (gateway, band, value) VALUES (?1, ?2, ?3)",
+        &[text(gateway), band(limit.band()), number(limit.most())],
+    )
+}
+
+/// Changes the limit of a gateway's band that has one.
+pub fn change_limit<S: Alter>(
+    tx: &mut Transaction<'_, S>,
+    gateway: &Name,
+    limit: BandLimit,
+) -> Result<(), RowFault>
+    ensures same_reference { tx.new.conn.ghost_name ≡ tx.old.conn.ghost_name }
+    ensures changes { Changes (state S.Store tx.old.conn.now) (state S.Store tx.new.conn.now) result (Unit {0})
+        (λ r. HasOnly (is_limit gateway.now (band_number limit.band)) r.limits × (length r.limits < 2 ^ 63))
+        (λ r. record r { limits = update_where (is_limit gateway.now (band_number limit.band)) (limited limit.most) r.limits }) }
+{
+    write(
+        tx,
+        "UPDATE band_limit SET value = ?3 WHERE gateway = ?1 AND band = ?2",
+        &[text(gateway), band(limit.band()), number(limit.most())],
+    )
+}

@@ -1,0 +1,43 @@
+//! The two statements that move a desk from schema 1 to schema 2, with the rows that it has.
+ghost use Rattle.std.specs.Prelude.{◌≡◌, None, IsTrue, IfErr, OnOk, is_ok};
+ghost use Rattle.sqlite.specs.Held.{state};
+ghost use Rattle.sqlite.specs.State.{HasCleanDisk};
+ghost use Rattle.sqlite_catalog.specs.Change.{is_used};
+ghost use Rattle.desk_rows.specs.Calls.{IsWrite};
+ghost use Rattle.desk_rows.specs.Faults.{IsEven};
+ghost use Rattle.desk_rows.specs.Migrating.{HoldsBetween, HoldsFirst, limit_name};
+ghost use Rattle.desk_rows.specs.Rows.{Holds, Rows};
+
+use crate::faults::RowFault;
+use crate::writes::write;
+use sqlite::{Alter, Transaction};
+
+/// Adds the table of limits, empty, to the ten tables. It is refused where a table, an index or a view has the name.
+pub fn create_limits<S: Alter>(tx: &mut Transaction<'_, S>) -> Result<(), RowFault>
+    ensures same_reference { tx.new.conn.ghost_name ≡ tx.old.conn.ghost_name }
+    ensures write { IsWrite (state S.Store tx.old.conn.now) (state S.Store tx.new.conn.now) (is_ok result) }
+    ensures made { HasCleanDisk (state S.Store tx.new.conn.now) → IsTrue (state S.Store tx.old.conn.now).in_transaction
+        → (r : Rows) → HoldsFirst (state S.Store tx.old.conn.now).now r → OnOk result (HoldsBetween (state S.Store tx.new.conn.now).now r) }
+    ensures taken { HasCleanDisk (state S.Store tx.new.conn.now) → IsTrue (state S.Store tx.old.conn.now).in_transaction
+        → IsTrue (is_used (state S.Store tx.old.conn.now).now.schema limit_name) → OnOk result ⊥ }
+    ensures in_order { HasCleanDisk (state S.Store tx.new.conn.now) → IsTrue (state S.Store tx.old.conn.now).in_transaction
+        → (r : Rows) → HoldsFirst (state S.Store tx.old.conn.now).now r → IfErr result IsEven }
+{
+    write(
+        tx,
+        "CREATE TABLE band_limit (gateway TEXT NOT NULL, band INTEGER NOT NULL, value INTEGER NOT NULL, PRIMARY KEY (gateway, band)) STRICT",
+        &[],
+    )
+}
+
+/// Has meta tell version 2, once the table of limits is there. All rows stay.
+pub fn raise_version<S: Alter>(tx: &mut Transaction<'_, S>) -> Result<(), RowFault>
+    ensures same_reference { tx.new.conn.ghost_name ≡ tx.old.conn.ghost_name }
+    ensures write { IsWrite (state S.Store tx.old.conn.now) (state S.Store tx.new.conn.now) (is_ok result) }
+    ensures made { HasCleanDisk (state S.Store tx.new.conn.now) → IsTrue (state S.Store tx.old.conn.now).in_transaction
+        → (r : Rows) → HoldsBetween (state S.Store tx.old.conn.now).now r → OnOk result (Holds (state S.Store tx.new.conn.now).now r) }
+    ensures in_order { HasCleanDisk (state S.Store tx.new.conn.now) → IsTrue (state S.Store tx.old.conn.now).in_transaction
+        → (state S.Store tx.old.conn.now).step_limit ≡ None → (r : Rows) → HoldsBetween (state S.Store tx.old.conn.now).now r → IfErr result IsEven }
+{
+    write(tx, "UPDATE meta SET version = 2 WHERE id = 1", &[])
+}

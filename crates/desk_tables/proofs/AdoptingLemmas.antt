@@ -1,0 +1,31 @@
+-- What follows where a connection is adopted, and where it isn't.
+use Rattle.std.proofs.Common.{◌≡◌, ◌∙◌, Result, Ok, Err, IfErr, IfOk, ap}
+use Rattle.registry_core.specs.Settings.{Settings}
+use Rattle.sqlite_trees.specs.declared.store.Store.{Ghosts}
+use Rattle.sqlite.specs.Effect.{Database}
+use Rattle.sqlite.specs.Held.{Held}
+use Rattle.sqlite.specs.State.{State, IsUnchanged}
+use Rattle.desk_store.specs.declared.faults.StoreFault.{StoreFault}
+use Rattle.desk_rows.specs.Schema.{desk_schema}
+use Rattle.desk_tables.specs.declared.tables.Tables.{Tables}
+use Rattle.desk_tables.specs.steps.Adopting.{IsAdopted, IsNotAdopted, IsStoreOver}
+use Rattle.desk_tables.specs.steps.Calls.{IsReady}
+
+module _ {S : Type 0} (g : Ghosts S) (conn : Held S) (config : Settings) where
+  pub if_adopted : (P : Tables S → Type 0) (result : Result (Tables S) (StoreFault × Held S)) → IsAdopted g conn config result
+      → ((t : Tables S) → IsStoreOver g conn config t → P t) → IfOk result P
+  if_adopted P (Ok t) is so = so t is
+  if_adopted P (Err back) is so = tt
+
+  pub if_not_adopted : (P : StoreFault × Held S → Type 0) (result : Result (Tables S) (StoreFault × Held S)) → IsAdopted g conn config result
+      → ((back : StoreFault × Held S) → IsNotAdopted g conn back.0 back.1 → P back) → IfErr result P
+  if_not_adopted P (Ok t) is so = tt
+  if_not_adopted P (Err back) is so = so back is
+
+-- a connection that was only read, to tables of a desk
+pub ready_again : (old new : State) → IsUnchanged old new → old.now.schema ≡ desk_schema → new.now ≡ new.committed → IsReady new
+ready_again old new same schema settled = record {
+  is_open = same.0.is_open;
+  schema = ap (λ (d : Database). d.schema) same.0.now_is ∙ schema;
+  committed = settled;
+}

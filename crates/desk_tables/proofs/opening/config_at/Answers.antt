@@ -1,0 +1,22 @@
+use Rattle.std.proofs.Common.{◌≡◌, rules, true, sym, subst, ◌∙◌}
+use Rattle.desk_store.specs.Calls.{IsUnavailability}
+use Rattle.desk_store.specs.declared.faults.StoreFault.TheVariants.{NotADesk}
+use Rattle.desk_rows.specs.Faults.{is_odd}
+use Rattle.desk_rows.specs.Meta.{HasMeta}
+use Rattle.desk_tables.proofs.OpeningLemmas.{odd_from_stranger, unavailable_from_even}
+use Rattle.desk_tables.proofs.opening.config_at.Goals as goal
+
+pub returns-in-Err-clause-in_order : goal.returns-in-Err-clause-in_order
+returns-in-Err-clause-in_order g c clean meta s tells =
+    let never = λ (odd : is_odd c.in-Err.fault ≡ true). c.in-Err.ensures.untold meta clean c.requires.unlimited odd c.args.version s tells in
+    subst IsUnavailability (sym c.store_fault.ensures) (unavailable_from_even c.in-Err.fault never)
+
+pub returns-in-Err-clause-stranger : goal.returns-in-Err-clause-stranger
+returns-in-Err-clause-stranger g c clean is meta version s tells =
+    let stranger : c.store_fault.result ≡ NotADesk = cc in
+    c.in-Err.ensures.untold meta clean c.requires.unlimited (odd_from_stranger c.in-Err.fault (sym c.store_fault.ensures ∙ stranger)) version s tells
+
+pub returns-clause-same : goal.returns-clause-same
+returns-clause-same g c clean =
+    let meta : HasMeta c.args.conn.now.schema = search rules in
+    c.in-Ok.ensures.same meta clean

@@ -1,0 +1,5 @@
+use Rattle.desk_tables.proofs.LookUps.{read_told}
+use Rattle.desk_tables.proofs.tables.Tables.session_joined.Goals as goal
+
+pub returns-clause-read : goal.returns-clause-read
+returns-clause-read g c = read_told _ _ _ _ _ _ _ c.in_ok-up.ensures.up c.session_joined-answer.ensures c.tell.ensures

@@ -1,0 +1,28 @@
+-- The transaction that moves the tables of schema 1 to schema 2.
+use Rattle.std.specs.Prelude.{◌≡◌, ◌≤◌, false, None, IsTrue, IfErr, OnErr, OnOk, Result}
+use Rattle.sqlite_trees.specs.Tree.{Trees}
+use Rattle.sqlite_trees.specs.View.{doubt}
+use Rattle.sqlite.specs.State.{State, HasCleanDisk, Survives}
+use Rattle.desk_rows.specs.Faults.{IsEven}
+use Rattle.desk_rows.specs.Migrating.{HoldsFirst}
+use Rattle.desk_rows.specs.Rows.{Holds, Rows}
+use Rattle.desk_rows.specs.declared.faults.RowFault.{RowFault}
+use Rattle.desk_tables.specs.Opening.{TreesHold}
+
+-- the rows that the trees hold are those of the tables before
+abbrev pub AreRowsBefore : State → Trees → Type 0
+AreRowsBefore old trees = (r : Rows) → HoldsFirst old.now r → TreesHold trees r
+
+-- On a connection that is open, it ends with the rows of the tables before in schema 2, all of it committed, or it leaves what was
+-- committed. A crash leaves what it left before, or these rows.
+pub record Moves (old new : State) (result : Result (Unit {0}) RowFault) : Type 0 where
+  pub clean : doubt old.is_clean ≤ doubt new.is_clean
+  pub mode : new.in_transaction ≡ false
+  pub limit : new.step_limit ≡ old.step_limit
+  pub open_still : HasCleanDisk new → IsTrue old.is_open → OnOk result (IsTrue new.is_open)
+  pub committed : HasCleanDisk new → IsTrue old.is_open → OnOk result (new.committed ≡ new.now)
+  pub made : HasCleanDisk new → IsTrue old.is_open → (r : Rows) → HoldsFirst old.now r → OnOk result (Holds new.now r)
+  pub neither : HasCleanDisk new → IsTrue old.is_open → IsTrue new.is_open
+      → OnErr result ((new.now ≡ old.committed) × (new.committed ≡ old.committed))
+  pub crash : HasCleanDisk new → IsTrue old.is_open → Survives old new (AreRowsBefore old)
+  pub in_order : HasCleanDisk new → IsTrue old.is_open → old.step_limit ≡ None → (r : Rows) → HoldsFirst old.now r → IfErr result IsEven

@@ -1,0 +1,120 @@
+//! Moving the tables of schema 1 to schema 2.
+ghost use Rattle.std.specs.Prelude.{◌≡◌, ◌≢◌, ◌⊎◌, ℤ, pos, false, None, Err, IsTrue, IfOk, IfErr, OnOk, OnErr};
+ghost use Rattle.registry_core.specs.Settings.{Settings};
+ghost use Rattle.sqlite_catalog.specs.Change.{is_used};
+ghost use Rattle.sqlite.specs.Held.{state};
+ghost use Rattle.sqlite.specs.State.{HasCleanDisk, IsUnchanged, Survives};
+ghost use Rattle.desk_store.specs.Calls.{IsUnavailability};
+ghost use Rattle.desk_store.specs.Kept.{Kept};
+ghost use Rattle.desk_store.specs.declared.faults.StoreFault.TheVariants.{Exists, NotADesk, SchemaVersion};
+ghost use Rattle.desk_rows.specs.Meta.{HasMeta, TellsMeta};
+ghost use Rattle.desk_rows.specs.Migrating.{HoldsFirst, limit_name};
+ghost use Rattle.desk_rows.specs.Rows.{Rows};
+ghost use Rattle.desk_rows.specs.Schema.{first_schema};
+ghost use Rattle.desk_tables.specs.Adopting.{IsGivenBack, IsStore};
+ghost use Rattle.desk_tables.specs.Migrating.{IsBackFromMove, IsOfFirstSchema};
+ghost use Rattle.desk_tables.specs.Store.{meaning_of};
+ghost use Rattle.desk_tables.specs.steps.Migrating.{Moves};
+
+use crate::desk_shape::{is_first_schema, is_limit_taken};
+use crate::faults::store_fault;
+use crate::making::commit_fault;
+use crate::opening::config_at;
+use crate::tables::Tables;
+use desk_rows::{RowFault, create_limits, raise_version};
+use desk_store::StoreFault;
+use registry_core::Config;
+use sqlite::{Alter, Connection};
+use std::alloc::Global;
+
+/// The configuration of the desk whose tables of schema 1 the database has. `Exists` where the name of the table that it lacks is
+/// taken.
+fn first_desk<S: Alter>(conn: &mut Connection<S>) -> Result<Config, StoreFault>
+    requires idle { conn.old.in_transaction ≡ false }
+    requires unlimited { conn.old.step_limit ≡ None }
+    ensures desk { HasCleanDisk (state S.Store conn.new) → IfOk result (λ c. (conn.old.schema ≡ first_schema) × TellsMeta (state S.Store conn.old).now.trees (pos 1) c) }
+    ensures in_order { HasCleanDisk (state S.Store conn.new) → conn.old.schema ≡ first_schema → (c : Settings)
+        → TellsMeta (state S.Store conn.old).now.trees (pos 1) c → IfErr result IsUnavailability }
+    ensures version { HasCleanDisk (state S.Store conn.new) → result ≡ Err SchemaVersion
+        → HasMeta conn.old.schema × ((version : ℤ) × (c : Settings) × TellsMeta (state S.Store conn.old).now.trees version c × (version ≢ pos 1)) }
+    ensures other_version { HasCleanDisk (state S.Store conn.new) → HasMeta conn.old.schema → (version : ℤ) (c : Settings)
+        → TellsMeta (state S.Store conn.old).now.trees version c → version ≢ pos 1 → IfErr result (λ fault. (fault ≡ SchemaVersion) ⊎ IsUnavailability fault) }
+    ensures exists { HasCleanDisk (state S.Store conn.new) → result ≡ Err Exists
+        → HasMeta conn.old.schema × ((c : Settings) × TellsMeta (state S.Store conn.old).now.trees (pos 1) c) × IsTrue (is_used conn.old.schema limit_name) }
+    ensures taken { HasCleanDisk (state S.Store conn.new) → HasMeta conn.old.schema → (c : Settings)
+        → TellsMeta (state S.Store conn.old).now.trees (pos 1) c → IsTrue (is_used conn.old.schema limit_name) → IfErr result (λ fault. (fault ≡ Exists) ⊎ IsUnavailability fault) }
+    ensures same { HasCleanDisk (state S.Store conn.new) → OnOk result (IsUnchanged (state S.Store conn.old) (state S.Store conn.new)) }
+    ensures undone { HasCleanDisk (state S.Store conn.new) → IsTrue (state S.Store conn.new).is_open
+        → OnErr result (((state S.Store conn.new).now ≡ (state S.Store conn.old).now) × ((state S.Store conn.new).committed ≡ (state S.Store conn.old).committed)) }
+    ensures settled { HasCleanDisk (state S.Store conn.new) → IsTrue (state S.Store conn.new).is_open → (state S.Store conn.new).now ≡ (state S.Store conn.new).committed }
+    ensures idle { conn.new.in_transaction ≡ false }
+    ensures crash { Survives (state S.Store conn.old) (state S.Store conn.new) (λ _. ⊥) }
+{
+    let config = config_at(conn, 1)?;
+    if is_limit_taken(conn.schema()) {
+        return Err(StoreFault::Exists);
+    }
+    if !is_first_schema(conn.schema()) {
+        return Err(StoreFault::NotADesk);
+    }
+    Ok(config)
+}
+
+/// The table of limits and the version, or nothing.
+fn move_tables<S: Alter>(conn: &mut Connection<S>) -> Result<(), RowFault>
+    requires { conn.old.in_transaction ≡ false }
+    ensures { Moves (state S.Store conn.old) (state S.Store conn.new) result }
+{
+    let mut tx = conn.transaction();
+    create_limits(&mut tx)?;
+    raise_version(&mut tx)?;
+    match tx.commit() {
+        Ok(()) => Ok(()),
+        Err(error) => Err(commit_fault(error)),
+    }
+}
+
+impl<S: Alter> Tables<S> {
+    /// The desk whose tables of schema 1 the database holds, moved to schema 2 with all that it holds; or the connection, beside
+    /// why there is none: `NotADesk` where the row of meta isn't a desk's, `SchemaVersion` where that row tells another version
+    /// than 1, then `Exists` where the name of the table that schema 1 lacks is taken, and `NotADesk` where the rest of the schema
+    /// isn't schema 1.
+    pub fn migrate(
+        alloc: Global,
+        conn: Connection<S>,
+    ) -> Result<Tables<S>, (StoreFault, Connection<S>)>
+        requires idle { conn.in_transaction ≡ false }
+        requires unlimited { conn.step_limit ≡ None }
+        ensures desk { IfOk result (λ t. (meaning_of S.Store).sound t → (conn.schema ≡ first_schema)
+            × TellsMeta (state S.Store conn).now.trees (pos 1) ((meaning_of S.Store).configuration t)) }
+        ensures in_order { (c : Settings) (kept : Kept) → IsOfFirstSchema c kept (state S.Store conn).now
+            → IfOk result (λ t. (meaning_of S.Store).sound t → IsStore (meaning_of S.Store) t c kept) }
+        ensures unavailable { (c : Settings) (kept : Kept) → IsOfFirstSchema c kept (state S.Store conn).now
+            → IfErr result (λ back. HasCleanDisk (state S.Store back.1) → IsUnavailability back.0) }
+        ensures stranger { IfErr result (λ back. HasCleanDisk (state S.Store back.1) → back.0 ≡ NotADesk → conn.schema ≡ first_schema
+            → (c : Settings) → TellsMeta (state S.Store conn).now.trees (pos 1) c → (r : Rows) → ¬ HoldsFirst (state S.Store conn).now r) }
+        ensures version { IfErr result (λ back. HasCleanDisk (state S.Store back.1) → back.0 ≡ SchemaVersion → HasMeta conn.schema
+            × ((version : ℤ) × (c : Settings) × TellsMeta (state S.Store conn).now.trees version c × (version ≢ pos 1))) }
+        ensures other_version { HasMeta conn.schema → (version : ℤ) (c : Settings) → TellsMeta (state S.Store conn).now.trees version c → version ≢ pos 1
+            → IfErr result (λ back. HasCleanDisk (state S.Store back.1) → (back.0 ≡ SchemaVersion) ⊎ IsUnavailability back.0) }
+        ensures exists { IfErr result (λ back. HasCleanDisk (state S.Store back.1) → back.0 ≡ Exists → HasMeta conn.schema
+            × ((c : Settings) × TellsMeta (state S.Store conn).now.trees (pos 1) c) × IsTrue (is_used conn.schema limit_name)) }
+        ensures taken { HasMeta conn.schema → (c : Settings) → TellsMeta (state S.Store conn).now.trees (pos 1) c → IsTrue (is_used conn.schema limit_name)
+            → IfErr result (λ back. HasCleanDisk (state S.Store back.1) → (back.0 ≡ Exists) ⊎ IsUnavailability back.0) }
+        ensures clean { IfOk result (λ t. (meaning_of S.Store).sound t → HasCleanDisk (state S.Store conn)) }
+        ensures given_back { (c : Settings) (kept : Kept) → IsOfFirstSchema c kept (state S.Store conn).now
+            → IfErr result (λ back. IsBackFromMove c kept (state S.Store conn) (state S.Store back.1)) }
+        ensures untouched { (conn.schema ≡ first_schema → (c : Settings) → ¬ TellsMeta (state S.Store conn).now.trees (pos 1) c)
+            → IfErr result (λ back. IsGivenBack (state S.Store conn) (state S.Store back.1) (λ _. ⊥)) }
+    {
+        let mut conn = conn;
+        let config = match first_desk(&mut conn) {
+            Ok(config) => config,
+            Err(fault) => return Err((fault, conn)),
+        };
+        match move_tables(&mut conn) {
+            Ok(()) => Tables::adopt(alloc, conn, config),
+            Err(fault) => Err((store_fault(fault), conn)),
+        }
+    }
+}
