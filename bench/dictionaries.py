@@ -19,7 +19,9 @@ FIRST_TIME, LAST_TIME = 946_684_800_000_000, 4_102_444_800_000_000
 
 SYMBOLS = [32_768, 16_384, 8_192, 4_096, 2_048, 1_024, 512]
 SPREADING = [12, 11, 10, 9, 8, 7, 7]
-LONGEST = [64, 64, 64, 128, 255, 255, 255]
+LONGEST = [64, 64, 64, 128, 255, 255, 255, 255]
+# the one data rate that isn't LoRa
+FSK = 7
 # from, to, and what any hour may hold where no other limit is set
 BANDS = {
     "B1": (863_000_000, 865_000_000, 3_600_000),
@@ -43,6 +45,8 @@ def wants(holds, code, description=""):
 
 
 def airtime(rate, octets, is_up):
+    if rate == FSK:
+        return 160 * (octets + 11)
     spreading = SPREADING[rate]
     block = 4 * (spreading - 2 * (rate <= 1))
     blocks = max(0, -(-(8 * octets - 4 * spreading + 28 + 16 * is_up) // block))

@@ -61,8 +61,9 @@ class Mixed(Stream):
         return 870_000_000 if self.sometimes(0.01) else 869_525_000 if self.sometimes(0.05) else self.random.choice(FREQUENCIES)
 
     def report(self, message_type, gateways, octets, frequency, verdict):
-        """Now and then a slow frame, where an hour has room for few answers."""
+        """Now and then a slow frame, where an hour has room for few answers, or one by FSK."""
         slow = self.sometimes(0.1)
+        rate = 0 if slow else 7 if self.sometimes(0.1) else 5
         for late, gateway in enumerate(gateways):
             self.say(
                 "bridge",
@@ -70,7 +71,7 @@ class Mixed(Stream):
                 Gateway=f"gw-{gateway}",
                 Time=self.now + late,
                 Freq=868_800_000 if slow else frequency,
-                DataRate=0 if slow else 5,
+                DataRate=rate,
                 PHYPayload=octets.hex(),
                 Verdict=verdict,
             )

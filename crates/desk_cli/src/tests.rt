@@ -2,6 +2,7 @@
 mod data_frames;
 mod downlinks;
 mod failing;
+mod fsk;
 mod importing;
 mod joins;
 mod limits;

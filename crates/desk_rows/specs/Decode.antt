@@ -7,7 +7,7 @@ use Rattle.std.proofs.lemmas.Nat.{from_be_bytes-to_be_bytes_8}
 use Rattle.radio_core.specs.declared.bands.Band.{Band}
 use Rattle.radio_core.specs.declared.bands.Band.TheVariants.{B1, B2, B3, B4, B5, B6}
 use Rattle.radio_core.specs.declared.data_rates.DataRate.{DataRate}
-use Rattle.radio_core.specs.declared.data_rates.DataRate.TheVariants.{Dr0, Dr1, Dr2, Dr3, Dr4, Dr5, Dr6}
+use Rattle.radio_core.specs.declared.data_rates.DataRate.TheVariants.{Dr0, Dr1, Dr2, Dr3, Dr4, Dr5, Dr6, Dr7}
 use Rattle.radio_core.specs.Bands.{band_number}
 use Rattle.radio_core.specs.DataRates.{dr_number}
 use Rattle.registry_core.specs.declared.facts.Kind.{Kind}
@@ -57,7 +57,7 @@ band_in v = if nat_in v == 1 then B1 else (if nat_in v == 2 then B2 else (if nat
 abbrev pub dr_in : Value → DataRate
 dr_in v =
     if nat_in v == 0 then Dr0
-    else (if nat_in v == 1 then Dr1 else (if nat_in v == 2 then Dr2 else (if nat_in v == 3 then Dr3 else (if nat_in v == 4 then Dr4 else (if nat_in v == 5 then Dr5 else Dr6)))))
+    else (if nat_in v == 1 then Dr1 else (if nat_in v == 2 then Dr2 else (if nat_in v == 3 then Dr3 else (if nat_in v == 4 then Dr4 else (if nat_in v == 5 then Dr5 else (if nat_in v == 6 then Dr6 else Dr7))))))
 
 role_again : (r : Role) → role_in (number (role_number r)) ≡ r
 role_again Operator = refl
@@ -88,6 +88,7 @@ dr_again Dr3 = refl
 dr_again Dr4 = refl
 dr_again Dr5 = refl
 dr_again Dr6 = refl
+dr_again Dr7 = refl
 
 option_again : (o : Option ℕ) → option_in (or_null number o) ≡ o
 option_again None = refl

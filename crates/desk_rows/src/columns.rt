@@ -182,6 +182,7 @@ pub(crate) fn data_rate_at(row: &Row, at: usize) -> Result<DataRate, RowFault>
         4 => Ok(DataRate::Dr4),
         5 => Ok(DataRate::Dr5),
         6 => Ok(DataRate::Dr6),
+        7 => Ok(DataRate::Dr7),
         _ => Err(RowFault::Row),
     }
 }

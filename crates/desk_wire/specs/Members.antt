@@ -48,7 +48,7 @@ abbrev pub whole_or_null_at : List ℕ → ℕ → Data → Option (Option ℕ)
 whole_or_null_at member limit value =
     if is_null_at member value then Some None else option_map Some (whole_at member limit value)
 
--- a whole number, 0 to 6
+-- a whole number, 0 to 7
 abbrev pub data_rate_at : List ℕ → Data → Option DataRate
 data_rate_at member value = unsigned_at member value >>= data_rate_numbered
 

@@ -236,7 +236,7 @@ fn report_of_rows(
 /// | gateway | a name |
 /// | time_us | a whole number of 53 bits, in microseconds since 1970 UTC |
 /// | freq_hz | a whole number of 32 bits, in hertz |
-/// | dr | a data rate, 0 to 6 |
+/// | dr | a data rate, 0 to 7 |
 /// | phy | 0 to 510 hexadecimal digits, an even number of them, in either case, with or without `0x` before them |
 /// | verdict | of a join `Good` or `Bad`; of a data frame a whole number of 32 bits, or nothing |
 ///

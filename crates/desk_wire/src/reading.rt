@@ -43,7 +43,7 @@ struct CommonMembers {
 ///
 /// An EUI is a text of 16 hexadecimal digits, the most significant first, in either case, with or without `0x` before
 /// them. The members of a report are Gateway: a name; Time: a whole number of 53 bits, in microseconds since 1970 UTC;
-/// Freq: a whole number of 32 bits, in hertz; DataRate: a whole number, 0 to 6; PHYPayload: a text of 0 to 510
+/// Freq: a whole number of 32 bits, in hertz; DataRate: a whole number, 0 to 7; PHYPayload: a text of 0 to 510
 /// hexadecimal digits, an even number of them, in either case, with or without `0x` before them.
 pub fn read_message(alloc: Global, text: &[u8], receiver: &Name) -> Result<Envelope, WireFault>
     ensures { Gives result (reads receiver.now text.now) }

@@ -3,7 +3,7 @@ use Rattle.std.proofs.Common.{◌≡◌, ℕ, List, [], ◌∷◌, take, map, tr
 use Rattle.std.specs.Prelude.{◌==◌, count_by}
 use Rattle.std.specs.List.{range_with_len}
 use Rattle.radio_core.specs.declared.bands.Band.TheVariants.{B3, B4, B5}
-use Rattle.radio_core.specs.declared.data_rates.DataRate.TheVariants.{Dr0, Dr1, Dr2, Dr3, Dr4, Dr5, Dr6}
+use Rattle.radio_core.specs.declared.data_rates.DataRate.TheVariants.{Dr0, Dr1, Dr2, Dr3, Dr4, Dr5, Dr6, Dr7}
 use Rattle.radio_core.specs.declared.frames.FrameFault.{FrameFault}
 use Rattle.radio_core.specs.declared.frames.FrameFault.TheVariants.{Empty, Major, Kind, Length}
 use Rattle.radio_core.specs.declared.frames.Phy.{Phy}
@@ -16,25 +16,29 @@ use Rattle.radio_core.specs.TimeOnAir.{airtime_of}
 -- time on air of uplinks, with the payload's CRC, and of downlinks, without
 times_up : airtime_of Dr0 12 true ∷ airtime_of Dr5 12 true ∷ airtime_of Dr6 12 true ∷ airtime_of Dr5 13 true ∷ airtime_of Dr0 23 true
     ∷ airtime_of Dr5 23 true ∷ airtime_of Dr0 64 true ∷ airtime_of Dr1 64 true ∷ airtime_of Dr2 64 true ∷ airtime_of Dr3 128 true
-    ∷ airtime_of Dr4 255 true ∷ airtime_of Dr5 255 true ∷ airtime_of Dr6 255 true ∷ []
+    ∷ airtime_of Dr4 255 true ∷ airtime_of Dr5 255 true ∷ airtime_of Dr6 255 true ∷ airtime_of Dr7 12 true ∷ airtime_of Dr7 23 true
+    ∷ airtime_of Dr7 255 true ∷ []
     ≡ 1155072 ∷ 41216 ∷ 20608 ∷ 46336 ∷ 1482752
     ∷ 61696 ∷ 2793472 ∷ 1560576 ∷ 698368 ∷ 676864
-    ∷ 707072 ∷ 399616 ∷ 199808 ∷ []
+    ∷ 707072 ∷ 399616 ∷ 199808 ∷ 3680 ∷ 5440
+    ∷ 42560 ∷ []
 unfolding airtime_of
 times_up = refl
 
 times_down : airtime_of Dr0 12 false ∷ airtime_of Dr5 12 false ∷ airtime_of Dr0 17 false ∷ airtime_of Dr5 17 false
-    ∷ airtime_of Dr0 33 false ∷ airtime_of Dr5 33 false ∷ airtime_of Dr0 64 false ∷ []
+    ∷ airtime_of Dr0 33 false ∷ airtime_of Dr5 33 false ∷ airtime_of Dr0 64 false ∷ airtime_of Dr7 12 false
+    ∷ airtime_of Dr7 23 false ∷ airtime_of Dr7 255 false ∷ []
     ≡ 991232 ∷ 41216 ∷ 1155072 ∷ 46336
-    ∷ 1810432 ∷ 71936 ∷ 2793472 ∷ []
+    ∷ 1810432 ∷ 71936 ∷ 2793472 ∷ 3680
+    ∷ 5440 ∷ 42560 ∷ []
 unfolding airtime_of
 times_down = refl
 
 -- a band's upper edge is in it; between bands, across a lower edge and too wide for the band there is none
 bands_found : band_at 868537500 Dr0 ∷ band_at 868562500 Dr0 ∷ band_at 868000000 Dr5 ∷ band_at 868500000 Dr6 ∷ band_at 868475000 Dr6
-    ∷ band_at 868800000 Dr0 ∷ band_at 869525000 Dr0 ∷ []
+    ∷ band_at 868800000 Dr0 ∷ band_at 869525000 Dr0 ∷ band_at 868537500 Dr7 ∷ band_at 868562500 Dr7 ∷ band_at 868800000 Dr7 ∷ []
     ≡ Some B3 ∷ None ∷ None ∷ None ∷ Some B3
-    ∷ Some B4 ∷ Some B5 ∷ []
+    ∷ Some B4 ∷ Some B5 ∷ Some B3 ∷ None ∷ Some B4 ∷ []
 unfolding band_at
 bands_found = refl
 

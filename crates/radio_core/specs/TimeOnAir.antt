@@ -1,9 +1,9 @@
--- Time on air by Semtech's LoRa formula (AN1200.13), in microseconds: 8 preamble symbols, an explicit header and
--- coding rate 4/5, as LoRaWAN has them.
+-- Time on air in microseconds: of LoRa by Semtech's formula (AN1200.13), with 8 preamble symbols, an explicit header
+-- and coding rate 4/5, as LoRaWAN has them; of FSK, at DR7, by its bits.
 use Rattle.std.specs.Prelude.{◌≡◌, ℕ, ◌+◌, ◌-◌, ◌*◌, ◌/◌, ◌≤◌, Bool, if◌then◌else◌}
 use Rattle.std.specs.Int.{div_ceil}
 use Rattle.radio_core.specs.declared.data_rates.DataRate.{DataRate}
-use Rattle.radio_core.specs.declared.data_rates.DataRate.TheVariants.{Dr0, Dr1}
+use Rattle.radio_core.specs.declared.data_rates.DataRate.TheVariants.{Dr0, Dr1, Dr7}
 use Rattle.radio_core.specs.DataRates.{spreading_factor, symbol_time, max_length}
 
 -- low data rate optimization, DE: at the two slowest data rates
@@ -33,8 +33,14 @@ pub record IsBlockCount (dr : DataRate) (n : ℕ) (crc : Bool) (blocks : ℕ) : 
 abbrev pub time_of_blocks : DataRate → ℕ → ℕ
 time_of_blocks dr blocks = (81 + 20 * blocks) * (symbol_time dr / 4)
 
+-- n octets of FSK at 50 kbit/s (this project's profile), up and down alike: 5 octets of preamble and 3 of sync word,
+-- 1 of length, the n, 2 of CRC; a bit takes 20 microseconds
+abbrev pub fsk_time : ℕ → ℕ
+fsk_time n = 20 * 8 * (5 + 3 + 1 + n + 2)
+
 -- the time on air of n octets; nothing in it is rounded
 abbrev pub IsAirtime : DataRate → ℕ → Bool → ℕ → Type 0
+IsAirtime Dr7 n crc time = time ≡ fsk_time n
 IsAirtime dr n crc time = (blocks : ℕ) × IsBlockCount dr n crc blocks × (time ≡ time_of_blocks dr blocks)
 
 -- ---- the same, to be computed
@@ -44,6 +50,7 @@ abbrev pub block_count : DataRate → ℕ → Bool → ℕ
 block_count dr n crc = div_ceil (8 * n + 28 + crc_bits crc - 4 * spreading_factor dr) (bits_of_block dr)
 
 unfoldable pub airtime_of : DataRate → ℕ → Bool → ℕ
+airtime_of Dr7 n crc = fsk_time n
 airtime_of dr n crc = time_of_blocks dr (block_count dr n crc)
 
 -- the quotient rounded up is the least number of blocks

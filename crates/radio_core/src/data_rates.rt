@@ -2,7 +2,8 @@
 ghost use Rattle.std.specs.Prelude.{◌≡◌};
 ghost use Rattle.radio_core.specs.DataRates.{max_length};
 
-/// A LoRa data rate of EU863-870 (RP002-1.0.4): DR0 to DR5 are SF12 to SF7 at 125 kHz, DR6 is SF7 at 250 kHz.
+/// A data rate of EU863-870 (RP002-1.0.4): DR0 to DR5 are LoRa of SF12 to SF7 at 125 kHz, DR6 is LoRa of SF7 at 250 kHz,
+/// DR7 is FSK at 50 kbit/s.
 #[derive(Clone, Copy, Debug, PartialEq, Eq)]
 pub enum DataRate {
     Dr0,
@@ -12,6 +13,7 @@ pub enum DataRate {
     Dr4,
     Dr5,
     Dr6,
+    Dr7,
 }
 
 /// How a frame is sent: its frequency in hertz and its data rate.
@@ -26,10 +28,10 @@ impl DataRate {
     ghost use Rattle.radio_core.specs.declared.data_rates.DataRate.{DataRate};
     ghost use Rattle.radio_core.specs.DataRates.{dr_number};
 
-    /// The data rate of a number, 0 to 6. `None` exactly where the number is above 6.
+    /// The data rate of a number, 0 to 7. `None` exactly where the number is above 7.
     pub fn new(number: u8) -> Option<Self>
         ensures some { IfSome result (λ dr. dr_number dr ≡ number) }
-        ensures none { IfNone result (6 < number) }
+        ensures none { IfNone result (7 < number) }
         ensures back { (dr : DataRate) → dr_number dr ≡ number → result ≡ Some dr }
     {
         match number {
@@ -40,11 +42,12 @@ impl DataRate {
             4 => Some(DataRate::Dr4),
             5 => Some(DataRate::Dr5),
             6 => Some(DataRate::Dr6),
+            7 => Some(DataRate::Dr7),
             _ => None,
         }
     }
 
-    /// Its number, 0 to 6.
+    /// Its number, 0 to 7.
     pub fn get(self) -> u8
         ensures { result ≡ dr_number self }
     {
@@ -56,6 +59,7 @@ impl DataRate {
             DataRate::Dr4 => 4,
             DataRate::Dr5 => 5,
             DataRate::Dr6 => 6,
+            DataRate::Dr7 => 7,
         }
     }
 }
@@ -67,7 +71,7 @@ pub fn max_phy(dr: DataRate) -> usize
     match dr {
         DataRate::Dr0 | DataRate::Dr1 | DataRate::Dr2 => 64,
         DataRate::Dr3 => 128,
-        DataRate::Dr4 | DataRate::Dr5 | DataRate::Dr6 => 255,
+        DataRate::Dr4 | DataRate::Dr5 | DataRate::Dr6 | DataRate::Dr7 => 255,
     }
 }
 
@@ -85,7 +89,8 @@ mod tests {
             (4, Some(DataRate::Dr4), 255),
             (5, Some(DataRate::Dr5), 255),
             (6, Some(DataRate::Dr6), 255),
-            (7, None, 0),
+            (7, Some(DataRate::Dr7), 255),
+            (8, None, 0),
             (255, None, 0),
         ];
         for (number, found, most) in &rows {

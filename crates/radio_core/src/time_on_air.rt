@@ -1,11 +1,12 @@
-//! How long a transmission takes (Semtech AN1200.13).
-ghost use Rattle.std.specs.Prelude.{◌≡◌, ◌*◌, ◌≤◌};
+//! How long a transmission takes: LoRa (Semtech AN1200.13), or FSK.
+ghost use Rattle.std.specs.Prelude.{◌≡◌, ◌≢◌, ◌*◌, ◌≤◌};
+ghost use Rattle.radio_core.specs.declared.data_rates.DataRate.TheVariants.{Dr7};
 ghost use Rattle.radio_core.specs.DataRates.{max_length, spreading_factor, symbol_time};
-ghost use Rattle.radio_core.specs.TimeOnAir.{IsAirtime, airtime_of, block_count, low_rate};
+ghost use Rattle.radio_core.specs.TimeOnAir.{IsAirtime, airtime_of, block_count, fsk_time, low_rate, time_of_blocks};
 
 use crate::data_rates::DataRate;
 
-/// The bits of a symbol, SF.
+/// The bits of a LoRa symbol, SF; none at DR7, which is FSK.
 fn spreading_factor(dr: DataRate) -> u64
     ensures { result ≡ spreading_factor dr }
 {
@@ -16,10 +17,11 @@ fn spreading_factor(dr: DataRate) -> u64
         DataRate::Dr3 => 9,
         DataRate::Dr4 => 8,
         DataRate::Dr5 | DataRate::Dr6 => 7,
+        DataRate::Dr7 => 0,
     }
 }
 
-/// The time of a symbol, in microseconds.
+/// The time of a LoRa symbol, in microseconds; none at DR7, which is FSK.
 fn symbol_time(dr: DataRate) -> u64
     ensures { result ≡ symbol_time dr }
 {
@@ -31,6 +33,7 @@ fn symbol_time(dr: DataRate) -> u64
         DataRate::Dr4 => 2_048,
         DataRate::Dr5 => 1_024,
         DataRate::Dr6 => 512,
+        DataRate::Dr7 => 0,
     }
 }
 
@@ -46,7 +49,8 @@ fn unused_bits(dr: DataRate) -> u64
 
 /// The blocks of symbols that the octets fill behind the first 8 symbols.
 fn block_count(dr: DataRate, octets: u64, crc: bool) -> u64
-    requires { octets ≤ 255 }
+    requires short { octets ≤ 255 }
+    requires lora { dr ≢ Dr7 }
     ensures { result ≡ block_count dr octets crc }
 {
     let crc_bits = if crc { 16 } else { 0 };
@@ -57,9 +61,28 @@ fn block_count(dr: DataRate, octets: u64, crc: bool) -> u64
         .div_ceil(4 * (factor - unused_bits(dr)))
 }
 
-/// The time on air of a PHYPayload of so many octets, in microseconds (Semtech AN1200.13): 8 preamble symbols, an
-/// explicit header, coding rate 4/5, low data rate optimization at DR0 and DR1. Uplinks have the payload's CRC,
-/// downlinks don't.
+/// The time of LoRa: 12.25 + 8 symbols and 5 a block, counted in quarters, so that nothing is rounded.
+fn lora_time(dr: DataRate, octets: u64, crc: bool) -> u64
+    requires short { octets ≤ 255 }
+    requires lora { dr ≢ Dr7 }
+    ensures { result ≡ time_of_blocks dr (block_count dr octets crc) }
+{
+    let quarters = 81 + 20 * block_count(dr, octets, crc);
+    quarters * (symbol_time(dr) / 4)
+}
+
+/// The time of FSK: 11 octets stand round the frame's own, and each takes 8 bits of 20 microseconds.
+fn fsk_time(octets: u64) -> u64
+    requires { octets ≤ 255 }
+    ensures { result ≡ fsk_time octets }
+{
+    160 * (octets + 11)
+}
+
+/// The time on air of a PHYPayload of so many octets, in microseconds. Up to DR6 it is LoRa (Semtech AN1200.13): 8
+/// preamble symbols, an explicit header, coding rate 4/5, low data rate optimization at DR0 and DR1; uplinks have the
+/// payload's CRC, downlinks don't. DR7 is FSK at 50 kbit/s with 5 octets of preamble, 3 of sync word, 1 of length and 2
+/// of CRC, up and down alike.
 ///
 /// The caller's condition: at most 255 octets.
 #[tactic(auto, unfolding(crate::specs::TimeOnAir::airtime_of))]
@@ -69,9 +92,10 @@ pub fn airtime(dr: DataRate, octets: usize, crc: bool) -> u64
     ensures exact { result ≡ airtime_of dr octets crc }
     ensures most { octets ≤ max_length dr → result ≤ 2793472 }
 {
-    // 12.25 + 8 symbols and 5 a block, counted in quarters, so that nothing is rounded
-    let quarters = 81 + 20 * block_count(dr, octets as u64, crc);
-    quarters * (symbol_time(dr) / 4)
+    match dr {
+        DataRate::Dr7 => fsk_time(octets as u64),
+        _ => lora_time(dr, octets as u64, crc),
+    }
 }
 
 #[cfg(test)]
@@ -85,7 +109,7 @@ mod tests {
 
     #[test]
     fn transmissions_take_their_time(rt: HostRuntime) {
-        let rows: [(usize, bool, DataRate, u64); 20] = [
+        let rows: [(usize, bool, DataRate, u64); 26] = [
             (12, UP, DataRate::Dr0, 1_155_072),
             (12, UP, DataRate::Dr5, 41_216),
             (12, UP, DataRate::Dr6, 20_608),
@@ -99,6 +123,9 @@ mod tests {
             (255, UP, DataRate::Dr4, 707_072),
             (255, UP, DataRate::Dr5, 399_616),
             (255, UP, DataRate::Dr6, 199_808),
+            (12, UP, DataRate::Dr7, 3_680),
+            (23, UP, DataRate::Dr7, 5_440),
+            (255, UP, DataRate::Dr7, 42_560),
             (12, DOWN, DataRate::Dr0, 991_232),
             (12, DOWN, DataRate::Dr5, 41_216),
             (17, DOWN, DataRate::Dr0, 1_155_072),
@@ -106,6 +133,9 @@ mod tests {
             (33, DOWN, DataRate::Dr0, 1_810_432),
             (33, DOWN, DataRate::Dr5, 71_936),
             (64, DOWN, DataRate::Dr0, 2_793_472),
+            (12, DOWN, DataRate::Dr7, 3_680),
+            (23, DOWN, DataRate::Dr7, 5_440),
+            (255, DOWN, DataRate::Dr7, 42_560),
         ];
         for (octets, crc, dr, time) in &rows {
             assert!(rt; *octets <= 255);

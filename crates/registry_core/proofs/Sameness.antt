@@ -4,7 +4,7 @@ use Rattle.std.specs.Prelude.{◌&&◌, ◌==◌, bytes_eq, if◌then◌else◌}
 use Rattle.std.proofs.lemmas.Bool.{and_parts, eq-eqb, eqb-true}
 use Rattle.std.proofs.lemmas.Slice.Eq.{bytes_eq-Decides}
 use Rattle.radio_core.specs.declared.data_rates.DataRate.{DataRate}
-use Rattle.radio_core.specs.declared.data_rates.DataRate.TheVariants.{Dr0, Dr1, Dr2, Dr3, Dr4, Dr5, Dr6}
+use Rattle.radio_core.specs.declared.data_rates.DataRate.TheVariants.{Dr0, Dr1, Dr2, Dr3, Dr4, Dr5, Dr6, Dr7}
 use Rattle.radio_core.specs.Bands.{band_number}
 use Rattle.radio_core.specs.DataRates.{dr_number}
 use Rattle.registry_core.specs.declared.messages.JoinVerdict.{JoinVerdict}
@@ -81,7 +81,7 @@ sent_self false = refl
 
 -- a data rate with its number given back
 rate_with : ℕ → DataRate
-rate_with n = if n == 0 then Dr0 else (if n == 1 then Dr1 else (if n == 2 then Dr2 else (if n == 3 then Dr3 else (if n == 4 then Dr4 else (if n == 5 then Dr5 else Dr6)))))
+rate_with n = if n == 0 then Dr0 else (if n == 1 then Dr1 else (if n == 2 then Dr2 else (if n == 3 then Dr3 else (if n == 4 then Dr4 else (if n == 5 then Dr5 else (if n == 6 then Dr6 else Dr7))))))
 
 rate_back : (a : DataRate) → rate_with (dr_number a) ≡ a
 unfolding rate_with
@@ -92,6 +92,7 @@ rate_back Dr3 = refl
 rate_back Dr4 = refl
 rate_back Dr5 = refl
 rate_back Dr6 = refl
+rate_back Dr7 = refl
 
 equal_rates : (a b : DataRate) → dr_number a ≡ dr_number b → a ≡ b
 equal_rates a b h = sym (rate_back a) ∙ ap rate_with h ∙ rate_back b

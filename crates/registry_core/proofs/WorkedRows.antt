@@ -3,7 +3,7 @@ use Rattle.std.proofs.Common.{◌≡◌, ℕ, ◌+◌, ◌-◌, List, [], ◌∷
 use Rattle.std.specs.Prelude.{codes, pos}
 use Rattle.radio_core.specs.declared.bands.Band.TheVariants.{B3, B4, B5}
 use Rattle.radio_core.specs.declared.data_rates.DataRate.{DataRate}
-use Rattle.radio_core.specs.declared.data_rates.DataRate.TheVariants.{Dr0, Dr5, Dr6}
+use Rattle.radio_core.specs.declared.data_rates.DataRate.TheVariants.{Dr0, Dr5, Dr6, Dr7}
 use Rattle.radio_core.specs.Bands.{band_at}
 use Rattle.radio_core.specs.Frames.{frame_of}
 use Rattle.radio_core.specs.TimeOnAir.{airtime_of}
@@ -329,6 +329,14 @@ reported_and_answered : answers (names ++ by_bridge 10 (join_at gw_a 0 0xa1) ∷
     ∷ DownSuccess 41216 B3 2 (start + 101041216) ∷ []
 unfolding sender_add owner_add gateway_add device_add join_heard join_added original_join frame_of band_at airtime_of frame_heard data_added original_data down_book down_added is_clear hours_within peak_of
 reported_and_answered = refl
+
+-- data frames of 12 octets at DR7, and an answer in the first window at DR7 too
+by_fsk : answers (joined ++ by_bridge 1 (up_at 868800000 Dr7 start 0) ∷ by_bridge 2 (down_in First 2 0) ∷ by_bridge 3 (up_at 868562500 Dr7 start 1)
+    ∷ by_bridge 4 (up_at 868537500 Dr7 start 1) ∷ [])
+    ≡ joined_answers ++ FrameSuccess 3680 B4 false 0 device 2 ∷ DownSuccess 3680 B4 1 (start + 1000000) ∷ Refused refusals.OutOfBand
+    ∷ FrameSuccess 3680 B3 false 1 device 3 ∷ []
+unfolding sender_add owner_add gateway_add device_add join_heard join_added original_join frame_of band_at airtime_of frame_heard data_added original_data down_book down_added is_clear hours_within peak_of
+by_fsk = refl
 
 -- the join accept answers the join in its own window
 accept_booked : answers (joined ++ by_bridge 13 (DownBook 1 gw_a First accept_octets) ∷ by_bridge 14 (DownDone 1 true) ∷ [])

@@ -20,8 +20,8 @@ use Rattle.registry_core.specs.Windows.{delay, rate_in}
 
 -- The booking answers an uplink of which its gateway has a copy, in one of the two windows after that. Its octets
 -- are a frame that the uplink's kind asks for and that the window's data rate carries, to the session's address. It
--- begins where the window opens, is on the air as long as so many octets are without a payload CRC, and the window
--- lies in its band.
+-- begins where the window opens, is on the air as long as a downlink of so many octets is, which has no payload CRC
+-- where it is of LoRa, and the window lies in its band.
 pub record IsDownlink (c : Settings) (s : State) (booking : Booking) : Type 0 where
   pub uplink : Uplink
   pub there : item_at s.uplinks booking.uplink ≡ Some uplink
@@ -44,7 +44,8 @@ BookingsAreDownlinks = (c : Settings) (heard : List Envelope) (n : ℕ) (booking
     → item_at (state_of c heard).bookings n ≡ Some booking → IsDownlink c (state_of c heard) booking
 
 -- A gateway has a copy of the uplink with this number whose data rate carries its octets. It is on the air as long as
--- they are with a payload CRC, up to the end of the copy, and the copy lies in its band.
+-- an uplink of so many octets is, which has a payload CRC where it is of LoRa, up to the end of the copy, and the copy
+-- lies in its band.
 pub record IsReceived (s : State) (number : ℕ) (uplink : Uplink) : Type 0 where
   pub gateway : List ℕ
   pub copy : Reception

@@ -22,7 +22,7 @@ use Rattle.registry_core.specs.Settings.{Settings}
 use Rattle.registry_core.specs.State.{State}
 use Rattle.registry_core.specs.Windows.{window_of}
 
--- When a downlink from start is on the air. It has no payload CRC (RP002-1.0.4).
+-- When a downlink from start is on the air. LoRa's have no payload CRC (RP002-1.0.4).
 abbrev pub on_air : ℕ → Rate → List ℕ → Interval
 on_air start rate octets = record { start = pos start; len = airtime_of rate.dr (length octets) false }
 

@@ -94,7 +94,7 @@ fn down_added(
     Ok((Effect::AddsBooking { booking }, answer))
 }
 
-/// When a downlink is on the air, where the data rate carries so many octets. It has no payload CRC.
+/// When a downlink is on the air, where the data rate carries so many octets. LoRa's have no payload CRC.
 fn on_air(start: u64, rate: Rate, octets: &Octets) -> Span
     requires { start < 2 ^ 62 }
     ensures { length octets.now ≤ max_length rate.dr → result ≡ on_air start rate octets.now }

@@ -161,8 +161,8 @@ pub fn reports_in_any_order()
 {}
 
 /// Whatever was heard, each booking is a downlink in a receive window of the uplink that it answers. The octets of a
-/// frame that the uplink's kind asks for take its length on the air at the window's data rate, without a payload CRC,
-/// and the window lies in its band.
+/// frame that the uplink's kind asks for take its length on the air at the window's data rate, as a downlink, and the
+/// window lies in its band.
 pub fn bookings_are_downlinks()
     ensures { BookingsAreDownlinks }
 {
@@ -171,7 +171,7 @@ pub fn bookings_are_downlinks()
 }
 
 /// Whatever was heard, each uplink is as one of its gateways received it: on the air as long as its octets are at the
-/// copy's data rate, with a payload CRC, up to the end of the copy, and in the copy's band.
+/// copy's data rate, as an uplink, up to the end of the copy, and in the copy's band.
 pub fn uplinks_are_received()
     ensures { UplinksAreReceived }
 {

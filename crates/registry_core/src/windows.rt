@@ -59,6 +59,10 @@ mod tests {
             freq: 868_300_000,
             dr: DataRate::Dr5,
         };
+        let fsk = Rate {
+            freq: 868_800_000,
+            dr: DataRate::Dr7,
+        };
         let second = Rate {
             freq: 869_525_000,
             dr: DataRate::Dr0,
@@ -66,6 +70,7 @@ mod tests {
         let end = Whole::new(1_706_745_700_041_216).ok_or("too great")?;
         let rows = [
             (Kind::Data, Window::First, 1_706_745_701_041_216, rate),
+            (Kind::Data, Window::First, 1_706_745_701_041_216, fsk),
             (Kind::Data, Window::Second, 1_706_745_702_041_216, second),
             (Kind::Join, Window::First, 1_706_745_705_041_216, rate),
             (Kind::Join, Window::Second, 1_706_745_706_041_216, second),

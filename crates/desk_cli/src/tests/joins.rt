@@ -154,7 +154,7 @@ pub(super) static JOINS: [Row; 49] = [
     Joins("bridge", 46, Heard { octets: OTHER_DEVICE, ..AT_B }, Joined(61_696, "B3", true, "01a00009", 10)),
     Joins("bridge", 47, AT_B, FIRST_COPIED),
     // members that aren't in their form
-    Joins("bridge", 48, Heard { rate: 7, ..FIRST }, BODY),
+    Joins("bridge", 48, Heard { rate: 8, ..FIRST }, BODY),
     Joins("bridge", 48, Heard { verdict: "good", ..FIRST }, BODY),
     Joins("bridge", 48, Heard { time: 9_007_199_254_740_992, ..FIRST }, BODY),
     Joins("bridge", 48, Heard { octets: ODD, ..FIRST }, BODY),

@@ -4,6 +4,7 @@ use super::downlinks::{
     BETWEEN, BETWEEN_ABOVE, COLLISIONS, DOWNLINKS, HOUR_BEGUN, HOURS, HOURS_ABOVE, LENGTHS,
     WORKED_DOWNLINKS,
 };
+use super::fsk::FSK;
 use super::joins::{JOINS, ONE_ADDRESS};
 use super::limits::{FIRST_LIMITS, LIMITS, LOWERED};
 use super::rows::{ADDED, MALFORMED, OWNERS, REGISTRY, REQUEST, Row, SETUP, deliveries_of};
@@ -64,6 +65,7 @@ pub(super) fn have_their_outcomes<R: Abort + AllocGlobal, K: Opened>(rt: &R) -> 
         (65_536, &COLLISIONS),
         (65_536, &DOWNLINKS),
         (65_536, &LENGTHS),
+        (65_536, &FSK),
     ] {
         expect_run::<R, K>(rt, addresses, &[&SETUP[..], rows])?;
     }

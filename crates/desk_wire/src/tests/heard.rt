@@ -162,12 +162,12 @@ fn numbers_and_verdicts_have_their_forms(rt: HostRuntime) -> Result<(), Fail> {
         (
             "9007199254740991",
             "4294967295",
-            "6",
+            "7",
             r#""Bad""#,
             Some((
                 9_007_199_254_740_991,
                 4_294_967_295,
-                DataRate::Dr6,
+                DataRate::Dr7,
                 JoinVerdict::Bad,
             )),
         ),
@@ -179,7 +179,7 @@ fn numbers_and_verdicts_have_their_forms(rt: HostRuntime) -> Result<(), Fail> {
         (r#""1""#, "0", "0", r#""Good""#, None),
         ("0", "4294967296", "0", r#""Good""#, None),
         ("0", "1e0", "0", r#""Good""#, None),
-        ("0", "0", "7", r#""Good""#, None),
+        ("0", "0", "8", r#""Good""#, None),
         ("0", "0", "256", r#""Good""#, None),
         ("0", "0", "null", r#""Good""#, None),
         ("0", "0", "0", r#""good""#, None),
