@@ -113,15 +113,20 @@ fn expect_told(rt: &impl Abort, outcome: &Outcome, delivery: &Delivery) {
     expect(rt, outcome, delivery.number, delivery.wanted.as_str());
 }
 
+/// Each delivery is told what it is to be told.
+fn hear_each<R: Abort + AllocGlobal, K: Keeper>(rt: &R, keeper: &mut K, deliveries: &[Delivery]) {
+    for delivery in deliveries {
+        let outcome = deliver(rt.alloc(), keeper, delivery.text.as_bytes());
+        expect_told(rt, &outcome, delivery);
+    }
+}
+
 fn deliver_each<R: Abort + AllocGlobal, K: Keeper>(
     rt: &R,
     keeper: &mut K,
     rows: &[Row],
 ) -> Result<(), Fail> {
-    for delivery in &deliveries_of(rt.alloc(), rows)? {
-        let outcome = deliver(rt.alloc(), keeper, delivery.text.as_bytes());
-        expect_told(rt, &outcome, delivery);
-    }
+    hear_each(rt, keeper, &deliveries_of(rt.alloc(), rows)?);
     Ok(())
 }
 

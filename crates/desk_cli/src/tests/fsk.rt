@@ -5,9 +5,8 @@ use super::migrating::{ADDED_BY_SECOND_SCHEMA, FIRST_SCHEMA, made_by};
 use super::rows::Row::{Asks, Books, Frames, Joins};
 use super::rows::Told::{Booked, Framed, Joined};
 use super::rows::{BODY, DEVICE, Down, Heard, Row, SUCCESS};
-use super::stops::{deliveries, opened, rows_after_each, rows_of};
-use super::{deliver_each, expect_told};
-use desk_engine::deliver;
+use super::stops::{deliveries, expect_rows, opened, rows_after_each};
+use super::{deliver_each, hear_each};
 use sqlite::Connection;
 use std::test::Fail;
 
@@ -64,13 +63,8 @@ fn a_desk_of_before_hears_it_under_its_number(rt: HostRuntime) -> Result<(), Fai
     let wanted = rows_after_each(&rt, &deliveries)?;
     let schema = [FIRST_SCHEMA, ADDED_BY_SECOND_SCHEMA];
     let conn = made_by(&rt, Connection::open_in_memory(rt.alloc())?, &schema)?;
-    let (rows, mut tables) = rows_of(rt.alloc(), opened(rt.alloc(), conn)?)?;
-    assert!(rt; wanted.last() == Some(&rows));
-    for delivery in &deliveries {
-        let outcome = deliver(rt.alloc(), &mut *tables, delivery.text.as_bytes());
-        expect_told(&rt, &outcome, delivery);
-    }
-    let (rows, mut tables) = rows_of(rt.alloc(), tables)?;
-    assert!(rt; wanted.last() == Some(&rows));
+    let mut tables = expect_rows(&rt, opened(rt.alloc(), conn)?, wanted.last())?;
+    hear_each(&rt, &mut *tables, &deliveries);
+    let mut tables = expect_rows(&rt, tables, wanted.last())?;
     deliver_each(&rt, &mut *tables, &HEARD_NOW)
 }

@@ -1,10 +1,11 @@
 //! A desk of schema 1 is moved to schema 2: with all that it holds, and over a stop at each call of its files.
-use super::stops::{Fused, copied, deliveries, file_of, opened, rows_after_each, rows_of};
-use super::{expect_told, opening};
-use desk_engine::deliver;
+use super::stops::{
+    Fused, connected, copied, deliveries, expect_rows, file_of, opened, rows_after_each,
+};
+use super::{hear_each, opening};
 use desk_store::StoreFault;
 use desk_tables::Tables;
-use sqlite::{Alter, Connection, Files, MemStore, Options};
+use sqlite::{Alter, Connection, Files, MemStore};
 use sqlite_disk::{Crash, Fuse, Memory};
 use std::alloc::Global;
 use std::process::Abort;
@@ -57,10 +58,7 @@ pub(super) fn made_by<R: Abort + AllocGlobal, S: Alter + Drop>(
     schema: &[&str],
 ) -> Result<Connection<S>, Fail> {
     let mut tables = opening::<Tables<MemStore>>(rt.alloc(), 65_536)?;
-    for delivery in &deliveries(rt.alloc())? {
-        let outcome = deliver(rt.alloc(), &mut *tables, delivery.text.as_bytes());
-        expect_told(rt, &outcome, delivery);
-    }
+    hear_each(rt, &mut *tables, &deliveries(rt.alloc())?);
     let mut from = Box::into_inner(tables).close();
     let mut conn = conn;
     for batch in schema {
@@ -105,12 +103,8 @@ fn a_desk_is_moved_with_all_it_holds(rt: HostRuntime) -> Result<(), Fail> {
     assert!(rt; fault.is_none());
     let (fault, conn) = moved(rt.alloc(), conn)?;
     assert!(rt; fault == Some(StoreFault::SchemaVersion));
-    let (rows, mut tables) = rows_of(rt.alloc(), opened(rt.alloc(), conn)?)?;
-    assert!(rt; wanted.last() == Some(&rows));
-    for delivery in &deliveries {
-        let outcome = deliver(rt.alloc(), &mut *tables, delivery.text.as_bytes());
-        expect_told(&rt, &outcome, delivery);
-    }
+    let mut tables = expect_rows(&rt, opened(rt.alloc(), conn)?, wanted.last())?;
+    hear_each(&rt, &mut *tables, &deliveries);
     Ok(())
 }
 
@@ -157,12 +151,7 @@ fn first_files<R: Abort + AllocGlobal>(rt: &R) -> Result<Files<Memory>, Fail> {
         log: Memory::new(rt.alloc()),
         db: Memory::new(rt.alloc()),
     };
-    if !files.may_be_used() {
-        return Err("not usable".into());
-    }
-    let conn = Connection::open_files(rt.alloc(), files, Options::new(1)).map_err(
-        |_| "not opened",
-    )?;
+    let conn = connected(rt.alloc(), files, 1).map_err(|_| "not opened")?;
     Ok(first_in(rt, conn)?.into_store().close())
 }
 
@@ -171,16 +160,13 @@ fn move_in<R: Abort + AllocGlobal>(
     rt: &R,
     files: Files<Fused>,
 ) -> Result<(bool, Files<Fused>), Fail> {
-    if !files.may_be_used() {
-        return Err("not usable".into());
-    }
-    match Connection::open_files(rt.alloc(), files, Options::new(2)) {
+    match connected(rt.alloc(), files, 2) {
         Ok(conn) => {
             let (fault, conn) = moved(rt.alloc(), conn)?;
             assert!(rt; matches!(fault, None | Some(StoreFault::Disk)));
             Ok((fault.is_some(), conn.into_store().close()))
         }
-        Err((_, left)) => Ok((true, left.into_files())),
+        Err(files) => Ok((true, files)),
     }
 }
 
@@ -191,16 +177,10 @@ fn has_rows<R: Abort + AllocGlobal>(
     wanted: Option<&String>,
 ) -> Result<(), Fail> {
     let files = copied(rt.alloc(), files)?;
-    if !files.may_be_used() {
-        return Err("not usable".into());
-    }
-    let conn = Connection::open_files(rt.alloc(), files, Options::new(3)).map_err(
-        |_| "not opened",
-    )?;
+    let conn = connected(rt.alloc(), files, 3).map_err(|_| "not opened")?;
     let (fault, conn) = moved(rt.alloc(), conn)?;
     assert!(rt; matches!(fault, None | Some(StoreFault::SchemaVersion)));
-    let (rows, _) = rows_of(rt.alloc(), opened(rt.alloc(), conn)?)?;
-    assert!(rt; wanted == Some(&rows));
+    expect_rows(rt, opened(rt.alloc(), conn)?, wanted)?;
     Ok(())
 }
 

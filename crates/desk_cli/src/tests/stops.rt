@@ -12,7 +12,7 @@ use super::rows::Told::{Booked, Framed};
 use super::rows::{
     BRIDGE, DEVICE, Delivery, Down, GATEWAY_A, GATEWAY_B, Heard, Row, SUCCESS, TOWN, delivery_of,
 };
-use super::{config, expect_told, opening};
+use super::{config, expect_told, hear_each, opening};
 use crate::stopping::run_through_stop;
 use desk_engine::{Outcome, deliver};
 use desk_store::{Looks, StoreFault};
@@ -92,13 +92,24 @@ pub(super) fn opened<S: Alter + Drop>(
 }
 
 /// Each row of the eleven tables, as a text, and the desk closed and opened again.
-pub(super) fn rows_of<S: Alter + Drop>(
+fn rows_of<S: Alter + Drop>(
     alloc: Global,
     tables: Box<Tables<S>>,
 ) -> Result<(String, Box<Tables<S>>), Fail> {
     let mut conn = Box::into_inner(tables).close();
     let rows = rows_in(alloc, &mut conn)?;
     Ok((rows, opened(alloc, conn)?))
+}
+
+/// The desk has these rows; it is closed and opened again.
+pub(super) fn expect_rows<R: Abort + AllocGlobal, S: Alter + Drop>(
+    rt: &R,
+    tables: Box<Tables<S>>,
+    wanted: Option<&String>,
+) -> Result<Box<Tables<S>>, Fail> {
+    let (rows, tables) = rows_of(rt.alloc(), tables)?;
+    assert!(rt; wanted == Some(&rows));
+    Ok(tables)
 }
 
 /// The rows of a desk that isn't stopped: of one that has heard nothing, and after each message.
@@ -117,6 +128,21 @@ pub(super) fn rows_after_each<R: Abort + AllocGlobal>(
         all.push(rows)?;
     }
     Ok(all)
+}
+
+/// A connection to the files, or, where they can't be opened, the files.
+pub(super) fn connected<D: Disk + Drop>(
+    alloc: Global,
+    files: Files<D>,
+    seed: u64,
+) -> Result<Connection<OnFiles<D>>, Files<D>> {
+    if !files.may_be_used() {
+        return Err(files);
+    }
+    match Connection::open_files(alloc, files, Options::new(seed)) {
+        Ok(conn) => Ok(conn),
+        Err((_, left)) => Err(left.into_files()),
+    }
 }
 
 // ---- up to the stop
@@ -173,36 +199,51 @@ fn answered_by<R: Abort + AllocGlobal, S: Alter>(
     deliveries.len()
 }
 
-/// A desk that is made in the connection's database, hears the messages, and is closed with all in its first file.
-fn run_on<R: Abort + AllocGlobal>(
+/// The desk that is made in the connection's database, or, of a disk that failed, the files.
+fn created<R: Abort + AllocGlobal>(
     rt: &R,
     conn: Connection<OnFiles<Fused>>,
-    deliveries: &[Delivery],
-) -> Result<Ended, Fail> {
+) -> Result<Result<Box<Tables<OnFiles<Fused>>>, Files<Fused>>, Fail> {
     let mut conn = conn;
     conn.set_step_limit(None);
     if !conn.is_autocommit() {
         return Err("in a transaction".into());
     }
-    let mut tables = match Tables::create(
-        rt.alloc(),
-        conn,
-        config(65_536).ok_or("no configuration")?,
-    ) {
-        Ok(tables) => Box::new(rt.alloc(), tables)?,
+    let config = config(65_536).ok_or("no configuration")?;
+    match Tables::create(rt.alloc(), conn, config) {
+        Ok(tables) => Ok(Ok(Box::new(rt.alloc(), tables)?)),
         Err((fault, conn)) => {
             assert!(rt; fault == StoreFault::Disk);
-            return Ok(stopped(0, conn.into_store().close()));
+            Ok(Err(conn.into_store().close()))
         }
-    };
-    let answered = answered_by(rt, &mut *tables, deliveries);
+    }
+}
+
+/// The desk is closed with all in its first file.
+fn closed(tables: Box<Tables<OnFiles<Fused>>>, answered: usize, all: usize) -> Ended {
     match Box::into_inner(tables).close().close_files() {
-        Ok(files) => Ok(Ended {
+        Ok(files) => Ended {
             answered,
-            stopped: answered < deliveries.len(),
+            stopped: answered < all,
             files,
-        }),
-        Err((_, store)) => Ok(stopped(answered, store.close())),
+        },
+        Err((_, store)) => stopped(answered, store.close()),
+    }
+}
+
+/// A desk that is made in the connection's database, hears the messages, and is closed.
+fn run_on<R: Abort + AllocGlobal>(
+    rt: &R,
+    conn: Connection<OnFiles<Fused>>,
+    deliveries: &[Delivery],
+) -> Result<Ended, Fail> {
+    match created(rt, conn)? {
+        Ok(tables) => {
+            let mut tables = tables;
+            let answered = answered_by(rt, &mut *tables, deliveries);
+            Ok(closed(tables, answered, deliveries.len()))
+        }
+        Err(files) => Ok(stopped(0, files)),
     }
 }
 
@@ -211,12 +252,9 @@ fn run<R: Abort + AllocGlobal>(
     files: Files<Fused>,
     deliveries: &[Delivery],
 ) -> Result<Ended, Fail> {
-    if !files.may_be_used() {
-        return Err("not usable".into());
-    }
-    match Connection::open_files(rt.alloc(), files, Options::new(1)) {
+    match connected(rt.alloc(), files, 1) {
         Ok(conn) => run_on(rt, conn, deliveries),
-        Err((_, left)) => Ok(stopped(0, left.into_files())),
+        Err(files) => Ok(stopped(0, files)),
     }
 }
 
@@ -257,10 +295,7 @@ fn reopened<R: Abort + AllocGlobal>(
 }
 
 fn made_in(alloc: Global, files: Files<Memory>) -> Result<Box<Tables<OnFiles<Memory>>>, Fail> {
-    if !files.may_be_used() {
-        return Err("not usable".into());
-    }
-    let conn = Connection::open_files(alloc, files, Options::new(3)).map_err(|_| "not opened")?;
+    let conn = connected(alloc, files, 3).map_err(|_| "not opened")?;
     super::made(alloc, conn, config(65_536).ok_or("no configuration")?)
 }
 
@@ -275,12 +310,9 @@ fn goes_on<R: Abort + AllocGlobal>(
     let (rows, mut tables) = rows_of(rt.alloc(), reopened(rt, files)?)?;
     let mut either = wanted.iter().skip(answered).take(2);
     assert!(rt; either.any(|w| *w == rows), "{answered} answered");
-    for delivery in deliveries.iter().skip(answered) {
-        let outcome = deliver(rt.alloc(), &mut *tables, delivery.text.as_bytes());
-        expect_told(rt, &outcome, delivery);
-    }
-    let (rows, _) = rows_of(rt.alloc(), tables)?;
-    assert!(rt; wanted.last() == Some(&rows), "{answered} answered");
+    let left = deliveries.get(answered..).ok_or("more answered")?;
+    hear_each(rt, &mut *tables, left);
+    expect_rows(rt, tables, wanted.last())?;
     Ok(())
 }
 
@@ -346,8 +378,7 @@ fn a_run_is_found_after_a_stop(rt: HostRuntime) -> Result<(), Fail> {
     for (outcome, delivery) in outcomes.iter().zip(&deliveries) {
         expect_told(&rt, outcome, delivery);
     }
-    let (rows, _) = rows_of(rt.alloc(), opened(rt.alloc(), conn)?)?;
-    assert!(rt; wanted.last() == Some(&rows));
+    expect_rows(&rt, opened(rt.alloc(), conn)?, wanted.last())?;
     Ok(())
 }
 

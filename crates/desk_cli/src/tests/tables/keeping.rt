@@ -2,7 +2,7 @@
 use super::{copy, data_uplink, heard_session, sent_booking};
 use crate::tests::report_sizes::named;
 use crate::tests::stops::{deliveries, opened};
-use crate::tests::{expect_told, opening};
+use crate::tests::{hear_each, opening};
 use desk_engine::{Outcome, deliver};
 use desk_store::{Counts, Keeper, Looks, StoreFault};
 use desk_tables::Tables;
@@ -106,10 +106,7 @@ fn a_booking_in_no_state(rt: HostRuntime) -> Result<(), Fail> {
     let mut deliveries = deliveries(rt.alloc())?;
     let last = deliveries.pop().ok_or("no message")?;
     let mut desk = opening::<Tables<MemStore>>(rt.alloc(), 65_536)?;
-    for delivery in &deliveries {
-        let outcome = deliver(rt.alloc(), &mut *desk, delivery.text.as_bytes());
-        expect_told(&rt, &outcome, delivery);
-    }
+    hear_each(&rt, &mut *desk, &deliveries);
     let mut conn = Box::into_inner(desk).close();
     conn.execute_batch("UPDATE booking SET state = 3")?;
     let mut desk = opened(rt.alloc(), conn)?;
