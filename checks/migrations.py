@@ -4,7 +4,7 @@
     checks/migrations.py --old PROGRAM [--program FILE] [--messages 200000] [--kills 50] [--seed 1] [--folder FOLDER]
 
 PROGRAM is one of before there were limits. It makes a file of schema 1, which hears so many messages of mixed operation
-without limits (mixed_operation.py), answered as a plain Python program answers them (bench/dictionaries.py). Copies of
+as it takes them (mixed_operation.py), answered as a plain Python program answers them (bench/dictionaries.py). Copies of
 that file go to the program that is tried:
 
 - `hear` and `migrate` refuse what they have to refuse, and leave the file as it was, octet for octet. In the log beside
@@ -53,7 +53,7 @@ LATER = 1_000_000
 
 def wants(holds, what):
     if not holds:
-        sys.exit(f"migrations.py: {what}")
+        sys.exit(f"{Path(sys.argv[0]).name}: {what}")
 
 
 def text_of(lines):
@@ -290,7 +290,7 @@ def main():
     # the first call may prove and build the program
     subprocess.run([new.path, "lines"], stdin=subprocess.DEVNULL, check=True)
     begun = time.monotonic()
-    lines = mixed_operation(given.messages, given.seed, limits=False)
+    lines = mixed_operation(given.messages, given.seed, old=True)
     with tempfile.TemporaryDirectory(dir=given.folder) as folder:
         first, answers = heard_by(old, Path(folder), lines)
         fresh = Path(folder) / "fresh.db"

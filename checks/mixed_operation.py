@@ -2,9 +2,10 @@
 limits that are set and refused.
 
 `mixed_operation(size, seed)` gives so many lines, from the opening state on, the same ones for the same seed, and the plain
-Python program (bench/dictionaries.py) that heard them, with its answers. With `limits=False` no line is a LimitSet; with
-fewer devices a short stream is more than their joins. Each line is a message in its form, but for a Limit that is too
-great, or NO_MESSAGE, to which that program has no answer.
+Python program (bench/dictionaries.py) that heard them, with its answers. With `old=True` no line is a LimitSet, and none
+tells of FSK: a program that makes files of schema 1 takes neither. With fewer devices a short stream is more than their
+joins. Each line is a message in its form, but for a Limit that is too great, or NO_MESSAGE, to which that program has no
+answer.
 """
 
 import json
@@ -37,8 +38,9 @@ class Heard(list):
 
 
 class Mixed(Stream):
-    def __init__(self, seed, devices):
+    def __init__(self, seed, devices, old):
         super().__init__(seed, devices)
+        self.old = old
         self.lines = Heard()
         self.desk = self.lines.desk
 
@@ -63,7 +65,7 @@ class Mixed(Stream):
     def report(self, message_type, gateways, octets, frequency, verdict):
         """Now and then a slow frame, where an hour has room for few answers, or one by FSK."""
         slow = self.sometimes(0.1)
-        rate = 0 if slow else 7 if self.sometimes(0.1) else 5
+        rate = 0 if slow else 7 if not self.old and self.sometimes(0.1) else 5
         for late, gateway in enumerate(gateways):
             self.say(
                 "bridge",
@@ -190,9 +192,9 @@ STEPS = {
 }
 
 
-def mixed_operation(size, seed, limits=True, devices=DEVICES):
-    stream = Mixed(seed, devices)
-    steps = {step: share for step, share in STEPS.items() if limits or step is not Mixed.limit_set}
+def mixed_operation(size, seed, old=False, devices=DEVICES):
+    stream = Mixed(seed, devices, old)
+    steps = {step: share for step, share in STEPS.items() if not old or step is not Mixed.limit_set}
     stream.register()
     for _ in range(devices):
         stream.join_heard()
