@@ -69,14 +69,26 @@ mod tests {
         };
         let end = Whole::new(1_706_745_700_041_216).ok_or("too great")?;
         let rows = [
-            (Kind::Data, Window::First, 1_706_745_701_041_216, rate),
-            (Kind::Data, Window::First, 1_706_745_701_041_216, fsk),
-            (Kind::Data, Window::Second, 1_706_745_702_041_216, second),
-            (Kind::Join, Window::First, 1_706_745_705_041_216, rate),
-            (Kind::Join, Window::Second, 1_706_745_706_041_216, second),
+            (Kind::Data, Window::First, rate, 1_706_745_701_041_216, rate),
+            (Kind::Data, Window::First, fsk, 1_706_745_701_041_216, fsk),
+            (
+                Kind::Data,
+                Window::Second,
+                rate,
+                1_706_745_702_041_216,
+                second,
+            ),
+            (Kind::Join, Window::First, rate, 1_706_745_705_041_216, rate),
+            (
+                Kind::Join,
+                Window::Second,
+                rate,
+                1_706_745_706_041_216,
+                second,
+            ),
         ];
-        for (kind, window, start, sent) in &rows {
-            assert!(rt; receive(*kind, end, rate, *window) == (*start, *sent));
+        for (kind, window, heard, start, sent) in &rows {
+            assert!(rt; receive(*kind, end, *heard, *window) == (*start, *sent));
         }
         Ok(())
     }
