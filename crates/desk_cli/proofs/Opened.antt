@@ -1,5 +1,6 @@
 -- A desk that couldn't be opened.
-use Rattle.std.proofs.Common.{◌≡◌, List, None, Result, Err, inl, inr, refl}
+use Rattle.std.proofs.Common.{◌≡◌, ◌≢◌, List, None, Result, Err, inl, inr, refl}
+use Rattle.std.specs.Prelude.{◌⊎◌}
 use Rattle.sqlite.specs.Held.{Held, state}
 use Rattle.sqlite.specs.State.{HasCleanDisk}
 use Rattle.sqlite_trees.specs.declared.store.Store.{Ghosts}
@@ -13,6 +14,7 @@ use Rattle.desk_store.specs.Calls.{IsUnavailability}
 use Rattle.desk_cli.specs.Faults.{fault_of_store}
 use Rattle.desk_cli.specs.declared.faults.Fault.{Fault}
 use Rattle.desk_cli.specs.declared.faults.Fault.TheVariants.{Unavailable}
+use Rattle.desk_cli.specs.declared.faults.Fault.TheVariants as told
 
 -- an error of a result of this type
 abbrev pub err : {T : Type 0} → Fault → Result T Fault
@@ -25,6 +27,31 @@ is_unavailable Size is = refl
 is_unavailable NotADesk is = absurd is
 is_unavailable SchemaVersion is = absurd is
 is_unavailable Exists is = absurd is
+
+-- what there is no desk for is told as one of three
+pub opening_told : (fault : StoreFault) (f : Fault) → f ≡ fault_of_store fault → fault ≢ Exists → (f ≡ told.NotADesk) ⊎ ((f ≡ told.Schema) ⊎ (f ≡ told.Unavailable))
+opening_told Memory f is other = inr (inr is)
+opening_told Disk f is other = inr (inr is)
+opening_told Size f is other = inr (inr is)
+opening_told NotADesk f is other = inl is
+opening_told SchemaVersion f is other = inr (inl is)
+opening_told Exists f is other = absurd (other refl)
+
+pub schema_told : (fault : StoreFault) (f : Fault) → f ≡ fault_of_store fault → f ≡ told.Schema → fault ≡ SchemaVersion
+schema_told SchemaVersion f is same = refl
+schema_told Memory f is same = cc
+schema_told Disk f is same = cc
+schema_told Size f is same = cc
+schema_told NotADesk f is same = cc
+schema_told Exists f is same = cc
+
+pub not_a_desk_of : (fault : StoreFault) (f : Fault) → f ≡ fault_of_store fault → f ≡ told.NotADesk → fault ≡ NotADesk
+not_a_desk_of NotADesk f is same = refl
+not_a_desk_of Memory f is same = cc
+not_a_desk_of Disk f is same = cc
+not_a_desk_of Size f is same = cc
+not_a_desk_of SchemaVersion f is same = cc
+not_a_desk_of Exists f is same = cc
 
 -- the connection that is given back leaves what it left before
 pub left_as_it_was : {S : Type 0} (g : Ghosts S) (conn back : Held S) (c : Settings) (heard : List Envelope)

@@ -10,6 +10,7 @@ use Rattle.registry_core.specs.Heard.{state_of}
 use Rattle.registry_core.specs.Settings.{Settings}
 use Rattle.desk_http.specs.Reports.{IsBandAnswer}
 use Rattle.desk_cli.specs.Named.{Asked, lines, init, migrate, hear, import, serve, report, bands, check}
+use Rattle.desk_cli.specs.NoDesk.{HoldsNoDesk, RefusesFile}
 use Rattle.desk_cli.specs.OnTables.{IsLeft, KeepsHeard}
 use Rattle.desk_cli.specs.Printing.{IsOwnersMonth, PrintsBy}
 use Rattle.desk_cli.specs.commands.Checking.{IsCheck}
@@ -22,9 +23,12 @@ use Rattle.desk_cli.specs.commands.Serving.{ServesBy}
 use Rattle.desk_cli.specs.declared.faults.Fault.{Fault}
 use Rattle.desk_cli.specs.declared.faults.Fault.TheVariants.{File}
 
--- of whatever the desk of this connection had heard, where the disk has given back what was written to it
-abbrev pub OnDesk : {S : Type 0} → Ghosts S → Held S → Held S → (Settings → List Envelope → Type 0) → Type 0
-OnDesk g conn back Does = HasCleanDisk (state g back) → (c : Settings) (heard : List Envelope) → KeepsHeard g conn c heard → Does c heard
+-- Of whatever the desk of this connection had heard, and of a connection that holds no desk; where the disk has given back what was
+-- written to it, before too.
+pub record OnDesk {S T : Type 0} (g : Ghosts S) (conn back : Held S) (result : Result T Fault) (Untouched : Type 0) (Does : Settings → List Envelope → Type 0) : Type 0 where
+  pub desk : HasCleanDisk (state g back) → (c : Settings) (heard : List Envelope) → KeepsHeard g conn c heard → Does c heard
+  pub no_desk : HasCleanDisk (state g back) → HoldsNoDesk g conn → RefusesFile g conn back Untouched result
+  pub clean : HasCleanDisk (state g back) → HasCleanDisk (state g conn)
 
 -- What a connection to a file is, and the connection that a run gives back: the file was opened, and this was done with the connection; or
 -- it couldn't be, and the streams are untouched.
@@ -41,19 +45,19 @@ module _ {S T : Type 0} (g : Ghosts S) (Opens : Text → Held S → Type 0) (giv
   DoesAsked (init file c) = OnFile Opens given_back result file (Unit {0}) (λ conn back. InitsBy g conn back c result)
   DoesAsked (migrate file) = OnFile Opens given_back result file (Unit {0}) (λ conn back. MigratesBy g conn back result)
   DoesAsked (hear file) =
-      OnFile Opens given_back result file (Keeps left rest × Keeps before after) (λ conn back. OnDesk g conn back (λ c heard. HearsBy g back c heard left rest before after result))
+      OnFile Opens given_back result file (Keeps left rest × Keeps before after) (λ conn back. OnDesk g conn back result (Keeps left rest × Keeps before after) (λ c heard. HearsBy g back c heard left rest before after result))
   DoesAsked (import file sender) =
       OnFile Opens given_back result file (Keeps left rest × Keeps before after)
-      (λ conn back. OnDesk g conn back (λ c heard. ImportsBy c heard sender (KeepsHeard g back c) (IsLeft g back c) left rest before after result))
+      (λ conn back. OnDesk g conn back result (Keeps left rest × Keeps before after) (λ c heard. ImportsBy c heard sender (KeepsHeard g back c) (IsLeft g back c) left rest before after result))
   DoesAsked (serve file port connections) =
       OnFile Opens given_back result file (Keeps before after)
-      (λ conn back. OnDesk g conn back (λ c heard. ServesBy c heard (KeepsHeard g back c) (IsLeft g back c) port before after result))
+      (λ conn back. OnDesk g conn back result (Keeps before after) (λ c heard. ServesBy c heard (KeepsHeard g back c) (IsLeft g back c) port before after result))
   DoesAsked (report file owner month) =
       OnFile Opens given_back result file (Keeps before after)
-      (λ conn back. OnDesk g conn back (λ c heard. PrintsBy (KeepsHeard g back c heard) (IsLeft g back c heard None) before after (IsOwnersMonth (state_of c heard) owner month) result))
+      (λ conn back. OnDesk g conn back result (Keeps before after) (λ c heard. PrintsBy (KeepsHeard g back c heard) (IsLeft g back c heard None) before after (IsOwnersMonth (state_of c heard) owner month) result))
   DoesAsked (bands file gateway) =
       OnFile Opens given_back result file (Keeps before after)
-      (λ conn back. OnDesk g conn back (λ c heard. PrintsBy (KeepsHeard g back c heard) (IsLeft g back c heard None) before after (IsBandAnswer (state_of c heard) gateway) result))
+      (λ conn back. OnDesk g conn back result (Keeps before after) (λ c heard. PrintsBy (KeepsHeard g back c heard) (IsLeft g back c heard None) before after (IsBandAnswer (state_of c heard) gateway) result))
   DoesAsked (check file) =
       OnFile Opens given_back result file (Keeps before after)
-      (λ conn back. OnDesk g conn back (λ c heard. PrintsBy (KeepsHeard g back c heard) (IsLeft g back c heard None) before after (IsCheck c heard) result))
+      (λ conn back. OnDesk g conn back result (Keeps before after) (λ c heard. PrintsBy (KeepsHeard g back c heard) (IsLeft g back c heard None) before after (IsCheck c heard) result))

@@ -4,6 +4,7 @@ pub mod Doing
 pub mod Endings
 pub mod Faults
 pub mod Named
+pub mod NoDesk
 pub mod Numbers
 pub mod OnTables
 pub mod Options

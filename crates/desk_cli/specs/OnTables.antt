@@ -5,8 +5,10 @@ use Rattle.sqlite.specs.Held.{Held, state}
 use Rattle.sqlite_trees.specs.Tree.{Trees}
 use Rattle.sqlite_trees.specs.declared.store.Store.{Ghosts}
 use Rattle.registry_core.specs.declared.messages.Envelope.{Envelope}
+use Rattle.registry_core.specs.Bookings.{EveryHourKept}
 use Rattle.registry_core.specs.Heard.{IsHeard}
 use Rattle.registry_core.specs.Settings.{Settings}
+use Rattle.desk_store.specs.Kept.{Kept}
 use Rattle.desk_store.specs.Meaning.{Meaning}
 use Rattle.desk_tables.specs.Adopting.{IsStore}
 use Rattle.desk_tables.specs.InOrder.{AreOfDesk, IsOfDesk}
@@ -22,6 +24,14 @@ abbrev pub LeftHeard : Settings → List Envelope → Option Envelope → Trees 
 LeftHeard c heard doubt trees =
     AreOfDesk c (kept_after c heard) trees
     ⊎ ((e : Envelope) × (doubt ≡ Some e) × IsHeard c (heard ++ e ∷ []) × AreOfDesk c (kept_after c (heard ++ e ∷ [])) trees)
+
+-- in whatever a desk of this configuration holds whose database it is, no hour of any gateway's band has more downlinks than the limit
+abbrev pub KeepsHours : Settings → Database → Type 0
+KeepsHours c db = (kept : Kept) → IsOfDesk c kept db → EveryHourKept kept.facts
+
+-- the same of what a crash leaves
+abbrev pub LeavesHours : Settings → Trees → Type 0
+LeavesHours c trees = (kept : Kept) → AreOfDesk c kept trees → EveryHourKept kept.facts
 
 module _ {S : Type 0} (g : Ghosts S) (conn : Held S) (c : Settings) (heard : List Envelope) where
   -- whatever a crash leaves of the connection's file at this moment holds what was heard, or that with the message in doubt

@@ -39,7 +39,7 @@ use serving::{serve_app, serve_of};
 use std::alloc::{AllocError, Global};
 
 /// A command with its values.
-#[derive(Clone, Copy, Debug, PartialEq, Eq)]
+#[derive(Clone, Copy, PartialEq, Eq)]
 pub enum Command<'a> {
     /// Answers the messages of standard input, one a line, for a new desk that is kept in memory.
     Lines {

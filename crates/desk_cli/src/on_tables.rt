@@ -1,20 +1,18 @@
 //! The whole over tables: a desk is made, it answers texts, and what its database then holds.
-ghost use Rattle.std.specs.Prelude.{◌≡◌, ℕ, [], map, take, false, None, IfOk, IfErr};
+ghost use Rattle.std.specs.Prelude.{◌≡◌, [], map, false, None, IfOk};
 ghost use Rattle.sqlite_trees.specs.Tree.{Trees};
 ghost use Rattle.sqlite.specs.Held.{state};
 ghost use Rattle.sqlite.specs.State.{HasCleanDisk};
 ghost use Rattle.sqlite.specs.Steps.{over_memory};
-ghost use Rattle.registry_core.specs.Bookings.{EveryHourKept};
-ghost use Rattle.registry_core.specs.Heard.{state_of};
 ghost use Rattle.desk_engine.specs.Deliveries.{heard_all};
 ghost use Rattle.desk_engine.specs.Outcomes.{AreOutcomes, deliveries_of, first_doubt, has_disk};
-ghost use Rattle.desk_cli.specs.OnTables.{HasHeard, LeftHeard};
+ghost use Rattle.desk_cli.specs.OnTables.{HasHeard, KeepsHours, LeavesHours, LeftHeard};
 
 use desk_engine::{Outcome, run};
 use desk_store::StoreFault;
 use desk_tables::Tables;
 use registry_core::Config;
-use registry_core::laws::nothing_is_heard;
+use registry_core::laws::{hours_are_kept, nothing_is_heard};
 use sqlite::{Alter, Connection, MemStore};
 use std::alloc::Global;
 
@@ -42,11 +40,15 @@ pub fn run_on_tables<S: Alter>(
         → LeftHeard config (heard_all config [] (deliveries_of (map (λ t. t.now) texts.now) outcomes.items))
         (first_doubt config (map (λ t. t.now) texts.now) outcomes.items) trees) }
 
-    // No hour of any gateway's band holds more downlinks than the limit, after each beginning of the list.
-    ensures hours { HasCleanDisk (state S.Store result.1) → IfOk result.0 (λ outcomes. (n : ℕ) → EveryHourKept (state_of config
-        (heard_all config [] (take n (deliveries_of (map (λ t. t.now) texts.now) outcomes.items))))) }
+    // In whatever the database then holds, and in whatever a crash leaves, no hour of any gateway's band has more downlinks than
+    // the limit.
+    ensures hours { HasCleanDisk (state S.Store result.1) → IfOk result.0 (λ outcomes. has_disk outcomes.items ≡ false
+        → KeepsHours config (state S.Store result.1).now) }
+    ensures hours_left { HasCleanDisk (state S.Store result.1) → IfOk result.0 (λ outcomes. (trees : Trees) → (state S.Store result.1).may_leave trees
+        → LeavesHours config trees) }
 {
     nothing_is_heard();
+    hours_are_kept();
     match Tables::create(alloc, conn, config) {
         Ok(tables) => {
             let mut tables = tables;
@@ -70,8 +72,8 @@ pub fn run_in_memory(
         → HasHeard config (heard_all config [] (deliveries_of (map (λ t. t.now) texts.now) ran.0.items)) (state over_memory ran.1).now) }
     ensures committed { IfOk result (λ ran. LeftHeard config (heard_all config [] (deliveries_of (map (λ t. t.now) texts.now) ran.0.items))
         (first_doubt config (map (λ t. t.now) texts.now) ran.0.items) (state over_memory ran.1).committed.trees) }
-    ensures hours { IfOk result (λ ran. (n : ℕ) → EveryHourKept (state_of config
-        (heard_all config [] (take n (deliveries_of (map (λ t. t.now) texts.now) ran.0.items))))) }
+    ensures hours { IfOk result (λ ran. has_disk ran.0.items ≡ false → KeepsHours config (state over_memory ran.1).now) }
+    ensures hours_left { IfOk result (λ ran. LeavesHours config (state over_memory ran.1).committed.trees) }
 {
     let Ok(conn) = Connection::open_in_memory(alloc) else {
         return Err(StoreFault::Memory);

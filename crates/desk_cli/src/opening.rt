@@ -4,8 +4,8 @@ ghost use Rattle.sqlite.specs.Held.{state};
 ghost use Rattle.sqlite.specs.State.{HasCleanDisk};
 ghost use Rattle.registry_core.specs.declared.messages.Envelope.{Envelope};
 ghost use Rattle.registry_core.specs.Settings.{Settings};
-ghost use Rattle.desk_tables.specs.Adopting.{IsGivenBack};
 ghost use Rattle.desk_tables.specs.Store.{meaning_of};
+ghost use Rattle.desk_cli.specs.NoDesk.{HoldsNoDesk, IsRefused};
 ghost use Rattle.desk_cli.specs.OnTables.{IsLeft, KeepsHeard, WasOpened};
 
 use crate::faults::Fault;
@@ -25,7 +25,9 @@ pub(crate) fn opened<S: Alter>(
         → KeepsHeard S.Store conn c heard → WasOpened (meaning_of S.Store) t c heard) }
     ensures unavailable { IfErr result (λ back. HasCleanDisk (state S.Store back.1) → (c : Settings) (heard : List Envelope)
         → KeepsHeard S.Store conn c heard → (back.0 ≡ Fault.Unavailable) × IsLeft S.Store back.1 c heard None) }
-    ensures given_back { IfErr result (λ back. IsGivenBack (state S.Store conn) (state S.Store back.1) (λ _. ⊥)) }
+    ensures refused { IfErr result (λ back. HasCleanDisk (state S.Store back.1) → IsRefused S.Store conn back.1 back.0) }
+    ensures never { IfOk result (λ t. (meaning_of S.Store).sound t → ¬ HoldsNoDesk S.Store conn) }
+    ensures clean { IfOk result (λ t. (meaning_of S.Store).sound t → HasCleanDisk (state S.Store conn)) }
 {
     match Tables::open(alloc, conn) {
         Ok(tables) => Ok(tables),

@@ -80,27 +80,23 @@ pub(crate) fn command_with_settings<'a>(
     ensures app { IfOk result (λ c. app_of c ≡ with_settings (new_app name.entry.now)) }
     ensures local { IfOk result (λ c. (fields_of c).has_globals ≡ false) }
 {
-    let receiver = option(alloc, "receiver", "NAME", "desk", "The desk's own name");
-    let operator = option(alloc, "operator", "NAME", "office", "The first operator");
-    let base = option(
-        alloc,
-        "base",
-        "HEX8",
-        "01a00000",
-        "The first device address",
-    );
-    let addresses = option(
-        alloc,
-        "addresses",
-        "COUNT",
-        "65536",
-        "How many device addresses",
-    );
     command(alloc, name, about, example)
-        .arg(receiver)?
-        .arg(operator)?
-        .arg(base)?
-        .arg(addresses)
+        .arg(option(alloc, "receiver", "NAME", "desk", "The desk's own name"))?
+        .arg(option(alloc, "operator", "NAME", "office", "The first operator"))?
+        .arg(option(
+            alloc,
+            "base",
+            "HEX8",
+            "01a00000",
+            "The first device address",
+        ))?
+        .arg(option(
+            alloc,
+            "addresses",
+            "COUNT",
+            "65536",
+            "How many device addresses",
+        ))
 }
 
 /// The configuration of the four options.

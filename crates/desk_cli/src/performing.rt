@@ -101,7 +101,8 @@ fn hear_file<S: Alter, N: Files<S>, R: Read, W: Write>(
 ) -> Performed<S>
     ensures { OnFile (N.opens files) result.1 result.0 file.now
         (Keeps (R.remaining reader.old) (R.remaining reader.new) × Keeps (W.contents answers.old) (W.contents answers.new))
-        (λ conn back. OnDesk S.Store conn back (λ c heard. HearsBy S.Store back c heard (R.remaining reader.old) (R.remaining reader.new)
+        (λ conn back. OnDesk S.Store conn back result.0 (Keeps (R.remaining reader.old) (R.remaining reader.new) × Keeps (W.contents answers.old) (W.contents answers.new))
+        (λ c heard. HearsBy S.Store back c heard (R.remaining reader.old) (R.remaining reader.new)
         (W.contents answers.old) (W.contents answers.new) result.0)) }
 {
     match files.open(file) {
@@ -123,7 +124,8 @@ fn import_file<S: Alter, N: Files<S>, R: Read, W: Write>(
 ) -> Performed<S>
     ensures { OnFile (N.opens files) result.1 result.0 file.now
         (Keeps (R.remaining reader.old) (R.remaining reader.new) × Keeps (W.contents answers.old) (W.contents answers.new))
-        (λ conn back. OnDesk S.Store conn back (λ c heard. ImportsBy c heard sender.now (KeepsHeard S.Store back c) (IsLeft S.Store back c)
+        (λ conn back. OnDesk S.Store conn back result.0 (Keeps (R.remaining reader.old) (R.remaining reader.new) × Keeps (W.contents answers.old) (W.contents answers.new))
+        (λ c heard. ImportsBy c heard sender.now (KeepsHeard S.Store back c) (IsLeft S.Store back c)
         (R.remaining reader.old) (R.remaining reader.new) (W.contents answers.old) (W.contents answers.new) result.0)) }
 {
     match files.open(file) {
@@ -145,7 +147,8 @@ fn serve_file<S: Alter, N: Files<S>, B: Network, W: Write>(
     answers: &mut W,
 ) -> Performed<S>
     ensures { OnFile (N.opens files) result.1 result.0 file.now (Keeps (W.contents answers.old) (W.contents answers.new))
-        (λ conn back. OnDesk S.Store conn back (λ c heard. ServesBy c heard (KeepsHeard S.Store back c) (IsLeft S.Store back c)
+        (λ conn back. OnDesk S.Store conn back result.0 (Keeps (W.contents answers.old) (W.contents answers.new))
+        (λ c heard. ServesBy c heard (KeepsHeard S.Store back c) (IsLeft S.Store back c)
         port (W.contents answers.old) (W.contents answers.new) result.0)) }
 {
     match files.open(file) {
@@ -166,7 +169,8 @@ fn report_file<S: Alter, N: Files<S>, W: Write>(
     answers: &mut W,
 ) -> Performed<S>
     ensures { OnFile (N.opens files) result.1 result.0 file.now (Keeps (W.contents answers.old) (W.contents answers.new))
-        (λ conn back. OnDesk S.Store conn back (λ c heard. PrintsBy (KeepsHeard S.Store back c heard) (IsLeft S.Store back c heard None)
+        (λ conn back. OnDesk S.Store conn back result.0 (Keeps (W.contents answers.old) (W.contents answers.new))
+        (λ c heard. PrintsBy (KeepsHeard S.Store back c heard) (IsLeft S.Store back c heard None)
         (W.contents answers.old) (W.contents answers.new) (IsOwnersMonth (state_of c heard) owner.now month.now) result.0)) }
 {
     match files.open(file) {
@@ -186,7 +190,8 @@ fn bands_file<S: Alter, N: Files<S>, W: Write>(
     answers: &mut W,
 ) -> Performed<S>
     ensures { OnFile (N.opens files) result.1 result.0 file.now (Keeps (W.contents answers.old) (W.contents answers.new))
-        (λ conn back. OnDesk S.Store conn back (λ c heard. PrintsBy (KeepsHeard S.Store back c heard) (IsLeft S.Store back c heard None)
+        (λ conn back. OnDesk S.Store conn back result.0 (Keeps (W.contents answers.old) (W.contents answers.new))
+        (λ c heard. PrintsBy (KeepsHeard S.Store back c heard) (IsLeft S.Store back c heard None)
         (W.contents answers.old) (W.contents answers.new) (IsBandAnswer (state_of c heard) gateway.now) result.0)) }
 {
     match files.open(file) {
@@ -205,7 +210,8 @@ fn check_file<S: Alter, N: Files<S>, W: Write>(
     answers: &mut W,
 ) -> Performed<S>
     ensures { OnFile (N.opens files) result.1 result.0 file.now (Keeps (W.contents answers.old) (W.contents answers.new))
-        (λ conn back. OnDesk S.Store conn back (λ c heard. PrintsBy (KeepsHeard S.Store back c heard) (IsLeft S.Store back c heard None)
+        (λ conn back. OnDesk S.Store conn back result.0 (Keeps (W.contents answers.old) (W.contents answers.new))
+        (λ c heard. PrintsBy (KeepsHeard S.Store back c heard) (IsLeft S.Store back c heard None)
         (W.contents answers.old) (W.contents answers.new) (IsCheck c heard) result.0)) }
 {
     match files.open(file) {

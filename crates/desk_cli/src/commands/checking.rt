@@ -1,6 +1,7 @@
 //! `desk check`: what a desk's file holds.
 ghost use Rattle.std.specs.Prelude.{◌≡◌, false, IfOk, List, None};
 ghost use Rattle.std.specs.String.{string_bytes};
+ghost use Rattle.std.specs.Io.KnownBytes.{Keeps};
 ghost use Rattle.clap.specs.Matches.{found_of};
 ghost use Rattle.clap.specs.Simple.{app_of};
 ghost use Rattle.clap.specs.Walk.{rows_of};
@@ -13,6 +14,7 @@ ghost use Rattle.desk_store.specs.Calls.{IsRead, Tells, fault_in};
 ghost use Rattle.desk_engine.specs.Reporting.{store_fault};
 ghost use Rattle.desk_tables.specs.Store.{meaning_of};
 ghost use Rattle.desk_cli.specs.Named.{Tells as TellsWords};
+ghost use Rattle.desk_cli.specs.NoDesk.{HoldsNoDesk, RefusesFile};
 ghost use Rattle.desk_cli.specs.OnTables.{IsLeft, KeepsHeard};
 ghost use Rattle.desk_cli.specs.Printing.{PrintsBy};
 ghost use Rattle.desk_cli.specs.commands.Checking.{IsCheck, check_app, check_named, check_text, eight_digits, named_lines, numbered_lines, settings_lines};
@@ -55,7 +57,8 @@ pub(crate) fn check_of<'a>(options: &ArgMatches<'a>) -> Result<Command<'a>, Usag
 /// Prints what the desk of the connection's database was made with, and how many senders, owners, gateways, devices, limits,
 /// sessions, uplinks, bookings and replies it holds, a line each, and gives the connection back.
 ///
-/// With `File` the writer failed. Nothing is changed.
+/// With `File` the writer failed. Nothing is changed. What is no desk's of schema 2 is refused, by `NotADesk`, `Schema` or
+/// `Unavailable`, and stays as it is.
 pub fn check_command<S: Alter, W: Write>(
     alloc: Global,
     conn: Connection<S>,
@@ -66,6 +69,9 @@ pub fn check_command<S: Alter, W: Write>(
     ensures prints { HasCleanDisk (state S.Store result.1) → (c : Settings) (heard : List Envelope) → KeepsHeard S.Store conn c heard
         → PrintsBy (KeepsHeard S.Store result.1 c heard) (IsLeft S.Store result.1 c heard None) (W.contents answers.old) (W.contents answers.new)
         (IsCheck c heard) result.0 }
+    ensures no_desk { HasCleanDisk (state S.Store result.1) → HoldsNoDesk S.Store conn
+        → RefusesFile S.Store conn result.1 (Keeps (W.contents answers.old) (W.contents answers.new)) result.0 }
+    ensures clean { HasCleanDisk (state S.Store result.1) → HasCleanDisk (state S.Store conn) }
 {
     match opened(alloc, conn) {
         Ok(tables) => {

@@ -1,5 +1,6 @@
 //! `desk hear`: messages from a reader, answers to a writer, over a desk's file.
 ghost use Rattle.std.specs.Prelude.{◌≡◌, false, IfOk, List, None};
+ghost use Rattle.std.specs.Io.KnownBytes.{Keeps};
 ghost use Rattle.clap.specs.Matches.{found_of};
 ghost use Rattle.clap.specs.Simple.{app_of};
 ghost use Rattle.clap.specs.Walk.{rows_of};
@@ -10,6 +11,7 @@ ghost use Rattle.sqlite.specs.Held.{state};
 ghost use Rattle.sqlite.specs.State.{HasCleanDisk};
 ghost use Rattle.registry_core.specs.declared.messages.Envelope.{Envelope};
 ghost use Rattle.registry_core.specs.Settings.{Settings};
+ghost use Rattle.desk_cli.specs.NoDesk.{HoldsNoDesk, RefusesFile};
 ghost use Rattle.desk_cli.specs.OnTables.{KeepsHeard};
 
 use super::Command;
@@ -44,9 +46,10 @@ pub(crate) fn hear_of<'a>(options: &ArgMatches<'a>) -> Result<Command<'a>, Usage
 
 /// Answers the messages of the reader, one a line, by the desk of the connection's database, and gives the connection back.
 ///
-/// Nothing is read before the desk is open. With `Ok` all lines are heard and answered. With `File` a read or a write failed:
-/// the first lines are heard, and how much of the last answer went out isn't known. With `Unavailable` exactly the lines
-/// before the one that found the desk so are answered.
+/// Nothing is read before the desk is open. With `Ok` all lines are heard and answered. With `File` a read or a write
+/// failed: the first lines are heard, and how much of the last answer went out isn't known. With `Unavailable` exactly the
+/// lines before the one that found the desk so are answered. What is no desk's of schema 2 is refused, by `NotADesk`,
+/// `Schema` or `Unavailable`, and stays as it is.
 pub fn hear_command<S: Alter, R: Read, W: Write>(
     alloc: Global,
     conn: Connection<S>,
@@ -58,6 +61,9 @@ pub fn hear_command<S: Alter, R: Read, W: Write>(
     ensures hears { HasCleanDisk (state S.Store result.1) → (c : Settings) (heard : List Envelope) → KeepsHeard S.Store conn c heard
         → HearsBy S.Store result.1 c heard (R.remaining reader.old) (R.remaining reader.new)
         (W.contents answers.old) (W.contents answers.new) result.0 }
+    ensures no_desk { HasCleanDisk (state S.Store result.1) → HoldsNoDesk S.Store conn
+        → RefusesFile S.Store conn result.1 (Keeps (R.remaining reader.old) (R.remaining reader.new) × Keeps (W.contents answers.old) (W.contents answers.new)) result.0 }
+    ensures clean { HasCleanDisk (state S.Store result.1) → HasCleanDisk (state S.Store conn) }
 {
     match opened(alloc, conn) {
         Ok(tables) => {

@@ -7,7 +7,7 @@ ghost use Rattle.clap.specs.declared.builder.command.Command.TheViews.{out-Comma
 ghost use Rattle.desk_cli.specs.commands.Importing.{import_app, import_named, ImportsBy};
 ghost use Rattle.desk_cli.specs.Named.{Tells};
 ghost use Rattle.std.specs.List.{flat_map};
-ghost use Rattle.std.specs.Io.KnownBytes.{Appends, Consumes, IsAtEnd};
+ghost use Rattle.std.specs.Io.KnownBytes.{Appends, Consumes, IsAtEnd, Keeps as KeepsBytes};
 ghost use Rattle.sqlite.specs.Held.{state};
 ghost use Rattle.sqlite.specs.State.{HasCleanDisk};
 ghost use Rattle.registry_core.specs.declared.messages.Envelope.{Envelope};
@@ -16,6 +16,7 @@ ghost use Rattle.desk_engine.specs.InOrder.{WasInOrder};
 ghost use Rattle.desk_engine.specs.Lines.{line_feed};
 ghost use Rattle.desk_wire.specs.CsvReports.{longest_report};
 ghost use Rattle.desk_cli.specs.Answering.{Keeps, Leaves};
+ghost use Rattle.desk_cli.specs.NoDesk.{HoldsNoDesk, RefusesFile};
 ghost use Rattle.desk_cli.specs.OnTables.{IsLeft, KeepsHeard};
 ghost use Rattle.desk_cli.specs.steps.Importing.{line_of, HearsEnvelopes};
 
@@ -41,11 +42,9 @@ pub(crate) fn import_app<'a>(alloc: Global) -> Result<clap::Command<'a>, AllocEr
 {
     let about = "Answers the records of a gateway's CSV report on standard input, one a line";
     let example = "Example:\n  desk import town.db --sender office < report.csv";
-    let file = place(alloc, "file", "FILE", "The desk's file");
-    let sender = needed(alloc, "sender", "NAME", "Who sends the report");
     command(alloc, "import", about, example)
-        .arg(file)?
-        .arg(sender)
+        .arg(place(alloc, "file", "FILE", "The desk's file"))?
+        .arg(needed(alloc, "sender", "NAME", "Who sends the report"))
 }
 
 /// The command that its words give.
@@ -60,9 +59,10 @@ pub(crate) fn import_of<'a>(options: &ArgMatches<'a>) -> Result<Command<'a>, Usa
 /// Hears the records of a gateway's report in order, as messages of this sender, by the desk of the connection's database,
 /// writes an answer for each, one a line, and gives the connection back.
 ///
-/// Nothing is read before the desk is open, and nothing is heard before the report is read whole. What is no report is
-/// told by one of the `Csv` faults. With `File` a read or a write failed, and with `Unavailable` exactly the answers of the
-/// records before the one that found the desk so were written.
+/// Nothing is read before the desk is open, and nothing is heard before the report is read whole. What is no report is told
+/// by one of the `Csv` faults. With `File` a read or a write failed, and with `Unavailable` exactly the answers of the
+/// records before the one that found the desk so were written. What is no desk's of schema 2 is refused, by `NotADesk`,
+/// `Schema` or `Unavailable`, and stays as it is.
 pub fn import_command<S: Alter, R: Read, W: Write>(
     alloc: Global,
     conn: Connection<S>,
@@ -75,6 +75,9 @@ pub fn import_command<S: Alter, R: Read, W: Write>(
     ensures imports { HasCleanDisk (state S.Store result.1) → (c : Settings) (heard : List Envelope) → KeepsHeard S.Store conn c heard
         → ImportsBy c heard sender.now (KeepsHeard S.Store result.1 c) (IsLeft S.Store result.1 c)
         (R.remaining reader.old) (R.remaining reader.new) (W.contents answers.old) (W.contents answers.new) result.0 }
+    ensures no_desk { HasCleanDisk (state S.Store result.1) → HoldsNoDesk S.Store conn
+        → RefusesFile S.Store conn result.1 (KeepsBytes (R.remaining reader.old) (R.remaining reader.new) × KeepsBytes (W.contents answers.old) (W.contents answers.new)) result.0 }
+    ensures clean { HasCleanDisk (state S.Store result.1) → HasCleanDisk (state S.Store conn) }
 {
     match opened(alloc, conn) {
         Ok(tables) => {

@@ -25,8 +25,12 @@ pub(crate) fn init_app<'a>(alloc: Global) -> Result<clap::Command<'a>, AllocErro
 {
     let about = "Makes a file for a new desk";
     let example = "Example:\n  desk init town.db --base 01a00000";
-    let file = place(alloc, "file", "FILE", "The file, which isn't there yet");
-    command_with_settings(alloc, "init", about, example)?.arg(file)
+    command_with_settings(alloc, "init", about, example)?.arg(place(
+        alloc,
+        "file",
+        "FILE",
+        "The file, which isn't there yet",
+    ))
 }
 
 /// The command that its words give.

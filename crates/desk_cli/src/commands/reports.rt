@@ -1,5 +1,6 @@
 //! `desk report` and `desk bands`: reports from a desk's file.
 ghost use Rattle.std.specs.Prelude.{◌≡◌, false, IfOk, List, None};
+ghost use Rattle.std.specs.Io.KnownBytes.{Keeps};
 ghost use Rattle.clap.specs.Matches.{found_of};
 ghost use Rattle.clap.specs.Simple.{app_of};
 ghost use Rattle.clap.specs.Walk.{rows_of};
@@ -12,6 +13,7 @@ ghost use Rattle.registry_core.specs.declared.messages.Envelope.{Envelope};
 ghost use Rattle.registry_core.specs.Heard.{state_of};
 ghost use Rattle.registry_core.specs.Settings.{Settings};
 ghost use Rattle.desk_http.specs.Reports.{IsBandAnswer};
+ghost use Rattle.desk_cli.specs.NoDesk.{HoldsNoDesk, RefusesFile};
 ghost use Rattle.desk_cli.specs.OnTables.{IsLeft, KeepsHeard};
 ghost use Rattle.desk_cli.specs.Printing.{IsOwnersMonth, PrintsBy};
 
@@ -34,13 +36,10 @@ pub(crate) fn report_app<'a>(alloc: Global) -> Result<clap::Command<'a>, AllocEr
 {
     let about = "Prints the report of an owner's month";
     let example = "Example:\n  desk report town.db town 2024-02";
-    let file = place(alloc, "file", "FILE", "The desk's file");
-    let owner = place(alloc, "owner", "OWNER", "The owner");
-    let month = place(alloc, "month", "MONTH", "The month, as 2024-02");
     command(alloc, "report", about, example)
-        .arg(file)?
-        .arg(owner)?
-        .arg(month)
+        .arg(place(alloc, "file", "FILE", "The desk's file"))?
+        .arg(place(alloc, "owner", "OWNER", "The owner"))?
+        .arg(place(alloc, "month", "MONTH", "The month, as 2024-02"))
 }
 
 /// The command that they give.
@@ -60,11 +59,9 @@ pub(crate) fn bands_app<'a>(alloc: Global) -> Result<clap::Command<'a>, AllocErr
 {
     let about = "Prints the bands of a gateway";
     let example = "Example:\n  desk bands town.db gw-a";
-    let file = place(alloc, "file", "FILE", "The desk's file");
-    let gateway = place(alloc, "gateway", "GATEWAY", "The gateway");
     command(alloc, "bands", about, example)
-        .arg(file)?
-        .arg(gateway)
+        .arg(place(alloc, "file", "FILE", "The desk's file"))?
+        .arg(place(alloc, "gateway", "GATEWAY", "The gateway"))
 }
 
 /// The command that they give.
@@ -78,8 +75,9 @@ pub(crate) fn bands_of<'a>(options: &ArgMatches<'a>) -> Result<Command<'a>, Usag
 
 /// Prints the owner's report of a month from the desk of the connection's database, and gives the connection back.
 ///
-/// A text that is no month's is `Month`, for any owner, and then an owner that nobody added is `Owner`. With `File` the writer
-/// failed. Nothing is changed.
+/// A text that is no month's is `Month`, for any owner, and then an owner that nobody added is `Owner`. With `File` the
+/// writer failed. Nothing is changed. What is no desk's of schema 2 is refused, by `NotADesk`, `Schema` or `Unavailable`,
+/// and stays as it is.
 pub fn report_command<S: Alter, W: Write>(
     alloc: Global,
     conn: Connection<S>,
@@ -92,6 +90,9 @@ pub fn report_command<S: Alter, W: Write>(
     ensures prints { HasCleanDisk (state S.Store result.1) → (c : Settings) (heard : List Envelope) → KeepsHeard S.Store conn c heard
         → PrintsBy (KeepsHeard S.Store result.1 c heard) (IsLeft S.Store result.1 c heard None) (W.contents answers.old) (W.contents answers.new)
         (IsOwnersMonth (state_of c heard) owner.now month.now) result.0 }
+    ensures no_desk { HasCleanDisk (state S.Store result.1) → HoldsNoDesk S.Store conn
+        → RefusesFile S.Store conn result.1 (Keeps (W.contents answers.old) (W.contents answers.new)) result.0 }
+    ensures clean { HasCleanDisk (state S.Store result.1) → HasCleanDisk (state S.Store conn) }
 {
     match opened(alloc, conn) {
         Ok(tables) => {
@@ -115,6 +116,9 @@ pub fn bands_command<S: Alter, W: Write>(
     ensures prints { HasCleanDisk (state S.Store result.1) → (c : Settings) (heard : List Envelope) → KeepsHeard S.Store conn c heard
         → PrintsBy (KeepsHeard S.Store result.1 c heard) (IsLeft S.Store result.1 c heard None) (W.contents answers.old) (W.contents answers.new)
         (IsBandAnswer (state_of c heard) gateway.now) result.0 }
+    ensures no_desk { HasCleanDisk (state S.Store result.1) → HoldsNoDesk S.Store conn
+        → RefusesFile S.Store conn result.1 (Keeps (W.contents answers.old) (W.contents answers.new)) result.0 }
+    ensures clean { HasCleanDisk (state S.Store result.1) → HasCleanDisk (state S.Store conn) }
 {
     match opened(alloc, conn) {
         Ok(tables) => {

@@ -1,6 +1,6 @@
 //! `desk serve`: requests over HTTP, one a connection, for a desk in a file.
 ghost use Rattle.std.specs.Prelude.{◌≡◌, false, None, List, IfOk, OnOk};
-ghost use Rattle.std.specs.Io.KnownBytes.{Appends};
+ghost use Rattle.std.specs.Io.KnownBytes.{Appends, Keeps as KeepsBytes};
 ghost use Rattle.std.specs.String.{string_bytes};
 ghost use Rattle.clap.specs.Matches.{found_of};
 ghost use Rattle.clap.specs.Simple.{app_of};
@@ -13,6 +13,7 @@ ghost use Rattle.registry_core.specs.Settings.{Settings};
 ghost use Rattle.desk_engine.specs.InOrder.{WasInOrder};
 ghost use Rattle.desk_cli.specs.Answering.{Keeps, Leaves};
 ghost use Rattle.desk_cli.specs.Named.{Tells};
+ghost use Rattle.desk_cli.specs.NoDesk.{HoldsNoDesk, RefusesFile};
 ghost use Rattle.desk_cli.specs.OnTables.{IsLeft, KeepsHeard};
 ghost use Rattle.desk_cli.specs.Served.{HearsDeliveries, ServesEach, ServesNext};
 ghost use Rattle.desk_cli.specs.commands.Serving.{ServesBy, listening_line, serve_app, serve_named};
@@ -43,18 +44,15 @@ pub(crate) fn serve_app<'a>(alloc: Global) -> Result<clap::Command<'a>, AllocErr
     ensures local { IfOk result (λ c. (fields_of c).has_globals ≡ false) }
 {
     let about = "Serves messages, reports and bands over HTTP on 127.0.0.1";
-    let file = place(alloc, "file", "FILE", "The desk's file");
-    let port = needed(alloc, "port", "P", "The port, 1 to 65535");
-    let count = needed(
-        alloc,
-        "count",
-        "N",
-        "How many connections, one after another, 1 to 1000000",
-    );
     command(alloc, "serve", about, EXAMPLE)
-        .arg(file)?
-        .arg(port)?
-        .arg(count)
+        .arg(place(alloc, "file", "FILE", "The desk's file"))?
+        .arg(needed(alloc, "port", "P", "The port, 1 to 65535"))?
+        .arg(needed(
+            alloc,
+            "count",
+            "N",
+            "How many connections, one after another, 1 to 1000000",
+        ))
 }
 
 /// The command that its words give.
@@ -75,7 +73,8 @@ pub(crate) fn serve_of<'a>(options: &ArgMatches<'a>) -> Result<Command<'a>, Usag
 /// the connection back. Before the first it writes `listening 127.0.0.1:` with the port, and an LF.
 ///
 /// The port is bound once the desk is open: `Network` where it can't be had, and `File` where the line can't be written. A
-/// connection that fails counts as served.
+/// connection that fails counts as served. What is no desk's of schema 2 is refused, by `NotADesk`, `Schema` or
+/// `Unavailable`, and stays as it is.
 pub fn serve_command<S: Alter, B: Network, W: Write>(
     alloc: Global,
     conn: Connection<S>,
@@ -88,6 +87,9 @@ pub fn serve_command<S: Alter, B: Network, W: Write>(
     requires unlimited { conn.step_limit ≡ None }
     ensures serves { HasCleanDisk (state S.Store result.1) → (c : Settings) (heard : List Envelope) → KeepsHeard S.Store conn c heard
         → ServesBy c heard (KeepsHeard S.Store result.1 c) (IsLeft S.Store result.1 c) port (W.contents answers.old) (W.contents answers.new) result.0 }
+    ensures no_desk { HasCleanDisk (state S.Store result.1) → HoldsNoDesk S.Store conn
+        → RefusesFile S.Store conn result.1 (KeepsBytes (W.contents answers.old) (W.contents answers.new)) result.0 }
+    ensures clean { HasCleanDisk (state S.Store result.1) → HasCleanDisk (state S.Store conn) }
 {
     match opened(alloc, conn) {
         Ok(tables) => {

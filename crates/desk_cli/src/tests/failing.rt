@@ -1,7 +1,8 @@
 //! A store that fails at one call: what is told until then and from then on, and what a crash leaves.
 use super::importing::{WORKED, WORKED_ANSWERS};
-use super::rows::{DEVICE_ADDED, Delivery, SETUP, deliveries_of};
-use super::{deliver_each, expect, expect_told, opening, with_device};
+use super::rows::Delivery;
+use super::stops::all_deliveries;
+use super::{expect, expect_told, hear_each, opening, with_device};
 use desk_engine::{Outcome, ReportFault, band_report, deliver, import, owner_report};
 use desk_store::{Failure, Keeper, StoreFault, Switched};
 use desk_wire::read_report;
@@ -19,10 +20,10 @@ const FAILURES: [(Failure, StoreFault); 4] = [
 ];
 
 /// More calls than any of these tests makes.
-const MANY: u64 = 200;
+const MANY: u64 = 1_000;
 
-/// Delivers in order. The first that the store fails is told its fault, those before it are told what they are, and those
-/// after it too, unless the disk failed. Answers whether one failed.
+/// Delivers in order. The first that the store fails is told its fault, those before it are told what they are, and so is it
+/// when it is delivered again, and those after it, unless the disk failed. Answers whether one failed.
 fn deliver_with_failure<R: Abort + AllocGlobal, K: Keeper>(
     rt: &R,
     keeper: &mut K,
@@ -37,6 +38,10 @@ fn deliver_with_failure<R: Abort + AllocGlobal, K: Keeper>(
                 assert_eq!(rt; told, fault);
                 assert!(rt; !failed || fault == StoreFault::Disk);
                 failed = true;
+                if fault != StoreFault::Disk {
+                    let again = deliver(rt.alloc(), keeper, delivery.text.as_bytes());
+                    expect_told(rt, &again, delivery);
+                }
             }
             _ => {
                 assert!(rt; !failed || fault != StoreFault::Disk);
@@ -47,21 +52,20 @@ fn deliver_with_failure<R: Abort + AllocGlobal, K: Keeper>(
     failed
 }
 
-/// Each call fails in turn, in each way. After a crash all is delivered again, and told what it was: nothing is lost, and
-/// nothing is heard twice.
+/// Of messages of each type each call fails in turn, in each way. After a crash all is delivered again, and told what it was:
+/// nothing is lost, and nothing is heard twice.
 #[test]
 fn deliveries(rt: HostRuntime) -> Result<(), Fail> {
-    let setup = deliveries_of(rt.alloc(), &SETUP)?;
+    let all = all_deliveries(rt.alloc())?;
     for (failure, fault) in FAILURES {
         for calls in 0..MANY {
             let mut store = opening::<Switched>(rt.alloc(), 65_536)?;
             store.fail_after(calls, failure);
-            if !deliver_with_failure(&rt, &mut *store, &setup, fault) {
+            if !deliver_with_failure(&rt, &mut *store, &all, fault) {
                 break;
             }
             store.reopen();
-            deliver_each(&rt, &mut *store, &SETUP)?;
-            deliver_each(&rt, &mut *store, &DEVICE_ADDED)?;
+            hear_each(&rt, &mut *store, &all);
         }
     }
     Ok(())

@@ -21,6 +21,16 @@ const HEARD: Heard = Heard {
     verdict: "0",
 };
 
+/// Half of what the band has.
+pub(super) const HALF_OF_B3: &str = r#""Gateway":"gw-a","Band":"B3","Limit":18000000"#;
+
+pub(super) const NONE_OF_B3: &str = r#""Gateway":"gw-a","Band":"B3","Limit":0"#;
+
+pub(super) const ABOVE_B3: &str = r#""Gateway":"gw-a","Band":"B3","Limit":36000001"#;
+
+/// Of a gateway that nobody added.
+pub(super) const LIMIT_OF_NONE: &str = r#""Gateway":"gw-z","Band":"B1","Limit":0"#;
+
 const DROPPED_4: &str = r#""Booking":4,"Sent":false"#;
 
 /// After an hour of four downlinks that holds just the band's own limit.
@@ -45,8 +55,8 @@ pub(super) static LOWERED: [Row; 5] = [
 /// After the setup: limits before the first downlink, each for its gateway and band alone.
 #[rattlefmt::skip]
 pub(super) static FIRST_LIMITS: [Row; 18] = [
-    Asks("bridge", 9, "LimitSet", r#""Gateway":"gw-z","Band":"B1","Limit":0"#, ROLE),
-    Asks("office", 18, "LimitSet", r#""Gateway":"gw-z","Band":"B1","Limit":0"#, GATEWAY),
+    Asks("bridge", 9, "LimitSet", LIMIT_OF_NONE, ROLE),
+    Asks("office", 18, "LimitSet", LIMIT_OF_NONE, GATEWAY),
     Asks("office", 19, "LimitSet", r#""Gateway":"gw-a","Band":"B4","Limit":991232"#, SUCCESS),
     Asks("office", 900_004, "DeviceAdd", DEVICE, SUCCESS),
     Joins("bridge", 10, FIRST, FIRST_ADDED),
@@ -65,7 +75,7 @@ pub(super) static FIRST_LIMITS: [Row; 18] = [
     Frames("bridge", 21, Heard { time: 1_706_745_629_000_000, octets: UP_3, verdict: "3", ..HEARD }, Framed(1_155_072, "B4", false, 3, DEVICE_EUI, 5)),
     Books("bridge", 22, Down { uplink: 5, octets: DOWN_3, ..DOWN }, Booked(991_232, "B4", 4, 1_706_745_630_000_000)),
     // and none at all leaves none
-    Asks("office", 21, "LimitSet", r#""Gateway":"gw-a","Band":"B3","Limit":0"#, SUCCESS),
+    Asks("office", 21, "LimitSet", NONE_OF_B3, SUCCESS),
     Books("bridge", 23, Down { uplink: 1, octets: ACCEPT, ..DOWN }, DUTY),
 ];
 

@@ -23,28 +23,46 @@ fn answers<K: Keeper>(alloc: Global, keeper: &mut K, input: &str) -> Result<Vec<
     }
 }
 
+/// The desk writes this for the input.
+fn expect_written<R: Abort + AllocGlobal, K: Keeper>(
+    rt: &R,
+    keeper: &mut K,
+    input: &str,
+    wanted: &str,
+) -> Result<(), Fail> {
+    let written = answers(rt.alloc(), keeper, input)?;
+    assert!(rt; written.as_slice() == wanted.as_bytes());
+    Ok(())
+}
+
+/// A new desk does.
+fn expect_answers<R: Abort + AllocGlobal>(rt: &R, input: &str, wanted: &str) -> Result<(), Fail> {
+    let mut lists = opening::<Lists>(rt.alloc(), 65_536)?;
+    expect_written(rt, &mut *lists, input, wanted)
+}
+
 #[test]
-fn lines_are_answered(rt: HostRuntime) -> Result<(), Fail> {
+fn empty_lines_are_not_answered(rt: HostRuntime) -> Result<(), Fail> {
+    expect_answers(&rt, "", "")?;
+    expect_answers(&rt, "\n\n", "")
+}
+
+#[test]
+fn a_long_line_is_answered(rt: HostRuntime) -> Result<(), Fail> {
     let alloc = rt.alloc();
     let long = String::from_utf8(vec![in alloc; b'x'; 70_000]?)?;
+    let input = format!(in alloc; "{{\n\n{long}\n{REQUEST}")?;
+    let wanted = format!(in alloc; "{MALFORMED}\n{MALFORMED}\n{ADDED}\n")?;
+    expect_answers(&rt, input.as_str(), wanted.as_str())
+}
+
+#[test]
+fn a_line_has_a_limit(rt: HostRuntime) -> Result<(), Fail> {
+    let alloc = rt.alloc();
     let spaces = String::from_utf8(vec![in alloc; b' '; 65_413]?)?;
-    for (input, want) in [
-        (format!(in alloc; "")?, format!(in alloc; "")?),
-        (format!(in alloc; "\n\n")?, format!(in alloc; "")?),
-        (
-            format!(in alloc; "{{\n\n{long}\n{REQUEST}")?,
-            format!(in alloc; "{MALFORMED}\n{MALFORMED}\n{ADDED}\n")?,
-        ),
-        (
-            format!(in alloc; "{REQUEST}{spaces}\n{REQUEST}{spaces} \n{OTHER_OWNER}\n")?,
-            format!(in alloc; "{ADDED}\n{MALFORMED}\n{REUSED}\n")?,
-        ),
-    ] {
-        let mut lists = opening::<Lists>(alloc, 65_536)?;
-        let written = answers(alloc, &mut *lists, input.as_str())?;
-        assert!(rt; written.as_slice() == want.as_bytes());
-    }
-    Ok(())
+    let input = format!(in alloc; "{REQUEST}{spaces}\n{REQUEST}{spaces} \n{OTHER_OWNER}\n")?;
+    let wanted = format!(in alloc; "{ADDED}\n{MALFORMED}\n{REUSED}\n")?;
+    expect_answers(&rt, input.as_str(), wanted.as_str())
 }
 
 /// A new desk after the input in pieces, of which the read fails that stands at this place; how it ended, and what
@@ -61,79 +79,89 @@ fn read_in_pieces<K: Opened>(
     Ok((keeper, end, written))
 }
 
-fn a_read_fails<R: Abort + AllocGlobal, K: Opened>(rt: &R) -> Result<(), Fail> {
-    let alloc = rt.alloc();
-    let input = format!(in alloc; "{{\n{REQUEST}\n")?;
-    let malformed = format!(in alloc; "{MALFORMED}\n")?;
-    let added = format!(in alloc; "{ADDED}\n")?;
-    let reused = format!(in alloc; "{REUSED}\n")?;
-    let both = format!(in alloc; "{malformed}{added}")?;
-    // The first piece ends within the second line, and the second ends it. Another owner under the same number tells
-    // whether the message was heard.
-    for (until_failure, end, want, want_other) in [
-        (0, LinesEnd::Read, "", &added),
-        (1, LinesEnd::Read, malformed.as_str(), &added),
-        (2, LinesEnd::Read, both.as_str(), &reused),
-        (3, LinesEnd::Done, both.as_str(), &reused),
-    ] {
-        let (mut keeper, ended, written) = read_in_pieces::<K>(
-            alloc,
-            input.as_str(),
-            until_failure,
-        )?;
-        assert_eq!(rt; ended, end);
-        assert!(rt; written.as_slice() == want.as_bytes());
-        let again = answers(alloc, &mut *keeper, input.as_str())?;
-        assert!(rt; again.as_slice() == both.as_bytes());
-        let (mut keeper, _, _) = read_in_pieces::<K>(alloc, input.as_str(), until_failure)?;
-        let other = answers(alloc, &mut *keeper, OTHER_OWNER)?;
-        assert!(rt; other.as_slice() == want_other.as_bytes());
-    }
-    Ok(())
+/// The malformed line and the request, read until the read fails that stands at this place: the desk has written this by then,
+/// and ends so. It answers the whole afterwards; and another owner under the request's number is told whether it was heard.
+fn a_read_fails_at<R: Abort + AllocGlobal, K: Opened>(
+    rt: &R,
+    until_failure: usize,
+    end: LinesEnd,
+    wanted: &str,
+    other: &str,
+) -> Result<(), Fail> {
+    let input = format!(in rt.alloc(); "{{\n{REQUEST}\n")?;
+    let all = format!(in rt.alloc(); "{MALFORMED}\n{ADDED}\n")?;
+    let (mut keeper, ended, written) = read_in_pieces::<K>(
+        rt.alloc(),
+        input.as_str(),
+        until_failure,
+    )?;
+    assert_eq!(rt; ended, end);
+    assert!(rt; written.as_slice() == wanted.as_bytes());
+    expect_written(rt, &mut *keeper, input.as_str(), all.as_str())?;
+    let (mut keeper, _, _) = read_in_pieces::<K>(rt.alloc(), input.as_str(), until_failure)?;
+    expect_written(rt, &mut *keeper, OTHER_OWNER, other)
 }
 
-fn a_write_fails<R: Abort + AllocGlobal, K: Opened>(rt: &R) -> Result<(), Fail> {
-    let alloc = rt.alloc();
-    let want = format!(in alloc; "{ADDED}\n{MALFORMED}\n")?;
-    let reused = format!(in alloc; "{REUSED}\n")?;
-    let input = format!(in alloc; "{REQUEST}\n\n{{")?;
-    // One write an answer.
-    for until_failure in 0..3 {
-        let mut keeper = opening::<K>(alloc, 65_536)?;
-        let mut reader = input.as_bytes();
-        let mut writer = Failing::new(until_failure);
-        let ended = run_lines(alloc, &mut *keeper, &mut reader, &mut writer);
-        assert_eq!(rt;
-            ended,
-            if until_failure < 2 {
-                LinesEnd::Write
-            } else {
-                LinesEnd::Done
-            }
-        );
-        let again = answers(alloc, &mut *keeper, input.as_str())?;
-        assert!(rt; again.as_slice() == want.as_bytes());
-        let other = answers(alloc, &mut *keeper, OTHER_OWNER)?;
-        assert!(rt; other.as_slice() == reused.as_bytes());
-    }
-    let mut keeper = opening::<K>(alloc, 65_536)?;
+/// The first piece ends within the second line, and the second ends it.
+fn a_read_fails<R: Abort + AllocGlobal, K: Opened>(rt: &R) -> Result<(), Fail> {
+    let malformed = format!(in rt.alloc(); "{MALFORMED}\n")?;
+    let added = format!(in rt.alloc(); "{ADDED}\n")?;
+    let reused = format!(in rt.alloc(); "{REUSED}\n")?;
+    let both = format!(in rt.alloc(); "{malformed}{added}")?;
+    a_read_fails_at::<R, K>(rt, 0, LinesEnd::Read, "", added.as_str())?;
+    a_read_fails_at::<R, K>(rt, 1, LinesEnd::Read, malformed.as_str(), added.as_str())?;
+    a_read_fails_at::<R, K>(rt, 2, LinesEnd::Read, both.as_str(), reused.as_str())?;
+    a_read_fails_at::<R, K>(rt, 3, LinesEnd::Done, both.as_str(), reused.as_str())
+}
+
+/// The request, an empty line and a malformed one, written until the write fails that stands at this place, one an answer: the
+/// desk ends so, and has heard the request.
+fn a_write_fails_at<R: Abort + AllocGlobal, K: Opened>(
+    rt: &R,
+    until_failure: usize,
+    end: LinesEnd,
+) -> Result<(), Fail> {
+    let input = format!(in rt.alloc(); "{REQUEST}\n\n{{")?;
+    let all = format!(in rt.alloc(); "{ADDED}\n{MALFORMED}\n")?;
+    let reused = format!(in rt.alloc(); "{REUSED}\n")?;
+    let mut keeper = opening::<K>(rt.alloc(), 65_536)?;
+    let mut writer = Failing::new(until_failure);
+    let ended = run_lines(rt.alloc(), &mut *keeper, &mut input.as_bytes(), &mut writer);
+    assert_eq!(rt; ended, end);
+    expect_written(rt, &mut *keeper, input.as_str(), all.as_str())?;
+    expect_written(rt, &mut *keeper, OTHER_OWNER, reused.as_str())
+}
+
+/// The writer has room for the answer, and not for its LF.
+fn a_writer_is_full<R: Abort + AllocGlobal, K: Opened>(rt: &R) -> Result<(), Fail> {
+    let mut keeper = opening::<K>(rt.alloc(), 65_536)?;
     let mut room = [0u8; 162];
     let mut writer: &mut [u8] = &mut room;
-    let mut reader = input.as_bytes();
-    let ended = run_lines(alloc, &mut *keeper, &mut reader, &mut writer);
+    let ended = run_lines(
+        rt.alloc(),
+        &mut *keeper,
+        &mut REQUEST.as_bytes(),
+        &mut writer,
+    );
     assert_eq!(rt; ended, LinesEnd::Write);
     assert!(rt; room.as_slice() == &ADDED.as_bytes()[..162]);
     Ok(())
 }
 
+fn ends_fail<R: Abort + AllocGlobal, K: Opened>(rt: &R) -> Result<(), Fail> {
+    a_read_fails::<R, K>(rt)?;
+    a_write_fails_at::<R, K>(rt, 0, LinesEnd::Write)?;
+    a_write_fails_at::<R, K>(rt, 1, LinesEnd::Write)?;
+    a_write_fails_at::<R, K>(rt, 2, LinesEnd::Done)?;
+    a_writer_is_full::<R, K>(rt)
+}
+
 #[test]
 fn ends_fail_over_lists(rt: HostRuntime) -> Result<(), Fail> {
-    a_read_fails::<HostRuntime, Lists>(&rt)?;
-    a_write_fails::<HostRuntime, Lists>(&rt)
+    ends_fail::<HostRuntime, Lists>(&rt)
 }
 
 #[test]
 fn ends_fail_over_tables(rt: HostRuntime) -> Result<(), Fail> {
-    a_read_fails::<HostRuntime, Tables<MemStore>>(&rt)?;
-    a_write_fails::<HostRuntime, Tables<MemStore>>(&rt)
+    ends_fail::<HostRuntime, Tables<MemStore>>(&rt)
 }

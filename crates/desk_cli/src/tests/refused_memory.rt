@@ -2,7 +2,8 @@
 //! `checks/refused_memory.py` runs each test once for each request, with that one refused.
 use super::data_frames::{FCNT_0_OTHER_MIC, HEARD, REPLAYED};
 use super::downlinks::{ANSWERED, DEVICE_EUI, DONE, DOWN, DOWN_1, DROPPED_1, SENT_1, WITHOUT_SENT};
-use super::joins::{AT_B, FIRST, FIRST_ADDED, FIRST_COPIED, NONCE, NONCE_0_OTHER_MIC};
+use super::joins::{AT_B, FIRST, FIRST_ADDED, FIRST_COPIED, GATEWAY, NONCE, NONCE_0_OTHER_MIC};
+use super::limits::{ABOVE_B3, HALF_OF_B3, LIMIT_OF_NONE, NONE_OF_B3};
 use super::rows::Row::{Asks, Books, Frames, Joins};
 use super::rows::Told::{Booked, Framed};
 use super::rows::{
@@ -178,6 +179,15 @@ static DOWN_DONE: [Row; 11] = [
     Asks("office", 7, "DownDone", SENT_1, REUSED),
 ];
 
+static LIMIT_SET: [Row; 6] = [
+    Asks("office", 1, "GatewayAdd", GATEWAY_A, SUCCESS),
+    Asks("office", 2, "LimitSet", HALF_OF_B3, SUCCESS),
+    Asks("office", 3, "LimitSet", LIMIT_OF_NONE, GATEWAY),
+    Asks("nobody", 2, "LimitSet", HALF_OF_B3, UNKNOWN_SENDER),
+    Asks("office", 4, "LimitSet", ABOVE_B3, BODY),
+    Asks("office", 2, "LimitSet", NONE_OF_B3, REUSED),
+];
+
 #[test]
 fn sender_add(rt: HostRuntime) -> Result<(), Fail> {
     deliver_or_again(&rt, &SENDER_ADD)
@@ -221,6 +231,11 @@ fn down_book(rt: HostRuntime) -> Result<(), Fail> {
 #[test]
 fn down_done(rt: HostRuntime) -> Result<(), Fail> {
     deliver_or_again(&rt, &DOWN_DONE)
+}
+
+#[test]
+fn limit_set(rt: HostRuntime) -> Result<(), Fail> {
+    deliver_or_again(&rt, &LIMIT_SET)
 }
 
 #[test]

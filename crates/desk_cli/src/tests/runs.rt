@@ -51,25 +51,29 @@ fn expect_run<R: Abort + AllocGlobal, K: Opened>(
     Ok(())
 }
 
+/// The table after the setup.
+fn expect_after_setup<R: Abort + AllocGlobal, K: Opened>(rt: &R, rows: &[Row]) -> Result<(), Fail> {
+    expect_run::<R, K>(rt, 65_536, &[&SETUP[..], rows])
+}
+
+fn downlinks_have_their_outcomes<R: Abort + AllocGlobal, K: Opened>(rt: &R) -> Result<(), Fail> {
+    expect_after_setup::<R, K>(rt, &WORKED_DOWNLINKS)?;
+    expect_after_setup::<R, K>(rt, &BETWEEN)?;
+    expect_after_setup::<R, K>(rt, &BETWEEN_ABOVE)?;
+    expect_after_setup::<R, K>(rt, &COLLISIONS)?;
+    expect_after_setup::<R, K>(rt, &DOWNLINKS)?;
+    expect_after_setup::<R, K>(rt, &LENGTHS)
+}
+
 pub(super) fn have_their_outcomes<R: Abort + AllocGlobal, K: Opened>(rt: &R) -> Result<(), Fail> {
     expect_run::<R, K>(rt, 65_536, &[&OWNERS[..]])?;
-    for (addresses, rows) in [
-        (65_536, &REGISTRY[..]),
-        (65_536, &JOINS),
-        (1, &ONE_ADDRESS),
-        (65_536, &DATA),
-        (65_536, &SESSIONS),
-        (65_536, &WORKED_DOWNLINKS),
-        (65_536, &BETWEEN),
-        (65_536, &BETWEEN_ABOVE),
-        (65_536, &COLLISIONS),
-        (65_536, &DOWNLINKS),
-        (65_536, &LENGTHS),
-        (65_536, &FSK),
-    ] {
-        expect_run::<R, K>(rt, addresses, &[&SETUP[..], rows])?;
-    }
-    Ok(())
+    expect_run::<R, K>(rt, 1, &[&SETUP[..], &ONE_ADDRESS])?;
+    expect_after_setup::<R, K>(rt, &REGISTRY)?;
+    expect_after_setup::<R, K>(rt, &JOINS)?;
+    expect_after_setup::<R, K>(rt, &DATA)?;
+    expect_after_setup::<R, K>(rt, &SESSIONS)?;
+    expect_after_setup::<R, K>(rt, &FSK)?;
+    downlinks_have_their_outcomes::<R, K>(rt)
 }
 
 pub(super) fn hours_have_their_outcomes<R: Abort + AllocGlobal, K: Opened>(

@@ -1,16 +1,18 @@
 //! The machine stops after a call of one of a desk's two files, and they are opened again.
 //!
-//! A desk is made, hears ten messages, and is closed. One of its files is fused: it passes so many calls on, and each one after
-//! fails and changes nothing. What is there then is opened as a process leaves it that has ended, and as a machine does that has
-//! lost all that wasn't synced. Its rows are those before the message under way or those with it. That message and the ones after
-//! it are then told what they are told without a stop, and leave the same rows.
+//! A desk is made, hears messages of each type, and is closed. One of its files is fused: it passes so many calls on, and
+//! each one after fails and changes nothing. What is there then is opened as a process leaves it that has ended, and as a
+//! machine does that has lost all that wasn't synced. Its rows are those before the message under way or those with it. That
+//! message and the ones after it are then told what they are told without a stop, and leave the same rows.
 use super::data_frames::HEARD;
 use super::downlinks::{ACCEPT, DEVICE_EUI, DOWN, DROPPED_1};
 use super::joins::{FIRST, FIRST_ADDED};
+use super::limits::HALF_OF_B3;
 use super::rows::Row::{Asks, Books, Frames, Joins};
 use super::rows::Told::{Booked, Framed};
 use super::rows::{
-    BRIDGE, DEVICE, Delivery, Down, GATEWAY_A, GATEWAY_B, Heard, Row, SUCCESS, TOWN, delivery_of,
+    BRIDGE, CITY, DEVICE, DEVICE_TO_CITY, Delivery, Down, GATEWAY_A, GATEWAY_B, Heard, Row,
+    SUCCESS, TOWN, delivery_of,
 };
 use super::{config, expect_told, hear_each, opening};
 use crate::stopping::run_through_stop;
@@ -40,6 +42,13 @@ pub(super) static MESSAGES: [Row; 10] = [
     Asks("bridge", 14, "DownDone", DROPPED_1, SUCCESS),
 ];
 
+/// What comes after them: the types that are left, and what they need. A file of schema 1 holds no limit.
+static MORE: [Row; 3] = [
+    Asks("office", 6, "OwnerAdd", CITY, SUCCESS),
+    Asks("office", 7, "DeviceMove", DEVICE_TO_CITY, SUCCESS),
+    Asks("office", 8, "LimitSet", HALF_OF_B3, SUCCESS),
+];
+
 static TABLES: [&str; 11] = [
     "SELECT * FROM meta ORDER BY rowid",
     "SELECT * FROM sender ORDER BY rowid",
@@ -58,9 +67,24 @@ type OnFiles<D> = FileStore<D>;
 
 pub(super) type Fused = Fuse<Memory>;
 
+/// The ten messages, each once.
 pub(super) fn deliveries(alloc: Global) -> Result<Vec<Delivery>, Fail> {
-    let mut deliveries = Vec::new(alloc);
-    for row in &MESSAGES {
+    with_each_of(alloc, Vec::new(alloc), &MESSAGES)
+}
+
+/// Messages of each type, each once: the ten, and those after them.
+pub(super) fn all_deliveries(alloc: Global) -> Result<Vec<Delivery>, Fail> {
+    with_each_of(alloc, deliveries(alloc)?, &MORE)
+}
+
+/// The deliveries, and after them one of each row.
+fn with_each_of(
+    alloc: Global,
+    deliveries: Vec<Delivery>,
+    rows: &[Row],
+) -> Result<Vec<Delivery>, Fail> {
+    let mut deliveries = deliveries;
+    for row in rows {
         deliveries.push(delivery_of(alloc, row)?)?;
     }
     Ok(deliveries)
@@ -145,6 +169,18 @@ pub(super) fn connected<D: Disk + Drop>(
     }
 }
 
+/// A connection to files that can be opened.
+pub(super) fn opened_files<D: Disk + Drop>(
+    alloc: Global,
+    files: Files<D>,
+    seed: u64,
+) -> Result<Connection<OnFiles<D>>, Fail> {
+    match connected(alloc, files, seed) {
+        Ok(conn) => Ok(conn),
+        Err(_) => Err("not opened".into()),
+    }
+}
+
 // ---- up to the stop
 
 /// Files of which the one passes so many calls on, and the other that many.
@@ -199,11 +235,11 @@ fn answered_by<R: Abort + AllocGlobal, S: Alter>(
     deliveries.len()
 }
 
-/// The desk that is made in the connection's database, or, of a disk that failed, the files.
-fn created<R: Abort + AllocGlobal>(
+/// The desk that is made in the connection's database, or, of a disk that failed, its store.
+fn created<R: Abort + AllocGlobal, S: Alter + Drop>(
     rt: &R,
-    conn: Connection<OnFiles<Fused>>,
-) -> Result<Result<Box<Tables<OnFiles<Fused>>>, Files<Fused>>, Fail> {
+    conn: Connection<S>,
+) -> Result<Result<Box<Tables<S>>, S>, Fail> {
     let mut conn = conn;
     conn.set_step_limit(None);
     if !conn.is_autocommit() {
@@ -214,36 +250,45 @@ fn created<R: Abort + AllocGlobal>(
         Ok(tables) => Ok(Ok(Box::new(rt.alloc(), tables)?)),
         Err((fault, conn)) => {
             assert!(rt; fault == StoreFault::Disk);
-            Ok(Err(conn.into_store().close()))
+            Ok(Err(conn.into_store()))
         }
     }
 }
 
-/// The desk is closed with all in its first file.
-fn closed(tables: Box<Tables<OnFiles<Fused>>>, answered: usize, all: usize) -> Ended {
+/// The desk is closed with all in its first file, or, of a disk that failed, as it is.
+fn closed<D: Disk + Drop>(tables: Box<Tables<OnFiles<D>>>) -> Result<Files<D>, Files<D>> {
     match Box::into_inner(tables).close().close_files() {
+        Ok(files) => Ok(files),
+        Err((_, store)) => Err(store.close()),
+    }
+}
+
+/// A desk that is made in the connection's database and hears the messages, with how many were answered; or, of a disk that
+/// failed while it was made, its store.
+fn heard_on<R: Abort + AllocGlobal, S: Alter + Drop>(
+    rt: &R,
+    conn: Connection<S>,
+    deliveries: &[Delivery],
+) -> Result<Result<(usize, Box<Tables<S>>), S>, Fail> {
+    match created(rt, conn)? {
+        Ok(tables) => {
+            let mut tables = tables;
+            let answered = answered_by(rt, &mut *tables, deliveries);
+            Ok(Ok((answered, tables)))
+        }
+        Err(store) => Ok(Err(store)),
+    }
+}
+
+/// The desk that answered so many of all is closed.
+fn closed_after(answered: usize, all: usize, tables: Box<Tables<OnFiles<Fused>>>) -> Ended {
+    match closed(tables) {
         Ok(files) => Ended {
             answered,
             stopped: answered < all,
             files,
         },
-        Err((_, store)) => stopped(answered, store.close()),
-    }
-}
-
-/// A desk that is made in the connection's database, hears the messages, and is closed.
-fn run_on<R: Abort + AllocGlobal>(
-    rt: &R,
-    conn: Connection<OnFiles<Fused>>,
-    deliveries: &[Delivery],
-) -> Result<Ended, Fail> {
-    match created(rt, conn)? {
-        Ok(tables) => {
-            let mut tables = tables;
-            let answered = answered_by(rt, &mut *tables, deliveries);
-            Ok(closed(tables, answered, deliveries.len()))
-        }
-        Err(files) => Ok(stopped(0, files)),
+        Err(files) => stopped(answered, files),
     }
 }
 
@@ -253,7 +298,10 @@ fn run<R: Abort + AllocGlobal>(
     deliveries: &[Delivery],
 ) -> Result<Ended, Fail> {
     match connected(rt.alloc(), files, 1) {
-        Ok(conn) => run_on(rt, conn, deliveries),
+        Ok(conn) => match heard_on(rt, conn, deliveries)? {
+            Ok((answered, tables)) => Ok(closed_after(answered, deliveries.len(), tables)),
+            Err(store) => Ok(stopped(0, store.close())),
+        },
         Err(files) => Ok(stopped(0, files)),
     }
 }
@@ -277,11 +325,10 @@ pub(super) fn copied(alloc: Global, files: &Files<Fused>) -> Result<Files<Memory
 }
 
 /// The desk that the files hold. Where it wasn't made it is made now.
-fn reopened<R: Abort + AllocGlobal>(
+fn reopened<R: Abort + AllocGlobal, D: Disk + Drop>(
     rt: &R,
-    files: &Files<Fused>,
-) -> Result<Box<Tables<OnFiles<Memory>>>, Fail> {
-    let files = copied(rt.alloc(), files)?;
+    files: Files<D>,
+) -> Result<Box<Tables<OnFiles<D>>>, Fail> {
     if !files.may_be_used() {
         return Err("not usable".into());
     }
@@ -294,20 +341,23 @@ fn reopened<R: Abort + AllocGlobal>(
     }
 }
 
-fn made_in(alloc: Global, files: Files<Memory>) -> Result<Box<Tables<OnFiles<Memory>>>, Fail> {
-    let conn = connected(alloc, files, 3).map_err(|_| "not opened")?;
-    super::made(alloc, conn, config(65_536).ok_or("no configuration")?)
+fn made_in<D: Disk + Drop>(
+    alloc: Global,
+    files: Files<D>,
+) -> Result<Box<Tables<OnFiles<D>>>, Fail> {
+    let config = config(65_536).ok_or("no configuration")?;
+    super::made(alloc, opened_files(alloc, files, 3)?, config)
 }
 
 /// What is there is what stood before the message under way, or that with it; and the rest is heard as without a stop.
-fn goes_on<R: Abort + AllocGlobal>(
+fn goes_on<R: Abort + AllocGlobal, S: Alter + Drop>(
     rt: &R,
-    files: &Files<Fused>,
+    tables: Box<Tables<S>>,
     answered: usize,
     deliveries: &[Delivery],
     wanted: &[String],
 ) -> Result<(), Fail> {
-    let (rows, mut tables) = rows_of(rt.alloc(), reopened(rt, files)?)?;
+    let (rows, mut tables) = rows_of(rt.alloc(), tables)?;
     let mut either = wanted.iter().skip(answered).take(2);
     assert!(rt; either.any(|w| *w == rows), "{answered} answered");
     let left = deliveries.get(answered..).ok_or("more answered")?;
@@ -324,10 +374,12 @@ fn stops_once<R: Abort + AllocGlobal>(
     wanted: &[String],
 ) -> Result<bool, Fail> {
     let mut run = run(rt, files, deliveries)?;
-    goes_on(rt, &run.files, run.answered, deliveries, wanted)?;
+    let ended = reopened(rt, copied(rt.alloc(), &run.files)?)?;
+    goes_on(rt, ended, run.answered, deliveries, wanted)?;
     run.files.log.crash();
     run.files.db.crash();
-    goes_on(rt, &run.files, run.answered, deliveries, wanted)?;
+    let crashed = reopened(rt, copied(rt.alloc(), &run.files)?)?;
+    goes_on(rt, crashed, run.answered, deliveries, wanted)?;
     Ok(run.stopped)
 }
 
@@ -336,7 +388,7 @@ static CALLS: [u64; 5] = [0, 2, 8, 34, 144];
 
 #[test]
 fn the_log_stops(rt: HostRuntime) -> Result<(), Fail> {
-    let deliveries = deliveries(rt.alloc())?;
+    let deliveries = all_deliveries(rt.alloc())?;
     let wanted = rows_after_each(&rt, &deliveries)?;
     for calls in CALLS {
         stops_once(
@@ -351,7 +403,7 @@ fn the_log_stops(rt: HostRuntime) -> Result<(), Fail> {
 
 #[test]
 fn the_first_file_stops(rt: HostRuntime) -> Result<(), Fail> {
-    let deliveries = deliveries(rt.alloc())?;
+    let deliveries = all_deliveries(rt.alloc())?;
     let wanted = rows_after_each(&rt, &deliveries)?;
     for calls in CALLS {
         stops_once(
@@ -364,10 +416,26 @@ fn the_first_file_stops(rt: HostRuntime) -> Result<(), Fail> {
     Ok(())
 }
 
+/// Each delivery was told what it is to be told, and the desk of the connection has these rows.
+fn found<R: Abort + AllocGlobal, S: Alter + Drop>(
+    rt: &R,
+    outcomes: &[Outcome],
+    conn: Connection<S>,
+    deliveries: &[Delivery],
+    wanted: Option<&String>,
+) -> Result<(), Fail> {
+    assert_eq!(rt; outcomes.len(), deliveries.len());
+    for (outcome, delivery) in outcomes.iter().zip(deliveries) {
+        expect_told(rt, outcome, delivery);
+    }
+    expect_rows(rt, opened(rt.alloc(), conn)?, wanted)?;
+    Ok(())
+}
+
 /// The whole at once: a desk is made, hears the messages, and is found again after the machine has stopped.
 #[test]
 fn a_run_is_found_after_a_stop(rt: HostRuntime) -> Result<(), Fail> {
-    let deliveries = deliveries(rt.alloc())?;
+    let deliveries = all_deliveries(rt.alloc())?;
     let wanted = rows_after_each(&rt, &deliveries)?;
     let texts: Vec<&[u8]> = deliveries
         .iter()
@@ -375,11 +443,7 @@ fn a_run_is_found_after_a_stop(rt: HostRuntime) -> Result<(), Fail> {
         .collect(rt.alloc())?;
     let config = config(65_536).ok_or("no configuration")?;
     let (outcomes, conn) = run_through_stop(rt.alloc(), config, &texts).map_err(|_| "no desk")?;
-    for (outcome, delivery) in outcomes.iter().zip(&deliveries) {
-        expect_told(&rt, outcome, delivery);
-    }
-    expect_rows(&rt, opened(rt.alloc(), conn)?, wanted.last())?;
-    Ok(())
+    found(&rt, &outcomes, conn, &deliveries, wanted.last())
 }
 
 // ---- of lines that `checks/stops.py` gives
@@ -415,7 +479,7 @@ fn fused_as(alloc: Global, word: &str) -> Result<Files<Fused>, Fail> {
     Ok(fused(alloc, u64::MAX, calls))
 }
 
-/// A run for each word that the environment names, of the lines or, where there are none, of the ten messages.
+/// A run for each word that the environment names, of the lines or, where there are none, of those messages.
 #[test]
 fn given_lines(rt: HostRuntime) -> Result<(), Fail> {
     let Ok(words) = env::var(&rt, "DESK_STOPS") else {
@@ -423,7 +487,7 @@ fn given_lines(rt: HostRuntime) -> Result<(), Fail> {
     };
     let given = deliveries_given(&rt)?;
     let deliveries = if given.is_empty() {
-        deliveries(rt.alloc())?
+        all_deliveries(rt.alloc())?
     } else {
         given
     };

@@ -82,14 +82,23 @@ fn opened_or_created<S: Alter + Drop>(
     }
 }
 
-fn on_file(rt: &HostRuntime, path: &str) -> Result<(), Fail> {
-    let begun = Instant::now(rt)?;
-    let conn = Connection::open(rt, path).map_err(|_| "no file")?;
+/// All that is asked of the desk in the database, which was begun to be opened then. The connection comes back.
+fn answer_on<S: Alter + Drop>(
+    rt: &HostRuntime,
+    conn: Connection<S>,
+    begun: Instant,
+) -> Result<Connection<S>, Fail> {
     let mut tables = opened_or_created(rt.alloc(), conn)?;
     let opened = begun.elapsed(rt)?.as_micros();
     println!(rt; "opened: {opened} microseconds")?;
     answer_all(rt, &mut *tables)?;
-    let conn = Box::into_inner(tables).close();
+    Ok(Box::into_inner(tables).close())
+}
+
+fn on_file(rt: &HostRuntime, path: &str) -> Result<(), Fail> {
+    let begun = Instant::now(rt)?;
+    let conn = Connection::open(rt, path).map_err(|_| "no file")?;
+    let conn = answer_on(rt, conn, begun)?;
     conn.close().map_err(|_| "not closed")?;
     Ok(())
 }

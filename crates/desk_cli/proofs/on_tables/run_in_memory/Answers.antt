@@ -13,3 +13,6 @@ returns-in-Ok-outcomes-clause-committed c = rw c.in-Ok-outcomes.is at (c.run_on_
 
 pub returns-in-Ok-outcomes-clause-hours : goal.returns-in-Ok-outcomes-clause-hours
 returns-in-Ok-outcomes-clause-hours c = rw c.in-Ok-outcomes.is at (c.run_on_tables-outcomes.ensures.hours (memory_is_clean c.run_on_tables-outcomes.result.1))
+
+pub returns-in-Ok-outcomes-clause-hours_left : goal.returns-in-Ok-outcomes-clause-hours_left
+returns-in-Ok-outcomes-clause-hours_left c = rw c.in-Ok-outcomes.is at (c.run_on_tables-outcomes.ensures.hours_left (memory_is_clean c.run_on_tables-outcomes.result.1)) _ refl

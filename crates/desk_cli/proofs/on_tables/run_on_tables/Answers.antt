@@ -1,5 +1,5 @@
 use Rattle.std.proofs.Common.{[], None}
-use Rattle.desk_cli.proofs.OnTables.{closed, left, survives, unshut_by, was_in_order, was_new}
+use Rattle.desk_cli.proofs.OnTables.{closed, keeps_hours, leaves_hours, left, survives, unshut_by, was_in_order, was_new}
 use Rattle.desk_cli.proofs.on_tables.run_on_tables.Goals as goal
 
 pub returns-in-Ok-run-clause-outcomes : goal.returns-in-Ok-run-clause-outcomes
@@ -27,8 +27,9 @@ returns-in-Ok-run-clause-crash g c = λ clean.
     left _ _ _ _ _ was ran.call.same c.close.result _ _ crash c.close.ensures.left
 
 pub returns-in-Ok-run-clause-hours : goal.returns-in-Ok-run-clause-hours
-returns-in-Ok-run-clause-hours g c = λ clean.
-    let sound = c.close.ensures.sound clean in
-    let ran = c.in-Ok-run.ensures.store in
-    let was = was_new _ _ _ (c.nothing_is_heard.ensures c.args.config) (c.in-Ok.ensures.made (ran.call.was_sound sound)) in
-    c.in-Ok-run.ensures.hours_before c.args.config [] (was_in_order _ _ _ _ _ was sound)
+returns-in-Ok-run-clause-hours g c = λ clean is.
+    keeps_hours c.hours_are_kept.ensures c.args.config _ _ (returns-in-Ok-run-clause-tables g c clean is).0.tables
+
+pub returns-in-Ok-run-clause-hours_left : goal.returns-in-Ok-run-clause-hours_left
+returns-in-Ok-run-clause-hours_left g c = λ clean trees may.
+    leaves_hours c.hours_are_kept.ensures c.args.config _ _ trees (returns-in-Ok-run-clause-crash g c clean trees may)

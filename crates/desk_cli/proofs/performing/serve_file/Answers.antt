@@ -2,4 +2,6 @@ use Rattle.std.proofs.Common.{inl, refl}
 use Rattle.desk_cli.proofs.performing.serve_file.Goals as goal
 
 pub returns-in-Ok : goal.returns-in-Ok
-returns-in-Ok g c = inl (c.in-Ok.conn, c.serve_command-done.result.1, c.in-Ok.ensures.opened, refl, c.serve_command-done.ensures.serves)
+returns-in-Ok g c =
+    let done = c.serve_command-done.ensures in
+    inl (c.in-Ok.conn, c.serve_command-done.result.1, c.in-Ok.ensures.opened, refl, record { desk = done.serves; no_desk = done.no_desk; clean = done.clean })

@@ -127,7 +127,7 @@ fn words_that_name_files(rt: HostRuntime) -> Result<(), Fail> {
         let want = command(*want);
         assert!(rt; want.is_some());
         match read_words(rt.alloc(), &words_of(rt.alloc(), line)?) {
-            Ok(command) => assert_eq!(rt; Some(command), want, "at {line:?}"),
+            Ok(command) => assert!(rt; want == Some(command), "at {line:?}"),
             Err(usage) => assert!(rt; false, "{line:?}: {usage}"),
         }
     }

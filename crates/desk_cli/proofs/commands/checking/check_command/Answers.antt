@@ -1,4 +1,4 @@
-use Rattle.std.proofs.Common.{◌≡◌, ℕ, List, Ok, Err, false, None}
+use Rattle.std.proofs.Common.{◌≡◌, ℕ, List, Ok, Err, false, None, arith}
 use Rattle.std.proofs.KnownBytes.{Keeps-refl}
 use Rattle.desk_engine.specs.InOrder.{kept_after}
 use Rattle.desk_cli.proofs.Checked.{is_check}
@@ -20,6 +20,8 @@ returns-in-Ok g c = record {
       (λ still. keeps _ _ _ _ _ was read.same c.close.result g.met.S.Store.settled was_sound sound c.close.ensures.left c.close.ensures.in_order heard (is_kept_as_it_was _ _ _ _ _ was _ read sound still))
       (is_left _ _ _ _ _ was read.same c.close.result g.met.S.Store.settled was_sound sound c.close.ensures.left heard None (is_left_as_it_was _ _ _ _ _ was _ read sound))
       c.print.ensures;
+  no_desk = λ clean none. absurd (c.in-Ok.ensures.never (c.text_of-text.ensures.read.was_sound (c.close.ensures.sound clean)) none);
+  clean = λ clean. c.in-Ok.ensures.clean (c.text_of-text.ensures.read.was_sound (c.close.ensures.sound clean));
 }
 
 pub returns-in-Err : goal.returns-in-Err
@@ -27,4 +29,6 @@ returns-in-Err g c = record {
   prints = λ clean config heard kept.
       let back = c.in-Err.ensures.unavailable clean config heard kept in
       prints_unopened _ _ _ _ c.in-Err.fault back.0 back.1 (Keeps-refl _) tt;
+  no_desk = λ clean none. (c.in-Err.ensures.refused clean, Keeps-refl _);
+  clean = λ clean. let given = (c.in-Err.ensures.refused clean).given_back in omega (arith, given.clean, clean);
 }

@@ -1,3 +1,5 @@
+use Rattle.std.proofs.Common.{arith}
+use Rattle.std.proofs.KnownBytes.{Keeps-refl}
 use Rattle.desk_cli.proofs.Imported.{carried, imports_unopened}
 use Rattle.desk_cli.proofs.OnTables.{is_left, keeps, was_in_order}
 use Rattle.desk_cli.specs.OnTables.{IsLeft, KeepsHeard}
@@ -14,6 +16,8 @@ returns-in-Ok g c = record {
       (keeps _ _ _ _ _ was done.same c.close.result g.met.S.Store.settled was_sound sound c.close.ensures.left c.close.ensures.in_order)
       (is_left _ _ _ _ _ was done.same c.close.result g.met.S.Store.settled was_sound sound c.close.ensures.left)
       _ _ _ _ c.import_report-done.result (done.imports config heard (was_in_order _ _ _ _ _ was sound));
+  no_desk = λ clean none. absurd (c.in-Ok.ensures.never (c.import_report-done.ensures.was_sound (c.close.ensures.sound clean)) none);
+  clean = λ clean. c.in-Ok.ensures.clean (c.import_report-done.ensures.was_sound (c.close.ensures.sound clean));
 }
 
 pub returns-in-Err : goal.returns-in-Err
@@ -21,4 +25,6 @@ returns-in-Err g c = record {
   imports = λ clean config heard kept.
       let back = c.in-Err.ensures.unavailable clean config heard kept in
       imports_unopened config heard c.args.sender.now (KeepsHeard g.S.Store c.in-Err.conn config) (IsLeft g.S.Store c.in-Err.conn config) (g.R.Read.remaining c.args.reader.now) (g.W.Write.contents c.args.answers.now) (Unit {0}) c.in-Err.fault back.0 back.1;
+  no_desk = λ clean none. (c.in-Err.ensures.refused clean, (Keeps-refl _, Keeps-refl _));
+  clean = λ clean. let given = (c.in-Err.ensures.refused clean).given_back in omega (arith, given.clean, clean);
 }

@@ -93,7 +93,7 @@ fn words_that_name_lines(rt: HostRuntime) -> Result<(), Fail> {
         let want = lines(*want);
         assert!(rt; want.is_some());
         match read_words(rt.alloc(), words) {
-            Ok(command) => assert_eq!(rt; Some(command), want, "at {words:?}"),
+            Ok(command) => assert!(rt; want == Some(command), "at {words:?}"),
             Err(usage) => assert!(rt; false, "{words:?}: {usage}"),
         }
     }
