@@ -1,5 +1,5 @@
 -- What a stop leaves of a desk's files, and what opens of them.
-use Rattle.std.proofs.Common.{◌≡◌, ◌⊎◌, ◌++◌, ◌∷◌, [], inl, inr, List, Option, Some, None, IsTrue, ap, subst}
+use Rattle.std.proofs.Common.{◌≡◌, ◌⊎◌, ◌++◌, ◌∷◌, [], inl, inr, List, Option, Some, IsTrue, ap}
 use Rattle.std.proofs.Math.Logic.{∥∥₁_map}
 use Rattle.std.proofs.lemmas.Bool.{and_from}
 use Rattle.sqlite_disk.specs.declared.Disk.{Ghosts}

@@ -1,5 +1,5 @@
 -- Why a desk isn't made, as it is told.
-use Rattle.std.proofs.Common.{◌≡◌, ◌↔◌, Result, Err, refl, ap, ◌∙◌}
+use Rattle.std.proofs.Common.{◌≡◌, ◌↔◌, Err, refl, ap, ◌∙◌}
 use Rattle.desk_store.specs.declared.faults.StoreFault.{StoreFault}
 use Rattle.desk_store.specs.declared.faults.StoreFault.TheVariants as store
 use Rattle.desk_cli.proofs.Opened.{err}

@@ -3,6 +3,7 @@ pub mod Checked
 pub mod CommandLine
 pub mod FoundAgain
 pub mod Imported
+pub mod InFiles
 pub mod Inited
 pub mod LinesAnswered
 pub mod Migrated

@@ -1,20 +1,18 @@
 -- Lines that a store answered, and what is said of them where the store is in a file.
-use Rattle.std.proofs.Common.{◌≡◌, ◌++◌, ◌∷◌, ℕ, List, [], Bool, false, Option, None, Result, Ok, Err, OnOk, inl, inr, refl, sym, subst, ◌∙◌, append_assoc}
+use Rattle.std.proofs.Common.{◌≡◌, ◌++◌, ◌∷◌, ℕ, List, [], Bool, false, Option, None, Result, Ok, Err, inl, inr, refl, sym, subst, ◌∙◌, append_assoc}
 use Rattle.std.proofs.lemmas.List.{append-nil}
 use Rattle.std.proofs.KnownBytes.{Appends-nil, Consumes-nil}
-use Rattle.std.specs.Io.KnownBytes.{Appends, Consumes}
+use Rattle.std.specs.Io.KnownBytes.{Consumes}
 use Rattle.registry_core.specs.declared.messages.Envelope.{Envelope}
 use Rattle.registry_core.specs.Settings.{Settings}
 use Rattle.desk_store.specs.declared.faults.StoreFault.{StoreFault}
 use Rattle.desk_store.specs.Calls.{IsCall}
 use Rattle.desk_store.specs.Meaning.{Meaning}
-use Rattle.desk_engine.specs.Lines.{FailsToWrite, HasAnswered, HasHeard, IsBeginning, IsCutShort, all_lines, heard_lines, last_line, whole_lines}
-use Rattle.desk_engine.specs.Outcomes.{doubt_of_text}
+use Rattle.desk_engine.specs.Lines.{FailsToWrite, HasHeard, IsCutShort, all_lines, heard_lines, last_line, whole_lines}
 use Rattle.desk_cli.proofs.OnTables.{unshut_by}
 use Rattle.desk_cli.proofs.Opened.{err, is_unavailable}
 use Rattle.desk_cli.specs.Faults.{fault_of_store}
 use Rattle.desk_cli.specs.Answering.{AnswersBy, AnswersFirst, HearsFirst, Keeps, Leaves}
-use Rattle.desk_cli.specs.commands.Lines.{AnswersLines}
 use Rattle.desk_cli.specs.declared.faults.Fault.{Fault}
 use Rattle.desk_cli.specs.declared.faults.Fault.TheVariants.{Exists, NotADesk, Schema, Owner, Gateway, Month, CsvSize, CsvEnd, CsvHeader, CsvRecord, Unavailable, File, Network}
 
@@ -87,9 +85,3 @@ pub answers_unopened : (c : Settings) (heard : List Envelope) (Kept : List Envel
 answers_unopened c heard Kept Left rest before fault is left =
     subst (λ f. AnswersBy c heard Kept Left rest rest before before (err {T = Unit {0}} f)) (sym is)
     (record { input = []; read = Consumes-nil rest; lines = []; beginning = (all_lines [], refl); doubt = None; in_doubt = inl refl; left_is = left; answers = Appends-nil before })
-
--- the answers of a whole input
-pub answered_all : {K : Type 0} (m : Meaning K) (c : Settings) (old new : K) (left rest before after : Option (List ℕ)) {T : Type 0} (r : Result T Fault)
-    → AnswersBy c [] (Keeps m c [] old new) (Leaves m c [] old new) left rest before after r → OnOk r (AnswersLines left rest before after c)
-answered_all m c old new left rest before after (Ok x) by = (by.input, by.read, by.whole, by.answers)
-answered_all m c old new left rest before after (Err fault) by = tt

@@ -1,5 +1,5 @@
 -- Why a desk isn't moved, as it is told.
-use Rattle.std.proofs.Common.{◌≡◌, Result, Err, inl, inr, ap, ◌∙◌}
+use Rattle.std.proofs.Common.{◌≡◌, Err, inl, inr, ap, ◌∙◌}
 use Rattle.std.specs.Prelude.{◌⊎◌}
 use Rattle.desk_store.specs.Calls.{IsUnavailability}
 use Rattle.desk_store.specs.declared.faults.StoreFault.{StoreFault}

@@ -1,7 +1,7 @@
 -- A report that a store was asked for, printed.
-use Rattle.std.proofs.Common.{◌≡◌, ◌↔◌, ◌⊎◌, ℕ, List, Bool, false, Option, Some, None, Result, Ok, Err, IfOk, IfErr, OnOk, IsTrue, inl, inr, refl, ap, sym, subst}
+use Rattle.std.proofs.Common.{◌≡◌, ◌↔◌, ◌⊎◌, ℕ, List, false, Option, Result, Ok, Err, IfOk, IfErr, OnOk, IsTrue, inl, inr, refl, ap, subst}
 use Rattle.std.specs.Prelude.{ℤ}
-use Rattle.std.specs.Io.KnownBytes.{Appends, Keeps}
+use Rattle.std.specs.Io.KnownBytes.{Keeps}
 use Rattle.registry_core.specs.State.{State}
 use Rattle.desk_store.specs.declared.faults.StoreFault.TheVariants as store
 use Rattle.desk_store.specs.Calls.{is_disk}

@@ -1,5 +1,7 @@
--- What connections that are served one after another do to a store.
-use Rattle.std.proofs.Common.{◌≡◌, ◌+◌, ℕ, zero, suc, Bool, true, false, cond, List, [], ◌∷◌, ◌++◌, Option, Some, None, Result, Ok, Err, inl, inr, refl, ap, sym, subst, arith}
+-- What connections that are served one after another do to a store, and what they are answered.
+use Rattle.std.proofs.Common.{◌≡◌, ◌+◌, ℕ, zero, suc, Bool, true, false, cond, List, [], ◌∷◌, ◌++◌, Option, Some, None, Result, Ok, Err, inl, inr, refl, ap, sym, subst, arith, ◌∙◌}
+use Rattle.std.proofs.lemmas.List.{append-nil}
+use Rattle.std.specs.Io.KnownBytes.{Consumes}
 use Rattle.std.specs.Prelude.{◌||◌}
 use Rattle.registry_core.specs.declared.messages.Envelope.{Envelope}
 use Rattle.registry_core.specs.Settings.{Settings}
@@ -10,16 +12,18 @@ use Rattle.desk_wire.specs.declared.faults.WireFault.{WireFault}
 use Rattle.desk_engine.specs.declared.outcomes.Outcome.{Outcome}
 use Rattle.desk_engine.specs.Deliveries.{Delivery, heard_after, heard_all}
 use Rattle.desk_engine.specs.Hearing.{Hears}
+use Rattle.desk_engine.specs.InOrder.{WasInOrder}
 use Rattle.desk_engine.specs.Laws.{CallsHearInOrder, NoCallHearsNothing, ReadsHearNothing}
 use Rattle.desk_engine.specs.Outcomes.{delivery_of, doubt_of_text, doubt_read, fault_of}
 use Rattle.desk_engine.specs.Reporting.{store_fault}
 use Rattle.desk_engine.specs.Told.{envelope_of_text}
 use Rattle.desk_http.specs.declared.serving.ServeEnd.{ServeEnd}
 use Rattle.desk_http.specs.declared.serving.ServeEnd.TheVariants.{Done, Closed, Read, Write, Memory}
-use Rattle.desk_http.specs.Requests.{Request, refused, message, owner_report, band_report}
+use Rattle.desk_http.specs.Requests.{Reads, Request, refused, message, owner_report, band_report}
 use Rattle.desk_http.specs.Responses.{Response}
 use Rattle.desk_http.specs.Serving.{IsDelivered, ServesRequest, ServingEndsBy}
-use Rattle.desk_cli.specs.Served.{Connections, HearsDeliveries, ServesEach, ServesNext}
+use Rattle.desk_cli.specs.Answered.{Answers, Delivered, and_then, none_delivered}
+use Rattle.desk_cli.specs.Served.{Connections, HearsDeliveries, HearsEach, ServesEach, ServesNext, delivered_by}
 
 heard_all-append : (c : Settings) (heard : List Envelope) (ds more : List Delivery) → heard_all c heard (ds ++ more) ≡ heard_all c (heard_all c heard ds) more
 heard_all-append c heard [] more = refl
@@ -35,23 +39,39 @@ no_doubts true second a b p q is = absurd (let k : true ≡ false = is in cc)
 no_doubts false second a b p q is = q is
 
 -- one connection more
-pub one_more : {K L R W : Type 0} (m : Meaning K) (l : Connections L R W) (remaining : R → Option (List ℕ)) (contents : W → Option (List ℕ))
-    (n : ℕ) (old mid new : K) (before between after : L) → ServesEach m l remaining contents n old mid before between
-    → ServesNext m l remaining contents mid new between after → ServesEach m l remaining contents (n + 1) old new before after
-one_more m l remaining contents n old mid new before between after served next =
+pub one_more : {L R W K : Type 0} (l : Connections L R W) (remaining : R → Option (List ℕ)) (contents : W → Option (List ℕ)) (Does : K → K → Request → List ℕ → Response → Type 0)
+    (n : ℕ) (old mid new : K) (before between after : L) → ServesEach l remaining contents Does n old mid before between
+    → ServesNext l remaining contents Does mid new between after → ServesEach l remaining contents Does (n + 1) old new before after
+one_more l remaining contents Does n old mid new before between after served next =
     let one : suc n ≡ n + 1 = omega arith in
-    subst (λ k. ServesEach m l remaining contents k old new before after) one (mid, between, served, next)
+    subst (λ k. ServesEach l remaining contents Does k old new before after) one (mid, between, served, next)
+
+-- nothing more was delivered
+nothing_more : (these : Delivered) → (these.disk ≡ false → these.doubt ≡ None) → these ≡ and_then these none_delivered
+nothing_more these undoubted = λ i. record {
+  deliveries = sym (append-nil these.deliveries) i;
+  disk = no_other these.disk i;
+  doubt = stays these.disk these.doubt undoubted i;
+}
+  where
+    no_other : (b : Bool) → b ≡ (b || false)
+    no_other true = refl
+    no_other false = refl
+
+    stays : (b : Bool) (doubt : Option Envelope) → (b ≡ false → doubt ≡ None) → doubt ≡ cond b doubt None
+    stays true doubt undoubted = refl
+    stays false doubt undoubted = undoubted refl
 
 module _ {K : Type 0} (m : Meaning K) (in_order : CallsHearInOrder m) (reads : ReadsHearNothing m) (none : NoCallHearsNothing m) where
   hears_none : (old new : K) → new ≡ old → HearsDeliveries m old new
-  hears_none old new is = subst (λ k. HearsDeliveries m old k) (sym is) (record {
+  hears_none old new is = record {
     deliveries = [];
     disk = false;
     foreign = false;
     doubtful = λ c. None;
     undoubted = λ up c. refl;
-    hears = none old;
-  })
+    hears = subst (λ k. Hears m old k false false (λ c heard. heard) (λ c. None)) (sym is) (none old);
+  }
 
   hears_reads : (old new : K) (fault : Option StoreFault) → IsRead m old new fault → HearsDeliveries m old new
   hears_reads old new fault read = record {
@@ -104,12 +124,98 @@ module _ {K : Type 0} (m : Meaning K) (in_order : CallsHearInOrder m) (reads : R
   end_hears old new serves closed before after Memory hears ends = hears_none old new ends.0
 
   module _ {L R W : Type 0} (l : Connections L R W) (remaining : R → Option (List ℕ)) (contents : W → Option (List ℕ)) where
-    next_hears : (old new : K) (before after : L) → ServesNext m l remaining contents old new before after → HearsDeliveries m old new
+    next_hears : (old new : K) (before after : L) → ServesNext l remaining contents (ServesRequest m) old new before after → HearsDeliveries m old new
     next_hears old new before after (inl one) =
-        end_hears old new _ _ _ _ one.end (λ response served. request_hears old new served.2.0 served.2.1 response served.2.3) one.served
+        end_hears old new _ _ _ _ one.end (λ response served. request_hears old new served.2 served.3 response served.5) one.served
     next_hears old new before after (inr failed) = hears_none old new failed.0
 
-    pub each_hears : (n : ℕ) (old new : K) (before after : L) → ServesEach m l remaining contents n old new before after → HearsDeliveries m old new
+    each_hears : (n : ℕ) (old new : K) (before after : L) → ServesEach l remaining contents (ServesRequest m) n old new before after → HearsDeliveries m old new
     each_hears zero old new before after served = hears_none old new served.0
     each_hears (suc n) old new before after (mid, between, served, next) =
         hears_more old mid new (each_hears n old mid before between served) (next_hears mid new between after next)
+
+  -- ---- what it is answered
+
+  module _ (c : Settings) (heard : List Envelope) where
+    -- in order before the first of two calls
+    before_both : (old mid new : K) → HearsDeliveries m mid new → WasInOrder m c heard old new → WasInOrder m c heard old mid
+    before_both old mid new second was = record { its = was.its; sound = second.hears.call.was_sound was.sound; order = was.order }
+
+    -- and before the second
+    between_both : (old mid new : K) (first : HearsDeliveries m old mid) → HearsDeliveries m mid new → WasInOrder m c heard old new
+        → WasInOrder m c (heard_all c heard first.deliveries) mid new
+    between_both old mid new first second was = record {
+      its = was.its ∙ sym first.hears.call.same;
+      sound = was.sound;
+      order = first.hears.order c heard (before_both old mid new second was);
+    }
+
+    -- What was delivered before the connection. Without a fault of the disk no message of it is in doubt.
+    module _ (before : Delivered) (undoubted : before.disk ≡ false → before.doubt ≡ None) where
+      request_answers : (old new : K) (request : Request) (body : List ℕ) (response : Response) (served : ServesRequest m old new request body response)
+          → WasInOrder m c (heard_all c heard before.deliveries) old new
+          → Answers c heard before (and_then before (delivered_by (request_hears old new request body response served) c)) request body response
+      unfolding request_hears hears_none hears_message hears_reads
+      request_answers old new (refused wanted) body response served was = (sym (nothing_more before undoubted), served.1)
+      request_answers old new (message count) body response (inl served) was =
+          inl (served.0, served.1, served.2.told c _ was, refl, served.3)
+      request_answers old new (message count) body response (inr served) was = inr (served.0, sym (nothing_more before undoubted), served.2)
+      request_answers old new (owner_report owner month) body response served was =
+          (served.answer, (served.told c _ was, served.time), refl, served.response_is)
+      request_answers old new (band_report gateway) body response served was = (served.answer, served.told c _ was, refl, served.response_is)
+
+      end_answers : (old new : K) (serves : Response → Type 0) (answers : Delivered → Response → Type 0) (closed : Type 0) (held holds : Option (List ℕ)) (end : ServeEnd)
+          (hears : (response : Response) → serves response → HearsDeliveries m old new)
+          → ((response : Response) (served : serves response) → answers (and_then before (delivered_by (hears response served) c)) response)
+          → (ends : ServingEndsBy old new serves closed held holds end)
+          → ServingEndsBy before (and_then before (delivered_by (end_hears old new serves closed held holds end hears ends) c))
+          (answers (and_then before (delivered_by (end_hears old new serves closed held holds end hears ends) c))) closed held holds end
+      unfolding end_hears hears_none
+      end_answers old new serves answers closed held holds (Done status) hears told ends = (ends.0, ends.1, told ends.0 ends.2, ends.3)
+      end_answers old new serves answers closed held holds Closed hears told ends = (ends.0, (sym (nothing_more before undoubted), ends.1.1))
+      end_answers old new serves answers closed held holds Read hears told ends = (sym (nothing_more before undoubted), ends.1)
+      end_answers old new serves answers closed held holds Write hears told ends = (ends.0, told ends.0 ends.1)
+      end_answers old new serves answers closed held holds Memory hears told ends = (sym (nothing_more before undoubted), ends.1)
+
+      module _ {L R W : Type 0} (l : Connections L R W) (remaining : R → Option (List ℕ)) (contents : W → Option (List ℕ)) where
+        next_answers : (old new : K) (first last : L) (served : ServesNext l remaining contents (ServesRequest m) old new first last)
+            → WasInOrder m c (heard_all c heard before.deliveries) old new
+            → ServesNext l remaining contents (Answers c heard) before (and_then before (delivered_by (next_hears l remaining contents old new first last served) c)) first last
+        unfolding next_hears hears_none
+        next_answers old new first last (inl one) was = inl (record {
+          meanwhile = one.meanwhile;
+          reader = one.reader;
+          left = one.left;
+          writer = one.writer;
+          written = one.written;
+          end = one.end;
+          comes = one.comes;
+          served = end_answers old new _
+              (λ now response. (input : List ℕ) × Consumes (remaining one.reader) (remaining one.left) input
+              × (request : Request) × (body : List ℕ) × Reads input (remaining one.left) request body × Answers c heard before now request body response)
+              _ _ _ one.end _
+              (λ response served. (served.0, served.1, served.2, served.3, served.4, request_answers old new served.2 served.3 response served.5 was)) one.served;
+          goes = one.goes;
+        })
+        next_answers old new first last (inr failed) was = inr (sym (nothing_more before undoubted), failed.1)
+
+    each_answers : {L R W : Type 0} (l : Connections L R W) (remaining : R → Option (List ℕ)) (contents : W → Option (List ℕ)) (n : ℕ) (old new : K) (before after : L)
+        (served : ServesEach l remaining contents (ServesRequest m) n old new before after) → WasInOrder m c heard old new
+        → ServesEach l remaining contents (Answers c heard) n none_delivered (delivered_by (each_hears l remaining contents n old new before after served) c) before after
+    unfolding each_hears hears_none hears_more
+    each_answers l remaining contents zero old new before after served was = (refl, served.1)
+    each_answers l remaining contents (suc n) old new before after (mid, between, served, next) was =
+        let first = each_hears l remaining contents n old mid before between served in
+        let second = next_hears l remaining contents mid new between after next in (
+          delivered_by first c,
+          between,
+          each_answers l remaining contents n old mid before between served (before_both old mid new second was),
+          next_answers (delivered_by first c) (λ up. first.undoubted up c) l remaining contents mid new between after next (between_both old mid new first second was),
+        )
+
+  pub hears_each : {L R W : Type 0} (l : Connections L R W) (remaining : R → Option (List ℕ)) (contents : W → Option (List ℕ)) (n : ℕ) (old new : K) (before after : L)
+      → ServesEach l remaining contents (ServesRequest m) n old new before after → HearsEach m l remaining contents n old new before after
+  hears_each l remaining contents n old new before after served = record {
+    hears = each_hears l remaining contents n old new before after served;
+    answers = λ c heard was. each_answers c heard l remaining contents n old new before after served was;
+  }

@@ -1,5 +1,5 @@
 -- What a command does, by how it ended: on a file, and on the desk that is in it.
-use Rattle.std.specs.Prelude.{◌≡◌, ◌⊎◌, ℕ, List, [], Option, Some, None, Result, Err, OnOk}
+use Rattle.std.specs.Prelude.{◌≡◌, ◌⊎◌, ℕ, List, Option, Some, None, Result, Err}
 use Rattle.std.specs.Io.KnownBytes.{Keeps}
 use Rattle.clap.specs.Walk.{Text}
 use Rattle.sqlite.specs.Held.{Held, state}
@@ -9,6 +9,7 @@ use Rattle.registry_core.specs.declared.messages.Envelope.{Envelope}
 use Rattle.registry_core.specs.Heard.{state_of}
 use Rattle.registry_core.specs.Settings.{Settings}
 use Rattle.desk_http.specs.Reports.{IsBandAnswer}
+use Rattle.desk_cli.specs.Answered.{Delivered}
 use Rattle.desk_cli.specs.Named.{Asked, lines, init, migrate, hear, import, serve, report, bands, check}
 use Rattle.desk_cli.specs.NoDesk.{HoldsNoDesk, RefusesFile}
 use Rattle.desk_cli.specs.OnTables.{IsLeft, KeepsHeard}
@@ -37,11 +38,12 @@ OnFile {S} Opens given_back result file Untouched Does =
     ((conn back : Held S) × Opens file conn × (given_back ≡ Some back) × Does conn back)
     ⊎ ((result ≡ Err File) × (given_back ≡ None) × Untouched)
 
--- what a reader has left before and after, and what a writer holds before and after
-module _ {S T : Type 0} (g : Ghosts S) (Opens : Text → Held S → Type 0) (given_back : Option (Held S)) (left rest before after : Option (List ℕ)) (result : Result T Fault) where
+-- What a connection to a file is; how so many connections are answered, after what had been heard, to which this is delivered; the
+-- connection that a run gives back; what a reader has left before and after, and what a writer holds before and after.
+module _ {S T : Type 0} (g : Ghosts S) (Opens : Text → Held S → Type 0) (Answered : Settings → List Envelope → ℕ → Delivered → Type 0) (given_back : Option (Held S)) (left rest before after : Option (List ℕ)) (result : Result T Fault) where
   -- what was asked was done, by how it ended
   abbrev pub DoesAsked : Asked → Type 0
-  DoesAsked (lines c) = OnOk result (AnswersLines left rest before after c) × (given_back ≡ None)
+  DoesAsked (lines c) = AnswersLines left rest before after c result × (given_back ≡ None)
   DoesAsked (init file c) = OnFile Opens given_back result file (Unit {0}) (λ conn back. InitsBy g conn back c result)
   DoesAsked (migrate file) = OnFile Opens given_back result file (Unit {0}) (λ conn back. MigratesBy g conn back result)
   DoesAsked (hear file) =
@@ -51,7 +53,7 @@ module _ {S T : Type 0} (g : Ghosts S) (Opens : Text → Held S → Type 0) (giv
       (λ conn back. OnDesk g conn back result (Keeps left rest × Keeps before after) (λ c heard. ImportsBy c heard sender (KeepsHeard g back c) (IsLeft g back c) left rest before after result))
   DoesAsked (serve file port connections) =
       OnFile Opens given_back result file (Keeps before after)
-      (λ conn back. OnDesk g conn back result (Keeps before after) (λ c heard. ServesBy c heard (KeepsHeard g back c) (IsLeft g back c) port before after result))
+      (λ conn back. OnDesk g conn back result (Keeps before after) (λ c heard. ServesBy c heard (KeepsHeard g back c) (IsLeft g back c) (Answered c heard connections) port before after result))
   DoesAsked (report file owner month) =
       OnFile Opens given_back result file (Keeps before after)
       (λ conn back. OnDesk g conn back result (Keeps before after) (λ c heard. PrintsBy (KeepsHeard g back c heard) (IsLeft g back c heard None) before after (IsOwnersMonth (state_of c heard) owner month) result))

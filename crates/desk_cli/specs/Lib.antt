@@ -1,8 +1,10 @@
+pub mod Answered
 pub mod Answering
 pub mod CommandLine
 pub mod Doing
 pub mod Endings
 pub mod Faults
+pub mod InFiles
 pub mod Named
 pub mod NoDesk
 pub mod Numbers

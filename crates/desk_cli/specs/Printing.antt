@@ -1,5 +1,5 @@
 -- A report that a command prints.
-use Rattle.std.specs.Prelude.{◌≡◌, ◌⊎◌, ℕ, ℤ, List, Option, None, Result, Ok, Err, OnOk}
+use Rattle.std.specs.Prelude.{◌≡◌, ◌⊎◌, ℕ, ℤ, List, Option, Result, Ok, Err, OnOk}
 use Rattle.std.specs.Io.KnownBytes.{Appends, Keeps}
 use Rattle.registry_core.specs.State.{State}
 use Rattle.desk_engine.specs.declared.report_faults.ReportFault.{ReportFault}

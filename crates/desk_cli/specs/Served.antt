@@ -6,8 +6,12 @@ use Rattle.registry_core.specs.Settings.{Settings}
 use Rattle.desk_store.specs.Meaning.{Meaning}
 use Rattle.desk_engine.specs.Deliveries.{Delivery, heard_all}
 use Rattle.desk_engine.specs.Hearing.{Hears}
+use Rattle.desk_engine.specs.InOrder.{WasInOrder}
 use Rattle.desk_http.specs.declared.serving.ServeEnd.{ServeEnd}
-use Rattle.desk_http.specs.Serving.{Serves, ServingEndsBy}
+use Rattle.desk_http.specs.Requests.{Reads, Request}
+use Rattle.desk_http.specs.Responses.{Response}
+use Rattle.desk_http.specs.Serving.{ServingEndsBy}
+use Rattle.desk_cli.specs.Answered.{Answers, Delivered, none_delivered}
 
 -- ---- what a listening means
 
@@ -30,11 +34,13 @@ unknown = record {
 
 -- ---- one after another
 
-module _ {K L R W : Type 0} (m : Meaning K) (l : Connections L R W) (remaining : R → Option (List ℕ)) (contents : W → Option (List ℕ)) where
+-- What is done of a request is said of something as it was and as it is: of a store, or of what was delivered so far.
+module _ {L R W K : Type 0} (l : Connections L R W) (remaining : R → Option (List ℕ)) (contents : W → Option (List ℕ)) (Does : K → K → Request → List ℕ → Response → Type 0) where
   -- One serving: of what the reader gives, to what the writer takes. It ended so.
   abbrev pub ServesBy : K → K → R → R → W → W → ServeEnd → Type 0
   ServesBy old new reader left writer written end = ServingEndsBy old new
-      (λ response. (input : List ℕ) × Consumes (remaining reader) (remaining left) input × Serves m old new input (remaining left) response)
+      (λ response. (input : List ℕ) × Consumes (remaining reader) (remaining left) input
+      × (request : Request) × (body : List ℕ) × Reads input (remaining left) request body × Does old new request body response)
       (Consumes (remaining reader) (remaining left) [] × IsAtEnd (remaining left))
       (contents writer) (contents written) end
 
@@ -50,7 +56,7 @@ module _ {K L R W : Type 0} (m : Meaning K) (l : Connections L R W) (remaining :
     pub served : ServesBy old new reader left writer written end
     pub goes : l.goes meanwhile after left written end
 
-  -- The same; or the connection failed to come, and the store stands as before.
+  -- The same; or the connection failed to come, and nothing was done.
   abbrev pub ServesNext : K → K → L → L → Type 0
   ServesNext old new before after = ServesConnection old new before after ⊎ ((new ≡ old) × l.fails before after)
 
@@ -74,3 +80,17 @@ pub record HearsDeliveries {K : Type 0} (m : Meaning K) (old new : K) : Type 0 w
   pub doubtful : Settings → Option Envelope
   pub undoubted : disk ≡ false → (c : Settings) → doubtful c ≡ None
   pub hears : Hears m old new disk foreign (λ c heard. heard_all c heard deliveries) doubtful
+
+-- what was delivered so, at a desk of this configuration
+abbrev pub delivered_by : {K : Type 0} {m : Meaning K} {old new : K} → HearsDeliveries m old new → Settings → Delivered
+delivered_by by c = record { deliveries = by.deliveries; disk = by.disk; doubt = by.doubtful c }
+
+-- So many connections: what they did to the store, and what each of them was answered where the store was in order for a heard list.
+pub record HearsEach {L R W K : Type 0} (m : Meaning K) (l : Connections L R W) (remaining : R → Option (List ℕ)) (contents : W → Option (List ℕ)) (n : ℕ) (old new : K) (before after : L) : Type 0 where
+  pub hears : HearsDeliveries m old new
+  pub answers : (c : Settings) (heard : List Envelope) → WasInOrder m c heard old new
+      → ServesEach l remaining contents (Answers c heard) n none_delivered (delivered_by hears c) before after
+
+-- so many connections were answered so, from some moment of a listening on
+abbrev pub AnswersEach : {L R W : Type 0} → Connections L R W → (R → Option (List ℕ)) → (W → Option (List ℕ)) → Settings → List Envelope → ℕ → Delivered → Type 0
+AnswersEach {L} l remaining contents c heard n delivered = (before after : L) × ServesEach l remaining contents (Answers c heard) n none_delivered delivered before after

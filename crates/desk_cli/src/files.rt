@@ -1,10 +1,8 @@
 //! Where a desk's file is, and how it is opened.
 ghost use Rattle.std.specs.Prelude.{◌≡◌, false, None, ℕ, List, IfOk, IfErr};
 ghost use Rattle.sqlite.specs.Held.{Held};
-ghost use Rattle.sqlite.specs.State.{HasCleanDisk};
-ghost use Rattle.sqlite.specs.Files.{file_state, IsOpened};
-ghost use Rattle.sqlite.specs.Start.{FindsIn};
 ghost use Rattle.sqlite_wal.specs.Files.{image_at};
+ghost use Rattle.desk_cli.specs.InFiles.{Shows};
 
 use crate::faults::Fault;
 use sqlite::{Alter, Connection, FileFrom, FileStore, Start};
@@ -39,7 +37,7 @@ pub(crate) struct HostFiles<'a, T: Start> {
 
 impl<T: Start> Files<FileStore<FileFrom<T>>> for HostFiles<'_, T> {
     // The connection shows what the files hold, on a disk that has given back what was written to it.
-    ghost opens = { λ files path conn. HasCleanDisk (file_state conn) → IsOpened conn × FindsIn (image_at T.Start) (file_state conn) };
+    ghost opens = { λ files path conn. Shows (image_at T.Start) conn };
 
     fn open(self, path: &str) -> Result<Connection<FileStore<FileFrom<T>>>, Fault> {
         if !Path::new(path).is_file(self.rt) {

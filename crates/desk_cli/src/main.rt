@@ -6,6 +6,7 @@ mod commands;
 mod endings;
 mod faults;
 mod files;
+mod laws;
 mod listening;
 mod numbers;
 mod on_tables;

@@ -6,6 +6,7 @@ ghost use Rattle.desk_cli.specs.Doing.{DoesAsked, OnDesk, OnFile};
 ghost use Rattle.desk_cli.specs.Named.{asked_of};
 ghost use Rattle.desk_cli.specs.OnTables.{IsLeft, KeepsHeard};
 ghost use Rattle.desk_cli.specs.Printing.{IsOwnersMonth, PrintsBy};
+ghost use Rattle.desk_cli.specs.Served.{AnswersEach};
 ghost use Rattle.desk_cli.specs.commands.Checking.{IsCheck};
 ghost use Rattle.desk_cli.specs.commands.Hear.{HearsBy};
 ghost use Rattle.desk_cli.specs.commands.Importing.{ImportsBy};
@@ -39,8 +40,8 @@ pub(crate) fn perform<S: Alter, N: Files<S>, B: Network, R: Read, W: Write>(
     reader: &mut R,
     answers: &mut W,
 ) -> Performed<S>
-    ensures { DoesAsked S.Store (N.opens files) result.1 (R.remaining reader.old) (R.remaining reader.new)
-        (W.contents answers.old) (W.contents answers.new) result.0 (asked_of command.now) }
+    ensures { DoesAsked S.Store (N.opens files) (AnswersEach B.Port.meaning B.Port.Reader.remaining B.Port.Writer.contents) result.1
+        (R.remaining reader.old) (R.remaining reader.new) (W.contents answers.old) (W.contents answers.new) result.0 (asked_of command.now) }
 {
     match command {
         Command::Lines { config } => (lines_command(alloc, config, reader, answers), None),
@@ -149,7 +150,7 @@ fn serve_file<S: Alter, N: Files<S>, B: Network, W: Write>(
     ensures { OnFile (N.opens files) result.1 result.0 file.now (Keeps (W.contents answers.old) (W.contents answers.new))
         (λ conn back. OnDesk S.Store conn back result.0 (Keeps (W.contents answers.old) (W.contents answers.new))
         (λ c heard. ServesBy c heard (KeepsHeard S.Store back c) (IsLeft S.Store back c)
-        port (W.contents answers.old) (W.contents answers.new) result.0)) }
+        (AnswersEach B.Port.meaning B.Port.Reader.remaining B.Port.Writer.contents c heard connections) port (W.contents answers.old) (W.contents answers.new) result.0)) }
 {
     match files.open(file) {
         Ok(conn) => {

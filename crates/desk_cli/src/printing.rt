@@ -1,4 +1,4 @@
-//! A report on the standard output.
+//! What goes to the standard output at once.
 ghost use Rattle.std.specs.Prelude.{OnOk};
 ghost use Rattle.std.specs.Io.KnownBytes.{Appends};
 ghost use Rattle.desk_cli.specs.steps.Printing.{IsPrinted};
@@ -20,7 +20,8 @@ pub(crate) fn print<W: Write>(
     }
 }
 
-fn write_whole<W: Write>(answers: &mut W, text: &[u8]) -> io::Result<()>
+/// Writes the text, and hands it on.
+pub(crate) fn write_whole<W: Write>(answers: &mut W, text: &[u8]) -> io::Result<()>
     ensures { OnOk result (Appends (W.contents answers.old) (W.contents answers.new) text.now) }
 {
     answers.write_all(text)?;

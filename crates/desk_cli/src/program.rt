@@ -1,13 +1,13 @@
 //! The program's arguments, and what it does with them.
-ghost use Rattle.std.specs.Prelude.{◌≡◌, ◌≢◌, Ok, None, map, string_bytes, IfOk, IfErr};
+ghost use Rattle.std.specs.Prelude.{◌≡◌, Ok, None, map, string_bytes, IfOk, IfErr};
 ghost use Rattle.std.specs.IoError.{error_kind};
 ghost use Rattle.std.specs.Vec.Iter.{into_iter_items};
 ghost use Rattle.clap.specs.Walk.{texts};
-ghost use Rattle.desk_cli.specs.CommandLine.{named_by};
 ghost use Rattle.desk_cli.specs.Doing.{DoesAsked};
 ghost use Rattle.desk_cli.specs.Endings.{ending_of};
-ghost use Rattle.desk_cli.specs.Named.{Asked, Tells};
-ghost use Rattle.desk_cli.specs.Runs.{AsksFor, EndsUnread, Runs, given, IsNamed, IsUnread};
+ghost use Rattle.desk_cli.specs.Named.{Asked};
+ghost use Rattle.desk_cli.specs.Runs.{EndsUnread, IsNamed, IsUnread, Runs, given};
+ghost use Rattle.desk_cli.specs.Served.{AnswersEach};
 
 use crate::endings::{Ending, ending_of};
 use crate::faults::end;
@@ -34,8 +34,8 @@ pub fn run<E: Env + AllocGlobal, S: Alter, N: Files<S>, B: Network, R: Read, W: 
 ) -> (Ending, Option<Connection<S>>)
     // With status 0 what a command that words name asks was done.
     ensures done { result.0 ≡ Ending.Done → (asked : Asked) × IsNamed asked
-        × DoesAsked {T = Unit {0}} S.Store (N.opens files) result.1 (R.remaining reader.old) (R.remaining reader.new)
-        (W.contents answers.old) (W.contents answers.new) (Ok tt) asked }
+        × DoesAsked {T = Unit {0}} S.Store (N.opens files) (AnswersEach B.Port.meaning B.Port.Reader.remaining B.Port.Writer.contents) result.1
+        (R.remaining reader.old) (R.remaining reader.new) (W.contents answers.old) (W.contents answers.new) (Ok tt) asked }
     ensures quiet { result.0 ≡ Ending.Done → faults.new ≡ faults.old }
     // Where the words name no command no file was opened, nothing was read, and nothing was answered.
     ensures misused { result.0 ≡ Ending.Misused
@@ -63,8 +63,8 @@ pub fn run_given<S: Alter, N: Files<S>, B: Network, R: Read, W: Write, F: Write>
     faults: &mut F,
 ) -> (Ending, Option<Connection<S>>)
     // The words name a command, and what it asks was done, by how it ended; or they name none, or can't be had.
-    ensures runs { Runs S.Store (N.opens files) result.1 (R.remaining reader.old) (R.remaining reader.new)
-        (W.contents answers.old) (W.contents answers.new) (given arguments) result.0 }
+    ensures runs { Runs S.Store (N.opens files) (AnswersEach B.Port.meaning B.Port.Reader.remaining B.Port.Writer.contents) result.1
+        (R.remaining reader.old) (R.remaining reader.new) (W.contents answers.old) (W.contents answers.new) (given arguments) result.0 }
     ensures quiet { result.0 ≡ Ending.Done → faults.new ≡ faults.old }
     ensures misused { result.0 ≡ Ending.Misused
         → (reader.new ≡ reader.old) × (answers.new ≡ answers.old) × (result.1 ≡ None) }
@@ -86,8 +86,8 @@ fn run_words<S: Alter, N: Files<S>, B: Network, R: Read, W: Write, F: Write>(
     answers: &mut W,
     faults: &mut F,
 ) -> (Ending, Option<Connection<S>>)
-    ensures runs { Runs S.Store (N.opens files) result.1 (R.remaining reader.old) (R.remaining reader.new)
-        (W.contents answers.old) (W.contents answers.new) (Ok (map string_bytes (into_iter_items arguments))) result.0 }
+    ensures runs { Runs S.Store (N.opens files) (AnswersEach B.Port.meaning B.Port.Reader.remaining B.Port.Writer.contents) result.1
+        (R.remaining reader.old) (R.remaining reader.new) (W.contents answers.old) (W.contents answers.new) (Ok (map string_bytes (into_iter_items arguments))) result.0 }
     ensures quiet { result.0 ≡ Ending.Done → faults.new ≡ faults.old }
     ensures misused { result.0 ≡ Ending.Misused
         → (reader.new ≡ reader.old) × (answers.new ≡ answers.old) × (result.1 ≡ None) }
@@ -108,8 +108,8 @@ fn run_strings<S: Alter, N: Files<S>, B: Network, R: Read, W: Write, F: Write>(
     answers: &mut W,
     faults: &mut F,
 ) -> (Ending, Option<Connection<S>>)
-    ensures runs { Runs S.Store (N.opens files) result.1 (R.remaining reader.old) (R.remaining reader.new)
-        (W.contents answers.old) (W.contents answers.new) (Ok (map string_bytes strings.now)) result.0 }
+    ensures runs { Runs S.Store (N.opens files) (AnswersEach B.Port.meaning B.Port.Reader.remaining B.Port.Writer.contents) result.1
+        (R.remaining reader.old) (R.remaining reader.new) (W.contents answers.old) (W.contents answers.new) (Ok (map string_bytes strings.now)) result.0 }
     ensures quiet { result.0 ≡ Ending.Done → faults.new ≡ faults.old }
     ensures misused { result.0 ≡ Ending.Misused
         → (reader.new ≡ reader.old) × (answers.new ≡ answers.old) × (result.1 ≡ None) }

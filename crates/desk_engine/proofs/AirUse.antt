@@ -17,7 +17,8 @@ use Rattle.registry_core.specs.declared.facts.Uplink.{Uplink}
 use Rattle.registry_core.specs.Reports.{IsUse, Use, in_band, is_in_band, uplinks_from}
 use Rattle.registry_core.specs.State.{State}
 use Rattle.desk_engine.specs.declared.uses.Use.{Use as CountedUse}
-use Rattle.desk_engine.specs.Reports.{band_columns, band_line, device_line, sixteen_digits}
+use Rattle.desk_wire.specs.Hexadecimal.{eui_digits}
+use Rattle.desk_engine.specs.Reports.{band_columns, band_line, device_line}
 use Rattle.desk_engine.specs.Lines.{line_feed}
 use Rattle.desk_engine.specs.steps.Uses.{HasColumns, line_of_device, use_shown, use_computed}
 
@@ -88,13 +89,13 @@ more_bands header f done band text new line is added told =
     added ∙ ap (λ l. text ++ l) told ∙ ap (λ l. l ++ f band) is ∙ append_assoc header (flat_map f done) (f band) ∙ ap (λ l. header ++ l) (sym (flat_push f done band))
 
 pub device_line_is : (s : State) (from to : ℤ) (device : ℕ) (digits columns shown line : List ℕ) (uplinks : ℕ) → HasColumns (uplinks_from s.uplinks s.sessions device from to) bands uplinks columns
-    → digits ≡ sixteen_digits device → shown ≡ columns → line ≡ digits ++ (codes "," ++ (decimal uplinks ++ (shown ++ line_feed ∷ []))) → line ≡ line_of_device s from to device
+    → digits ≡ eui_digits device → shown ≡ columns → line ≡ digits ++ (codes "," ++ (decimal uplinks ++ (shown ++ line_feed ∷ []))) → line ≡ line_of_device s from to device
 unfolding line_of_device device_line
 device_line_is s from to device digits columns shown line uplinks has digits_are shown_are is =
     let sent = uplinks_from s.uplinks s.sessions device from to in
     let f : List ℕ → ℕ → List ℕ → List ℕ = λ d n c. d ++ (codes "," ++ (decimal n ++ (c ++ line_feed ∷ []))) in
-    is ∙ ap (λ d. f d uplinks shown) digits_are ∙ ap (λ n. f (sixteen_digits device) n shown) (has.count ∙ in_some_band sent)
-    ∙ ap (λ c. f (sixteen_digits device) (length sent) c) (shown_are ∙ has.text)
+    is ∙ ap (λ d. f d uplinks shown) digits_are ∙ ap (λ n. f (eui_digits device) n shown) (has.count ∙ in_some_band sent)
+    ∙ ap (λ c. f (eui_digits device) (length sent) c) (shown_are ∙ has.text)
 
 pub band_line_is : (band : Band) (limit standing : ℕ) (used : CountedUse) (told : Use) (columns shown line : List ℕ) → limit ≡ standing → use_shown used ≡ told → columns ≡ band_columns (use_shown used) → shown ≡ columns
     → line ≡ codes "B" ++ (decimal (band_number band) ++ (codes "," ++ (decimal limit ++ (codes "," ++ (decimal used.count ++ (shown ++ line_feed ∷ []))))))

@@ -9,7 +9,7 @@ use Rattle.desk_wire.specs.declared.faults.WireFault.{WireFault}
 use Rattle.desk_wire.specs.declared.faults.WireFault.TheVariants.{Malformed}
 use Rattle.desk_wire.specs.Laws.{ReadsInRange}
 use Rattle.desk_wire.specs.Reading.{reads}
-use Rattle.desk_engine.specs.Deliveries.{Delivery, heard_after, heard_all, heard_read}
+use Rattle.desk_engine.specs.Deliveries.{heard_after, heard_read}
 use Rattle.desk_engine.specs.Laws.{DeliveriesAddAtTheEnd, DeliveriesLeaveHeardLists}
 use Rattle.desk_engine.specs.Told.{envelope_of_text, longest_message}
 

@@ -1,6 +1,6 @@
 -- Reports as texts, octet for octet: what an owner's devices sent in a month, and what a gateway's bands have booked.
-use Rattle.std.specs.Prelude.{◌≡◌, ℕ, ◌-◌, ◌==◌, Bool, false, ◌&&◌, List, [], ◌∷◌, ◌++◌, length, replicate, IsTrue, ℤ, codes}
-use Rattle.std.specs.Fmt.{decimal, digits}
+use Rattle.std.specs.Prelude.{◌≡◌, ℕ, ◌==◌, Bool, ◌&&◌, List, [], ◌∷◌, ◌++◌, length, IsTrue, ℤ, codes}
+use Rattle.std.specs.Fmt.{decimal}
 use Rattle.std.specs.List.{flat_map, list_any}
 use Rattle.std.specs.List.Sorted.{IsStrictlyIncreasing}
 use Rattle.radio_core.specs.declared.bands.Band.{Band}
@@ -9,16 +9,13 @@ use Rattle.radio_core.specs.Names.{is_name}
 use Rattle.registry_core.specs.Bookings.{downlinks_in, limit_in}
 use Rattle.registry_core.specs.Reports.{IsUse, Use, in_band, is_owned, uplinks_from}
 use Rattle.registry_core.specs.State.{State}
+use Rattle.desk_wire.specs.Hexadecimal.{eui_digits}
 use Rattle.desk_engine.specs.Lines.{line_feed}
 
 -- ---- an owner's month
 
 abbrev pub owner_header : List ℕ
 owner_header = codes "dev_eui,uplinks,b1_us,b1_peak_us,b2_us,b2_peak_us,b3_us,b3_peak_us,b4_us,b4_peak_us,b5_us,b5_peak_us,b6_us,b6_peak_us" ++ line_feed ∷ []
-
--- 16 hexadecimal digits in lower case, the most significant first
-abbrev pub sixteen_digits : ℕ → List ℕ
-sixteen_digits n = let shown = digits 16 false n in replicate (16 - length shown) 48 ++ shown
 
 -- the airtime and the peak of a band, each after a comma
 abbrev pub band_columns : Use → List ℕ
@@ -27,7 +24,7 @@ band_columns used = codes "," ++ (decimal used.airtime ++ (codes "," ++ decimal 
 -- a device's line: its DevEUI, how many uplinks it sent, and how it used each band
 unfoldable pub device_line : ℕ → ℕ → (Band → Use) → List ℕ
 device_line dev_eui uplinks used =
-    sixteen_digits dev_eui ++ (codes "," ++ (decimal uplinks ++ (flat_map (λ band. band_columns (used band)) bands ++ line_feed ∷ [])))
+    eui_digits dev_eui ++ (codes "," ++ (decimal uplinks ++ (flat_map (λ band. band_columns (used band)) bands ++ line_feed ∷ [])))
 
 -- an owner has the name; what has not the form of a name is nobody's
 abbrev pub is_owner : State → List ℕ → Bool

@@ -6,7 +6,6 @@ ghost use Rattle.registry_core.specs.Bookings.{is_dropped};
 ghost use Rattle.registry_core.specs.Numbered.{item_at, item_changed};
 ghost use Rattle.registry_core.specs.State.{ended};
 ghost use Rattle.desk_store.specs.steps.Answers.{AreCounted};
-ghost use Rattle.desk_store.specs.steps.Tally.{count_in};
 
 use crate::tally::Tally;
 use registry_core::{Booking, Standing};

@@ -1,5 +1,5 @@
 //! What reports ask of the facts: an owner's devices in order, and when a device's uplinks were on the air.
-ghost use Rattle.std.specs.Prelude.{◌≡◌, IfOk, IsPermutation};
+ghost use Rattle.std.specs.Prelude.{IfOk, IsPermutation};
 ghost use Rattle.duty_core.specs.InOrder.{IsByStart};
 ghost use Rattle.registry_core.specs.Reports.{in_band, uplinks_from, IsNextDevice};
 ghost use Rattle.desk_store.specs.Facts.{facts_of};

@@ -26,23 +26,27 @@ use Rattle.desk_store.specs.declared.faults.StoreFault.{StoreFault}
 use Rattle.desk_store.specs.declared.faults.StoreFault.TheVariants as fault
 use Rattle.desk_rows.specs.Faults.{fault_of}
 use Rattle.desk_rows.specs.Schema.{desk_schema}
-use Rattle.desk_tables.specs.InOrder.{IsOfDesk}
+use Rattle.desk_tables.specs.InOrder.{AreOfDesk, IsOfDesk}
 use Rattle.desk_tables.specs.Reopening.{AreLeftBy, HoldDesk}
 use Rattle.desk_tables.specs.declared.tables.Tables.{Tables}
 use Rattle.desk_tables.specs.steps.Faults.{store_fault}
 use Rattle.desk_tables.proofs.OneSchema.{one_schema}
 
-module _ {D : Type 0} {g : Ghosts D} (files : Files D) where
+module _ {D : Type 0} {g : Ghosts D} (conn : Held (FileStore D g)) (c : Settings) (kept : Kept) where
   -- the trees list the desk's schema, so they are listed in no other
-  pub found_desk : (conn : Held (FileStore D g)) (c : Settings) (kept : Kept) → IsOpened conn → Finds files conn → HoldDesk g files c kept → IsOfDesk c kept (file_state conn).now
-  found_desk conn c kept opened found held =
+  pub opened_desk : IsOpened conn → (trees : Trees) → (file_state conn).committed.trees ≡ trees → AreOfDesk c kept trees → IsOfDesk c kept (file_state conn).now
+  opened_desk opened trees committed desk =
       let now = (file_state conn).now in
-      let trees : now.trees ≡ held.trees = ap (λ (d : Database). d.trees) opened.0.clean ∙ found.holds held.trees held.database in
-      let listed : IsSound desk_schema now.trees = subst (IsSound desk_schema) (sym trees) held.desk.in_order.held.ten.sound in
+      let same_trees : now.trees ≡ trees = ap (λ (d : Database). d.trees) opened.0.clean ∙ committed in
+      let listed : IsSound desk_schema now.trees = subst (IsSound desk_schema) (sym same_trees) desk.in_order.held.ten.sound in
       let live = opened.1 opened.0.is_open in
       let schema : now.schema ≡ desk_schema = one_schema now.trees desk_schema now.schema refl listed live.0 in
-      let same : now ≡ record { schema = desk_schema; trees = held.trees } = ap₂ (λ s t. record { schema = s; trees = t }) schema trees in
-      subst (IsOfDesk c kept) (sym same) held.desk
+      let same : now ≡ record { schema = desk_schema; trees = trees } = ap₂ (λ s t. record { schema = s; trees = t }) schema same_trees in
+      subst (IsOfDesk c kept) (sym same) desk
+
+module _ {D : Type 0} {g : Ghosts D} (files : Files D) where
+  pub found_desk : (conn : Held (FileStore D g)) (c : Settings) (kept : Kept) → IsOpened conn → Finds files conn → HoldDesk g files c kept → IsOfDesk c kept (file_state conn).now
+  found_desk conn c kept opened found held = opened_desk conn c kept opened held.trees (found.holds held.trees held.database) held.desk
 
   -- what a crash of the store before left holds a desk
   pub left_desk : (before : Tables (FileStore D g)) (all : List Kept) → AreLeftBy before all files → ∥ ((kept : Kept) × IsOneOf all kept × HoldDesk g files before.config kept) ∥₁

@@ -1,5 +1,5 @@
 //! How many there are of each thing that a desk holds.
-ghost use Rattle.std.specs.Prelude.{◌≡◌, ℕ, Option, bytes_eq, is_some, nat_eq, unwrap_or};
+ghost use Rattle.std.specs.Prelude.{◌≡◌, Option, bytes_eq, is_some, nat_eq, unwrap_or};
 ghost use Rattle.sqlite.specs.Held.{state};
 ghost use Rattle.desk_store.specs.Calls.{IsRead, Tells, TellsDown, fault_in};
 ghost use Rattle.desk_rows.specs.Calls.{Reads};

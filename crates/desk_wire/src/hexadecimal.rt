@@ -58,7 +58,7 @@ pub(crate) fn octet_digits(alloc: Global, octets: &[u8]) -> Result<String, Alloc
 
 /// The text of an EUI: 16 digits in lower case, the most significant first.
 #[tactic(auto, unfolding(crate::specs::Hexadecimal::eui_digits))]
-pub(crate) fn eui_digits(alloc: Global, eui: Eui) -> Result<String, AllocError>
+pub fn eui_digits(alloc: Global, eui: Eui) -> Result<String, AllocError>
     ensures { IfOk result (λ text. string_bytes text ≡ eui_digits eui) }
 {
     octet_digits(alloc, &eui.get().to_be_bytes())
@@ -66,7 +66,7 @@ pub(crate) fn eui_digits(alloc: Global, eui: Eui) -> Result<String, AllocError>
 
 /// The text of a device address: 8 digits in lower case, the most significant first.
 #[tactic(auto, unfolding(crate::specs::Hexadecimal::addr_digits))]
-pub(crate) fn addr_digits(alloc: Global, addr: DevAddr) -> Result<String, AllocError>
+pub fn addr_digits(alloc: Global, addr: DevAddr) -> Result<String, AllocError>
     ensures { IfOk result (λ text. string_bytes text ≡ addr_digits addr) }
 {
     octet_digits(alloc, &addr.get().to_be_bytes())

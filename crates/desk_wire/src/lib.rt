@@ -28,6 +28,7 @@ pub use csv_faults::CsvFault;
 pub use csv_reports::{LONGEST_REPORT, read_report};
 pub use faults::WireFault;
 pub use heads::{Head, head_of};
+pub use hexadecimal::{addr_digits, eui_digits};
 pub use reading::read_message;
 pub use type_names::TypeName;
 pub use writing::write_message;

@@ -1,6 +1,6 @@
 -- `desk check`: its words, and what it prints.
-use Rattle.std.specs.Prelude.{◌≡◌, ℕ, ◌-◌, ◌++◌, ◌∷◌, false, List, [], Result, Ok, Err, codes, length, replicate}
-use Rattle.std.specs.Fmt.{decimal, digits}
+use Rattle.std.specs.Prelude.{◌≡◌, ◌++◌, ◌∷◌, ℕ, List, [], Result, Ok, Err, codes}
+use Rattle.std.specs.Fmt.{decimal}
 use Rattle.clap.specs.Simple.{App, new_app, with_rule}
 use Rattle.clap.specs.Walk.{Row}
 use Rattle.registry_core.specs.declared.messages.Envelope.{Envelope}
@@ -9,6 +9,7 @@ use Rattle.desk_engine.specs.declared.report_faults.ReportFault.{ReportFault}
 use Rattle.desk_engine.specs.declared.report_faults.ReportFault.TheVariants.{Unavailable}
 use Rattle.desk_engine.specs.InOrder.{kept_after}
 use Rattle.desk_engine.specs.Lines.{line_feed}
+use Rattle.desk_wire.specs.Hexadecimal.{addr_digits}
 use Rattle.desk_tables.specs.Totals.{AreTotals}
 use Rattle.desk_tables.specs.declared.totals.Totals.{Totals}
 use Rattle.desk_cli.specs.Named.{Named, check, named_as}
@@ -30,17 +31,13 @@ check_named rows = named_as do
 abbrev pub value_line : List ℕ → List ℕ → List ℕ → List ℕ
 value_line name value lines = name ++ (codes ": " ++ (value ++ line_feed ∷ lines))
 
--- 8 hexadecimal digits in lower case, the most significant first
-abbrev pub eight_digits : ℕ → List ℕ
-eight_digits n = let shown = digits 16 false n in replicate (8 - length shown) 48 ++ shown
-
 -- what the desk was made with
 abbrev pub settings_lines : Settings → List ℕ → List ℕ
 settings_lines c lines =
     value_line (codes "schema") (codes "2")
     (value_line (codes "receiver") c.receiver
     (value_line (codes "operator") c.operator
-    (value_line (codes "base") (eight_digits c.base)
+    (value_line (codes "base") (addr_digits c.base)
     (value_line (codes "addresses") (decimal c.addresses) lines))))
 
 -- how many there are of what has a name or a DevEUI, and of the limits that were set

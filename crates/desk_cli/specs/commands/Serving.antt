@@ -1,5 +1,5 @@
 -- `desk serve`: its words, and what it has done, by how it ended.
-use Rattle.std.specs.Prelude.{◌≡◌, ℕ, List, [], ◌∷◌, ◌++◌, Bool, false, Option, None, Result, Ok, Err, codes}
+use Rattle.std.specs.Prelude.{◌≡◌, ℕ, List, [], ◌∷◌, ◌++◌, false, Option, None, Result, Ok, Err, codes}
 use Rattle.std.specs.Fmt.{decimal}
 use Rattle.std.specs.Io.KnownBytes.{Appends, Keeps}
 use Rattle.clap.specs.Simple.{App, new_app, with_rule}
@@ -9,8 +9,9 @@ use Rattle.desk_cli.specs.Numbers.{connections_of, port_of}
 use Rattle.desk_cli.specs.Options.{◌>>=◌, needed_rule, needs, place_rule, placed, value_at}
 use Rattle.registry_core.specs.declared.messages.Envelope.{Envelope}
 use Rattle.registry_core.specs.Settings.{Settings}
-use Rattle.desk_engine.specs.Deliveries.{Delivery, heard_all}
+use Rattle.desk_engine.specs.Deliveries.{heard_all}
 use Rattle.desk_engine.specs.Lines.{line_feed}
+use Rattle.desk_cli.specs.Answered.{Delivered}
 use Rattle.desk_cli.specs.declared.faults.Fault.{Fault}
 use Rattle.desk_cli.specs.declared.faults.Fault.TheVariants.{File, Network, Unavailable}
 use Rattle.desk_cli.specs.declared.usage.BadValue.TheVariants.{Connections, Port}
@@ -37,17 +38,16 @@ serve_named rows = named_as do
 abbrev pub listening_line : ℕ → List ℕ
 listening_line port = codes "listening 127.0.0.1:" ++ (decimal port ++ line_feed ∷ [])
 
--- What had been heard; what says that these are kept, and that these are left, or these with one more; the port; what a writer holds
--- before and after.
-module _ (c : Settings) (heard : List Envelope) (Kept : List Envelope → Type 0) (Left : List Envelope → Option Envelope → Type 0) (port : ℕ) (before after : Option (List ℕ)) where
-  -- messages were delivered, in this order; a fault of the disk leaves one in doubt
+-- What had been heard; what says that these are kept, and that these are left, or these with one more; what says how connections were answered
+-- to which this was delivered; the port; what a writer holds before and after.
+module _ (c : Settings) (heard : List Envelope) (Kept : List Envelope → Type 0) (Left : List Envelope → Option Envelope → Type 0) (Answered : Delivered → Type 0) (port : ℕ) (before after : Option (List ℕ)) where
+  -- The connections were answered, and what they delivered was heard, in this order. A fault of the disk leaves one message in doubt.
   pub record HearsServed : Type 0 where
-    pub deliveries : List Delivery
-    pub disk : Bool
-    pub doubt : Option Envelope
-    pub undoubted : disk ≡ false → doubt ≡ None
-    pub kept : disk ≡ false → Kept (heard_all c heard deliveries)
-    pub left_is : Left (heard_all c heard deliveries) doubt
+    pub delivered : Delivered
+    pub answered : Answered delivered
+    pub undoubted : delivered.disk ≡ false → delivered.doubt ≡ None
+    pub kept : delivered.disk ≡ false → Kept (heard_all c heard delivered.deliveries)
+    pub left_is : Left (heard_all c heard delivered.deliveries) delivered.doubt
 
   -- By how it ended. Where it failed no connection was served.
   abbrev pub ServesBy : {T : Type 0} → Result T Fault → Type 0

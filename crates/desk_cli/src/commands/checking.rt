@@ -17,7 +17,7 @@ ghost use Rattle.desk_cli.specs.Named.{Tells as TellsWords};
 ghost use Rattle.desk_cli.specs.NoDesk.{HoldsNoDesk, RefusesFile};
 ghost use Rattle.desk_cli.specs.OnTables.{IsLeft, KeepsHeard};
 ghost use Rattle.desk_cli.specs.Printing.{PrintsBy};
-ghost use Rattle.desk_cli.specs.commands.Checking.{IsCheck, check_app, check_named, check_text, eight_digits, named_lines, numbered_lines, settings_lines};
+ghost use Rattle.desk_cli.specs.commands.Checking.{IsCheck, check_app, check_named, check_text, named_lines, numbered_lines, settings_lines};
 ghost use Rattle.desk_cli.specs.steps.Checking.{IsCheckOf, TellsTotals};
 
 use super::Command;
@@ -30,6 +30,8 @@ use clap::ArgMatches;
 use desk_engine::ReportFault;
 use desk_store::{Counts, Looks, StoreFault};
 use desk_tables::{Tables, Totals};
+use desk_wire::addr_digits;
+use radio_core::DevAddr;
 use registry_core::Config;
 use sqlite::{Alter, Connection};
 use std::alloc::{AllocError, Global};
@@ -113,20 +115,13 @@ fn lines_of(alloc: Global, config: &Config, totals: &Totals) -> Result<String, A
 fn settings_lines(alloc: Global, config: &Config, lines: &str) -> Result<String, AllocError>
     ensures { IfOk result (λ text. string_bytes text ≡ settings_lines config.now lines.now) }
 {
-    let base = digits_of(alloc, config.base())?;
+    let base = addr_digits(alloc, DevAddr::new(config.base()))?;
     let receiver = config.receiver().as_str();
     let operator = config.operator().as_str();
     let addresses = config.addresses();
     format!(in alloc;
         "schema: 2\nreceiver: {receiver}\noperator: {operator}\nbase: {base}\naddresses: {addresses}\n{lines}"
     )
-}
-
-/// An address as eight hexadecimal digits.
-fn digits_of(alloc: Global, address: u32) -> Result<String, AllocError>
-    ensures { IfOk result (λ text. string_bytes text ≡ eight_digits address) }
-{
-    format!(in alloc; "{address:08x}")
 }
 
 /// The lines of what has a name or a DevEUI, and of the limits that were set, before these.

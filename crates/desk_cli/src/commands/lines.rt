@@ -1,5 +1,5 @@
 //! `desk lines`: messages from a reader, answers to a writer, over lists in memory.
-ghost use Rattle.std.specs.Prelude.{◌≡◌, false, [], IfOk, OnOk};
+ghost use Rattle.std.specs.Prelude.{◌≡◌, false, [], IfOk};
 ghost use Rattle.clap.specs.Matches.{found_of};
 ghost use Rattle.clap.specs.Simple.{app_of};
 ghost use Rattle.clap.specs.Walk.{rows_of};
@@ -42,7 +42,7 @@ pub(crate) fn lines_of<'a>(options: &ArgMatches<'a>) -> Result<Command<'a>, Usag
 
 /// Answers the messages of the reader, one a line, over lists made for it.
 ///
-/// With `File` the reader or the writer failed, and with `Unavailable` there was no memory: then exactly the lines before are
+/// With `File` the reader or the writer failed. With `Unavailable` there was no memory, and then exactly the lines before are
 /// answered.
 pub fn lines_command<R: Read, W: Write>(
     alloc: Global,
@@ -50,9 +50,8 @@ pub fn lines_command<R: Read, W: Write>(
     reader: &mut R,
     answers: &mut W,
 ) -> Result<(), Fault>
-    // With status 0 exactly the answers of the lines were written, from the opening state on.
-    ensures answered { OnOk result (AnswersLines (R.remaining reader.old) (R.remaining reader.new)
-        (W.contents answers.old) (W.contents answers.new) config.now) }
+    ensures answered { AnswersLines (R.remaining reader.old) (R.remaining reader.new)
+        (W.contents answers.old) (W.contents answers.new) config.now result }
 {
     nothing_is_heard();
     let mut lists = match new_lists(alloc, config) {

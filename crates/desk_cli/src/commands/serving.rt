@@ -1,6 +1,6 @@
 //! `desk serve`: requests over HTTP, one a connection, for a desk in a file.
-ghost use Rattle.std.specs.Prelude.{◌≡◌, false, None, List, IfOk, OnOk};
-ghost use Rattle.std.specs.Io.KnownBytes.{Appends, Keeps as KeepsBytes};
+ghost use Rattle.std.specs.Prelude.{◌≡◌, false, None, List, IfOk};
+ghost use Rattle.std.specs.Io.KnownBytes.{Keeps as KeepsBytes};
 ghost use Rattle.std.specs.String.{string_bytes};
 ghost use Rattle.clap.specs.Matches.{found_of};
 ghost use Rattle.clap.specs.Simple.{app_of};
@@ -15,7 +15,8 @@ ghost use Rattle.desk_cli.specs.Answering.{Keeps, Leaves};
 ghost use Rattle.desk_cli.specs.Named.{Tells};
 ghost use Rattle.desk_cli.specs.NoDesk.{HoldsNoDesk, RefusesFile};
 ghost use Rattle.desk_cli.specs.OnTables.{IsLeft, KeepsHeard};
-ghost use Rattle.desk_cli.specs.Served.{HearsDeliveries, ServesEach, ServesNext};
+ghost use Rattle.desk_http.specs.Serving.{ServesRequest};
+ghost use Rattle.desk_cli.specs.Served.{AnswersEach, HearsEach, ServesEach, ServesNext};
 ghost use Rattle.desk_cli.specs.commands.Serving.{ServesBy, listening_line, serve_app, serve_named};
 
 use super::Command;
@@ -23,6 +24,7 @@ use crate::faults::Fault;
 use crate::listening::{Listening, Network};
 use crate::opening::opened;
 use crate::options::{command, connections_at, needed, place, placed, port_at};
+use crate::printing::write_whole;
 use crate::usage::{BadValue, Usage};
 use clap::ArgMatches;
 use desk_engine::laws::calls_hear_in_order;
@@ -30,7 +32,7 @@ use desk_http::serve_one;
 use desk_store::Keeper;
 use sqlite::{Alter, Connection};
 use std::alloc::{AllocError, Global};
-use std::io::{self, Write};
+use std::io::Write;
 
 const EXAMPLE: &str = "\
 Each read and each write of a connection has ten seconds, and a connection thirty as a whole.
@@ -86,7 +88,9 @@ pub fn serve_command<S: Alter, B: Network, W: Write>(
     requires idle { conn.in_transaction ≡ false }
     requires unlimited { conn.step_limit ≡ None }
     ensures serves { HasCleanDisk (state S.Store result.1) → (c : Settings) (heard : List Envelope) → KeepsHeard S.Store conn c heard
-        → ServesBy c heard (KeepsHeard S.Store result.1 c) (IsLeft S.Store result.1 c) port (W.contents answers.old) (W.contents answers.new) result.0 }
+        → ServesBy c heard (KeepsHeard S.Store result.1 c) (IsLeft S.Store result.1 c)
+        (AnswersEach B.Port.meaning B.Port.Reader.remaining B.Port.Writer.contents c heard connections)
+        port (W.contents answers.old) (W.contents answers.new) result.0 }
     ensures no_desk { HasCleanDisk (state S.Store result.1) → HoldsNoDesk S.Store conn
         → RefusesFile S.Store conn result.1 (KeepsBytes (W.contents answers.old) (W.contents answers.new)) result.0 }
     ensures clean { HasCleanDisk (state S.Store result.1) → HasCleanDisk (state S.Store conn) }
@@ -114,6 +118,7 @@ fn serve_port<K: Keeper, B: Network, W: Write>(
     ensures was_sound { K.meaning.sound keeper.new → K.meaning.sound keeper.old }
     ensures serves { (c : Settings) (heard : List Envelope) → WasInOrder K.meaning c heard keeper.old keeper.new
         → ServesBy c heard (Keeps K.meaning c heard keeper.old keeper.new) (Leaves K.meaning c heard keeper.old keeper.new)
+        (AnswersEach B.Port.meaning B.Port.Reader.remaining B.Port.Writer.contents c heard connections)
         port (W.contents answers.old) (W.contents answers.new) result }
 {
     let Ok(mut listening) = network.listen(port) else {
@@ -122,7 +127,7 @@ fn serve_port<K: Keeper, B: Network, W: Write>(
     let Ok(line) = listening_line(alloc, port) else {
         return Err(Fault::Unavailable);
     };
-    match write_now(answers, line.as_str()) {
+    match write_whole(answers, line.as_bytes()) {
         Ok(()) => {}
         Err(_) => return Err(Fault::File),
     }
@@ -137,13 +142,6 @@ fn listening_line(alloc: Global, port: u16) -> Result<String, AllocError>
     format!(in alloc; "listening 127.0.0.1:{port}\n")
 }
 
-fn write_now<W: Write>(answers: &mut W, text: &str) -> io::Result<()>
-    ensures { OnOk result (Appends (W.contents answers.old) (W.contents answers.new) text.now) }
-{
-    answers.write_all(text.as_bytes())?;
-    answers.flush()
-}
-
 /// Serves so many connections, one after another: each by one request. One that fails counts.
 pub fn serve_connections<K: Keeper, L: Listening>(
     alloc: Global,
@@ -153,11 +151,12 @@ pub fn serve_connections<K: Keeper, L: Listening>(
 )
     ensures same { K.meaning.configuration keeper.new ≡ K.meaning.configuration keeper.old }
     ensures was_sound { K.meaning.sound keeper.new → K.meaning.sound keeper.old }
-    ensures served { ServesEach K.meaning L.meaning L.Reader.remaining L.Writer.contents connections
+    ensures served { ServesEach L.meaning L.Reader.remaining L.Writer.contents (ServesRequest K.meaning) connections
         keeper.old keeper.new listening.old listening.new }
 
-    // What the messages among them do to a store that was in order.
-    ensures hears { HearsDeliveries K.meaning keeper.old keeper.new }
+    // What the messages among them do to a store that was in order, and what each connection is answered.
+    ensures hears { HearsEach K.meaning L.meaning L.Reader.remaining L.Writer.contents connections
+        keeper.old keeper.new listening.old listening.new }
 {
     calls_hear_in_order::<K>();
     for _ in 0..connections {
@@ -167,7 +166,7 @@ pub fn serve_connections<K: Keeper, L: Listening>(
 
 /// Serves the connection that comes next.
 fn serve_next<K: Keeper, L: Listening>(alloc: Global, keeper: &mut K, listening: &mut L)
-    ensures { ServesNext K.meaning L.meaning L.Reader.remaining L.Writer.contents
+    ensures { ServesNext L.meaning L.Reader.remaining L.Writer.contents (ServesRequest K.meaning)
         keeper.old keeper.new listening.old listening.new }
 {
     let Ok((reader, writer)) = listening.accept(alloc) else {

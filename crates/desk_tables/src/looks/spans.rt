@@ -1,5 +1,4 @@
 //! When uplinks and downlinks are on the air.
-ghost use Rattle.std.specs.Prelude.{◌≡◌};
 ghost use Rattle.sqlite.specs.Held.{state};
 ghost use Rattle.duty_core.specs.InOrder.{IsByStart};
 ghost use Rattle.registry_core.specs.Bookings.{downlinks_in};

@@ -1,6 +1,6 @@
-use Rattle.std.proofs.Common.{refl, ◌∙◌, Err}
+use Rattle.std.proofs.Common.{refl}
 use Rattle.std.proofs.KnownBytes.{Appends-kept}
-use Rattle.desk_cli.proofs.LinesAnswered.{cut_short, hears_all, hears_ended, hears_unwritten, keeps_lines}
+use Rattle.desk_cli.proofs.LinesAnswered.{cut_short, hears_all, keeps_lines}
 use Rattle.desk_cli.proofs.answering.answer_lines.Goals as goal
 
 pub returns-in-Ok-clause-ends : goal.returns-in-Ok-clause-ends

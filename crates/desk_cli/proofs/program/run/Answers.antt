@@ -3,5 +3,5 @@ use Rattle.desk_cli.proofs.program.run.Goals as goal
 
 pub returns-clause-done : goal.returns-clause-done
 returns-clause-done g c done =
-    let asked = done_asked _ _ _ _ _ _ _ _ _ c.run_given.ensures.runs done in
+    let asked = done_asked _ _ _ _ _ _ _ _ _ _ c.run_given.ensures.runs done in
     (asked.0, some_words _ asked.0 asked.1, asked.2)

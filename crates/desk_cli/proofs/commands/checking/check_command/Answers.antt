@@ -1,4 +1,4 @@
-use Rattle.std.proofs.Common.{◌≡◌, ℕ, List, Ok, Err, false, None, arith}
+use Rattle.std.proofs.Common.{None, arith}
 use Rattle.std.proofs.KnownBytes.{Keeps-refl}
 use Rattle.desk_engine.specs.InOrder.{kept_after}
 use Rattle.desk_cli.proofs.Checked.{is_check}

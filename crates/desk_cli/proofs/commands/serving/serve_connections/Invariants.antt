@@ -1,8 +1,9 @@
+use Rattle.desk_http.specs.Serving.{ServesRequest}
 use Rattle.desk_cli.specs.Served.{ServesEach}
 use Rattle.desk_cli.proofs.commands.serving.serve_connections.Given as goal
 
 -- so many were served so far
 abbrev pub invariant-loop : goal.invariant-loop
 invariant-loop g l =
-    ServesEach g.K.Looks.meaning g.L.Listening.meaning g.L.Reader.Read.remaining g.L.Writer.Write.contents l.counter
+    ServesEach g.L.Listening.meaning g.L.Reader.Read.remaining g.L.Writer.Write.contents (ServesRequest g.K.Looks.meaning) l.counter
     l.fn.keeper l.keeper l.fn.listening l.listening

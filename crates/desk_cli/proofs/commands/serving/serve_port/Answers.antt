@@ -6,7 +6,7 @@ use Rattle.desk_cli.proofs.commands.serving.serve_port.Goals as goal
 pub returns-clause-serves : goal.returns-clause-serves
 returns-clause-serves g c = λ config heard was.
     let before = g.W.Write.contents c.args.answers.now in
-    let after = g.W.Write.contents c.write_now.new.answers in (
-      hears_served g.K.Looks.meaning config heard c.args.keeper.now c.serve_connections.new.keeper c.args.port before after was c.serve_connections.ensures.hears,
-      subst (Appends before after) (c.as_str.ensures.value ∙ c.in-Ok-listening_line.ensures) c.in-Ok-write_now.ensures,
+    let after = g.W.Write.contents c.write_whole.new.answers in (
+      hears_served g.K.Looks.meaning _ _ _ c.args.connections config heard c.args.keeper.now c.serve_connections.new.keeper _ _ c.args.port before after was c.serve_connections.ensures.hears,
+      subst (Appends before after) (c.as_bytes.ensures.value ∙ c.in-Ok-listening_line.ensures) c.in-Ok-write_whole.ensures,
     )
