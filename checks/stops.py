@@ -3,7 +3,7 @@
 
     checks/stops.py [--built] [--streams 20] [--runs 200] [--size 120] [--seed 1]
 
-A desk over files in memory hears the ten messages of the test, once for each number of calls that the one file passes on
+A desk over files in memory hears messages of each type, those of the test, once for each number of calls that the one file passes on
 before it fails, and then for each of the other, until it meets no stop any more. Each stream (mixed_operation.py, of few
 devices: repeats, copies, changed and refused messages, downlinks, limits) is heard so many times with a random number of
 calls. What is there after a stop is opened again twice: as a process leaves it that has ended, and as a machine does that
@@ -50,7 +50,7 @@ def runs_of(fuses, lines, what):
 
 
 def at_each_call(file):
-    """How many calls of the file there are until the ten messages are heard and the desk is closed."""
+    """How many calls of the file there are until the test's messages are heard and the desk is closed."""
     calls = 0
     while True:
         fuses = [f"{file}{place}" for place in range(calls, calls + BATCH)]
@@ -82,7 +82,7 @@ def main():
         subprocess.run(["rt", "test"], cwd=ROOT / "crates" / "desk_cli", check=True)
     begun = time.monotonic()
     for file, what in [("log", "log"), ("db", "first file")]:
-        print(f"the ten messages, stopped at each of the {at_each_call(file)} calls of the {what}: nothing is lost", flush=True)
+        print(f"the messages of each type, stopped at each of the {at_each_call(file)} calls of the {what}: nothing is lost", flush=True)
     stops = at_random_calls(given.streams, given.runs, given.size, given.seed)
     runs = given.streams * given.runs
     print(f"{runs} runs of {given.streams} streams, {stops} of them stopped: nothing is lost")
