@@ -8,22 +8,22 @@ use Rattle.desk_engine.specs.InOrder.{WasInOrder}
 use Rattle.desk_cli.proofs.OnTables.{unshut_by}
 use Rattle.desk_cli.proofs.Opened.{err}
 use Rattle.desk_cli.specs.Answering.{Keeps, Leaves}
-use Rattle.desk_cli.specs.Answered.{Delivered}
-use Rattle.desk_cli.specs.Served.{AnswersEach, Connections, HearsEach, delivered_by}
+use Rattle.desk_cli.specs.Answered.{AtPorts}
+use Rattle.desk_cli.specs.Served.{Connections, HearsEach, Ports, at_ports, delivered_by}
 use Rattle.desk_cli.specs.commands.Serving.{HearsServed, ServesBy}
 use Rattle.desk_cli.specs.declared.faults.Fault.{Fault}
 use Rattle.desk_cli.specs.declared.faults.Fault.TheVariants.{Exists, NotADesk, Schema, Owner, Gateway, Month, CsvSize, CsvEnd, CsvHeader, CsvRecord, Unavailable, File, Network}
 
-pub hears_served : {L R W K : Type 0} (m : Meaning K) (l : Connections L R W) (remaining : R → Option (List ℕ)) (contents : W → Option (List ℕ)) (n : ℕ)
+pub hears_served : {N L R W K : Type 0} (m : Meaning K) (ports : Ports N L) (network : N) (l : Connections L R W) (remaining : R → Option (List ℕ)) (contents : W → Option (List ℕ)) (n : ℕ)
     (c : Settings) (heard : List Envelope) (old new : K) (first last : L) (port : ℕ) (before after : Option (List ℕ))
-    → WasInOrder m c heard old new → HearsEach m l remaining contents n old new first last
-    → HearsServed c heard (Keeps m c heard old new) (Leaves m c heard old new) (AnswersEach l remaining contents c heard n) port before after
-hears_served m l remaining contents n c heard old new first last port before after was each =
+    → ports.listens network port first → WasInOrder m c heard old new → HearsEach m l remaining contents n old new first last
+    → HearsServed c heard (Keeps m c heard old new) (Leaves m c heard old new) (at_ports ports network l remaining contents) port n before after
+hears_served m ports network l remaining contents n c heard old new first last port before after listens was each =
     let by = each.hears in
     let leaves : Leaves m c heard old new _ (by.doubtful c) = record { order = by.hears.order c heard was; crash = λ doubt. by.hears.crash c heard doubt was } in
     record {
       delivered = delivered_by by c;
-      answered = (first, last, each.answers c heard was);
+      answered = (first, last, listens, each.answers c heard was);
       undoubted = λ is. by.undoubted is c;
       kept = λ is. record { leaves = subst (Leaves m c heard old new _) (by.undoubted is c) leaves; still = unshut_by m old new by.hears.call is };
       left_is = leaves;
@@ -31,11 +31,11 @@ hears_served m l remaining contents n c heard old new first last port before aft
 
 module _ (c : Settings) (heard : List Envelope) (Kept Stands : List Envelope → Type 0) (Left Stays : List Envelope → Option Envelope → Type 0)
     (kept : (all : List Envelope) → Kept all → Stands all) (left : (all : List Envelope) (doubt : Option Envelope) → Left all doubt → Stays all doubt)
-    (Answered : Delivered → Type 0) (port : ℕ) (before after : Option (List ℕ)) {T : Type 0} where
-  pub carried : (r : Result T Fault) → ServesBy c heard Kept Left Answered port before after r → ServesBy c heard Stands Stays Answered port before after r
+    (ports : AtPorts) (port n : ℕ) (before after : Option (List ℕ)) {T : Type 0} where
+  pub carried : (r : Result T Fault) → ServesBy c heard Kept Left ports port n before after r → ServesBy c heard Stands Stays ports port n before after r
   carried (Ok x) by =
       (record { delivered = by.0.delivered; answered = by.0.answered; undoubted = by.0.undoubted; kept = λ is. kept _ (by.0.kept is); left_is = left _ _ by.0.left_is }, by.1)
-  carried (Err Network) by = (kept _ by.0, by.1)
+  carried (Err Network) by = (by.0, kept _ by.1, by.2)
   carried (Err File) by = kept _ by
   carried (Err Unavailable) by = (left _ _ by.0, by.1)
   carried (Err Exists) by = absurd by
@@ -50,8 +50,8 @@ module _ (c : Settings) (heard : List Envelope) (Kept Stands : List Envelope →
   carried (Err (CsvRecord n)) by = absurd by
 
 -- where nothing was opened no connection was served
-pub serves_unopened : (c : Settings) (heard : List Envelope) (Kept : List Envelope → Type 0) (Left : List Envelope → Option Envelope → Type 0) (Answered : Delivered → Type 0)
-    (port : ℕ) (before : Option (List ℕ)) (T : Type 0) (fault : Fault)
-    → fault ≡ Unavailable → Left heard None → ServesBy c heard Kept Left Answered port before before (err {T = T} fault)
-serves_unopened c heard Kept Left Answered port before T fault is left =
-    subst (λ f. ServesBy c heard Kept Left Answered port before before (err {T = T} f)) (sym is) (left, Keeps-refl before)
+pub serves_unopened : (c : Settings) (heard : List Envelope) (Kept : List Envelope → Type 0) (Left : List Envelope → Option Envelope → Type 0) (ports : AtPorts)
+    (port n : ℕ) (before : Option (List ℕ)) (T : Type 0) (fault : Fault)
+    → fault ≡ Unavailable → Left heard None → ServesBy c heard Kept Left ports port n before before (err {T = T} fault)
+serves_unopened c heard Kept Left ports port n before T fault is left =
+    subst (λ f. ServesBy c heard Kept Left ports port n before before (err {T = T} f)) (sym is) (left, Keeps-refl before)

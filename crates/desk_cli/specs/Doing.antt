@@ -9,7 +9,7 @@ use Rattle.registry_core.specs.declared.messages.Envelope.{Envelope}
 use Rattle.registry_core.specs.Heard.{state_of}
 use Rattle.registry_core.specs.Settings.{Settings}
 use Rattle.desk_http.specs.Reports.{IsBandAnswer}
-use Rattle.desk_cli.specs.Answered.{Delivered}
+use Rattle.desk_cli.specs.Answered.{AtPorts}
 use Rattle.desk_cli.specs.Named.{Asked, lines, init, migrate, hear, import, serve, report, bands, check}
 use Rattle.desk_cli.specs.NoDesk.{HoldsNoDesk, RefusesFile}
 use Rattle.desk_cli.specs.OnTables.{IsLeft, KeepsHeard}
@@ -38,28 +38,33 @@ OnFile {S} Opens given_back result file Untouched Does =
     ((conn back : Held S) × Opens file conn × (given_back ≡ Some back) × Does conn back)
     ⊎ ((result ≡ Err File) × (given_back ≡ None) × Untouched)
 
--- What a connection to a file is; how so many connections are answered, after what had been heard, to which this is delivered; the
--- connection that a run gives back; what a reader has left before and after, and what a writer holds before and after.
-module _ {S T : Type 0} (g : Ghosts S) (Opens : Text → Held S → Type 0) (Answered : Settings → List Envelope → ℕ → Delivered → Type 0) (given_back : Option (Held S)) (left rest before after : Option (List ℕ)) (result : Result T Fault) where
+-- The same of a file that is to hold a desk: what is done with it is said of whatever the desk had heard, and of the connection that comes back.
+abbrev pub OnDeskFile : {S T : Type 0} → Ghosts S → (Text → Held S → Type 0) → Option (Held S) → Result T Fault → Text → Type 0 → (Held S → Settings → List Envelope → Type 0) → Type 0
+OnDeskFile g Opens given_back result file Untouched Does =
+    OnFile Opens given_back result file Untouched (λ conn back. OnDesk g conn back result Untouched (Does back))
+
+-- What a connection to a file is; what is answered at the ports; the connection that a run gives back; what a reader has left before and
+-- after, and what a writer holds before and after.
+module _ {S T : Type 0} (g : Ghosts S) (Opens : Text → Held S → Type 0) (ports : AtPorts) (given_back : Option (Held S)) (left rest before after : Option (List ℕ)) (result : Result T Fault) where
   -- what was asked was done, by how it ended
   abbrev pub DoesAsked : Asked → Type 0
   DoesAsked (lines c) = AnswersLines left rest before after c result × (given_back ≡ None)
   DoesAsked (init file c) = OnFile Opens given_back result file (Unit {0}) (λ conn back. InitsBy g conn back c result)
   DoesAsked (migrate file) = OnFile Opens given_back result file (Unit {0}) (λ conn back. MigratesBy g conn back result)
   DoesAsked (hear file) =
-      OnFile Opens given_back result file (Keeps left rest × Keeps before after) (λ conn back. OnDesk g conn back result (Keeps left rest × Keeps before after) (λ c heard. HearsBy g back c heard left rest before after result))
+      OnDeskFile g Opens given_back result file (Keeps left rest × Keeps before after) (λ back c heard. HearsBy g back c heard left rest before after result)
   DoesAsked (import file sender) =
-      OnFile Opens given_back result file (Keeps left rest × Keeps before after)
-      (λ conn back. OnDesk g conn back result (Keeps left rest × Keeps before after) (λ c heard. ImportsBy c heard sender (KeepsHeard g back c) (IsLeft g back c) left rest before after result))
+      OnDeskFile g Opens given_back result file (Keeps left rest × Keeps before after)
+      (λ back c heard. ImportsBy c heard sender (KeepsHeard g back c) (IsLeft g back c) left rest before after result)
   DoesAsked (serve file port connections) =
-      OnFile Opens given_back result file (Keeps before after)
-      (λ conn back. OnDesk g conn back result (Keeps before after) (λ c heard. ServesBy c heard (KeepsHeard g back c) (IsLeft g back c) (Answered c heard connections) port before after result))
+      OnDeskFile g Opens given_back result file (Keeps before after)
+      (λ back c heard. ServesBy c heard (KeepsHeard g back c) (IsLeft g back c) ports port connections before after result)
   DoesAsked (report file owner month) =
-      OnFile Opens given_back result file (Keeps before after)
-      (λ conn back. OnDesk g conn back result (Keeps before after) (λ c heard. PrintsBy (KeepsHeard g back c heard) (IsLeft g back c heard None) before after (IsOwnersMonth (state_of c heard) owner month) result))
+      OnDeskFile g Opens given_back result file (Keeps before after)
+      (λ back c heard. PrintsBy (KeepsHeard g back c heard) (IsLeft g back c heard None) before after (IsOwnersMonth (state_of c heard) owner month) result)
   DoesAsked (bands file gateway) =
-      OnFile Opens given_back result file (Keeps before after)
-      (λ conn back. OnDesk g conn back result (Keeps before after) (λ c heard. PrintsBy (KeepsHeard g back c heard) (IsLeft g back c heard None) before after (IsBandAnswer (state_of c heard) gateway) result))
+      OnDeskFile g Opens given_back result file (Keeps before after)
+      (λ back c heard. PrintsBy (KeepsHeard g back c heard) (IsLeft g back c heard None) before after (IsBandAnswer (state_of c heard) gateway) result)
   DoesAsked (check file) =
-      OnFile Opens given_back result file (Keeps before after)
-      (λ conn back. OnDesk g conn back result (Keeps before after) (λ c heard. PrintsBy (KeepsHeard g back c heard) (IsLeft g back c heard None) before after (IsCheck c heard) result))
+      OnDeskFile g Opens given_back result file (Keeps before after)
+      (λ back c heard. PrintsBy (KeepsHeard g back c heard) (IsLeft g back c heard None) before after (IsCheck c heard) result)

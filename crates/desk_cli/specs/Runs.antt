@@ -10,9 +10,7 @@ use Rattle.std.specs.declared.vec.IntoIter.{IntoIter}
 use Rattle.clap.specs.Walk.{Text}
 use Rattle.sqlite.specs.Held.{Held}
 use Rattle.sqlite_trees.specs.declared.store.Store.{Ghosts}
-use Rattle.registry_core.specs.declared.messages.Envelope.{Envelope}
-use Rattle.registry_core.specs.Settings.{Settings}
-use Rattle.desk_cli.specs.Answered.{Delivered}
+use Rattle.desk_cli.specs.Answered.{AtPorts}
 use Rattle.desk_cli.specs.CommandLine.{named_by}
 use Rattle.desk_cli.specs.Doing.{DoesAsked}
 use Rattle.desk_cli.specs.Faults.{ending_of_result}
@@ -53,14 +51,14 @@ EndsUnread kind Failed = kind ≡ OutOfMemory
 EndsUnread kind Misused = kind ≢ OutOfMemory
 EndsUnread kind _ = ⊥
 
--- What a connection to a file is; how so many connections are answered, after what had been heard, to which this is delivered; the
--- connection that a run gives back; what its reader has left before and after, and what its writer holds before and after.
-module _ {S : Type 0} (g : Ghosts S) (Opens : Text → Held S → Type 0) (Answered : Settings → List Envelope → ℕ → Delivered → Type 0) (back : Option (Held S)) (left rest before after : Option (List ℕ)) where
+-- What a connection to a file is; what is answered at the ports; the connection that a run gives back; what its reader has left before and
+-- after, and what its writer holds before and after.
+module _ {S : Type 0} (g : Ghosts S) (Opens : Text → Held S → Type 0) (ports : AtPorts) (back : Option (Held S)) (left rest before after : Option (List ℕ)) where
   -- what was asked was done, and the program ended by how that ended
   pub record Does (ending : Ending) (asked : Asked) : Type 0 where
     pub result : Result (Unit {0}) Fault
     pub ending_is : ending ≡ ending_of_result result
-    pub does : DoesAsked g Opens Answered back left rest before after result asked
+    pub does : DoesAsked g Opens ports back left rest before after result asked
 
   -- Nothing was asked: no file was opened, and nothing was read or written. The words name no command, or memory ran out.
   pub record AsksNothing (words : Given) (ending : Ending) : Type 0 where

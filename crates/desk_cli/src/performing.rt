@@ -2,11 +2,11 @@
 ghost use Rattle.registry_core.specs.Heard.{state_of};
 ghost use Rattle.std.specs.Io.KnownBytes.{Keeps};
 ghost use Rattle.desk_http.specs.Reports.{IsBandAnswer};
-ghost use Rattle.desk_cli.specs.Doing.{DoesAsked, OnDesk, OnFile};
+ghost use Rattle.desk_cli.specs.Doing.{DoesAsked, OnDeskFile, OnFile};
 ghost use Rattle.desk_cli.specs.Named.{asked_of};
 ghost use Rattle.desk_cli.specs.OnTables.{IsLeft, KeepsHeard};
 ghost use Rattle.desk_cli.specs.Printing.{IsOwnersMonth, PrintsBy};
-ghost use Rattle.desk_cli.specs.Served.{AnswersEach};
+ghost use Rattle.desk_cli.specs.Served.{at_ports};
 ghost use Rattle.desk_cli.specs.commands.Checking.{IsCheck};
 ghost use Rattle.desk_cli.specs.commands.Hear.{HearsBy};
 ghost use Rattle.desk_cli.specs.commands.Importing.{ImportsBy};
@@ -40,7 +40,7 @@ pub(crate) fn perform<S: Alter, N: Files<S>, B: Network, R: Read, W: Write>(
     reader: &mut R,
     answers: &mut W,
 ) -> Performed<S>
-    ensures { DoesAsked S.Store (N.opens files) (AnswersEach B.Port.meaning B.Port.Reader.remaining B.Port.Writer.contents) result.1
+    ensures { DoesAsked S.Store (N.opens files) (at_ports B.ports network.now B.Port.meaning B.Port.Reader.remaining B.Port.Writer.contents) result.1
         (R.remaining reader.old) (R.remaining reader.new) (W.contents answers.old) (W.contents answers.new) result.0 (asked_of command.now) }
 {
     match command {
@@ -100,11 +100,10 @@ fn hear_file<S: Alter, N: Files<S>, R: Read, W: Write>(
     reader: &mut R,
     answers: &mut W,
 ) -> Performed<S>
-    ensures { OnFile (N.opens files) result.1 result.0 file.now
+    ensures { OnDeskFile S.Store (N.opens files) result.1 result.0 file.now
         (Keeps (R.remaining reader.old) (R.remaining reader.new) × Keeps (W.contents answers.old) (W.contents answers.new))
-        (λ conn back. OnDesk S.Store conn back result.0 (Keeps (R.remaining reader.old) (R.remaining reader.new) × Keeps (W.contents answers.old) (W.contents answers.new))
-        (λ c heard. HearsBy S.Store back c heard (R.remaining reader.old) (R.remaining reader.new)
-        (W.contents answers.old) (W.contents answers.new) result.0)) }
+        (λ back c heard. HearsBy S.Store back c heard (R.remaining reader.old) (R.remaining reader.new)
+        (W.contents answers.old) (W.contents answers.new) result.0) }
 {
     match files.open(file) {
         Ok(conn) => {
@@ -123,11 +122,10 @@ fn import_file<S: Alter, N: Files<S>, R: Read, W: Write>(
     reader: &mut R,
     answers: &mut W,
 ) -> Performed<S>
-    ensures { OnFile (N.opens files) result.1 result.0 file.now
+    ensures { OnDeskFile S.Store (N.opens files) result.1 result.0 file.now
         (Keeps (R.remaining reader.old) (R.remaining reader.new) × Keeps (W.contents answers.old) (W.contents answers.new))
-        (λ conn back. OnDesk S.Store conn back result.0 (Keeps (R.remaining reader.old) (R.remaining reader.new) × Keeps (W.contents answers.old) (W.contents answers.new))
-        (λ c heard. ImportsBy c heard sender.now (KeepsHeard S.Store back c) (IsLeft S.Store back c)
-        (R.remaining reader.old) (R.remaining reader.new) (W.contents answers.old) (W.contents answers.new) result.0)) }
+        (λ back c heard. ImportsBy c heard sender.now (KeepsHeard S.Store back c) (IsLeft S.Store back c)
+        (R.remaining reader.old) (R.remaining reader.new) (W.contents answers.old) (W.contents answers.new) result.0) }
 {
     match files.open(file) {
         Ok(conn) => {
@@ -147,10 +145,10 @@ fn serve_file<S: Alter, N: Files<S>, B: Network, W: Write>(
     connections: u32,
     answers: &mut W,
 ) -> Performed<S>
-    ensures { OnFile (N.opens files) result.1 result.0 file.now (Keeps (W.contents answers.old) (W.contents answers.new))
-        (λ conn back. OnDesk S.Store conn back result.0 (Keeps (W.contents answers.old) (W.contents answers.new))
-        (λ c heard. ServesBy c heard (KeepsHeard S.Store back c) (IsLeft S.Store back c)
-        (AnswersEach B.Port.meaning B.Port.Reader.remaining B.Port.Writer.contents c heard connections) port (W.contents answers.old) (W.contents answers.new) result.0)) }
+    ensures { OnDeskFile S.Store (N.opens files) result.1 result.0 file.now
+        (Keeps (W.contents answers.old) (W.contents answers.new))
+        (λ back c heard. ServesBy c heard (KeepsHeard S.Store back c) (IsLeft S.Store back c)
+        (at_ports B.ports network.now B.Port.meaning B.Port.Reader.remaining B.Port.Writer.contents) port connections (W.contents answers.old) (W.contents answers.new) result.0) }
 {
     match files.open(file) {
         Ok(conn) => {
@@ -169,10 +167,10 @@ fn report_file<S: Alter, N: Files<S>, W: Write>(
     month: &str,
     answers: &mut W,
 ) -> Performed<S>
-    ensures { OnFile (N.opens files) result.1 result.0 file.now (Keeps (W.contents answers.old) (W.contents answers.new))
-        (λ conn back. OnDesk S.Store conn back result.0 (Keeps (W.contents answers.old) (W.contents answers.new))
-        (λ c heard. PrintsBy (KeepsHeard S.Store back c heard) (IsLeft S.Store back c heard None)
-        (W.contents answers.old) (W.contents answers.new) (IsOwnersMonth (state_of c heard) owner.now month.now) result.0)) }
+    ensures { OnDeskFile S.Store (N.opens files) result.1 result.0 file.now
+        (Keeps (W.contents answers.old) (W.contents answers.new))
+        (λ back c heard. PrintsBy (KeepsHeard S.Store back c heard) (IsLeft S.Store back c heard None)
+        (W.contents answers.old) (W.contents answers.new) (IsOwnersMonth (state_of c heard) owner.now month.now) result.0) }
 {
     match files.open(file) {
         Ok(conn) => {
@@ -190,10 +188,10 @@ fn bands_file<S: Alter, N: Files<S>, W: Write>(
     gateway: &str,
     answers: &mut W,
 ) -> Performed<S>
-    ensures { OnFile (N.opens files) result.1 result.0 file.now (Keeps (W.contents answers.old) (W.contents answers.new))
-        (λ conn back. OnDesk S.Store conn back result.0 (Keeps (W.contents answers.old) (W.contents answers.new))
-        (λ c heard. PrintsBy (KeepsHeard S.Store back c heard) (IsLeft S.Store back c heard None)
-        (W.contents answers.old) (W.contents answers.new) (IsBandAnswer (state_of c heard) gateway.now) result.0)) }
+    ensures { OnDeskFile S.Store (N.opens files) result.1 result.0 file.now
+        (Keeps (W.contents answers.old) (W.contents answers.new))
+        (λ back c heard. PrintsBy (KeepsHeard S.Store back c heard) (IsLeft S.Store back c heard None)
+        (W.contents answers.old) (W.contents answers.new) (IsBandAnswer (state_of c heard) gateway.now) result.0) }
 {
     match files.open(file) {
         Ok(conn) => {
@@ -210,10 +208,10 @@ fn check_file<S: Alter, N: Files<S>, W: Write>(
     file: &str,
     answers: &mut W,
 ) -> Performed<S>
-    ensures { OnFile (N.opens files) result.1 result.0 file.now (Keeps (W.contents answers.old) (W.contents answers.new))
-        (λ conn back. OnDesk S.Store conn back result.0 (Keeps (W.contents answers.old) (W.contents answers.new))
-        (λ c heard. PrintsBy (KeepsHeard S.Store back c heard) (IsLeft S.Store back c heard None)
-        (W.contents answers.old) (W.contents answers.new) (IsCheck c heard) result.0)) }
+    ensures { OnDeskFile S.Store (N.opens files) result.1 result.0 file.now
+        (Keeps (W.contents answers.old) (W.contents answers.new))
+        (λ back c heard. PrintsBy (KeepsHeard S.Store back c heard) (IsLeft S.Store back c heard None)
+        (W.contents answers.old) (W.contents answers.new) (IsCheck c heard) result.0) }
 {
     match files.open(file) {
         Ok(conn) => {

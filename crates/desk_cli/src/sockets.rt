@@ -1,5 +1,5 @@
 //! The ports of 127.0.0.1 as this system gives them.
-ghost use Rattle.desk_cli.specs.Served.{unknown};
+ghost use Rattle.desk_cli.specs.Served.{unknown, unknown_ports};
 
 use crate::listening::{Listening, Network};
 use desk_engine::read_some;
@@ -140,6 +140,8 @@ impl<'a, R> Sockets<'a, R> {
 
 impl<'a, R: Net + Clock> Network for Sockets<'a, R> {
     type Port = Port<'a, R, R::Listener>;
+
+    ghost ports = { unknown_ports };
 
     fn listen(&self, port: u16) -> io::Result<Self::Port> {
         let address = SocketAddr::V4(SocketAddrV4::new(Ipv4Addr::LOCALHOST, port));

@@ -10,6 +10,9 @@ ghost use Rattle.desk_http.specs.steps.Fields.{length_with, length_after, names_
 use desk_engine::LONGEST_MESSAGE;
 use httparse::spans::HeaderSpan;
 
+/// One octet more than a body may have.
+const SURELY_TOO_LONG: u32 = 65_537;
+
 /// The length of a body, by the fields of its head.
 #[derive(Clone, Copy)]
 pub(crate) enum BodyLength {
@@ -118,7 +121,7 @@ fn capped(text: &[u8]) -> u32
 {
     let mut number = 0;
     for c in text {
-        number = (number * 10 + u32::from(*c - b'0')).min(65_537);
+        number = (number * 10 + u32::from(*c - b'0')).min(SURELY_TOO_LONG);
     }
     number
 }

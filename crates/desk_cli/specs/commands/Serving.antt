@@ -11,7 +11,7 @@ use Rattle.registry_core.specs.declared.messages.Envelope.{Envelope}
 use Rattle.registry_core.specs.Settings.{Settings}
 use Rattle.desk_engine.specs.Deliveries.{heard_all}
 use Rattle.desk_engine.specs.Lines.{line_feed}
-use Rattle.desk_cli.specs.Answered.{Delivered}
+use Rattle.desk_cli.specs.Answered.{AtPorts, Delivered}
 use Rattle.desk_cli.specs.declared.faults.Fault.{Fault}
 use Rattle.desk_cli.specs.declared.faults.Fault.TheVariants.{File, Network, Unavailable}
 use Rattle.desk_cli.specs.declared.usage.BadValue.TheVariants.{Connections, Port}
@@ -38,13 +38,13 @@ serve_named rows = named_as do
 abbrev pub listening_line : ℕ → List ℕ
 listening_line port = codes "listening 127.0.0.1:" ++ (decimal port ++ line_feed ∷ [])
 
--- What had been heard; what says that these are kept, and that these are left, or these with one more; what says how connections were answered
--- to which this was delivered; the port; what a writer holds before and after.
-module _ (c : Settings) (heard : List Envelope) (Kept : List Envelope → Type 0) (Left : List Envelope → Option Envelope → Type 0) (Answered : Delivered → Type 0) (port : ℕ) (before after : Option (List ℕ)) where
+-- What had been heard; what says that these are kept, and that these are left, or these with one more; the ports, which of them, and how many
+-- connections; what a writer holds before and after.
+module _ (c : Settings) (heard : List Envelope) (Kept : List Envelope → Type 0) (Left : List Envelope → Option Envelope → Type 0) (ports : AtPorts) (port n : ℕ) (before after : Option (List ℕ)) where
   -- The connections were answered, and what they delivered was heard, in this order. A fault of the disk leaves one message in doubt.
   pub record HearsServed : Type 0 where
     pub delivered : Delivered
-    pub answered : Answered delivered
+    pub answered : ports.answered port c heard n delivered
     pub undoubted : delivered.disk ≡ false → delivered.doubt ≡ None
     pub kept : delivered.disk ≡ false → Kept (heard_all c heard delivered.deliveries)
     pub left_is : Left (heard_all c heard delivered.deliveries) delivered.doubt
@@ -52,7 +52,7 @@ module _ (c : Settings) (heard : List Envelope) (Kept : List Envelope → Type 0
   -- By how it ended. Where it failed no connection was served.
   abbrev pub ServesBy : {T : Type 0} → Result T Fault → Type 0
   ServesBy (Ok x) = HearsServed × Appends before after (listening_line port)
-  ServesBy (Err Network) = Kept heard × Keeps before after
+  ServesBy (Err Network) = ports.refused port × Kept heard × Keeps before after
   ServesBy (Err File) = Kept heard
   ServesBy (Err Unavailable) = Left heard None × Keeps before after
   ServesBy (Err _) = ⊥

@@ -16,7 +16,7 @@ ghost use Rattle.desk_cli.specs.Named.{Tells};
 ghost use Rattle.desk_cli.specs.NoDesk.{HoldsNoDesk, RefusesFile};
 ghost use Rattle.desk_cli.specs.OnTables.{IsLeft, KeepsHeard};
 ghost use Rattle.desk_http.specs.Serving.{ServesRequest};
-ghost use Rattle.desk_cli.specs.Served.{AnswersEach, HearsEach, ServesEach, ServesNext};
+ghost use Rattle.desk_cli.specs.Served.{HearsEach, ServesEach, ServesNext, at_ports};
 ghost use Rattle.desk_cli.specs.commands.Serving.{ServesBy, listening_line, serve_app, serve_named};
 
 use super::Command;
@@ -89,8 +89,8 @@ pub fn serve_command<S: Alter, B: Network, W: Write>(
     requires unlimited { conn.step_limit ≡ None }
     ensures serves { HasCleanDisk (state S.Store result.1) → (c : Settings) (heard : List Envelope) → KeepsHeard S.Store conn c heard
         → ServesBy c heard (KeepsHeard S.Store result.1 c) (IsLeft S.Store result.1 c)
-        (AnswersEach B.Port.meaning B.Port.Reader.remaining B.Port.Writer.contents c heard connections)
-        port (W.contents answers.old) (W.contents answers.new) result.0 }
+        (at_ports B.ports network.now B.Port.meaning B.Port.Reader.remaining B.Port.Writer.contents)
+        port connections (W.contents answers.old) (W.contents answers.new) result.0 }
     ensures no_desk { HasCleanDisk (state S.Store result.1) → HoldsNoDesk S.Store conn
         → RefusesFile S.Store conn result.1 (KeepsBytes (W.contents answers.old) (W.contents answers.new)) result.0 }
     ensures clean { HasCleanDisk (state S.Store result.1) → HasCleanDisk (state S.Store conn) }
@@ -118,8 +118,8 @@ fn serve_port<K: Keeper, B: Network, W: Write>(
     ensures was_sound { K.meaning.sound keeper.new → K.meaning.sound keeper.old }
     ensures serves { (c : Settings) (heard : List Envelope) → WasInOrder K.meaning c heard keeper.old keeper.new
         → ServesBy c heard (Keeps K.meaning c heard keeper.old keeper.new) (Leaves K.meaning c heard keeper.old keeper.new)
-        (AnswersEach B.Port.meaning B.Port.Reader.remaining B.Port.Writer.contents c heard connections)
-        port (W.contents answers.old) (W.contents answers.new) result }
+        (at_ports B.ports network.now B.Port.meaning B.Port.Reader.remaining B.Port.Writer.contents)
+        port connections (W.contents answers.old) (W.contents answers.new) result }
 {
     let Ok(mut listening) = network.listen(port) else {
         return Err(Fault::Network);

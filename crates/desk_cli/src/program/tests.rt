@@ -1,5 +1,5 @@
 //! Whole runs of the program, over words, a file and a network of the tests.
-ghost use Rattle.std.specs.Prelude.{◌≡◌, false, None, IfOk};
+ghost use Rattle.std.specs.Prelude.{◌≡◌, ◌≢◌, false, None, IfOk};
 ghost use Rattle.desk_cli.specs.Served.{unknown};
 
 mod one_file;
@@ -113,6 +113,8 @@ struct OnePort {
 
 impl Network for OnePort {
     type Port = Silent;
+
+    ghost ports = { record { listens = λ network port listening. network.free ≡ port; refuses = λ network port. network.free ≢ port } };
 
     fn listen(&self, port: u16) -> io::Result<Silent> {
         if port == self.free {

@@ -7,6 +7,6 @@ pub returns-clause-serves : goal.returns-clause-serves
 returns-clause-serves g c = λ config heard was.
     let before = g.W.Write.contents c.args.answers.now in
     let after = g.W.Write.contents c.write_whole.new.answers in (
-      hears_served g.K.Looks.meaning _ _ _ c.args.connections config heard c.args.keeper.now c.serve_connections.new.keeper _ _ c.args.port before after was c.serve_connections.ensures.hears,
+      hears_served g.K.Looks.meaning g.B.Network.ports c.args.network.now _ _ _ c.args.connections config heard c.args.keeper.now c.serve_connections.new.keeper _ _ c.args.port before after c.in-Ok.ensures.listens was c.serve_connections.ensures.hears,
       subst (Appends before after) (c.as_bytes.ensures.value ∙ c.in-Ok-listening_line.ensures) c.in-Ok-write_whole.ensures,
     )
