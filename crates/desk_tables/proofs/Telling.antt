@@ -28,6 +28,11 @@ pub or_zero : {X : Type 0} (f : X → ℕ) (o : Option X) → unwrap_or (option_
 or_zero f None = refl
 or_zero f (Some x) = refl
 
+-- what is told beside its number
+pub beside : {X : Type 0} (n : ℕ) (o : Option X) → option_map (λ (found : ℕ × X). found.1) (option_map (λ x. (n, x)) o) ≡ o
+beside n None = refl
+beside n (Some x) = refl
+
 -- the floor of a device's row, if there is one
 pub floor_told : (o : Option DeviceRow) → option_and_then (λ floor. floor) (option_map (λ (d : DeviceRow). d.floor) o) ≡ option_and_then (λ (d : DeviceRow). d.floor) o
 floor_told None = refl
