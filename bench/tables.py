@@ -1,11 +1,10 @@
 #!/usr/bin/env python3
-"""Measures the desk on tables: messages a second in memory and in a file, one commit a message, and what an opening costs.
+"""Measures the desk on lists and on tables in memory: messages a second. Of tables in a file files.py tells.
 
     bench/tables.py [--sizes 2000,20000,200000] [--seed 1] [--built]
 
-The streams are those of normal_operation.py. For each size it prints, of the lists, of tables in memory and of tables in a file, the
-lines a second, how the time grows from size to size, and the peak memory; then, of the file opened again, the seconds and the peak
-memory of an opening alone, and the file's size. All answers have to be those of the lists.
+The streams are those of normal_operation.py. For each size it prints, of the lists and of tables in memory, the lines a second, how
+the time grows from size to size, and the peak memory. All answers have to be those of the lists.
 
 The stores are those of the test `stored_lines` of desk_cli, which `rt test` proves and builds first, or with --built the test that it
 built last.
@@ -18,21 +17,20 @@ import subprocess
 import sys
 import tempfile
 import time
-from pathlib import Path
 
 from normal_operation import ROOT, normal_operation, peak_of
 
 PROGRAM = ROOT / "crates" / "desk_cli" / "out" / "desk_cli_tests"
 TEST = "tests::stored_lines::lines_over_the_named_store"
-TIME = re.compile(rb"^(opened|lines): (\d+) microseconds", re.M)
+TIME = re.compile(rb"^lines: (\d+) microseconds", re.M)
 
 
 def run(store, lines):
-    """What it tells of times, in seconds, the kilobytes at its peak, and its answers."""
+    """Its seconds, the kilobytes at its peak, and its answers."""
     with tempfile.TemporaryFile() as given, tempfile.TemporaryFile() as told:
         given.write("".join(line + "\n" for line in lines).encode())
         given.seek(0)
-        program = subprocess.Popen([PROGRAM, TEST], env={**os.environ, "DESK_STORE": str(store)}, stdin=given, stdout=told)
+        program = subprocess.Popen([PROGRAM, TEST], env={**os.environ, "DESK_STORE": store}, stdin=given, stdout=told)
         peak = 0
         while program.poll() is None:
             peak = max(peak, peak_of(program))
@@ -41,8 +39,7 @@ def run(store, lines):
         octets = told.read()
     if program.returncode != 0:
         sys.exit(f"{store} ended with {program.returncode}\n{octets[-2000:].decode()}")
-    times = {word.decode(): int(count) / 1e6 for word, count in TIME.findall(octets)}
-    return times, peak, [line for line in octets.splitlines() if line.startswith(b"{")]
+    return int(TIME.search(octets)[1]) / 1e6, peak, [line for line in octets.splitlines() if line.startswith(b"{")]
 
 
 def main():
@@ -58,20 +55,14 @@ def main():
     for size in [int(size) for size in given.sizes.split(",")]:
         lines = normal_operation(size, given.seed)
         answers = None
-        with tempfile.TemporaryDirectory() as folder:
-            file = Path(folder) / "desk.db"
-            for name, store in [("lists", "lists"), ("memory", "memory"), ("file", file)]:
-                times, peak, told = run(store, lines)
-                if answers is not None and told != answers:
-                    sys.exit(f"{name} answers something else")
-                answers = told
-                took = times["lines"]
-                growth = f"{(took / before[name][1]) / (size / before[name][0]):.2f}" if name in before else ""
-                before[name] = size, took
-                print(f"{size:>8} {name:>8} {took:>9.2f} {size / took:>9.0f} {growth:>8} {peak / 1024:>9.1f}", flush=True)
-            times, peak, _ = run(file, [])
-            octets = file.stat().st_size
-            print(f"{size:>8} {'opened':>8} {times['opened']:>9.2f} {'':>18} {peak / 1024:>9.1f}  of a file of {octets / 1e6:.1f} MB", flush=True)
+        for store in ["lists", "memory"]:
+            took, peak, told = run(store, lines)
+            if answers is not None and told != answers:
+                sys.exit(f"{store} answers something else")
+            answers = told
+            growth = f"{(took / before[store][1]) / (size / before[store][0]):.2f}" if store in before else ""
+            before[store] = size, took
+            print(f"{size:>8} {store:>8} {took:>9.2f} {size / took:>9.0f} {growth:>8} {peak / 1024:>9.1f}", flush=True)
 
 
 if __name__ == "__main__":

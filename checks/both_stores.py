@@ -1,14 +1,15 @@
 #!/usr/bin/env python3
 """Compares the store in memory, tables in memory, and tables in a file, message by message.
 
-    checks/both_stores.py [--size 20000] [--seed 1] [--built]
+    checks/both_stores.py [--size 20000] [--seed 1] [--built] [--program FILE]
 
-So many messages of mixed operation (mixed_operation.py) go to each store: to the file in two runs, the second of which
-opens what the first one closed. All answers, and both reports on all owners, months and gateways, have to be the same
-octets. Then the real SQLite reads the file, and each row of its eleven tables has to be that of a plain Python program
-that heard the same messages (bench/dictionaries.py).
+So many messages of mixed operation (mixed_operation.py) go to each store: to the file in two runs of `desk hear`, the
+second of which opens what the first one closed. All answers, and both reports on all owners, months and gateways, have
+to be the same octets. Then the real SQLite reads the file, and each row of its eleven tables has to be that of a plain
+Python program that heard the same messages (bench/dictionaries.py).
 
-The stores are those of the test `stored_lines` of desk_cli, which `rt test` proves and builds first, or with --built the test that it built last.
+The stores in memory are those of the test `stored_lines` of desk_cli, which `rt test` proves and builds first, or with
+--built the test that it built last. The program for the file is `./desk`, or with --program the built one in FILE.
 """
 
 import argparse
@@ -27,19 +28,24 @@ ROOT = Path(__file__).resolve().parent.parent
 sys.path.insert(0, str(ROOT / "bench"))
 import dictionaries
 
-PROGRAM = ROOT / "crates" / "desk_cli" / "out" / "desk_cli_tests"
+TESTS = ROOT / "crates" / "desk_cli" / "out" / "desk_cli_tests"
 TEST = "tests::stored_lines::lines_over_the_named_store"
-TIMES = re.compile(r"^(opened|lines): .*microseconds")
+TIMES = re.compile(r"^lines: .*microseconds")
+
+# what `stored_lines` asks for, in its order
+OWNERS = ["town", "city"]
+MONTHS = ["2024-01", "2024-02", "2024-03"]
+GATEWAYS = [f"gw-{number}" for number in range(9)]
 
 ROLES = {"operator": 0, "radio": 1}
 KINDS = {"join": 0, "data": 1}
 
 
 def told_by(store, lines):
-    """What the store answers and reports, without the times."""
+    """What the store in memory answers and reports, without the times."""
     ran = subprocess.run(
-        [PROGRAM, TEST],
-        env={**os.environ, "DESK_STORE": str(store)},
+        [TESTS, TEST],
+        env={**os.environ, "DESK_STORE": store},
         input="".join(line + "\n" for line in lines),
         capture_output=True,
         text=True,
@@ -47,6 +53,24 @@ def told_by(store, lines):
     if ran.returncode != 0:
         sys.exit(f"{store}: {ran.returncode}\n{ran.stdout[-2000:]}{ran.stderr}")
     return [line for line in ran.stdout.splitlines() if not TIMES.match(line)]
+
+
+def printed_by(program, *words, lines=(), statuses=(0,)):
+    ran = subprocess.run([program, *map(str, words)], input="".join(line + "\n" for line in lines), capture_output=True, text=True)
+    if ran.returncode not in statuses:
+        sys.exit(f"{' '.join(map(str, words))}: {ran.returncode} {ran.stderr}")
+    return ran.stdout.splitlines()
+
+
+def reports_in(program, file):
+    """Both reports of the file, for all owners, months and gateways that it has."""
+    told = []
+    for owner in OWNERS:
+        for month in MONTHS:
+            told += printed_by(program, "report", file, owner, month, statuses=(0, 1))
+    for gateway in GATEWAYS:
+        told += printed_by(program, "bands", file, gateway, statuses=(0, 1))
+    return told
 
 
 def answers_of(told):
@@ -120,7 +144,9 @@ def main():
     words.add_argument("--size", type=int, default=20_000)
     words.add_argument("--seed", type=int, default=1)
     words.add_argument("--built", action="store_true", help="take the test that rt test built last")
+    words.add_argument("--program", type=Path, default=ROOT / "desk", metavar="FILE", help="the built program, in place of ./desk")
     given = words.parse_args()
+    program = given.program.resolve()
     if not given.built:
         subprocess.run(["rt", "test"], cwd=ROOT / "crates" / "desk_cli", check=True)
     lines = mixed_operation(given.size, given.seed)
@@ -139,9 +165,10 @@ def main():
     with tempfile.TemporaryDirectory() as folder:
         file = Path(folder) / "desk.db"
         half = len(lines) // 2
-        first = told_by(file, lines[:half])
-        second = told_by(file, lines[half:])
-        if answers_of(first) + second != wanted:
+        printed_by(program, "init", file)
+        first = printed_by(program, "hear", file, lines=lines[:half])
+        second = printed_by(program, "hear", file, lines=lines[half:])
+        if first + second + reports_in(program, file) != wanted:
             sys.exit("tables in a file answer something else")
         print("tables in a file, opened again in the middle: all answers and reports agree")
         compare_rows(file, lines.desk)

@@ -1,16 +1,16 @@
 #!/usr/bin/env python3
-"""Opens files that hold no desk of this version: each is refused, and left as it was.
+"""Opens files that hold no desk of this version: each is refused, and left as it was, but for an empty one.
 
-    checks/strange_files.py [--built]
+    checks/strange_files.py [--program FILE]
 
 A text, a file of zeros, somebody's database, and a desk's file: of version 7, of schema 1, with the tables of the one
-schema and the version of the other, without its row of meta, with a bad name in it, and with a table more. An empty file
-becomes a desk's. The files go to the test `stored_lines` of desk_cli, which `rt test` proves and builds first, or with
---built the test that it built last.
+schema and the version of the other, without its row of meta, with a bad name in it, and with a table more. `desk check`,
+`hear`, `import`, `report` and `bands` get each of them. An empty file is refused too, and is a database without tables
+then. The program is `./desk`, which is proved and built first where it isn't current, or with --program the built one in
+FILE.
 """
 
 import argparse
-import os
 import sqlite3
 import subprocess
 import sys
@@ -18,24 +18,30 @@ import tempfile
 from pathlib import Path
 
 ROOT = Path(__file__).resolve().parent.parent
-PROGRAM = ROOT / "crates" / "desk_cli" / "out" / "desk_cli_tests"
-TEST = "tests::stored_lines::lines_over_the_named_store"
 
-# what sqlite3 does to a desk's file
-CHANGED = {
-    "another version": "UPDATE meta SET version = 7",
-    "schema 1": "DROP TABLE band_limit; UPDATE meta SET version = 1",
-    "version 1 with the tables of schema 2": "UPDATE meta SET version = 1",
-    "version 2 with the tables of schema 1": "DROP TABLE band_limit",
-    "no row of meta": "DELETE FROM meta",
-    "a receiver that is no name": "UPDATE meta SET receiver = 'the desk'",
-    "a table more": "CREATE TABLE note (id INTEGER PRIMARY KEY) STRICT",
-}
+# a status, and what is on standard error
+NOT_A_DESK = 1, "desk: not a desk\n"
+SCHEMA = 1, "desk: schema\n"
+FILE = 3, "desk: file\n"
 
+# what sqlite3 does to a desk's file, and what the program tells of it then
+CHANGED = [
+    ("another version", "UPDATE meta SET version = 7", SCHEMA),
+    ("schema 1", "DROP TABLE band_limit; UPDATE meta SET version = 1", SCHEMA),
+    ("version 1 with the tables of schema 2", "UPDATE meta SET version = 1", SCHEMA),
+    ("version 2 with the tables of schema 1", "DROP TABLE band_limit", NOT_A_DESK),
+    ("no row of meta", "DELETE FROM meta", NOT_A_DESK),
+    ("a receiver that is no name", "UPDATE meta SET receiver = 'the desk'", NOT_A_DESK),
+    ("a table more", "CREATE TABLE note (id INTEGER PRIMARY KEY) STRICT", NOT_A_DESK),
+]
 
-def is_opened(file):
-    ran = subprocess.run([PROGRAM, TEST], env={**os.environ, "DESK_STORE": str(file)}, stdin=subprocess.DEVNULL, capture_output=True)
-    return ran.returncode == 0
+COMMANDS = [
+    ["check", "town.db"],
+    ["hear", "town.db"],
+    ["import", "town.db", "--sender", "office"],
+    ["report", "town.db", "town", "2024-02"],
+    ["bands", "town.db", "gw-a"],
+]
 
 
 def execute(file, text):
@@ -45,38 +51,53 @@ def execute(file, text):
     conn.close()
 
 
-def refused(what, file):
-    before = file.read_bytes()
-    if is_opened(file):
-        sys.exit(f"{what}: it is opened")
-    if file.read_bytes() != before:
-        sys.exit(f"{what}: the file has changed")
-    print(f"{what}: refused, and the file is as it was")
+def is_as_it_was(file, before):
+    """Whether the file has these octets, or, where it had none, is a database without tables."""
+    if before:
+        return file.read_bytes() == before
+    conn = sqlite3.connect(file)
+    tables = conn.execute("SELECT count(*) FROM sqlite_master").fetchone()[0]
+    conn.close()
+    return tables == 0
+
+
+def removed(file):
+    for path in file.parent.glob(f"{file.name}*"):
+        path.unlink()
+
+
+def refused(program, what, file, wanted):
+    for words in COMMANDS:
+        before = file.read_bytes()
+        ran = subprocess.run([program, *words], cwd=file.parent, stdin=subprocess.DEVNULL, capture_output=True, text=True)
+        if (ran.returncode, ran.stderr) != wanted or ran.stdout:
+            sys.exit(f"{what}: {words[0]} ends with {ran.returncode} {ran.stdout!r} {ran.stderr!r}")
+        if not is_as_it_was(file, before):
+            sys.exit(f"{what}: {words[0]} has changed the file")
+    print(f"{what}: refused by {len(COMMANDS)} commands")
 
 
 def main():
     words = argparse.ArgumentParser(description=__doc__, formatter_class=argparse.RawDescriptionHelpFormatter)
-    words.add_argument("--built", action="store_true", help="take the test that rt test built last")
-    if not words.parse_args().built:
-        subprocess.run(["rt", "test"], cwd=ROOT / "crates" / "desk_cli", check=True)
+    words.add_argument("--program", type=Path, default=ROOT / "desk", metavar="FILE", help="the built program, in place of ./desk")
+    program = words.parse_args().program.resolve()
     with tempfile.TemporaryDirectory() as folder:
-        file = Path(folder) / "empty.db"
-        file.touch()
-        if not is_opened(file):
-            sys.exit("an empty file isn't made a desk's")
-        print("an empty file: a desk's is made")
-        for name, octets in [("a text", b"no database at all\n" * 100), ("zeros", bytes(8192))]:
-            file = Path(folder) / f"{name}.db"
+        file = Path(folder) / "town.db"
+        for what, octets, wanted in [
+            ("an empty file", b"", NOT_A_DESK),
+            ("a text", b"no database at all\n" * 100, FILE),
+            ("zeros", bytes(8192), FILE),
+        ]:
             file.write_bytes(octets)
-            refused(name, file)
-        file = Path(folder) / "other.db"
+            refused(program, what, file, wanted)
+            removed(file)
         execute(file, "CREATE TABLE note (id INTEGER PRIMARY KEY, text TEXT)")
-        refused("somebody's database", file)
-        for place, (what, text) in enumerate(CHANGED.items()):
-            file = Path(folder) / f"changed-{place}.db"
-            is_opened(file)
+        refused(program, "somebody's database", file, NOT_A_DESK)
+        for what, text, wanted in CHANGED:
+            removed(file)
+            subprocess.run([program, "init", file], check=True)
             execute(file, text)
-            refused(what, file)
+            refused(program, what, file, wanted)
 
 
 if __name__ == "__main__":

@@ -1,6 +1,5 @@
 pub mod Asked
 pub mod Checked
-pub mod CommandLine
 pub mod FoundAgain
 pub mod Imported
 pub mod InFiles

@@ -3,7 +3,7 @@ ghost use Rattle.std.specs.Prelude.{◌≡◌, IfOk};
 ghost use Rattle.clap.specs.Matches.{found_of};
 ghost use Rattle.clap.specs.Simple.{app_of, subcommand_rows_of};
 ghost use Rattle.clap.specs.Walk.{rows_of};
-ghost use Rattle.desk_cli.specs.CommandLine.{command_named, desk_app, named_with, with_readers};
+ghost use Rattle.desk_cli.specs.CommandLine.{Adds, command_named, desk_app, named_with, with_readers};
 ghost use Rattle.desk_cli.specs.Named.{Tells};
 
 mod checking;
@@ -96,23 +96,32 @@ pub(crate) fn desk_app<'a>(alloc: Global) -> Result<clap::Command<'a>, AllocErro
     ensures { IfOk result (λ c. app_of c ≡ desk_app) }
 {
     let about = "A LoRaWAN device registry and airtime desk";
-    let desk = command(alloc, "desk", about, EXAMPLE);
-    with_readers(alloc, desk)?
-        .subcommand(serve_app(alloc)?)?
-        .subcommand(report_app(alloc)?)?
-        .subcommand(bands_app(alloc)?)?
-        .subcommand(check_app(alloc)?)
+    let desk = with_readers(alloc, command(alloc, "desk", about, EXAMPLE))?;
+    let desk = added(desk, serve_app(alloc))?;
+    let desk = added(desk, report_app(alloc))?;
+    let desk = added(desk, bands_app(alloc))?;
+    added(desk, check_app(alloc))
 }
 
 /// A command line with the commands that read messages or records, and those that make a file for them and move it.
 fn with_readers<'a>(alloc: Global, desk: clap::Command<'a>) -> Result<clap::Command<'a>, AllocError>
     ensures { IfOk result (λ c. app_of c ≡ with_readers (app_of desk.entry)) }
 {
-    desk.subcommand(lines_app(alloc)?)?
-        .subcommand(init_app(alloc)?)?
-        .subcommand(migrate_app(alloc)?)?
-        .subcommand(hear_app(alloc)?)?
-        .subcommand(import_app(alloc)?)
+    let desk = added(desk, lines_app(alloc))?;
+    let desk = added(desk, init_app(alloc))?;
+    let desk = added(desk, migrate_app(alloc))?;
+    let desk = added(desk, hear_app(alloc))?;
+    added(desk, import_app(alloc))
+}
+
+/// A command line with one command more, if there was memory for its words.
+fn added<'a>(
+    desk: clap::Command<'a>,
+    command: Result<clap::Command<'a>, AllocError>,
+) -> Result<clap::Command<'a>, AllocError>
+    ensures { IfOk result (Adds desk.entry command.entry) }
+{
+    desk.subcommand(command?)
 }
 
 /// The command that words were matched with, by its name and options.

@@ -1,4 +1,6 @@
 //! Worked rows: what is delivered to a new desk, and what goes back. They hold over each kind of store that tests can make.
+ghost use Rattle.std.specs.Prelude.{◌≡◌, false, None, IfOk};
+
 mod data_frames;
 mod downlinks;
 mod failing;
@@ -56,18 +58,27 @@ impl Opened for Tables<MemStore> {
     }
 }
 
+/// The connection, with no limit of steps and in no transaction.
+pub(crate) fn ready<S: Alter + Drop>(conn: Connection<S>) -> Result<Connection<S>, &'static str>
+    ensures idle { IfOk result (λ conn. conn.in_transaction ≡ false) }
+    ensures unlimited { IfOk result (λ conn. conn.step_limit ≡ None) }
+{
+    let mut conn = conn;
+    conn.set_step_limit(None);
+    if conn.is_autocommit() {
+        Ok(conn)
+    } else {
+        Err("in a transaction")
+    }
+}
+
 /// A desk on tables, in a database that has nothing.
 fn made<S: Alter + Drop>(
     alloc: Global,
     conn: Connection<S>,
     config: Config,
 ) -> Result<Box<Tables<S>>, Fail> {
-    let mut conn = conn;
-    conn.set_step_limit(None);
-    if !conn.is_autocommit() {
-        return Err("in a transaction".into());
-    }
-    let tables = Tables::create(alloc, conn, config).map_err(|_| "not made")?;
+    let tables = Tables::create(alloc, ready(conn)?, config).map_err(|_| "not made")?;
     Ok(Box::new(alloc, tables)?)
 }
 

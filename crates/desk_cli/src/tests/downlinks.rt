@@ -1,7 +1,7 @@
 //! Downlinks that gateways are to send, and what they are told.
 use super::joins::{FIRST, FIRST_ADDED, FRAME, GATEWAY, NONCE_0};
 use super::rows::Row::{Asks, Books, Frames, Joins, Letters};
-use super::rows::Told::{Booked, Framed, Joined, Plain};
+use super::rows::Told::{Booked, Framed, Plain};
 use super::rows::{BODY, DEVICE, Down, Heard, REUSED, Row, SUCCESS, Told};
 
 const NO_UPLINK: Told = Plain(0, "uplink", "Other");

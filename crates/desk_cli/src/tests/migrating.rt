@@ -2,7 +2,7 @@
 use super::stops::{
     connected, copied, deliveries, expect_rows, file_of, opened, opened_files, rows_after_each,
 };
-use super::{hear_each, opening};
+use super::{hear_each, opening, ready};
 use desk_store::StoreFault;
 use desk_tables::Tables;
 use sqlite::{Alter, Connection, Files, MemStore};
@@ -83,12 +83,7 @@ fn moved<S: Alter + Drop>(
     alloc: Global,
     conn: Connection<S>,
 ) -> Result<(Option<StoreFault>, Connection<S>), Fail> {
-    let mut conn = conn;
-    conn.set_step_limit(None);
-    if !conn.is_autocommit() {
-        return Err("in a transaction".into());
-    }
-    Ok(match Tables::migrate(alloc, conn) {
+    Ok(match Tables::migrate(alloc, ready(conn)?) {
         Ok(tables) => (None, tables.close()),
         Err((fault, conn)) => (Some(fault), conn),
     })

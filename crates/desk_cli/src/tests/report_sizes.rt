@@ -15,7 +15,7 @@ use std::test::Fail;
 use std::time::Instant;
 
 /// 2024-02-01 00:00 UTC, in microseconds.
-const FEBRUARY: u64 = 1_706_745_600_000_000;
+pub(super) const FEBRUARY: u64 = 1_706_745_600_000_000;
 
 /// Between two uplinks, and between two downlinks, in microseconds.
 const SECOND: u64 = 1_000_000;

@@ -14,7 +14,7 @@ use super::rows::{
     BRIDGE, CITY, DEVICE, DEVICE_TO_CITY, Delivery, Down, GATEWAY_A, GATEWAY_B, Heard, Row,
     SUCCESS, TOWN, delivery_of,
 };
-use super::{config, expect_told, hear_each, opening};
+use super::{config, expect_told, hear_each, opening, ready};
 use crate::stopping::run_through_stop;
 use desk_engine::{Outcome, deliver};
 use desk_store::{Looks, StoreFault};
@@ -63,8 +63,6 @@ static TABLES: [&str; 11] = [
     "SELECT * FROM band_limit ORDER BY rowid",
 ];
 
-type OnFiles<D> = FileStore<D>;
-
 pub(super) type Fused = Fuse<Memory>;
 
 /// The ten messages, each once.
@@ -106,12 +104,7 @@ pub(super) fn opened<S: Alter + Drop>(
     alloc: Global,
     conn: Connection<S>,
 ) -> Result<Box<Tables<S>>, Fail> {
-    let mut conn = conn;
-    conn.set_step_limit(None);
-    if !conn.is_autocommit() {
-        return Err("in a transaction".into());
-    }
-    let tables = Tables::open(alloc, conn).map_err(|_| "not opened")?;
+    let tables = Tables::open(alloc, ready(conn)?).map_err(|_| "not opened")?;
     Ok(Box::new(alloc, tables)?)
 }
 
@@ -159,7 +152,7 @@ pub(super) fn connected<D: Disk + Drop>(
     alloc: Global,
     files: Files<D>,
     seed: u64,
-) -> Result<Connection<OnFiles<D>>, Files<D>> {
+) -> Result<Connection<FileStore<D>>, Files<D>> {
     if !files.may_be_used() {
         return Err(files);
     }
@@ -174,7 +167,7 @@ pub(super) fn opened_files<D: Disk + Drop>(
     alloc: Global,
     files: Files<D>,
     seed: u64,
-) -> Result<Connection<OnFiles<D>>, Fail> {
+) -> Result<Connection<FileStore<D>>, Fail> {
     match connected(alloc, files, seed) {
         Ok(conn) => Ok(conn),
         Err(_) => Err("not opened".into()),
@@ -240,13 +233,8 @@ fn created<R: Abort + AllocGlobal, S: Alter + Drop>(
     rt: &R,
     conn: Connection<S>,
 ) -> Result<Result<Box<Tables<S>>, S>, Fail> {
-    let mut conn = conn;
-    conn.set_step_limit(None);
-    if !conn.is_autocommit() {
-        return Err("in a transaction".into());
-    }
     let config = config(65_536).ok_or("no configuration")?;
-    match Tables::create(rt.alloc(), conn, config) {
+    match Tables::create(rt.alloc(), ready(conn)?, config) {
         Ok(tables) => Ok(Ok(Box::new(rt.alloc(), tables)?)),
         Err((fault, conn)) => {
             assert!(rt; fault == StoreFault::Disk);
@@ -256,7 +244,7 @@ fn created<R: Abort + AllocGlobal, S: Alter + Drop>(
 }
 
 /// The desk is closed with all in its first file, or, of a disk that failed, as it is.
-fn closed<D: Disk + Drop>(tables: Box<Tables<OnFiles<D>>>) -> Result<Files<D>, Files<D>> {
+fn closed<D: Disk + Drop>(tables: Box<Tables<FileStore<D>>>) -> Result<Files<D>, Files<D>> {
     match Box::into_inner(tables).close().close_files() {
         Ok(files) => Ok(files),
         Err((_, store)) => Err(store.close()),
@@ -281,7 +269,7 @@ fn heard_on<R: Abort + AllocGlobal, S: Alter + Drop>(
 }
 
 /// The desk that answered so many of all is closed.
-fn closed_after(answered: usize, all: usize, tables: Box<Tables<OnFiles<Fused>>>) -> Ended {
+fn closed_after(answered: usize, all: usize, tables: Box<Tables<FileStore<Fused>>>) -> Ended {
     match closed(tables) {
         Ok(files) => Ended {
             answered,
@@ -328,7 +316,7 @@ pub(super) fn copied(alloc: Global, files: &Files<Fused>) -> Result<Files<Memory
 fn reopened<R: Abort + AllocGlobal, D: Disk + Drop>(
     rt: &R,
     files: Files<D>,
-) -> Result<Box<Tables<OnFiles<D>>>, Fail> {
+) -> Result<Box<Tables<FileStore<D>>>, Fail> {
     if !files.may_be_used() {
         return Err("not usable".into());
     }
@@ -344,7 +332,7 @@ fn reopened<R: Abort + AllocGlobal, D: Disk + Drop>(
 fn made_in<D: Disk + Drop>(
     alloc: Global,
     files: Files<D>,
-) -> Result<Box<Tables<OnFiles<D>>>, Fail> {
+) -> Result<Box<Tables<FileStore<D>>>, Fail> {
     let config = config(65_536).ok_or("no configuration")?;
     super::made(alloc, opened_files(alloc, files, 3)?, config)
 }

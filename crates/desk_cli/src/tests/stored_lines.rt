@@ -1,12 +1,11 @@
-//! Lines and reports over the store that the environment names: `lists`, `memory` for tables in memory, or else the path of a file,
-//! which is made where it isn't a desk's yet. Lines come from standard input, and answers and reports go to standard output:
-//! `checks/both_stores.py` compares them, and `bench/tables.py` reads the times. Where nothing is named there are no lines.
-use super::{config, made, opening};
+//! Lines and reports over the store that the environment names: `lists`, or tables in memory. Lines come from standard input, and
+//! answers and reports go to standard output: `checks/both_stores.py` compares them, and `bench/tables.py` reads the times. Where
+//! nothing is named there are no lines.
+use super::opening;
 use desk_engine::{LinesEnd, band_report, owner_report, run_lines};
-use desk_store::{Keeper, Lists, StoreFault};
+use desk_store::{Keeper, Lists};
 use desk_tables::Tables;
-use sqlite::{Alter, Connection, MemStore};
-use std::alloc::Global;
+use sqlite::MemStore;
 use std::env;
 use std::io::{BufWriter, Write};
 use std::test::Fail;
@@ -63,54 +62,14 @@ fn answer_all<K: Keeper>(rt: &HostRuntime, keeper: &mut K) -> Result<(), Fail> {
     Ok(())
 }
 
-/// The desk in the database, or a new one.
-fn opened_or_created<S: Alter + Drop>(
-    alloc: Global,
-    conn: Connection<S>,
-) -> Result<Box<Tables<S>>, Fail> {
-    let mut conn = conn;
-    conn.set_step_limit(None);
-    if !conn.is_autocommit() {
-        return Err("in a transaction".into());
-    }
-    match Tables::open(alloc, conn) {
-        Ok(tables) => Ok(Box::new(alloc, tables)?),
-        Err((StoreFault::NotADesk, conn)) => {
-            made(alloc, conn, config(65_536).ok_or("no configuration")?)
-        }
-        Err(_) => Err("not opened".into()),
-    }
-}
-
-/// All that is asked of the desk in the database, which was begun to be opened then. The connection comes back.
-fn answer_on<S: Alter + Drop>(
-    rt: &HostRuntime,
-    conn: Connection<S>,
-    begun: Instant,
-) -> Result<Connection<S>, Fail> {
-    let mut tables = opened_or_created(rt.alloc(), conn)?;
-    let opened = begun.elapsed(rt)?.as_micros();
-    println!(rt; "opened: {opened} microseconds")?;
-    answer_all(rt, &mut *tables)?;
-    Ok(Box::into_inner(tables).close())
-}
-
-fn on_file(rt: &HostRuntime, path: &str) -> Result<(), Fail> {
-    let begun = Instant::now(rt)?;
-    let conn = Connection::open(rt, path).map_err(|_| "no file")?;
-    let conn = answer_on(rt, conn, begun)?;
-    conn.close().map_err(|_| "not closed")?;
-    Ok(())
-}
-
 #[test]
 fn lines_over_the_named_store(rt: HostRuntime) -> Result<(), Fail> {
     let Ok(store) = env::var(&rt, "DESK_STORE") else {
         return Ok(());
     };
-    match store.as_str() {
-        "lists" => answer_all(&rt, &mut *opening::<Lists>(rt.alloc(), 65_536)?),
-        "memory" => answer_all(&rt, &mut *opening::<Tables<MemStore>>(rt.alloc(), 65_536)?),
-        path => on_file(&rt, path),
+    if store.as_str() == "lists" {
+        answer_all(&rt, &mut *opening::<Lists>(rt.alloc(), 65_536)?)
+    } else {
+        answer_all(&rt, &mut *opening::<Tables<MemStore>>(rt.alloc(), 65_536)?)
     }
 }

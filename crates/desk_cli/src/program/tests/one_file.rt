@@ -2,7 +2,6 @@
 use super::{NETWORK, OneFile, Started};
 use crate::endings::Ending;
 use crate::program::run;
-use crate::tests::rows::{OWNERS, deliveries_of};
 use sqlite::{Connection, MemStore};
 use std::process::Abort;
 use std::test::Fail;

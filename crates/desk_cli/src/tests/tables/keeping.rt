@@ -1,12 +1,13 @@
 //! What is heard and what is refused, through the traits.
-use super::{copy, data_uplink, heard_session, sent_booking};
-use crate::tests::report_sizes::named;
+use crate::tests::report_sizes::{FEBRUARY, named, reception, uplink};
 use crate::tests::stops::{deliveries, opened};
 use crate::tests::{hear_each, opening};
 use desk_engine::{Outcome, deliver};
 use desk_store::{Counts, Keeper, Looks, StoreFault};
 use desk_tables::Tables;
-use registry_core::{Effect, Envelope, Kind, Message, Uplink};
+use duty_core::Span;
+use radio_core::{Band, Eui};
+use registry_core::{Booking, Effect, Envelope, Kind, Message, Session, Standing};
 use sqlite::MemStore;
 use std::test::Fail;
 
@@ -37,25 +38,30 @@ fn owner_heard<K: Keeper>(
     heard(store, transaction, &Effect::AddsOwner { name })
 }
 
-fn join_heard<K: Keeper>(store: &mut K) -> Result<Result<(), StoreFault>, &'static str> {
-    let uplink = Uplink {
-        kind: Kind::Join,
-        counter: 3,
-        ..data_uplink()?
+fn join_heard<K: Keeper>(store: &mut K) -> Result<Result<(), StoreFault>, Fail> {
+    let session = Session {
+        device: Eui::new(8),
+        nonce: 0,
     };
     let effect = Effect::AddsSession {
-        session: heard_session(),
-        uplink,
+        session,
+        uplink: uplink(1, Kind::Join, FEBRUARY)?,
         gateway: named("gw-a")?,
-        reception: copy()?,
+        reception: reception()?,
     };
-    heard(store, 2, &effect)
+    Ok(heard(store, 2, &effect)?)
 }
 
 /// A downlink of an uplink that there isn't.
-fn downlink_heard<K: Keeper>(store: &mut K) -> Result<Result<(), StoreFault>, &'static str> {
-    let booking = sent_booking()?;
-    heard(store, 3, &Effect::AddsBooking { booking })
+fn downlink_heard<K: Keeper>(store: &mut K) -> Result<Result<(), StoreFault>, Fail> {
+    let booking = Booking {
+        uplink: 1,
+        gateway: named("gw-a")?,
+        band: Band::B5,
+        span: Span::new(FEBRUARY as i64, 46_336).ok_or("no span")?,
+        standing: Standing::Booked,
+    };
+    Ok(heard(store, 3, &Effect::AddsBooking { booking })?)
 }
 
 fn has_owner<K: Looks>(store: &mut K, owner: &str) -> Result<bool, &'static str> {

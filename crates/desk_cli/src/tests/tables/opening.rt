@@ -1,5 +1,6 @@
 //! A desk is made and opened over a connection in memory.
 use super::{Conn, town};
+use crate::tests::ready;
 use desk_store::{Looks, StoreFault};
 use desk_tables::Tables;
 use registry_core::Config;
@@ -13,12 +14,7 @@ fn make<R: Abort + AllocGlobal>(
     conn: Conn,
     wanted: Result<(), StoreFault>,
 ) -> Result<Conn, Fail> {
-    let mut conn = conn;
-    conn.set_step_limit(None);
-    if !conn.is_autocommit() {
-        return Err("in a transaction".into());
-    }
-    let (told, conn) = match Tables::create(rt.alloc(), conn, town()?) {
+    let (told, conn) = match Tables::create(rt.alloc(), ready(conn)?, town()?) {
         Ok(tables) => (Ok(()), tables.close()),
         Err((fault, conn)) => (Err(fault), conn),
     };
@@ -32,12 +28,7 @@ fn open<R: Abort + AllocGlobal>(
     conn: Conn,
     wanted: Result<Config, StoreFault>,
 ) -> Result<Conn, Fail> {
-    let mut conn = conn;
-    conn.set_step_limit(None);
-    if !conn.is_autocommit() {
-        return Err("in a transaction".into());
-    }
-    let (told, conn) = match Tables::open(rt.alloc(), conn) {
+    let (told, conn) = match Tables::open(rt.alloc(), ready(conn)?) {
         Ok(tables) => (Ok(*tables.config()), tables.close()),
         Err((fault, conn)) => (Err(fault), conn),
     };
