@@ -15,3 +15,4 @@ pub mod Served
 pub mod Serving
 pub mod Stays
 pub mod Tellings
+pub mod WithinLimits

@@ -1,5 +1,5 @@
 -- What a desk keeps whose report was asked for.
-use Rattle.std.proofs.Common.{◌≡◌, ◌||◌, false, true, List, Option, None, inl, inr, ap, sym, ◌∙◌}
+use Rattle.std.proofs.Common.{◌≡◌, ◌||◌, false, List, Option, None, inl, inr, ap, sym, ◌∙◌}
 use Rattle.std.proofs.lemmas.Bool.{true≢false}
 use Rattle.registry_core.specs.declared.messages.Envelope.{Envelope}
 use Rattle.registry_core.specs.Settings.{Settings}

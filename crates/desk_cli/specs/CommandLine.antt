@@ -1,11 +1,9 @@
 -- The commands of the desk, listed: the command line, and which command its words name.
-use Rattle.std.specs.Prelude.{◌≡◌, false, List, [], ◌∷◌, Option, Some, None, Result, IfOk, codes, bytes_eq, if◌then◌else◌}
+use Rattle.std.specs.Prelude.{List, [], ◌∷◌, Option, Some, None, codes, bytes_eq, if◌then◌else◌}
 use Rattle.clap.specs.Faults.{fault_of}
 use Rattle.clap.specs.Kinds.{Kinds}
-use Rattle.clap.specs.Simple.{App, app_of, new_app, with_subcommand, subcommand_of}
+use Rattle.clap.specs.Simple.{App, new_app, with_subcommand, subcommand_of}
 use Rattle.clap.specs.Walk.{Row, Text}
-use Rattle.clap.specs.declared.builder.command.Command.{Command}
-use Rattle.clap.specs.declared.builder.command.Command.TheViews.{out-Command as fields_of}
 use Rattle.clap.specs.declared.error.kind.ErrorKind.TheVariants.{MissingSubcommand}
 use Rattle.desk_cli.specs.commands.Checking.{check_app, check_named}
 use Rattle.desk_cli.specs.commands.Hear.{hear_app, hear_named}
@@ -17,11 +15,6 @@ use Rattle.desk_cli.specs.commands.Reports.{bands_app, bands_named, report_app, 
 use Rattle.desk_cli.specs.commands.Serving.{serve_app, serve_named}
 use Rattle.desk_cli.specs.Named.{Named, refused}
 use Rattle.desk_cli.specs.Options.{config_of}
-
--- a command line with one command more, where it is known what both were
-abbrev pub Adds : {E : Type 0} → Command → Result Command E → Command → Type 0
-Adds desk command new = (line words : App) → app_of desk ≡ line → IfOk command (λ it. app_of it ≡ words)
-    → IfOk command (λ it. (fields_of it).has_globals ≡ false) → app_of new ≡ with_subcommand line words.top
 
 -- a command line with the commands that read messages or records, and those that make a file for them and move it
 abbrev pub with_readers : App → App

@@ -33,6 +33,10 @@ KeepsHours c db = (kept : Kept) → IsOfDesk c kept db → EveryHourKept kept.fa
 abbrev pub LeavesHours : Settings → Trees → Type 0
 LeavesHours c trees = (kept : Kept) → AreOfDesk c kept trees → EveryHourKept kept.facts
 
+-- the same of whatever a crash leaves of the connection's file at this moment
+abbrev pub HoursAreLeft : {S : Type 0} → Ghosts S → Held S → Settings → Type 0
+HoursAreLeft g conn c = (trees : Trees) → (state g conn).may_leave trees → LeavesHours c trees
+
 module _ {S : Type 0} (g : Ghosts S) (conn : Held S) (c : Settings) (heard : List Envelope) where
   -- whatever a crash leaves of the connection's file at this moment holds what was heard, or that with the message in doubt
   abbrev pub IsLeft : Option Envelope → Type 0

@@ -3,8 +3,9 @@ ghost use Rattle.std.specs.Prelude.{◌≡◌, IfOk};
 ghost use Rattle.clap.specs.Matches.{found_of};
 ghost use Rattle.clap.specs.Simple.{app_of, subcommand_rows_of};
 ghost use Rattle.clap.specs.Walk.{rows_of};
-ghost use Rattle.desk_cli.specs.CommandLine.{Adds, command_named, desk_app, named_with, with_readers};
+ghost use Rattle.desk_cli.specs.CommandLine.{command_named, desk_app, named_with, with_readers};
 ghost use Rattle.desk_cli.specs.Named.{Tells};
+ghost use Rattle.desk_cli.specs.steps.CommandLine.{Adds};
 
 mod checking;
 mod hear;

@@ -6,7 +6,7 @@ ghost use Rattle.sqlite.specs.State.{HasCleanDisk};
 ghost use Rattle.sqlite.specs.Steps.{over_memory};
 ghost use Rattle.desk_engine.specs.Deliveries.{heard_all};
 ghost use Rattle.desk_engine.specs.Outcomes.{AreOutcomes, deliveries_of, first_doubt, has_disk};
-ghost use Rattle.desk_cli.specs.OnTables.{HasHeard, KeepsHours, LeavesHours, LeftHeard};
+ghost use Rattle.desk_cli.specs.OnTables.{HasHeard, HoursAreLeft, KeepsHours, LeavesHours, LeftHeard};
 
 use desk_engine::{Outcome, run};
 use desk_store::StoreFault;
@@ -44,8 +44,7 @@ pub fn run_on_tables<S: Alter>(
     // the limit.
     ensures hours { HasCleanDisk (state S.Store result.1) → IfOk result.0 (λ outcomes. has_disk outcomes.items ≡ false
         → KeepsHours config (state S.Store result.1).now) }
-    ensures hours_left { HasCleanDisk (state S.Store result.1) → IfOk result.0 (λ outcomes. (trees : Trees) → (state S.Store result.1).may_leave trees
-        → LeavesHours config trees) }
+    ensures hours_left { HasCleanDisk (state S.Store result.1) → IfOk result.0 (λ outcomes. HoursAreLeft S.Store result.1 config) }
 {
     nothing_is_heard();
     hours_are_kept();

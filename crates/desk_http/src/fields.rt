@@ -11,7 +11,7 @@ use desk_engine::LONGEST_MESSAGE;
 use httparse::spans::HeaderSpan;
 
 /// One octet more than a body may have.
-const SURELY_TOO_LONG: u32 = 65_537;
+const SURELY_TOO_LONG: u32 = LONGEST_MESSAGE as u32 + 1;
 
 /// The length of a body, by the fields of its head.
 #[derive(Clone, Copy)]

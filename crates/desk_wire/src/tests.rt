@@ -9,6 +9,7 @@ use crate::{Head, TypeName, head_of, read_message, write_answer, write_message, 
 use radio_core::{Eui, Name};
 use registry_core::{Answer, Envelope, Message, Refusal, Role};
 use std::alloc::{AllocError, Global};
+use std::process::Abort;
 use std::test::Fail;
 
 const REQUEST: &str =
@@ -16,6 +17,21 @@ const REQUEST: &str =
 
 const WRITTEN: &str =
     r#"{"MessageType":"OwnerAdd","Owner":"town","ProtocolVersion":"1.0","ReceiverID":"desk","SenderID":"office","TransactionID":1}"#;
+
+const RADIO: &str =
+    r#"{"MessageType":"SenderAdd","ProtocolVersion":"1.0","ReceiverID":"desk","Role":"radio","Sender":"bridge","SenderID":"office","TransactionID":1}"#;
+
+const OPERATOR: &str =
+    r#"{"MessageType":"SenderAdd","ProtocolVersion":"1.0","ReceiverID":"desk","Role":"operator","Sender":"bureau","SenderID":"office","TransactionID":1}"#;
+
+const GATEWAY: &str =
+    r#"{"Gateway":"gw-a","MessageType":"GatewayAdd","ProtocolVersion":"1.0","ReceiverID":"desk","SenderID":"office","TransactionID":1}"#;
+
+const DEVICE: &str =
+    r#"{"DevEUI":"0004a30b001a2b3c","JoinEUI":"70b3d57ed0000001","MessageType":"DeviceAdd","Owner":"town","ProtocolVersion":"1.0","ReceiverID":"desk","SenderID":"office","TransactionID":1}"#;
+
+const MOVED: &str =
+    r#"{"DevEUI":"0004a30b001a2b3c","MessageType":"DeviceMove","Owner":"city","ProtocolVersion":"1.0","ReceiverID":"desk","SenderID":"office","TransactionID":1}"#;
 
 const ANSWER: &str =
     r#"{"MessageType":"OwnerAddAns","ProtocolVersion":"1.0","ReceiverID":"office","Result":{"Description":"","ResultCode":"Success"},"SenderID":"desk","TransactionID":1}"#;
@@ -68,61 +84,101 @@ fn the_worked_request_is_read_written_and_answered(rt: HostRuntime) -> Result<()
     Ok(())
 }
 
-#[test]
-fn each_message_is_read_and_written(rt: HostRuntime) -> Result<(), Fail> {
+/// So many hexadecimal digits.
+fn digits(alloc: Global, count: usize) -> Result<String, Fail> {
+    Ok(String::from_utf8(vec![in alloc; b'a'; count]?)?)
+}
+
+/// Each text is read as its envelope, which is written as the text beside it.
+fn expect_read_and_written<R: Abort + AllocGlobal>(
+    rt: &R,
+    rows: &[(&str, Envelope, &str)],
+) -> Result<(), Fail> {
     let desk = name("desk")?;
-    let dev_eui = Eui::new(0x0004_a30b_001a_2b3c);
-    let join_eui = Eui::new(0x70b3_d57e_d000_0001);
-    for (message, written) in [
-        (
-            Message::SenderAdd {
-                sender: name("bridge")?,
-                role: Role::Radio,
-            },
-            r#"{"MessageType":"SenderAdd","ProtocolVersion":"1.0","ReceiverID":"desk","Role":"radio","Sender":"bridge","SenderID":"office","TransactionID":1}"#,
-        ),
-        (
-            Message::SenderAdd {
-                sender: name("bureau")?,
-                role: Role::Operator,
-            },
-            r#"{"MessageType":"SenderAdd","ProtocolVersion":"1.0","ReceiverID":"desk","Role":"operator","Sender":"bureau","SenderID":"office","TransactionID":1}"#,
-        ),
-        (
-            Message::OwnerAdd {
-                owner: name("town")?,
-            },
-            WRITTEN,
-        ),
-        (
-            Message::GatewayAdd {
-                gateway: name("gw-a")?,
-            },
-            r#"{"Gateway":"gw-a","MessageType":"GatewayAdd","ProtocolVersion":"1.0","ReceiverID":"desk","SenderID":"office","TransactionID":1}"#,
-        ),
-        (
-            Message::DeviceAdd {
-                dev_eui,
-                join_eui,
-                owner: name("town")?,
-            },
-            r#"{"DevEUI":"0004a30b001a2b3c","JoinEUI":"70b3d57ed0000001","MessageType":"DeviceAdd","Owner":"town","ProtocolVersion":"1.0","ReceiverID":"desk","SenderID":"office","TransactionID":1}"#,
-        ),
-        (
-            Message::DeviceMove {
-                dev_eui,
-                owner: name("city")?,
-            },
-            r#"{"DevEUI":"0004a30b001a2b3c","MessageType":"DeviceMove","Owner":"city","ProtocolVersion":"1.0","ReceiverID":"desk","SenderID":"office","TransactionID":1}"#,
-        ),
-    ] {
-        let wanted = envelope(message)?;
-        let text = write_message(rt.alloc(), &wanted, &desk)?;
-        assert_eq!(rt; text.as_slice(), written.as_bytes(), "{written}");
-        let read = read_message(rt.alloc(), written.as_bytes(), &desk);
-        assert!(rt; read == Ok(wanted), "{written}");
+    for (text, wanted, written) in rows {
+        let read = read_message(rt.alloc(), text.as_bytes(), &desk);
+        assert!(rt; read == Ok(*wanted), "{text}");
+        let told = write_message(rt.alloc(), wanted, &desk)?;
+        assert_eq!(rt; told.as_slice(), written.as_bytes(), "{text}");
     }
     Ok(())
+}
+
+/// Each answer to the envelope is written as its text.
+fn expect_answers<R: Abort + AllocGlobal>(
+    rt: &R,
+    envelope: &Envelope,
+    rows: &[(Answer, &str)],
+) -> Result<(), Fail> {
+    let desk = name("desk")?;
+    for (answer, wanted) in rows {
+        let told = write_answer(rt.alloc(), envelope, &desk, answer)?;
+        assert_eq!(rt; told.as_slice(), wanted.as_bytes(), "{wanted}");
+    }
+    Ok(())
+}
+
+/// A request with this MessageType and these members is refused as one with a bad body.
+fn expect_bad<R: Abort + AllocGlobal>(rt: &R, messages: &[&str]) -> Result<(), Fail> {
+    let desk = name("desk")?;
+    for message in messages {
+        let text = request(rt.alloc(), message)?;
+        assert_eq!(rt; refusal_of(rt.alloc(), text.as_bytes(), &desk), 7, "{text}");
+    }
+    Ok(())
+}
+
+#[test]
+fn each_message_is_read_and_written(rt: HostRuntime) -> Result<(), Fail> {
+    let dev_eui = Eui::new(0x0004_a30b_001a_2b3c);
+    let join_eui = Eui::new(0x70b3_d57e_d000_0001);
+    let (bridge, bureau) = (name("bridge")?, name("bureau")?);
+    let (town, city) = (name("town")?, name("city")?);
+    let gateway = name("gw-a")?;
+    expect_read_and_written(
+        &rt,
+        &[
+            (
+                RADIO,
+                envelope(Message::SenderAdd {
+                    sender: bridge,
+                    role: Role::Radio,
+                })?,
+                RADIO,
+            ),
+            (
+                OPERATOR,
+                envelope(Message::SenderAdd {
+                    sender: bureau,
+                    role: Role::Operator,
+                })?,
+                OPERATOR,
+            ),
+            (
+                REQUEST,
+                envelope(Message::OwnerAdd { owner: town })?,
+                WRITTEN,
+            ),
+            (GATEWAY, envelope(Message::GatewayAdd { gateway })?, GATEWAY),
+            (
+                DEVICE,
+                envelope(Message::DeviceAdd {
+                    dev_eui,
+                    join_eui,
+                    owner: town,
+                })?,
+                DEVICE,
+            ),
+            (
+                MOVED,
+                envelope(Message::DeviceMove {
+                    dev_eui,
+                    owner: city,
+                })?,
+                MOVED,
+            ),
+        ],
+    )
 }
 
 #[test]
@@ -251,42 +307,40 @@ fn the_first_fault_is_told(rt: HostRuntime) -> Result<(), Fail> {
     Ok(())
 }
 
+/// Each lacks a member, or has one in another form.
+static BAD: [&str; 27] = [
+    r#""SenderAdd","Sender":"bridge""#,
+    r#""SenderAdd","Role":"radio""#,
+    r#""SenderAdd","Sender":"bridge","Role":"Operator""#,
+    r#""SenderAdd","Sender":"bridge","Role":"""#,
+    r#""SenderAdd","Sender":"bridge","Role":null"#,
+    r#""SenderAdd","Sender":"a b","Role":"radio""#,
+    r#""OwnerAdd","Gateway":"town""#,
+    r#""GatewayAdd","Owner":"gw-a""#,
+    r#""GatewayAdd","Gateway":1"#,
+    r#""DeviceAdd","DevEUI":"0004a30b001a2b3c","JoinEUI":"70b3d57ed0000001""#,
+    r#""DeviceAdd","DevEUI":"0004a30b001a2b3c","Owner":"town""#,
+    r#""DeviceAdd","JoinEUI":"70b3d57ed0000001","Owner":"town""#,
+    r#""DeviceMove","DevEUI":"0004a30b001a2b3c""#,
+    r#""DeviceMove","Owner":"town""#,
+    r#""DeviceMove","DevEUI":"0004a30b001a2b3","Owner":"town""#,
+    r#""DeviceMove","DevEUI":"0004a30b001a2b3c4","Owner":"town""#,
+    r#""DeviceMove","DevEUI":"0004a30b001a2b","Owner":"town""#,
+    r#""DeviceMove","DevEUI":"0004a30b001a2b3c4d","Owner":"town""#,
+    r#""DeviceMove","DevEUI":"0x04a30b001a2b3c","Owner":"town""#,
+    r#""DeviceMove","DevEUI":"0x","Owner":"town""#,
+    r#""DeviceMove","DevEUI":"","Owner":"town""#,
+    r#""DeviceMove","DevEUI":"0X0004a30b001a2b3c","Owner":"town""#,
+    r#""DeviceMove","DevEUI":"0x0x0004a30b001a2b3c","Owner":"town""#,
+    r#""DeviceMove","DevEUI":"0004a30b001a2b3g","Owner":"town""#,
+    r#""DeviceMove","DevEUI":"0004-a30b-001a-2b3c","Owner":"town""#,
+    r#""DeviceMove","DevEUI":1301960588962620,"Owner":"town""#,
+    r#""DeviceMove","DevEUI":null,"Owner":"town""#,
+];
+
 #[test]
 fn bodies_that_lack_a_member_in_its_form_are_bad(rt: HostRuntime) -> Result<(), Fail> {
-    let desk = name("desk")?;
-    for message in [
-        r#""SenderAdd","Sender":"bridge""#,
-        r#""SenderAdd","Role":"radio""#,
-        r#""SenderAdd","Sender":"bridge","Role":"Operator""#,
-        r#""SenderAdd","Sender":"bridge","Role":"""#,
-        r#""SenderAdd","Sender":"bridge","Role":null"#,
-        r#""SenderAdd","Sender":"a b","Role":"radio""#,
-        r#""OwnerAdd","Gateway":"town""#,
-        r#""GatewayAdd","Owner":"gw-a""#,
-        r#""GatewayAdd","Gateway":1"#,
-        r#""DeviceAdd","DevEUI":"0004a30b001a2b3c","JoinEUI":"70b3d57ed0000001""#,
-        r#""DeviceAdd","DevEUI":"0004a30b001a2b3c","Owner":"town""#,
-        r#""DeviceAdd","JoinEUI":"70b3d57ed0000001","Owner":"town""#,
-        r#""DeviceMove","DevEUI":"0004a30b001a2b3c""#,
-        r#""DeviceMove","Owner":"town""#,
-        r#""DeviceMove","DevEUI":"0004a30b001a2b3","Owner":"town""#,
-        r#""DeviceMove","DevEUI":"0004a30b001a2b3c4","Owner":"town""#,
-        r#""DeviceMove","DevEUI":"0004a30b001a2b","Owner":"town""#,
-        r#""DeviceMove","DevEUI":"0004a30b001a2b3c4d","Owner":"town""#,
-        r#""DeviceMove","DevEUI":"0x04a30b001a2b3c","Owner":"town""#,
-        r#""DeviceMove","DevEUI":"0x","Owner":"town""#,
-        r#""DeviceMove","DevEUI":"","Owner":"town""#,
-        r#""DeviceMove","DevEUI":"0X0004a30b001a2b3c","Owner":"town""#,
-        r#""DeviceMove","DevEUI":"0x0x0004a30b001a2b3c","Owner":"town""#,
-        r#""DeviceMove","DevEUI":"0004a30b001a2b3g","Owner":"town""#,
-        r#""DeviceMove","DevEUI":"0004-a30b-001a-2b3c","Owner":"town""#,
-        r#""DeviceMove","DevEUI":1301960588962620,"Owner":"town""#,
-        r#""DeviceMove","DevEUI":null,"Owner":"town""#,
-    ] {
-        let text = request(rt.alloc(), message)?;
-        assert_eq!(rt; refusal_of(rt.alloc(), text.as_bytes(), &desk), 7, "{text}");
-    }
-    Ok(())
+    expect_bad(&rt, &BAD)
 }
 
 #[test]

@@ -9,6 +9,7 @@ use crate::endings::Ending;
 use crate::faults::Fault;
 use crate::files::Files;
 use crate::listening::{Listening, Network};
+use crate::tests::ready;
 use crate::words::tests::helps::LINES_HELP;
 use desk_http::ServeEnd;
 use sqlite::{Connection, MemStore};
@@ -52,20 +53,14 @@ struct OneFile {
 }
 
 impl OneFile {
-    fn opened(self) -> Result<Connection<MemStore>, Fault>
+    fn opened(self) -> Result<Connection<MemStore>, &'static str>
         ensures idle { IfOk result (λ conn. conn.in_transaction ≡ false) }
         ensures unlimited { IfOk result (λ conn. conn.step_limit ≡ None) }
     {
         let Some(conn) = self.conn else {
-            return Err(Fault::File);
+            return Err("no file");
         };
-        let mut conn = conn;
-        conn.set_step_limit(None);
-        if conn.is_autocommit() {
-            Ok(conn)
-        } else {
-            Err(Fault::File)
-        }
+        ready(conn)
     }
 }
 

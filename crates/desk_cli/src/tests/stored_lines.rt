@@ -1,4 +1,4 @@
-//! Lines and reports over the store that the environment names: `lists`, or tables in memory. Lines come from standard input, and
+//! Lines and reports over the store that the environment names: `lists`, or tables in `memory`. Lines come from standard input, and
 //! answers and reports go to standard output: `checks/both_stores.py` compares them, and `bench/tables.py` reads the times. Where
 //! nothing is named there are no lines.
 use super::opening;
@@ -67,9 +67,9 @@ fn lines_over_the_named_store(rt: HostRuntime) -> Result<(), Fail> {
     let Ok(store) = env::var(&rt, "DESK_STORE") else {
         return Ok(());
     };
-    if store.as_str() == "lists" {
-        answer_all(&rt, &mut *opening::<Lists>(rt.alloc(), 65_536)?)
-    } else {
-        answer_all(&rt, &mut *opening::<Tables<MemStore>>(rt.alloc(), 65_536)?)
+    match store.as_str() {
+        "lists" => answer_all(&rt, &mut *opening::<Lists>(rt.alloc(), 65_536)?),
+        "memory" => answer_all(&rt, &mut *opening::<Tables<MemStore>>(rt.alloc(), 65_536)?),
+        _ => Err("no such store".into()),
     }
 }

@@ -1,9 +1,7 @@
 //! Downlinks: asked for, told done, and how they are answered.
-use super::{name, refusal_of, request};
-use crate::{read_message, write_answer, write_message};
+use super::{digits, expect_answers, expect_bad, expect_read_and_written, name};
 use radio_core::{Band, Octets};
 use registry_core::{Answer, Envelope, Message, Refusal, Whole, Window};
-use std::str;
 use std::test::Fail;
 
 const JOIN_ACCEPT: &[u8] = b"\x20\x00\x01\x02\x03\x04\x05\x06\x07\x08\x09\x0a\x0b\x0c\x0d\x0e\x0f";
@@ -62,94 +60,73 @@ fn down_done(booking: u64, sent: bool) -> Result<Envelope, &'static str> {
 
 #[test]
 fn downlinks_are_read_and_written(rt: HostRuntime) -> Result<(), Fail> {
-    let desk = name("desk")?;
-    for (text, wanted) in [
-        (BOOK, down_book(1, Window::First, JOIN_ACCEPT)?),
-        (
-            BOOK_LAST,
-            down_book(9_007_199_254_740_991, Window::Second, b"")?,
-        ),
-        (DONE, down_done(1, true)?),
-        (DONE_LAST, down_done(9_007_199_254_740_991, false)?),
-    ] {
-        assert!(rt;
-            read_message(rt.alloc(), text.as_bytes(), &desk) == Ok(wanted),
-            "{text}"
-        );
-        let written = write_message(rt.alloc(), &wanted, &desk)?;
-        assert_eq!(rt; written.as_slice(), text.as_bytes(), "{text}");
-    }
-    Ok(())
+    let last = 9_007_199_254_740_991;
+    expect_read_and_written(
+        &rt,
+        &[
+            (BOOK, down_book(1, Window::First, JOIN_ACCEPT)?, BOOK),
+            (BOOK_LAST, down_book(last, Window::Second, b"")?, BOOK_LAST),
+            (DONE, down_done(1, true)?, DONE),
+            (DONE_LAST, down_done(last, false)?, DONE_LAST),
+        ],
+    )
 }
 
 #[test]
 fn downlinks_are_answered(rt: HostRuntime) -> Result<(), Fail> {
-    let desk = name("desk")?;
-    let booked = down_book(1, Window::First, JOIN_ACCEPT)?;
-    for (answer, wanted) in [
-        (
-            Answer::DownSuccess {
-                airtime: 46_336,
-                band: Band::B3,
-                booking: 1,
-                start: 1_706_745_605_061_696,
-            },
-            BOOK_ANSWER,
-        ),
-        (
-            Answer::DownSuccess {
-                airtime: u32::MAX,
-                band: Band::B5,
-                booking: u64::MAX,
-                start: u64::MAX - 1,
-            },
-            LAST_ANSWER,
-        ),
-        (Answer::Refused(Refusal::Collision), BOOK_REFUSED),
-    ] {
-        let told = write_answer(rt.alloc(), &booked, &desk, &answer)?;
-        assert_eq!(rt; told.as_slice(), wanted.as_bytes(), "{wanted}");
-    }
-    let done = down_done(1, true)?;
-    let told = write_answer(rt.alloc(), &done, &desk, &Answer::Success)?;
-    assert_eq!(rt; told.as_slice(), DONE_ANSWER.as_bytes());
-    Ok(())
+    let booked = Answer::DownSuccess {
+        airtime: 46_336,
+        band: Band::B3,
+        booking: 1,
+        start: 1_706_745_605_061_696,
+    };
+    let last = Answer::DownSuccess {
+        airtime: u32::MAX,
+        band: Band::B5,
+        booking: u64::MAX,
+        start: u64::MAX - 1,
+    };
+    let refused = Answer::Refused(Refusal::Collision);
+    let rows = [
+        (booked, BOOK_ANSWER),
+        (last, LAST_ANSWER),
+        (refused, BOOK_REFUSED),
+    ];
+    expect_answers(&rt, &down_book(1, Window::First, JOIN_ACCEPT)?, &rows)?;
+    expect_answers(&rt, &down_done(1, true)?, &[(Answer::Success, DONE_ANSWER)])
 }
+
+/// Each lacks a member, or has one in another form.
+static BAD: [&str; 21] = [
+    r#""DownBook","Gateway":"gw-a","Window":1,"PHYPayload":"""#,
+    r#""DownBook","Uplink":-1,"Gateway":"gw-a","Window":1,"PHYPayload":"""#,
+    r#""DownBook","Uplink":9007199254740992,"Gateway":"gw-a","Window":1,"PHYPayload":"""#,
+    r#""DownBook","Uplink":1,"Window":1,"PHYPayload":"""#,
+    r#""DownBook","Uplink":1,"Gateway":"a b","Window":1,"PHYPayload":"""#,
+    r#""DownBook","Uplink":1,"Gateway":"gw-a","PHYPayload":"""#,
+    r#""DownBook","Uplink":1,"Gateway":"gw-a","Window":0,"PHYPayload":"""#,
+    r#""DownBook","Uplink":1,"Gateway":"gw-a","Window":3,"PHYPayload":"""#,
+    r#""DownBook","Uplink":1,"Gateway":"gw-a","Window":257,"PHYPayload":"""#,
+    r#""DownBook","Uplink":1,"Gateway":"gw-a","Window":"1","PHYPayload":"""#,
+    r#""DownBook","Uplink":1,"Gateway":"gw-a","Window":1.0,"PHYPayload":"""#,
+    r#""DownBook","Uplink":1,"Gateway":"gw-a","Window":1"#,
+    r#""DownBook","Uplink":1,"Gateway":"gw-a","Window":1,"PHYPayload":"200""#,
+    r#""DownBook","Uplink":1,"Gateway":"gw-a","Window":1,"PHYPayload":null"#,
+    r#""DownDone","Sent":true"#,
+    r#""DownDone","Booking":-1,"Sent":true"#,
+    r#""DownDone","Booking":9007199254740992,"Sent":true"#,
+    r#""DownDone","Booking":1"#,
+    r#""DownDone","Booking":1,"Sent":"true""#,
+    r#""DownDone","Booking":1,"Sent":0"#,
+    r#""DownDone","Booking":1,"Sent":null"#,
+];
 
 #[test]
 fn downlinks_that_lack_a_member_in_its_form_are_bad(rt: HostRuntime) -> Result<(), Fail> {
-    let desk = name("desk")?;
-    let digits = [b'a'; 512];
-    let longer = str::from_utf8(&digits).ok().ok_or("no text")?;
+    let longer = digits(rt.alloc(), 512)?;
     let longer = format!(in rt.alloc();
         r#""DownBook","Uplink":1,"Gateway":"gw-a","Window":1,"PHYPayload":"{longer}""#
     )?;
-    for message in [
-        r#""DownBook","Gateway":"gw-a","Window":1,"PHYPayload":"""#,
-        r#""DownBook","Uplink":-1,"Gateway":"gw-a","Window":1,"PHYPayload":"""#,
-        r#""DownBook","Uplink":9007199254740992,"Gateway":"gw-a","Window":1,"PHYPayload":"""#,
-        r#""DownBook","Uplink":1,"Window":1,"PHYPayload":"""#,
-        r#""DownBook","Uplink":1,"Gateway":"a b","Window":1,"PHYPayload":"""#,
-        r#""DownBook","Uplink":1,"Gateway":"gw-a","PHYPayload":"""#,
-        r#""DownBook","Uplink":1,"Gateway":"gw-a","Window":0,"PHYPayload":"""#,
-        r#""DownBook","Uplink":1,"Gateway":"gw-a","Window":3,"PHYPayload":"""#,
-        r#""DownBook","Uplink":1,"Gateway":"gw-a","Window":257,"PHYPayload":"""#,
-        r#""DownBook","Uplink":1,"Gateway":"gw-a","Window":"1","PHYPayload":"""#,
-        r#""DownBook","Uplink":1,"Gateway":"gw-a","Window":1.0,"PHYPayload":"""#,
-        r#""DownBook","Uplink":1,"Gateway":"gw-a","Window":1"#,
-        r#""DownBook","Uplink":1,"Gateway":"gw-a","Window":1,"PHYPayload":"200""#,
-        r#""DownBook","Uplink":1,"Gateway":"gw-a","Window":1,"PHYPayload":null"#,
-        longer.as_str(),
-        r#""DownDone","Sent":true"#,
-        r#""DownDone","Booking":-1,"Sent":true"#,
-        r#""DownDone","Booking":9007199254740992,"Sent":true"#,
-        r#""DownDone","Booking":1"#,
-        r#""DownDone","Booking":1,"Sent":"true""#,
-        r#""DownDone","Booking":1,"Sent":0"#,
-        r#""DownDone","Booking":1,"Sent":null"#,
-    ] {
-        let text = request(rt.alloc(), message)?;
-        assert_eq!(rt; refusal_of(rt.alloc(), text.as_bytes(), &desk), 7, "{text}");
-    }
-    Ok(())
+    expect_bad(&rt, &BAD)?;
+    expect_bad(&rt, &[longer.as_str()])
 }

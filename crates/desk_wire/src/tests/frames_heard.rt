@@ -1,7 +1,6 @@
 //! Reports of data frames that were heard, and how they are answered.
 use super::heard::report;
-use super::{name, refusal_of, request};
-use crate::{read_message, write_answer, write_message};
+use super::{expect_answers, expect_bad, expect_read_and_written, name};
 use radio_core::{Band, Eui};
 use registry_core::{Answer, Envelope, Message};
 use std::test::Fail;
@@ -39,86 +38,62 @@ fn frame_heard(verdict: Option<u32>) -> Result<Envelope, &'static str> {
 
 #[test]
 fn frames_are_read_and_written_with_and_without_a_counter(rt: HostRuntime) -> Result<(), Fail> {
-    let desk = name("desk")?;
-    for (text, verdict, written) in [
-        (COUNTED, Some(65_536), COUNTED),
-        (COUNTED_LAST, Some(u32::MAX), COUNTED_LAST),
-        (UNCOUNTED, None, UNCOUNTED),
-        (NO_VERDICT, None, UNCOUNTED),
-    ] {
-        let heard = frame_heard(verdict)?;
-        assert!(rt;
-            read_message(rt.alloc(), text.as_bytes(), &desk) == Ok(heard),
-            "{text}"
-        );
-        let told = write_message(rt.alloc(), &heard, &desk)?;
-        assert_eq!(rt; told.as_slice(), written.as_bytes(), "{text}");
-        assert!(rt;
-            read_message(rt.alloc(), told.as_slice(), &desk) == Ok(heard),
-            "{text}"
-        );
-    }
-    Ok(())
+    let uncounted = frame_heard(None)?;
+    expect_read_and_written(
+        &rt,
+        &[
+            (COUNTED, frame_heard(Some(65_536))?, COUNTED),
+            (COUNTED_LAST, frame_heard(Some(u32::MAX))?, COUNTED_LAST),
+            (UNCOUNTED, uncounted, UNCOUNTED),
+            (NO_VERDICT, uncounted, UNCOUNTED),
+        ],
+    )
 }
 
 #[test]
 fn frames_are_answered(rt: HostRuntime) -> Result<(), Fail> {
-    let desk = name("desk")?;
-    let heard = frame_heard(Some(0))?;
-    for (answer, wanted) in [
-        (
-            Answer::FrameSuccess {
-                airtime: 41_216,
-                band: Band::B3,
-                copy: true,
-                counter: 0,
-                dev_eui: Eui::new(0x0004_a30b_001a_2b3c),
-                uplink: 2,
-            },
-            COPY_ANSWER,
-        ),
-        (
-            Answer::FrameSuccess {
-                airtime: 61_696,
-                band: Band::B5,
-                copy: false,
-                counter: u32::MAX,
-                dev_eui: Eui::new(0x70b3_d57e_d000_0001),
-                uplink: u64::MAX,
-            },
-            LAST_ANSWER,
-        ),
-    ] {
-        let told = write_answer(rt.alloc(), &heard, &desk, &answer)?;
-        assert_eq!(rt; told.as_slice(), wanted.as_bytes(), "{wanted}");
-    }
-    Ok(())
+    let copy = Answer::FrameSuccess {
+        airtime: 41_216,
+        band: Band::B3,
+        copy: true,
+        counter: 0,
+        dev_eui: Eui::new(0x0004_a30b_001a_2b3c),
+        uplink: 2,
+    };
+    let last = Answer::FrameSuccess {
+        airtime: 61_696,
+        band: Band::B5,
+        copy: false,
+        counter: u32::MAX,
+        dev_eui: Eui::new(0x70b3_d57e_d000_0001),
+        uplink: u64::MAX,
+    };
+    expect_answers(
+        &rt,
+        &frame_heard(Some(0))?,
+        &[(copy, COPY_ANSWER), (last, LAST_ANSWER)],
+    )
 }
+
+/// Each has another verdict.
+static BAD: [&str; 14] = [
+    r#""FrameHeard","Gateway":"gw-a","Time":0,"Freq":0,"DataRate":0,"PHYPayload":"","Verdict":4294967296"#,
+    r#""FrameHeard","Gateway":"gw-a","Time":0,"Freq":0,"DataRate":0,"PHYPayload":"","Verdict":18446744073709551616"#,
+    r#""FrameHeard","Gateway":"gw-a","Time":0,"Freq":0,"DataRate":0,"PHYPayload":"","Verdict":-1"#,
+    r#""FrameHeard","Gateway":"gw-a","Time":0,"Freq":0,"DataRate":0,"PHYPayload":"","Verdict":-0"#,
+    r#""FrameHeard","Gateway":"gw-a","Time":0,"Freq":0,"DataRate":0,"PHYPayload":"","Verdict":1.0"#,
+    r#""FrameHeard","Gateway":"gw-a","Time":0,"Freq":0,"DataRate":0,"PHYPayload":"","Verdict":1e0"#,
+    r#""FrameHeard","Gateway":"gw-a","Time":0,"Freq":0,"DataRate":0,"PHYPayload":"","Verdict":true"#,
+    r#""FrameHeard","Gateway":"gw-a","Time":0,"Freq":0,"DataRate":0,"PHYPayload":"","Verdict":false"#,
+    r#""FrameHeard","Gateway":"gw-a","Time":0,"Freq":0,"DataRate":0,"PHYPayload":"","Verdict":"""#,
+    r#""FrameHeard","Gateway":"gw-a","Time":0,"Freq":0,"DataRate":0,"PHYPayload":"","Verdict":"0""#,
+    r#""FrameHeard","Gateway":"gw-a","Time":0,"Freq":0,"DataRate":0,"PHYPayload":"","Verdict":"null""#,
+    r#""FrameHeard","Gateway":"gw-a","Time":0,"Freq":0,"DataRate":0,"PHYPayload":"","Verdict":"Good""#,
+    r#""FrameHeard","Gateway":"gw-a","Time":0,"Freq":0,"DataRate":0,"PHYPayload":"","Verdict":[0]"#,
+    r#""FrameHeard","Gateway":"gw-a","Time":0,"Freq":0,"DataRate":0,"PHYPayload":"","Verdict":{}"#,
+];
 
 #[test]
 fn frames_with_another_verdict_are_bad(rt: HostRuntime) -> Result<(), Fail> {
-    let desk = name("desk")?;
-    for verdict in [
-        "4294967296",
-        "18446744073709551616",
-        "-1",
-        "-0",
-        "1.0",
-        "1e0",
-        "true",
-        "false",
-        r#""""#,
-        r#""0""#,
-        r#""null""#,
-        r#""Good""#,
-        "[0]",
-        "{}",
-    ] {
-        let message = format!(in rt.alloc();
-            r#""FrameHeard","Gateway":"gw-a","Time":0,"Freq":0,"DataRate":0,"PHYPayload":"","Verdict":{verdict}"#
-        )?;
-        let text = request(rt.alloc(), message.as_str())?;
-        assert_eq!(rt; refusal_of(rt.alloc(), text.as_bytes(), &desk), 7, "{text}");
-    }
-    Ok(())
+    expect_bad(&rt, &BAD)
 }

@@ -1,9 +1,13 @@
 //! Reports of join requests that were heard, and how they are answered.
-use super::{envelope, is_read_and_written, name, refusal_of, request};
-use crate::{read_message, write_answer, write_message};
+use super::{
+    digits, envelope, expect_answers, expect_bad, expect_read_and_written, is_read_and_written,
+    name, request,
+};
+use crate::write_answer;
 use radio_core::{Band, DataRate, DevAddr, Octets, Rate};
 use registry_core::{Answer, Envelope, JoinVerdict, Message, Refusal, Report, Whole};
-use std::str;
+use std::alloc::{AllocError, Global};
+use std::process::Abort;
 use std::test::Fail;
 
 const JOIN: &[u8] =
@@ -43,38 +47,29 @@ fn join_heard(report: Report, verdict: JoinVerdict) -> Result<Envelope, &'static
 
 #[test]
 fn the_worked_join_is_read_written_and_answered(rt: HostRuntime) -> Result<(), Fail> {
-    let desk = name("desk")?;
     let heard = join_heard(report(JOIN)?, JoinVerdict::Good)?;
-    assert!(rt; read_message(rt.alloc(), JOIN_HEARD.as_bytes(), &desk) == Ok(heard));
-    let written = write_message(rt.alloc(), &heard, &desk)?;
-    assert_eq!(rt; written.as_slice(), JOIN_HEARD.as_bytes());
-    for (answer, wanted) in [
-        (
-            Answer::JoinSuccess {
-                airtime: 61_696,
-                band: Band::B3,
-                copy: false,
-                addr: DevAddr::new(0x01a0_0000),
-                uplink: 1,
-            },
-            JOIN_ANSWER,
-        ),
-        (
-            Answer::JoinSuccess {
-                airtime: u32::MAX,
-                band: Band::B5,
-                copy: true,
-                addr: DevAddr::new(0x01a2_b3c4),
-                uplink: u64::MAX,
-            },
-            COPY_ANSWER,
-        ),
-        (Answer::Refused(Refusal::Nonce), JOIN_REFUSED),
-    ] {
-        let told = write_answer(rt.alloc(), &heard, &desk, &answer)?;
-        assert_eq!(rt; told.as_slice(), wanted.as_bytes(), "{wanted}");
-    }
-    Ok(())
+    expect_read_and_written(&rt, &[(JOIN_HEARD, heard, JOIN_HEARD)])?;
+    let added = Answer::JoinSuccess {
+        airtime: 61_696,
+        band: Band::B3,
+        copy: false,
+        addr: DevAddr::new(0x01a0_0000),
+        uplink: 1,
+    };
+    let copy = Answer::JoinSuccess {
+        airtime: u32::MAX,
+        band: Band::B5,
+        copy: true,
+        addr: DevAddr::new(0x01a2_b3c4),
+        uplink: u64::MAX,
+    };
+    let refused = Answer::Refused(Refusal::Nonce);
+    let rows = [
+        (added, JOIN_ANSWER),
+        (copy, COPY_ANSWER),
+        (refused, JOIN_REFUSED),
+    ];
+    expect_answers(&rt, &heard, &rows)
 }
 
 #[test]
@@ -105,130 +100,116 @@ fn bands_have_their_names(rt: HostRuntime) -> Result<(), Fail> {
     Ok(())
 }
 
-#[test]
-fn payloads_are_even_digits_of_at_most_255_octets(rt: HostRuntime) -> Result<(), Fail> {
+/// The MessageType and the members of a join report with this PHYPayload.
+fn with_payload(alloc: Global, payload: &str) -> Result<String, AllocError> {
+    format!(in alloc;
+        r#""JoinHeard","Verdict":"Good","Time":1767225600000000,"PHYPayload":"{payload}","Gateway":"gw-a","Freq":868100000,"DataRate":5"#
+    )
+}
+
+/// Each PHYPayload is read as these octets, and so is what is written of them.
+fn expect_payloads<R: Abort + AllocGlobal>(rt: &R, rows: &[(&str, &[u8])]) -> Result<(), Fail> {
     let desk = name("desk")?;
-    let digits = [b'a'; 512];
-    let longest = str::from_utf8(&digits[..510]).ok().ok_or("no text")?;
-    let odd = str::from_utf8(&digits[..509]).ok().ok_or("no text")?;
-    let longer = str::from_utf8(&digits).ok().ok_or("no text")?;
-    for (payload, wanted) in [
-        ("", Octets::new(b"")),
-        ("0x", Octets::new(b"")),
-        ("00a1b2", Octets::new(b"\x00\xa1\xb2")),
-        ("0x00A1B2", Octets::new(b"\x00\xa1\xb2")),
-        (longest, Octets::new(&[0xaa; 255])),
-        (longer, None),
-        (odd, None),
-        ("00a1b", None),
-        ("00a1bg", None),
-        ("0X00a1b2", None),
-        ("0x0", None),
-        ("0x0x00a1b2", None),
-    ] {
-        let message = format!(in rt.alloc();
-            r#""JoinHeard","Verdict":"Good","Time":1767225600000000,"PHYPayload":"{payload}","Gateway":"gw-a","Freq":868100000,"DataRate":5"#
-        )?;
-        let text = request(rt.alloc(), message.as_str())?;
-        match wanted {
-            Some(octets) => {
-                let verdict = JoinVerdict::Good;
-                let report = report(octets.get())?;
-                let heard = envelope(Message::JoinHeard { report, verdict })?;
-                assert!(rt;
-                    is_read_and_written(rt.alloc(), text.as_bytes(), &heard, &desk)?,
-                    "{text}"
-                );
-            }
-            None => {
-                assert_eq!(rt; refusal_of(rt.alloc(), text.as_bytes(), &desk), 7, "{text}");
-            }
-        }
+    for (payload, octets) in rows {
+        let text = request(rt.alloc(), with_payload(rt.alloc(), payload)?.as_str())?;
+        let heard = Message::JoinHeard {
+            report: report(octets)?,
+            verdict: JoinVerdict::Good,
+        };
+        assert!(rt;
+            is_read_and_written(rt.alloc(), text.as_bytes(), &envelope(heard)?, &desk)?,
+            "{text}"
+        );
     }
     Ok(())
 }
+
+static BAD_PAYLOADS: [&str; 5] = ["00a1b", "00a1bg", "0X00a1b2", "0x0", "0x0x00a1b2"];
+
+fn expect_bad_payload<R: Abort + AllocGlobal>(rt: &R, payload: &str) -> Result<(), Fail> {
+    expect_bad(rt, &[with_payload(rt.alloc(), payload)?.as_str()])
+}
+
+#[test]
+fn payloads_are_even_digits_of_at_most_255_octets(rt: HostRuntime) -> Result<(), Fail> {
+    let longest = digits(rt.alloc(), 510)?;
+    expect_payloads(
+        &rt,
+        &[("", b""), ("0x", b""), (longest.as_str(), &[0xaa; 255])],
+    )?;
+    expect_payloads(
+        &rt,
+        &[("00a1b2", b"\x00\xa1\xb2"), ("0x00A1B2", b"\x00\xa1\xb2")],
+    )?;
+    for payload in &BAD_PAYLOADS {
+        expect_bad_payload(&rt, payload)?;
+    }
+    expect_bad_payload(&rt, digits(rt.alloc(), 509)?.as_str())?;
+    expect_bad_payload(&rt, digits(rt.alloc(), 512)?.as_str())
+}
+
+const LEAST: &str =
+    r#"{"DataRate":0,"Freq":0,"Gateway":"gw-a","MessageType":"JoinHeard","PHYPayload":"","ProtocolVersion":"1.0","ReceiverID":"desk","SenderID":"bridge","Time":0,"TransactionID":10,"Verdict":"Good"}"#;
+
+const GREATEST: &str =
+    r#"{"DataRate":7,"Freq":4294967295,"Gateway":"gw-a","MessageType":"JoinHeard","PHYPayload":"","ProtocolVersion":"1.0","ReceiverID":"desk","SenderID":"bridge","Time":9007199254740991,"TransactionID":10,"Verdict":"Bad"}"#;
+
+fn report_of(time: u64, freq: u32, dr: DataRate) -> Result<Report, &'static str> {
+    Ok(Report {
+        gateway: name("gw-a")?,
+        time: Whole::new(time).ok_or("no whole number")?,
+        rate: Rate { freq, dr },
+        octets: Octets::new(b"").ok_or("no octets")?,
+    })
+}
+
+/// Each has a number or a verdict in another form.
+static BAD_FORMS: [&str; 16] = [
+    r#""JoinHeard","Gateway":"gw-a","Time":9007199254740992,"Freq":0,"DataRate":0,"PHYPayload":"","Verdict":"Good""#,
+    r#""JoinHeard","Gateway":"gw-a","Time":18446744073709551616,"Freq":0,"DataRate":0,"PHYPayload":"","Verdict":"Good""#,
+    r#""JoinHeard","Gateway":"gw-a","Time":-1,"Freq":0,"DataRate":0,"PHYPayload":"","Verdict":"Good""#,
+    r#""JoinHeard","Gateway":"gw-a","Time":-0,"Freq":0,"DataRate":0,"PHYPayload":"","Verdict":"Good""#,
+    r#""JoinHeard","Gateway":"gw-a","Time":1.0,"Freq":0,"DataRate":0,"PHYPayload":"","Verdict":"Good""#,
+    r#""JoinHeard","Gateway":"gw-a","Time":"1","Freq":0,"DataRate":0,"PHYPayload":"","Verdict":"Good""#,
+    r#""JoinHeard","Gateway":"gw-a","Time":0,"Freq":4294967296,"DataRate":0,"PHYPayload":"","Verdict":"Good""#,
+    r#""JoinHeard","Gateway":"gw-a","Time":0,"Freq":1e0,"DataRate":0,"PHYPayload":"","Verdict":"Good""#,
+    r#""JoinHeard","Gateway":"gw-a","Time":0,"Freq":0,"DataRate":8,"PHYPayload":"","Verdict":"Good""#,
+    r#""JoinHeard","Gateway":"gw-a","Time":0,"Freq":0,"DataRate":256,"PHYPayload":"","Verdict":"Good""#,
+    r#""JoinHeard","Gateway":"gw-a","Time":0,"Freq":0,"DataRate":null,"PHYPayload":"","Verdict":"Good""#,
+    r#""JoinHeard","Gateway":"gw-a","Time":0,"Freq":0,"DataRate":0,"PHYPayload":"","Verdict":"good""#,
+    r#""JoinHeard","Gateway":"gw-a","Time":0,"Freq":0,"DataRate":0,"PHYPayload":"","Verdict":"Good ""#,
+    r#""JoinHeard","Gateway":"gw-a","Time":0,"Freq":0,"DataRate":0,"PHYPayload":"","Verdict":"""#,
+    r#""JoinHeard","Gateway":"gw-a","Time":0,"Freq":0,"DataRate":0,"PHYPayload":"","Verdict":null"#,
+    r#""JoinHeard","Gateway":"gw-a","Time":0,"Freq":0,"DataRate":0,"PHYPayload":"","Verdict":1"#,
+];
 
 #[test]
 fn numbers_and_verdicts_have_their_forms(rt: HostRuntime) -> Result<(), Fail> {
-    let desk = name("desk")?;
-    for (time, freq, rate, verdict, wanted) in [
-        (
-            "0",
-            "0",
-            "0",
-            r#""Good""#,
-            Some((0, 0, DataRate::Dr0, JoinVerdict::Good)),
-        ),
-        (
-            "9007199254740991",
-            "4294967295",
-            "7",
-            r#""Bad""#,
-            Some((
-                9_007_199_254_740_991,
-                4_294_967_295,
-                DataRate::Dr7,
-                JoinVerdict::Bad,
-            )),
-        ),
-        ("9007199254740992", "0", "0", r#""Good""#, None),
-        ("18446744073709551616", "0", "0", r#""Good""#, None),
-        ("-1", "0", "0", r#""Good""#, None),
-        ("-0", "0", "0", r#""Good""#, None),
-        ("1.0", "0", "0", r#""Good""#, None),
-        (r#""1""#, "0", "0", r#""Good""#, None),
-        ("0", "4294967296", "0", r#""Good""#, None),
-        ("0", "1e0", "0", r#""Good""#, None),
-        ("0", "0", "8", r#""Good""#, None),
-        ("0", "0", "256", r#""Good""#, None),
-        ("0", "0", "null", r#""Good""#, None),
-        ("0", "0", "0", r#""good""#, None),
-        ("0", "0", "0", r#""Good ""#, None),
-        ("0", "0", "0", r#""""#, None),
-        ("0", "0", "0", "null", None),
-        ("0", "0", "0", "1", None),
-    ] {
-        let message = format!(in rt.alloc();
-            r#""JoinHeard","Gateway":"gw-a","Time":{time},"Freq":{freq},"DataRate":{rate},"PHYPayload":"","Verdict":{verdict}"#
-        )?;
-        let text = request(rt.alloc(), message.as_str())?;
-        match wanted {
-            Some((time, freq, dr, verdict)) => {
-                let report = Report {
-                    gateway: name("gw-a")?,
-                    time: Whole::new(time).ok_or("no whole number")?,
-                    rate: Rate { freq, dr },
-                    octets: Octets::new(b"").ok_or("no octets")?,
-                };
-                let heard = envelope(Message::JoinHeard { report, verdict })?;
-                assert!(rt;
-                    is_read_and_written(rt.alloc(), text.as_bytes(), &heard, &desk)?,
-                    "{text}"
-                );
-            }
-            None => {
-                assert_eq!(rt; refusal_of(rt.alloc(), text.as_bytes(), &desk), 7, "{text}");
-            }
-        }
-    }
-    Ok(())
+    let least = report_of(0, 0, DataRate::Dr0)?;
+    let greatest = report_of(9_007_199_254_740_991, u32::MAX, DataRate::Dr7)?;
+    expect_read_and_written(
+        &rt,
+        &[
+            (LEAST, join_heard(least, JoinVerdict::Good)?, LEAST),
+            (GREATEST, join_heard(greatest, JoinVerdict::Bad)?, GREATEST),
+        ],
+    )?;
+    expect_bad(&rt, &BAD_FORMS)
 }
+
+/// Each lacks a member, or has one in another form.
+static BAD: [&str; 8] = [
+    r#""JoinHeard","Time":0,"Freq":0,"DataRate":0,"PHYPayload":"","Verdict":"Good""#,
+    r#""JoinHeard","Gateway":"gw-a","Freq":0,"DataRate":0,"PHYPayload":"","Verdict":"Good""#,
+    r#""JoinHeard","Gateway":"gw-a","Time":0,"DataRate":0,"PHYPayload":"","Verdict":"Good""#,
+    r#""JoinHeard","Gateway":"gw-a","Time":0,"Freq":0,"PHYPayload":"","Verdict":"Good""#,
+    r#""JoinHeard","Gateway":"gw-a","Time":0,"Freq":0,"DataRate":0,"Verdict":"Good""#,
+    r#""JoinHeard","Gateway":"gw-a","Time":0,"Freq":0,"DataRate":0,"PHYPayload":"""#,
+    r#""JoinHeard","Gateway":"a b","Time":0,"Freq":0,"DataRate":0,"PHYPayload":"","Verdict":"Good""#,
+    r#""JoinHeard","Gateway":"gw-a","Time":0,"Freq":0,"DataRate":0,"PHYPayload":null,"Verdict":"Good""#,
+];
 
 #[test]
 fn joins_that_lack_a_member_are_bad(rt: HostRuntime) -> Result<(), Fail> {
-    let desk = name("desk")?;
-    for message in [
-        r#""JoinHeard","Time":0,"Freq":0,"DataRate":0,"PHYPayload":"","Verdict":"Good""#,
-        r#""JoinHeard","Gateway":"gw-a","Freq":0,"DataRate":0,"PHYPayload":"","Verdict":"Good""#,
-        r#""JoinHeard","Gateway":"gw-a","Time":0,"DataRate":0,"PHYPayload":"","Verdict":"Good""#,
-        r#""JoinHeard","Gateway":"gw-a","Time":0,"Freq":0,"PHYPayload":"","Verdict":"Good""#,
-        r#""JoinHeard","Gateway":"gw-a","Time":0,"Freq":0,"DataRate":0,"Verdict":"Good""#,
-        r#""JoinHeard","Gateway":"gw-a","Time":0,"Freq":0,"DataRate":0,"PHYPayload":"""#,
-        r#""JoinHeard","Gateway":"a b","Time":0,"Freq":0,"DataRate":0,"PHYPayload":"","Verdict":"Good""#,
-        r#""JoinHeard","Gateway":"gw-a","Time":0,"Freq":0,"DataRate":0,"PHYPayload":null,"Verdict":"Good""#,
-    ] {
-        let text = request(rt.alloc(), message)?;
-        assert_eq!(rt; refusal_of(rt.alloc(), text.as_bytes(), &desk), 7, "{text}");
-    }
-    Ok(())
+    expect_bad(&rt, &BAD)
 }

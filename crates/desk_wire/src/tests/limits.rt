@@ -1,6 +1,8 @@
 //! Limits for a gateway's band: read, written and answered, and which texts are none.
-use super::{envelope, is_read_and_written, name, refusal_of, request};
-use crate::{read_message, write_answer, write_message};
+use super::{
+    envelope, expect_answers, expect_bad, expect_read_and_written, is_read_and_written, name,
+    request,
+};
 use radio_core::Band;
 use registry_core::{Answer, BandLimit, Envelope, Message, Refusal};
 use std::test::Fail;
@@ -38,23 +40,17 @@ fn limit_set(band: Band, most: u64) -> Result<Envelope, &'static str> {
 
 #[test]
 fn limits_are_read_and_written(rt: HostRuntime) -> Result<(), Fail> {
-    let desk = name("desk")?;
-    for (text, wanted) in [
-        (SET_B1, limit_set(Band::B1, 3_600_000)?),
-        (SET_B2, limit_set(Band::B2, 36_000_000)?),
-        (SET_B3, limit_set(Band::B3, 0)?),
-        (SET_B4, limit_set(Band::B4, 991_232)?),
-        (SET_B5, limit_set(Band::B5, 360_000_000)?),
-        (SET_B6, limit_set(Band::B6, 3_600_001)?),
-    ] {
-        assert!(rt;
-            read_message(rt.alloc(), text.as_bytes(), &desk) == Ok(wanted),
-            "{text}"
-        );
-        let written = write_message(rt.alloc(), &wanted, &desk)?;
-        assert_eq!(rt; written.as_slice(), text.as_bytes(), "{text}");
-    }
-    Ok(())
+    expect_read_and_written(
+        &rt,
+        &[
+            (SET_B1, limit_set(Band::B1, 3_600_000)?, SET_B1),
+            (SET_B2, limit_set(Band::B2, 36_000_000)?, SET_B2),
+            (SET_B3, limit_set(Band::B3, 0)?, SET_B3),
+            (SET_B4, limit_set(Band::B4, 991_232)?, SET_B4),
+            (SET_B5, limit_set(Band::B5, 360_000_000)?, SET_B5),
+            (SET_B6, limit_set(Band::B6, 3_600_001)?, SET_B6),
+        ],
+    )
 }
 
 #[test]
@@ -80,51 +76,44 @@ fn other_texts_of_the_same_limit(rt: HostRuntime) -> Result<(), Fail> {
 
 #[test]
 fn limits_are_answered(rt: HostRuntime) -> Result<(), Fail> {
-    let desk = name("desk")?;
-    let asked = limit_set(Band::B4, 991_232)?;
-    for (answer, wanted) in [
+    let rows = [
         (Answer::Success, ANSWER),
         (Answer::Refused(Refusal::Duty), REFUSED),
-    ] {
-        let told = write_answer(rt.alloc(), &asked, &desk, &answer)?;
-        assert_eq!(rt; told.as_slice(), wanted.as_bytes(), "{wanted}");
-    }
-    Ok(())
+    ];
+    expect_answers(&rt, &limit_set(Band::B4, 991_232)?, &rows)
 }
+
+/// Each lacks a member, or has one in another form, or a limit above the band's own.
+static BAD: [&str; 26] = [
+    r#""LimitSet","Band":"B4","Limit":0"#,
+    r#""LimitSet","Gateway":"gw-a","Limit":0"#,
+    r#""LimitSet","Gateway":"gw-a","Band":"B4""#,
+    r#""LimitSet","Gateway":"a b","Band":"B4","Limit":0"#,
+    r#""LimitSet","Gateway":"gw-a","Band":"B0","Limit":0"#,
+    r#""LimitSet","Gateway":"gw-a","Band":"B7","Limit":0"#,
+    r#""LimitSet","Gateway":"gw-a","Band":"b3","Limit":0"#,
+    r#""LimitSet","Gateway":"gw-a","Band":"B3 ","Limit":0"#,
+    r#""LimitSet","Gateway":"gw-a","Band":"","Limit":0"#,
+    r#""LimitSet","Gateway":"gw-a","Band":3,"Limit":0"#,
+    r#""LimitSet","Gateway":"gw-a","Band":null,"Limit":0"#,
+    r#""LimitSet","Gateway":"gw-a","Band":"B4","Limit":-1"#,
+    r#""LimitSet","Gateway":"gw-a","Band":"B4","Limit":-0"#,
+    r#""LimitSet","Gateway":"gw-a","Band":"B4","Limit":1.5"#,
+    r#""LimitSet","Gateway":"gw-a","Band":"B4","Limit":1e3"#,
+    r#""LimitSet","Gateway":"gw-a","Band":"B4","Limit":"0""#,
+    r#""LimitSet","Gateway":"gw-a","Band":"B4","Limit":null"#,
+    r#""LimitSet","Gateway":"gw-a","Band":"B1","Limit":3600001"#,
+    r#""LimitSet","Gateway":"gw-a","Band":"B2","Limit":36000001"#,
+    r#""LimitSet","Gateway":"gw-a","Band":"B3","Limit":36000001"#,
+    r#""LimitSet","Gateway":"gw-a","Band":"B4","Limit":3600001"#,
+    r#""LimitSet","Gateway":"gw-a","Band":"B5","Limit":360000001"#,
+    r#""LimitSet","Gateway":"gw-a","Band":"B6","Limit":36000001"#,
+    r#""LimitSet","Gateway":"gw-a","Band":"B5","Limit":18446744073709551616"#,
+    r#""LimitSet","Gateway":"gw-a","Band":"B4","Band":"B7","Limit":0"#,
+    r#""LimitSet","Gateway":"gw-a","Band":"B4","Limit":0,"Limit":3600001"#,
+];
 
 #[test]
 fn limits_that_lack_a_member_in_its_form_are_bad(rt: HostRuntime) -> Result<(), Fail> {
-    let desk = name("desk")?;
-    for message in [
-        r#""LimitSet","Band":"B4","Limit":0"#,
-        r#""LimitSet","Gateway":"gw-a","Limit":0"#,
-        r#""LimitSet","Gateway":"gw-a","Band":"B4""#,
-        r#""LimitSet","Gateway":"a b","Band":"B4","Limit":0"#,
-        r#""LimitSet","Gateway":"gw-a","Band":"B0","Limit":0"#,
-        r#""LimitSet","Gateway":"gw-a","Band":"B7","Limit":0"#,
-        r#""LimitSet","Gateway":"gw-a","Band":"b3","Limit":0"#,
-        r#""LimitSet","Gateway":"gw-a","Band":"B3 ","Limit":0"#,
-        r#""LimitSet","Gateway":"gw-a","Band":"","Limit":0"#,
-        r#""LimitSet","Gateway":"gw-a","Band":3,"Limit":0"#,
-        r#""LimitSet","Gateway":"gw-a","Band":null,"Limit":0"#,
-        r#""LimitSet","Gateway":"gw-a","Band":"B4","Limit":-1"#,
-        r#""LimitSet","Gateway":"gw-a","Band":"B4","Limit":-0"#,
-        r#""LimitSet","Gateway":"gw-a","Band":"B4","Limit":1.5"#,
-        r#""LimitSet","Gateway":"gw-a","Band":"B4","Limit":1e3"#,
-        r#""LimitSet","Gateway":"gw-a","Band":"B4","Limit":"0""#,
-        r#""LimitSet","Gateway":"gw-a","Band":"B4","Limit":null"#,
-        r#""LimitSet","Gateway":"gw-a","Band":"B1","Limit":3600001"#,
-        r#""LimitSet","Gateway":"gw-a","Band":"B2","Limit":36000001"#,
-        r#""LimitSet","Gateway":"gw-a","Band":"B3","Limit":36000001"#,
-        r#""LimitSet","Gateway":"gw-a","Band":"B4","Limit":3600001"#,
-        r#""LimitSet","Gateway":"gw-a","Band":"B5","Limit":360000001"#,
-        r#""LimitSet","Gateway":"gw-a","Band":"B6","Limit":36000001"#,
-        r#""LimitSet","Gateway":"gw-a","Band":"B5","Limit":18446744073709551616"#,
-        r#""LimitSet","Gateway":"gw-a","Band":"B4","Band":"B7","Limit":0"#,
-        r#""LimitSet","Gateway":"gw-a","Band":"B4","Limit":0,"Limit":3600001"#,
-    ] {
-        let text = request(rt.alloc(), message)?;
-        assert_eq!(rt; refusal_of(rt.alloc(), text.as_bytes(), &desk), 7, "{text}");
-    }
-    Ok(())
+    expect_bad(&rt, &BAD)
 }

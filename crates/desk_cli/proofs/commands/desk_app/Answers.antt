@@ -1,6 +1,7 @@
 use Rattle.std.proofs.Common.{◌∙◌, ap}
 use Rattle.std.proofs.lemmas.Result.{IfOk-weaker}
-use Rattle.desk_cli.specs.CommandLine.{Adds, with_readers}
+use Rattle.desk_cli.specs.CommandLine.{with_readers}
+use Rattle.desk_cli.specs.steps.CommandLine.{Adds}
 use Rattle.desk_cli.proofs.commands.desk_app.Goals as goal
 
 pub returns : goal.returns
@@ -9,4 +10,5 @@ returns c =
     let one = c.in_ok-desk-2.ensures _ _ readers c.serve_app.ensures.app c.serve_app.ensures.local in
     let two = c.in_ok-desk-3.ensures _ _ one c.report_app.ensures.app c.report_app.ensures.local in
     let three = c.in_ok-desk-4.ensures _ _ two c.bands_app.ensures.app c.bands_app.ensures.local in
-    IfOk-weaker _ (Adds c.in_ok-desk-4.desk c.check_app.result) _ (λ _ adds. adds _ _ three c.check_app.ensures.app c.check_app.ensures.local) c.added-4.ensures
+    IfOk-weaker _ (Adds c.in_ok-desk-4.desk c.check_app.result) _
+    (λ _ adds. adds _ _ three c.check_app.ensures.app c.check_app.ensures.local) c.added-4.ensures

@@ -1,6 +1,6 @@
 use Rattle.std.proofs.Common.{refl}
 use Rattle.std.proofs.lemmas.Result.{IfOk-weaker}
-use Rattle.desk_cli.specs.CommandLine.{Adds}
+use Rattle.desk_cli.specs.steps.CommandLine.{Adds}
 use Rattle.desk_cli.proofs.commands.with_readers.Goals as goal
 
 pub returns : goal.returns
@@ -9,4 +9,5 @@ returns c =
     let two = c.in_ok-desk-2.ensures _ _ one c.init_app.ensures.app c.init_app.ensures.local in
     let three = c.in_ok-desk-3.ensures _ _ two c.migrate_app.ensures.app c.migrate_app.ensures.local in
     let four = c.in_ok-desk-4.ensures _ _ three c.hear_app.ensures.app c.hear_app.ensures.local in
-    IfOk-weaker _ (Adds c.in_ok-desk-4.desk c.import_app.result) _ (λ _ adds. adds _ _ four c.import_app.ensures.app c.import_app.ensures.local) c.added-5.ensures
+    IfOk-weaker _ (Adds c.in_ok-desk-4.desk c.import_app.result) _
+    (λ _ adds. adds _ _ four c.import_app.ensures.app c.import_app.ensures.local) c.added-5.ensures

@@ -1,8 +1,5 @@
-use Rattle.desk_tables.proofs.LookUps.{kept_told, read_told}
+use Rattle.desk_tables.proofs.LookUps.{read_told}
 use Rattle.desk_tables.proofs.looks.TablesLooks.texts_of.Goals as goal
 
 pub returns-clause-read : goal.returns-clause-read
 returns-clause-read g c = read_told _ _ _ _ _ _ _ c.in_ok-up.ensures.up c.texts_of-answer.ensures c.tell.ensures
-
-pub returns-clause-told : goal.returns-clause-told
-returns-clause-told g c = kept_told _ _ _ _ _ _ _ c.in_ok-up.ensures.up c.texts_of-answer.ensures c.tell.ensures
