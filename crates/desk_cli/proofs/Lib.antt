@@ -1,4 +1,5 @@
 pub mod Asked
+pub mod ByRules
 pub mod Checked
 pub mod FoundAgain
 pub mod Imported
@@ -15,4 +16,3 @@ pub mod Served
 pub mod Serving
 pub mod Stays
 pub mod Tellings
-pub mod WithinLimits

@@ -12,7 +12,7 @@ use Rattle.desk_http.specs.Reports.{IsBandAnswer}
 use Rattle.desk_cli.specs.Answered.{AtPorts}
 use Rattle.desk_cli.specs.Named.{Asked, lines, init, migrate, hear, import, serve, report, bands, check}
 use Rattle.desk_cli.specs.NoDesk.{HoldsNoDesk, RefusesFile}
-use Rattle.desk_cli.specs.OnTables.{HoursAreLeft, IsLeft, KeepsHeard}
+use Rattle.desk_cli.specs.OnTables.{IsLeft, KeepsHeard, LeavesRules}
 use Rattle.desk_cli.specs.Printing.{IsOwnersMonth, PrintsBy}
 use Rattle.desk_cli.specs.commands.Checking.{IsCheck}
 use Rattle.desk_cli.specs.commands.Hear.{HearsBy}
@@ -43,10 +43,10 @@ abbrev pub OnDeskFile : {S T : Type 0} → Ghosts S → (Text → Held S → Typ
 OnDeskFile g Opens given_back result file Untouched Does =
     OnFile Opens given_back result file Untouched (λ conn back. OnDesk g conn back result Untouched (Does back))
 
--- The same, and however it ended, in whatever a crash leaves of the desk no hour of any gateway's band has more downlinks than the limit.
-abbrev pub OnDeskWithinLimits : {S T : Type 0} → Ghosts S → (Text → Held S → Type 0) → Option (Held S) → Result T Fault → Text → Type 0 → (Held S → Settings → List Envelope → Type 0) → Type 0
-OnDeskWithinLimits g Opens given_back result file Untouched Does =
-    OnDeskFile g Opens given_back result file Untouched (λ back c heard. Does back c heard × HoursAreLeft g back c)
+-- The same, and however it ended, in whatever a crash leaves of the desk each frame is booked once, and every hour is within its limit.
+abbrev pub OnDeskByRules : {S T : Type 0} → Ghosts S → (Text → Held S → Type 0) → Option (Held S) → Result T Fault → Text → Type 0 → (Held S → Settings → List Envelope → Type 0) → Type 0
+OnDeskByRules g Opens given_back result file Untouched Does =
+    OnDeskFile g Opens given_back result file Untouched (λ back c heard. Does back c heard × LeavesRules g back c)
 
 -- What a connection to a file is; what is answered at the ports; the connection that a run gives back; what a reader has left before and
 -- after, and what a writer holds before and after.
@@ -57,19 +57,19 @@ module _ {S T : Type 0} (g : Ghosts S) (Opens : Text → Held S → Type 0) (por
   DoesAsked (init file c) = OnFile Opens given_back result file (Unit {0}) (λ conn back. InitsBy g conn back c result)
   DoesAsked (migrate file) = OnFile Opens given_back result file (Unit {0}) (λ conn back. MigratesBy g conn back result)
   DoesAsked (hear file) =
-      OnDeskWithinLimits g Opens given_back result file (Keeps left rest × Keeps before after) (λ back c heard. HearsBy g back c heard left rest before after result)
+      OnDeskByRules g Opens given_back result file (Keeps left rest × Keeps before after) (λ back c heard. HearsBy g back c heard left rest before after result)
   DoesAsked (import file sender) =
-      OnDeskWithinLimits g Opens given_back result file (Keeps left rest × Keeps before after)
+      OnDeskByRules g Opens given_back result file (Keeps left rest × Keeps before after)
       (λ back c heard. ImportsBy c heard sender (KeepsHeard g back c) (IsLeft g back c) left rest before after result)
   DoesAsked (serve file port connections) =
-      OnDeskWithinLimits g Opens given_back result file (Keeps before after)
+      OnDeskByRules g Opens given_back result file (Keeps before after)
       (λ back c heard. ServesBy c heard (KeepsHeard g back c) (IsLeft g back c) ports port connections before after result)
   DoesAsked (report file owner month) =
-      OnDeskWithinLimits g Opens given_back result file (Keeps before after)
+      OnDeskByRules g Opens given_back result file (Keeps before after)
       (λ back c heard. PrintsBy (KeepsHeard g back c heard) (IsLeft g back c heard None) before after (IsOwnersMonth (state_of c heard) owner month) result)
   DoesAsked (bands file gateway) =
-      OnDeskWithinLimits g Opens given_back result file (Keeps before after)
+      OnDeskByRules g Opens given_back result file (Keeps before after)
       (λ back c heard. PrintsBy (KeepsHeard g back c heard) (IsLeft g back c heard None) before after (IsBandAnswer (state_of c heard) gateway) result)
   DoesAsked (check file) =
-      OnDeskWithinLimits g Opens given_back result file (Keeps before after)
+      OnDeskByRules g Opens given_back result file (Keeps before after)
       (λ back c heard. PrintsBy (KeepsHeard g back c heard) (IsLeft g back c heard None) before after (IsCheck c heard) result)

@@ -6,13 +6,13 @@ ghost use Rattle.sqlite.specs.State.{HasCleanDisk};
 ghost use Rattle.sqlite.specs.Steps.{over_memory};
 ghost use Rattle.desk_engine.specs.Deliveries.{heard_all};
 ghost use Rattle.desk_engine.specs.Outcomes.{AreOutcomes, deliveries_of, first_doubt, has_disk};
-ghost use Rattle.desk_cli.specs.OnTables.{HasHeard, HoursAreLeft, KeepsHours, LeavesHours, LeftHeard};
+ghost use Rattle.desk_cli.specs.OnTables.{HasHeard, KeepsRules, LeavesRules, LeftHeard};
 
 use desk_engine::{Outcome, run};
 use desk_store::StoreFault;
 use desk_tables::Tables;
 use registry_core::Config;
-use registry_core::laws::{hours_are_kept, nothing_is_heard};
+use registry_core::laws::{frames_are_booked_once, hours_are_kept, nothing_is_heard};
 use sqlite::{Alter, Connection, MemStore};
 use std::alloc::Global;
 
@@ -40,13 +40,14 @@ pub fn run_on_tables<S: Alter>(
         → LeftHeard config (heard_all config [] (deliveries_of (map (λ t. t.now) texts.now) outcomes.items))
         (first_doubt config (map (λ t. t.now) texts.now) outcomes.items) trees) }
 
-    // In whatever the database then holds, and in whatever a crash leaves, no hour of any gateway's band has more downlinks than
-    // the limit.
-    ensures hours { HasCleanDisk (state S.Store result.1) → IfOk result.0 (λ outcomes. has_disk outcomes.items ≡ false
-        → KeepsHours config (state S.Store result.1).now) }
-    ensures hours_left { HasCleanDisk (state S.Store result.1) → IfOk result.0 (λ outcomes. HoursAreLeft S.Store result.1 config) }
+    // In whatever the database then holds, and in whatever a crash leaves, each frame is booked once, and no hour of any gateway's
+    // band has more downlinks than the limit.
+    ensures rules { HasCleanDisk (state S.Store result.1) → IfOk result.0 (λ outcomes. has_disk outcomes.items ≡ false
+        → KeepsRules config (state S.Store result.1).now) }
+    ensures rules_left { HasCleanDisk (state S.Store result.1) → IfOk result.0 (λ outcomes. LeavesRules S.Store result.1 config) }
 {
     nothing_is_heard();
+    frames_are_booked_once();
     hours_are_kept();
     match Tables::create(alloc, conn, config) {
         Ok(tables) => {
@@ -71,8 +72,8 @@ pub fn run_in_memory(
         → HasHeard config (heard_all config [] (deliveries_of (map (λ t. t.now) texts.now) ran.0.items)) (state over_memory ran.1).now) }
     ensures committed { IfOk result (λ ran. LeftHeard config (heard_all config [] (deliveries_of (map (λ t. t.now) texts.now) ran.0.items))
         (first_doubt config (map (λ t. t.now) texts.now) ran.0.items) (state over_memory ran.1).committed.trees) }
-    ensures hours { IfOk result (λ ran. has_disk ran.0.items ≡ false → KeepsHours config (state over_memory ran.1).now) }
-    ensures hours_left { IfOk result (λ ran. LeavesHours config (state over_memory ran.1).committed.trees) }
+    ensures rules { IfOk result (λ ran. has_disk ran.0.items ≡ false → KeepsRules config (state over_memory ran.1).now) }
+    ensures rules_left { IfOk result (λ ran. LeavesRules over_memory ran.1 config) }
 {
     let Ok(conn) = Connection::open_in_memory(alloc) else {
         return Err(StoreFault::Memory);

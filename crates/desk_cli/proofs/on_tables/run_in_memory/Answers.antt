@@ -11,8 +11,8 @@ returns-in-Ok-outcomes-clause-tables c = λ is. (rw c.in-Ok-outcomes.is at (c.ru
 pub returns-in-Ok-outcomes-clause-committed : goal.returns-in-Ok-outcomes-clause-committed
 returns-in-Ok-outcomes-clause-committed c = rw c.in-Ok-outcomes.is at (c.run_on_tables-outcomes.ensures.crash (memory_is_clean c.run_on_tables-outcomes.result.1)) _ refl
 
-pub returns-in-Ok-outcomes-clause-hours : goal.returns-in-Ok-outcomes-clause-hours
-returns-in-Ok-outcomes-clause-hours c = rw c.in-Ok-outcomes.is at (c.run_on_tables-outcomes.ensures.hours (memory_is_clean c.run_on_tables-outcomes.result.1))
+pub returns-in-Ok-outcomes-clause-rules : goal.returns-in-Ok-outcomes-clause-rules
+returns-in-Ok-outcomes-clause-rules c = rw c.in-Ok-outcomes.is at (c.run_on_tables-outcomes.ensures.rules (memory_is_clean c.run_on_tables-outcomes.result.1))
 
-pub returns-in-Ok-outcomes-clause-hours_left : goal.returns-in-Ok-outcomes-clause-hours_left
-returns-in-Ok-outcomes-clause-hours_left c = rw c.in-Ok-outcomes.is at (c.run_on_tables-outcomes.ensures.hours_left (memory_is_clean c.run_on_tables-outcomes.result.1)) _ refl
+pub returns-in-Ok-outcomes-clause-rules_left : goal.returns-in-Ok-outcomes-clause-rules_left
+returns-in-Ok-outcomes-clause-rules_left c = rw c.in-Ok-outcomes.is at (c.run_on_tables-outcomes.ensures.rules_left (memory_is_clean c.run_on_tables-outcomes.result.1))

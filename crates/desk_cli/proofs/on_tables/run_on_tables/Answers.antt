@@ -1,5 +1,5 @@
 use Rattle.std.proofs.Common.{[], None}
-use Rattle.desk_cli.proofs.OnTables.{closed, keeps_hours, leaves_hours, left, survives, unshut_by, was_in_order, was_new}
+use Rattle.desk_cli.proofs.OnTables.{closed, keeps_rules, leaves_rules, left, survives, unshut_by, was_in_order, was_new}
 use Rattle.desk_cli.proofs.on_tables.run_on_tables.Goals as goal
 
 pub returns-in-Ok-run-clause-outcomes : goal.returns-in-Ok-run-clause-outcomes
@@ -26,10 +26,10 @@ returns-in-Ok-run-clause-crash g c = λ clean.
     let crash = ran.crash c.args.config [] None (was_in_order _ _ _ _ _ was sound) (survives _ _ _ _ was g.met.S.Store.settled was_sound) in
     left _ _ _ _ _ was ran.call.same c.close.result _ _ crash c.close.ensures.left
 
-pub returns-in-Ok-run-clause-hours : goal.returns-in-Ok-run-clause-hours
-returns-in-Ok-run-clause-hours g c = λ clean is.
-    keeps_hours c.hours_are_kept.ensures c.args.config _ _ (returns-in-Ok-run-clause-tables g c clean is).0.tables
+pub returns-in-Ok-run-clause-rules : goal.returns-in-Ok-run-clause-rules
+returns-in-Ok-run-clause-rules g c = λ clean is.
+    keeps_rules c.frames_are_booked_once.ensures c.hours_are_kept.ensures c.args.config _ _ (returns-in-Ok-run-clause-tables g c clean is).0.tables
 
-pub returns-in-Ok-run-clause-hours_left : goal.returns-in-Ok-run-clause-hours_left
-returns-in-Ok-run-clause-hours_left g c = λ clean trees may.
-    leaves_hours c.hours_are_kept.ensures c.args.config _ _ trees (returns-in-Ok-run-clause-crash g c clean trees may)
+pub returns-in-Ok-run-clause-rules_left : goal.returns-in-Ok-run-clause-rules_left
+returns-in-Ok-run-clause-rules_left g c = λ clean trees may.
+    leaves_rules c.frames_are_booked_once.ensures c.hours_are_kept.ensures c.args.config _ _ trees (returns-in-Ok-run-clause-crash g c clean trees may)

@@ -1,0 +1,109 @@
+-- However a command on a desk ends, what a crash leaves of its file goes by the registry's rules.
+use Rattle.std.proofs.Common.{List, Option, None, Result, Ok, Err, ℕ, inl, inr}
+use Rattle.clap.specs.Walk.{Text}
+use Rattle.sqlite.specs.Held.{Held}
+use Rattle.sqlite_trees.specs.declared.store.Store.{Ghosts}
+use Rattle.registry_core.specs.declared.messages.Envelope.{Envelope}
+use Rattle.registry_core.specs.DownlinkLaws.{HoursAreKept}
+use Rattle.registry_core.specs.Laws.{FramesAreBookedOnce}
+use Rattle.registry_core.specs.Settings.{Settings}
+use Rattle.desk_engine.specs.declared.report_faults.ReportFault.{ReportFault}
+use Rattle.desk_cli.specs.Answered.{AtPorts}
+use Rattle.desk_cli.specs.Answering.{AnswersBy}
+use Rattle.desk_cli.specs.Doing.{OnDeskByRules, OnDeskFile}
+use Rattle.desk_cli.specs.OnTables.{IsLeft, KeepsHeard, LeavesRules}
+use Rattle.desk_cli.specs.Printing.{PrintsAnswer, PrintsBy}
+use Rattle.desk_cli.specs.commands.Importing.{ImportsBy}
+use Rattle.desk_cli.specs.commands.Serving.{ServesBy}
+use Rattle.desk_cli.specs.declared.faults.Fault.{Fault}
+use Rattle.desk_cli.specs.declared.faults.Fault.TheVariants.{Exists, NotADesk, Schema, Owner, Gateway, Month, CsvSize, CsvEnd, CsvHeader, CsvRecord, Unavailable, File, Network}
+use Rattle.desk_cli.proofs.OnTables.{leaves_rules}
+
+-- what is said of a desk's file, with what follows of the rules
+pub by_rules : {S T : Type 0} (g : Ghosts S) (Opens : Text → Held S → Type 0) (given_back : Option (Held S)) (result : Result T Fault) (file : Text) (Untouched : Type 0)
+    (Does : Held S → Settings → List Envelope → Type 0) → ((back : Held S) (c : Settings) (heard : List Envelope) → Does back c heard → LeavesRules g back c)
+    → OnDeskFile g Opens given_back result file Untouched Does → OnDeskByRules g Opens given_back result file Untouched Does
+by_rules g Opens given_back result file Untouched Does rules on = elim on [
+  | inl done ↦ inl (
+    done.0,
+    done.1,
+    done.2,
+    done.3,
+    record {
+      desk = λ clean c heard kept. let does = done.4.desk clean c heard kept in (does, rules done.1 c heard does);
+      no_desk = done.4.no_desk;
+      clean = done.4.clean;
+    },
+  )
+  | inr unopened ↦ inr unopened
+]
+
+module _ {S : Type 0} (once : FramesAreBookedOnce) (hours : HoursAreKept) (g : Ghosts S) (back : Held S) (c : Settings) where
+  left_by_rules : (heard : List Envelope) (doubt : Option Envelope) → IsLeft g back c heard doubt → LeavesRules g back c
+  left_by_rules heard doubt is = λ trees may. leaves_rules once hours c heard doubt trees (is trees may)
+
+  kept_by_rules : (heard : List Envelope) → KeepsHeard g back c heard → LeavesRules g back c
+  kept_by_rules heard keeps = left_by_rules heard None keeps.left
+
+  module _ {T : Type 0} (heard : List Envelope) (left rest before after : Option (List ℕ)) where
+    pub answers_by_rules : (result : Result T Fault) → AnswersBy c heard (KeepsHeard g back c) (IsLeft g back c) left rest before after result → LeavesRules g back c
+    answers_by_rules (Ok x) by = kept_by_rules _ by.kept
+    answers_by_rules (Err File) by = kept_by_rules _ by.kept
+    answers_by_rules (Err Unavailable) by = left_by_rules _ _ by.left_is
+    answers_by_rules (Err Exists) by = absurd by
+    answers_by_rules (Err NotADesk) by = absurd by
+    answers_by_rules (Err Schema) by = absurd by
+    answers_by_rules (Err Owner) by = absurd by
+    answers_by_rules (Err Gateway) by = absurd by
+    answers_by_rules (Err Month) by = absurd by
+    answers_by_rules (Err CsvSize) by = absurd by
+    answers_by_rules (Err CsvEnd) by = absurd by
+    answers_by_rules (Err CsvHeader) by = absurd by
+    answers_by_rules (Err (CsvRecord n)) by = absurd by
+    answers_by_rules (Err Network) by = absurd by
+
+    pub imports_by_rules : (sender : List ℕ) (result : Result T Fault) → ImportsBy c heard sender (KeepsHeard g back c) (IsLeft g back c) left rest before after result
+        → LeavesRules g back c
+    imports_by_rules sender (Ok x) by = kept_by_rules _ by.kept
+    imports_by_rules sender (Err File) by = left_by_rules _ _ by.left_is
+    imports_by_rules sender (Err Unavailable) by = left_by_rules _ _ by.left_is
+    imports_by_rules sender (Err CsvSize) by = kept_by_rules _ by.kept
+    imports_by_rules sender (Err CsvEnd) by = kept_by_rules _ by.kept
+    imports_by_rules sender (Err CsvHeader) by = kept_by_rules _ by.kept
+    imports_by_rules sender (Err (CsvRecord n)) by = kept_by_rules _ by.kept
+    imports_by_rules sender (Err Exists) by = absurd by
+    imports_by_rules sender (Err NotADesk) by = absurd by
+    imports_by_rules sender (Err Schema) by = absurd by
+    imports_by_rules sender (Err Owner) by = absurd by
+    imports_by_rules sender (Err Gateway) by = absurd by
+    imports_by_rules sender (Err Month) by = absurd by
+    imports_by_rules sender (Err Network) by = absurd by
+
+  module _ {T : Type 0} (heard : List Envelope) (before after : Option (List ℕ)) where
+    pub serves_by_rules : (ports : AtPorts) (port n : ℕ) (result : Result T Fault) → ServesBy c heard (KeepsHeard g back c) (IsLeft g back c) ports port n before after result
+        → LeavesRules g back c
+    serves_by_rules ports port n (Ok x) by = left_by_rules _ _ by.0.left_is
+    serves_by_rules ports port n (Err Network) by = kept_by_rules _ by.1
+    serves_by_rules ports port n (Err File) by = kept_by_rules _ by
+    serves_by_rules ports port n (Err Unavailable) by = left_by_rules _ _ by.0
+    serves_by_rules ports port n (Err Exists) by = absurd by
+    serves_by_rules ports port n (Err NotADesk) by = absurd by
+    serves_by_rules ports port n (Err Schema) by = absurd by
+    serves_by_rules ports port n (Err Owner) by = absurd by
+    serves_by_rules ports port n (Err Gateway) by = absurd by
+    serves_by_rules ports port n (Err Month) by = absurd by
+    serves_by_rules ports port n (Err CsvSize) by = absurd by
+    serves_by_rules ports port n (Err CsvEnd) by = absurd by
+    serves_by_rules ports port n (Err CsvHeader) by = absurd by
+    serves_by_rules ports port n (Err (CsvRecord number)) by = absurd by
+
+    answer_by_rules : (answer : Result (List ℕ) ReportFault) (result : Result T Fault)
+        → PrintsAnswer (KeepsHeard g back c heard) (IsLeft g back c heard None) before after answer result → LeavesRules g back c
+    answer_by_rules (Ok text) (Ok x) prints = kept_by_rules _ prints.1
+    answer_by_rules (Ok text) (Err fault) prints = kept_by_rules _ prints.1
+    answer_by_rules (Err why) (Ok x) prints = absurd prints
+    answer_by_rules (Err why) (Err fault) prints = left_by_rules _ _ prints.3
+
+    pub prints_by_rules : (IsAnswer : Result (List ℕ) ReportFault → Type 0) (result : Result T Fault)
+        → PrintsBy (KeepsHeard g back c heard) (IsLeft g back c heard None) before after IsAnswer result → LeavesRules g back c
+    prints_by_rules IsAnswer result by = answer_by_rules by.answer result by.prints
