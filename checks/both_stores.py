@@ -42,7 +42,7 @@ KINDS = {"join": 0, "data": 1}
 
 
 def told_by(store, lines):
-    """What the store in memory answers and reports, without the times."""
+    """What the store in memory answers and reports."""
     ran = subprocess.run(
         [TESTS, TEST],
         env={**os.environ, "DESK_STORE": store},
@@ -52,7 +52,9 @@ def told_by(store, lines):
     )
     if ran.returncode != 0:
         sys.exit(f"{store}: {ran.returncode}\n{ran.stdout[-2000:]}{ran.stderr}")
-    return [line for line in ran.stdout.splitlines() if not TIMES.match(line)]
+    told = ran.stdout.splitlines()
+    # the times stand behind all of it, and the test's own last lines behind them
+    return told[: next(place for place, line in enumerate(told) if TIMES.match(line))]
 
 
 def printed_by(program, *words, lines=(), statuses=(0,)):
