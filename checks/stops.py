@@ -22,7 +22,7 @@ import subprocess
 import sys
 import time
 
-from both_stores import PROGRAM, ROOT
+from both_stores import ROOT, TESTS
 from mixed_operation import mixed_operation
 
 TEST = "tests::stops::given_lines"
@@ -37,7 +37,7 @@ DEVICES = 8
 def runs_of(fuses, lines, what):
     """How many of the runs met a stop."""
     ran = subprocess.run(
-        [PROGRAM, TEST],
+        [TESTS, TEST],
         env={**os.environ, "DESK_STOPS": " ".join(fuses)},
         input="".join(line + "\n" for line in lines),
         capture_output=True,
