@@ -28,7 +28,7 @@ LeftHeard c heard doubt trees =
     AreOfDesk c (kept_after c heard) trees
     ⊎ ((e : Envelope) × (doubt ≡ Some e) × IsHeard c (heard ++ e ∷ []) × AreOfDesk c (kept_after c (heard ++ e ∷ [])) trees)
 
--- each frame is booked once, as one uplink, and no hour of any gateway's band has more downlinks than the limit
+-- no two uplinks have one session, one kind and one counter, and no hour of any gateway's band has more downlinks than the limit
 pub record GoByRules (s : State) : Type 0 where
   pub once : (m n : ℕ) (u v : Uplink) → item_at s.uplinks m ≡ Some u → item_at s.uplinks n ≡ Some v
       → u.session ≡ v.session → u.kind ≡ v.kind → u.counter ≡ v.counter → m ≡ n

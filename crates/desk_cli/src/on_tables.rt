@@ -40,8 +40,8 @@ pub fn run_on_tables<S: Alter>(
         → LeftHeard config (heard_all config [] (deliveries_of (map (λ t. t.now) texts.now) outcomes.items))
         (first_doubt config (map (λ t. t.now) texts.now) outcomes.items) trees) }
 
-    // In whatever the database then holds, and in whatever a crash leaves, each frame is booked once, and no hour of any gateway's
-    // band has more downlinks than the limit.
+    // In whatever the database then holds, and in whatever a crash leaves, no two uplinks have one session, one kind and one
+    // counter, and no hour of any gateway's band has more downlinks than the limit.
     ensures rules { HasCleanDisk (state S.Store result.1) → IfOk result.0 (λ outcomes. has_disk outcomes.items ≡ false
         → KeepsRules config (state S.Store result.1).now) }
     ensures rules_left { HasCleanDisk (state S.Store result.1) → IfOk result.0 (λ outcomes. LeavesRules S.Store result.1 config) }
