@@ -4,8 +4,7 @@ use Rattle.clap.specs.Walk.{Text}
 use Rattle.sqlite.specs.Held.{Held}
 use Rattle.sqlite_trees.specs.declared.store.Store.{Ghosts}
 use Rattle.registry_core.specs.declared.messages.Envelope.{Envelope}
-use Rattle.registry_core.specs.DownlinkLaws.{HoursAreKept}
-use Rattle.registry_core.specs.Laws.{FramesAreBookedOnce}
+use Rattle.registry_core.specs.Rules.{RulesAreKept}
 use Rattle.registry_core.specs.Settings.{Settings}
 use Rattle.desk_engine.specs.declared.report_faults.ReportFault.{ReportFault}
 use Rattle.desk_cli.specs.Answered.{AtPorts}
@@ -38,9 +37,9 @@ by_rules g Opens given_back result file Untouched Does rules on = elim on [
   | inr unopened ↦ inr unopened
 ]
 
-module _ {S : Type 0} (once : FramesAreBookedOnce) (hours : HoursAreKept) (g : Ghosts S) (back : Held S) (c : Settings) where
+module _ {S : Type 0} (law : RulesAreKept) (g : Ghosts S) (back : Held S) (c : Settings) where
   left_by_rules : (heard : List Envelope) (doubt : Option Envelope) → IsLeft g back c heard doubt → LeavesRules g back c
-  left_by_rules heard doubt is = λ trees may. leaves_rules once hours c heard doubt trees (is trees may)
+  left_by_rules heard doubt is = λ trees may. leaves_rules law c heard doubt trees (is trees may)
 
   kept_by_rules : (heard : List Envelope) → KeepsHeard g back c heard → LeavesRules g back c
   kept_by_rules heard keeps = left_by_rules heard None keeps.left

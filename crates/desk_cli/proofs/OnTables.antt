@@ -5,9 +5,8 @@ use Rattle.sqlite_trees.specs.declared.store.Store.{Ghosts}
 use Rattle.sqlite.specs.Effect.{Database}
 use Rattle.sqlite.specs.Held.{Held, state}
 use Rattle.registry_core.specs.declared.messages.Envelope.{Envelope}
-use Rattle.registry_core.specs.DownlinkLaws.{HoursAreKept}
 use Rattle.registry_core.specs.Heard.{IsHeard}
-use Rattle.registry_core.specs.Laws.{FramesAreBookedOnce}
+use Rattle.registry_core.specs.Rules.{GoesByRules, RulesAreKept}
 use Rattle.registry_core.specs.Settings.{Settings}
 use Rattle.desk_store.specs.Calls.{IsCall}
 use Rattle.desk_store.specs.Meaning.{Meaning}
@@ -19,7 +18,7 @@ use Rattle.desk_tables.specs.declared.tables.Tables.{Tables}
 use Rattle.desk_engine.specs.InOrder as engine
 use Rattle.desk_engine.specs.InOrder.{Survives, WasInOrder, doubt_after, kept_after}
 use Rattle.desk_cli.specs.Answering.{Keeps, Leaves}
-use Rattle.desk_cli.specs.OnTables.{GoByRules, HasHeard, IsLeft, KeepsHeard, KeepsRules, LeftHeard, WasOpened}
+use Rattle.desk_cli.specs.OnTables.{HasHeard, IsLeft, KeepsHeard, KeepsRules, LeftHeard, WasOpened}
 
 -- a desk that was made has heard nothing
 pub was_new : {S : Type 0} (g : Ghosts S) (c : Settings) (made : Tables S) → IsHeard c [] → IsStore (meaning_of g) made c (opening_kept c)
@@ -33,15 +32,15 @@ module _ {S : Type 0} (g : Ghosts S) (c : Settings) (before : List Envelope) (ol
       → (meaning_of g).sound old → Survives (meaning_of g) c old before None
   survives settled sound = inl (own_law g settled old (kept_after c before) sound was.store.up was.store.holds)
 
--- a database holds one thing, and of what was heard the laws tell
-module _ (once : FramesAreBookedOnce) (hours : HoursAreKept) (c : Settings) where
+-- a database holds one thing, and of what was heard the law tells
+module _ (law : RulesAreKept) (c : Settings) where
   pub keeps_rules : (heard : List Envelope) (db : Database) → IsOfDesk c (kept_after c heard) db → KeepsRules c db
   unfolding kept_after
   keeps_rules heard db is = λ kept other.
-      subst (λ (k : Kept). GoByRules k.facts) (one_kept c db (kept_after c heard) kept is.in_order other.in_order) (record { once = once c heard; hours = hours c heard })
+      subst (λ (k : Kept). GoesByRules k.facts) (one_kept c db (kept_after c heard) kept is.in_order other.in_order) (law c heard)
 
   pub leaves_rules : (heard : List Envelope) (doubt : Option Envelope) (trees : Trees) → LeftHeard c heard doubt trees → (kept : Kept) → AreOfDesk c kept trees
-      → GoByRules kept.facts
+      → GoesByRules kept.facts
   leaves_rules heard doubt trees left = elim left [
     | inl is ↦ keeps_rules heard _ is
     | inr more ↦ keeps_rules (heard ++ more.0 ∷ []) _ more.3

@@ -43,8 +43,7 @@ abbrev pub OnDeskFile : {S T : Type 0} → Ghosts S → (Text → Held S → Typ
 OnDeskFile g Opens given_back result file Untouched Does =
     OnFile Opens given_back result file Untouched (λ conn back. OnDesk g conn back result Untouched (Does back))
 
--- The same, and however it ended, in whatever a crash leaves of the desk no two uplinks are of one session, kind and counter, and every
--- hour is within its limit.
+-- The same, and however it ended, whatever a crash leaves of the desk goes by the registry's rules.
 abbrev pub OnDeskByRules : {S T : Type 0} → Ghosts S → (Text → Held S → Type 0) → Option (Held S) → Result T Fault → Text → Type 0 → (Held S → Settings → List Envelope → Type 0) → Type 0
 OnDeskByRules g Opens given_back result file Untouched Does =
     OnDeskFile g Opens given_back result file Untouched (λ back c heard. Does back c heard × LeavesRules g back c)

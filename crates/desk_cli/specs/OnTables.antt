@@ -1,16 +1,13 @@
 -- A desk's database, in the words of what it has heard.
-use Rattle.std.specs.Prelude.{◌≡◌, ◌⊎◌, ◌++◌, ℕ, List, [], ◌∷◌, Option, Some, None}
+use Rattle.std.specs.Prelude.{◌≡◌, ◌⊎◌, ◌++◌, List, [], ◌∷◌, Option, Some, None}
 use Rattle.sqlite.specs.Effect.{Database}
 use Rattle.sqlite.specs.Held.{Held, state}
 use Rattle.sqlite_trees.specs.Tree.{Trees}
 use Rattle.sqlite_trees.specs.declared.store.Store.{Ghosts}
-use Rattle.registry_core.specs.declared.facts.Uplink.{Uplink}
 use Rattle.registry_core.specs.declared.messages.Envelope.{Envelope}
-use Rattle.registry_core.specs.Bookings.{EveryHourKept}
 use Rattle.registry_core.specs.Heard.{IsHeard}
-use Rattle.registry_core.specs.Numbered.{item_at}
+use Rattle.registry_core.specs.Rules.{GoesByRules}
 use Rattle.registry_core.specs.Settings.{Settings}
-use Rattle.registry_core.specs.State.{State}
 use Rattle.desk_store.specs.Kept.{Kept}
 use Rattle.desk_store.specs.Meaning.{Meaning}
 use Rattle.desk_tables.specs.Adopting.{IsStore}
@@ -28,19 +25,13 @@ LeftHeard c heard doubt trees =
     AreOfDesk c (kept_after c heard) trees
     ⊎ ((e : Envelope) × (doubt ≡ Some e) × IsHeard c (heard ++ e ∷ []) × AreOfDesk c (kept_after c (heard ++ e ∷ [])) trees)
 
--- no two uplinks have one session, one kind and one counter, and no hour of any gateway's band has more downlinks than the limit
-pub record GoByRules (s : State) : Type 0 where
-  pub once : (m n : ℕ) (u v : Uplink) → item_at s.uplinks m ≡ Some u → item_at s.uplinks n ≡ Some v
-      → u.session ≡ v.session → u.kind ≡ v.kind → u.counter ≡ v.counter → m ≡ n
-  pub hours : EveryHourKept s
-
--- so it is in whatever a desk of this configuration holds whose database it is
+-- whatever a desk of this configuration holds whose database it is goes by the registry's rules
 abbrev pub KeepsRules : Settings → Database → Type 0
-KeepsRules c db = (kept : Kept) → IsOfDesk c kept db → GoByRules kept.facts
+KeepsRules c db = (kept : Kept) → IsOfDesk c kept db → GoesByRules kept.facts
 
--- and in whatever a crash leaves of the connection's file at this moment
+-- and so does whatever a crash leaves of the connection's file at this moment
 abbrev pub LeavesRules : {S : Type 0} → Ghosts S → Held S → Settings → Type 0
-LeavesRules g conn c = (trees : Trees) → (state g conn).may_leave trees → (kept : Kept) → AreOfDesk c kept trees → GoByRules kept.facts
+LeavesRules g conn c = (trees : Trees) → (state g conn).may_leave trees → (kept : Kept) → AreOfDesk c kept trees → GoesByRules kept.facts
 
 module _ {S : Type 0} (g : Ghosts S) (conn : Held S) (c : Settings) (heard : List Envelope) where
   -- whatever a crash leaves of the connection's file at this moment holds what was heard, or that with the message in doubt

@@ -12,7 +12,7 @@ use desk_engine::{Outcome, run};
 use desk_store::StoreFault;
 use desk_tables::Tables;
 use registry_core::Config;
-use registry_core::laws::{frames_are_booked_once, hours_are_kept, nothing_is_heard};
+use registry_core::laws::{nothing_is_heard, rules_are_kept};
 use sqlite::{Alter, Connection, MemStore};
 use std::alloc::Global;
 
@@ -40,15 +40,15 @@ pub fn run_on_tables<S: Alter>(
         → LeftHeard config (heard_all config [] (deliveries_of (map (λ t. t.now) texts.now) outcomes.items))
         (first_doubt config (map (λ t. t.now) texts.now) outcomes.items) trees) }
 
-    // In whatever the database then holds, and in whatever a crash leaves, no two uplinks have one session, one kind and one
-    // counter, and no hour of any gateway's band has more downlinks than the limit.
+    // Whatever the database then holds, and whatever a crash leaves, goes by the registry's rules: no two sessions have one device
+    // and one nonce, no two uplinks have one session, one kind and one counter, and no hour of any gateway's band has more
+    // downlinks than the limit.
     ensures rules { HasCleanDisk (state S.Store result.1) → IfOk result.0 (λ outcomes. has_disk outcomes.items ≡ false
         → KeepsRules config (state S.Store result.1).now) }
     ensures rules_left { HasCleanDisk (state S.Store result.1) → IfOk result.0 (λ outcomes. LeavesRules S.Store result.1 config) }
 {
     nothing_is_heard();
-    frames_are_booked_once();
-    hours_are_kept();
+    rules_are_kept();
     match Tables::create(alloc, conn, config) {
         Ok(tables) => {
             let mut tables = tables;

@@ -24,7 +24,7 @@ use crate::files::Files;
 use crate::listening::Network;
 use radio_core::Name;
 use registry_core::Config;
-use registry_core::laws::{frames_are_booked_once, hours_are_kept};
+use registry_core::laws::rules_are_kept;
 use sqlite::{Alter, Connection};
 use std::alloc::Global;
 use std::io::{Read, Write};
@@ -44,8 +44,7 @@ pub(crate) fn perform<S: Alter, N: Files<S>, B: Network, R: Read, W: Write>(
     ensures { DoesAsked S.Store (N.opens files) (at_ports B.ports network.now B.Port.meaning B.Port.Reader.remaining B.Port.Writer.contents) result.1
         (R.remaining reader.old) (R.remaining reader.new) (W.contents answers.old) (W.contents answers.new) result.0 (asked_of command.now) }
 {
-    frames_are_booked_once();
-    hours_are_kept();
+    rules_are_kept();
     match command {
         Command::Lines { config } => (lines_command(alloc, config, reader, answers), None),
         Command::Init { file, config } => init_file(alloc, files, file, *config),

@@ -2,14 +2,14 @@
 use Rattle.std.proofs.Common.{◌≡◌, ◌∙◌, Bool, true, false, List, Option, None, refl, ap, sym, subst, inl, inr}
 use Rattle.std.specs.Prelude.{◌||◌, if◌then◌else◌}
 use Rattle.registry_core.specs.declared.messages.Envelope.{Envelope}
-use Rattle.registry_core.specs.DownlinkLaws.{HoursAreKept}
+use Rattle.registry_core.specs.Rules.{RulesAreKept}
 use Rattle.registry_core.specs.Settings.{Settings}
 use Rattle.desk_store.specs.declared.faults.StoreFault.{StoreFault}
 use Rattle.desk_store.specs.Calls.{IsCall, IsRead, is_disk, is_foreign}
 use Rattle.desk_store.specs.Meaning.{Meaning}
 use Rattle.desk_engine.specs.Hearing.{Hears}
 use Rattle.desk_engine.specs.InOrder.{IsInOrder, Survives, WasInOrder, doubt_after, kept_after}
-use Rattle.desk_engine.proofs.KeptAfter.{HoldsOne, holds_hours}
+use Rattle.desk_engine.proofs.KeptAfter.{HoldsOne, holds_rules}
 
 or_true : (b : Bool) → (b || true) ≡ true
 or_true true = refl
@@ -60,7 +60,7 @@ module _ {K : Type 0} (m : Meaning K) where
       )
 
   -- reading calls that heard nothing
-  pub hears_nothing : HoldsOne m → HoursAreKept → (old new : K) (fault : Option StoreFault) (disk foreign : Bool)
+  pub hears_nothing : HoldsOne m → RulesAreKept → (old new : K) (fault : Option StoreFault) (disk foreign : Bool)
       (after : Settings → List Envelope → List Envelope) (doubtful : Settings → Option Envelope)
       → IsRead m old new fault → disk ≡ is_disk fault → foreign ≡ is_foreign fault
       → ((c : Settings) (heard : List Envelope) → WasInOrder m c heard old new → after c heard ≡ heard)
@@ -71,7 +71,7 @@ module _ {K : Type 0} (m : Meaning K) where
     crash = λ c heard doubt was s.
         subst (λ l. Survives m c new l (doubt_after (m.down old) doubt (doubtful c))) (sym (same c heard was))
         (survives_reads c heard doubt (doubtful c) old new fault reads was.sound was.order.kept s);
-    hours = λ c heard was. holds_hours m one law c heard new was.sound (stays c heard was);
+    rules = λ c heard was. holds_rules m one law c heard new was.sound (stays c heard was);
   }
     where
       stays : (c : Settings) (heard : List Envelope) → WasInOrder m c heard old new → IsInOrder m c new heard
@@ -103,7 +103,7 @@ module _ {K : Type 0} (m : Meaning K) where
     crash = λ c heard doubt was s.
         subst (λ l. Survives m c new l (doubt_after (m.down old) doubt (doubted c))) (sym (same c heard was))
         (subst (λ d. Survives m c new (after c heard) (doubt_after (m.down old) doubt d)) (sym (in_doubt c heard was)) (h.crash c heard doubt was s));
-    hours = h.hours;
+    rules = h.rules;
   }
 
   pub hears_then : (old mid new : K) (first_disk first_foreign disk foreign : Bool) (first_after after : Settings → List Envelope → List Envelope) (first_doubt doubtful : Settings → Option Envelope)
@@ -121,7 +121,7 @@ module _ {K : Type 0} (m : Meaning K) where
         subst (λ d. Survives m c new (after c (first_after c heard)) d)
         (doubts (m.down old) first_disk (m.down mid) doubt (first_doubt c) (doubtful c) first.call.shut)
         (second.crash c (first_after c heard) _ (there c heard was) (first.crash c heard doubt (here c heard was) s));
-    hours = λ c heard was. second.hours c (first_after c heard) (there c heard was);
+    rules = λ c heard was. second.rules c (first_after c heard) (there c heard was);
   }
     where
       here : (c : Settings) (heard : List Envelope) → WasInOrder m c heard old new → WasInOrder m c heard old mid

@@ -3,9 +3,8 @@ use Rattle.std.proofs.Common.{◌≡◌, ℕ, false, suc, List, [], ◌∷◌, �
 use Rattle.std.proofs.lemmas.List.{map-append}
 use Rattle.registry_core.specs.declared.answers.Answer.{Answer}
 use Rattle.registry_core.specs.declared.messages.Envelope.{Envelope}
-use Rattle.registry_core.specs.Bookings.{EveryHourKept}
-use Rattle.registry_core.specs.DownlinkLaws.{HoursAreKept}
 use Rattle.registry_core.specs.Heard.{state_after, state_of, answers_after, answers_of}
+use Rattle.registry_core.specs.Rules.{GoesByRules, RulesAreKept}
 use Rattle.registry_core.specs.Settings.{Settings}
 use Rattle.registry_core.specs.State.{State, opening}
 use Rattle.registry_core.specs.Decision.{Decision}
@@ -14,7 +13,7 @@ use Rattle.desk_store.specs.Kept.{Entry, Kept, with_entry}
 use Rattle.desk_store.specs.Meaning.{Meaning}
 use Rattle.desk_wire.specs.Answers.{answer_text, head_of_envelope}
 use Rattle.desk_wire.specs.Writing.{message_text}
-use Rattle.desk_engine.specs.InOrder.{HoldsHours, IsInOrder, entry_at, kept_after}
+use Rattle.desk_engine.specs.InOrder.{HoldsRules, IsInOrder, entry_at, kept_after}
 
 pub state_after-push : (c : Settings) (s : State) (heard : List Envelope) (e : Envelope) → state_after c s (heard ++ e ∷ []) ≡ (step c (state_after c s heard) e).0
 state_after-push c s [] e = refl
@@ -57,17 +56,17 @@ with_entry-kept_after c heard e message d text decided messaged answered =
     ∙ ap (λ (x : Decision). kept_with c heard e (message_text c.receiver e) x (answer_text c.receiver (head_of_envelope e) x.1)) decided
     ∙ with_own_texts c heard e
 
--- and no hour holds more than its limit in it
-pub hours_of : HoursAreKept → (c : Settings) (heard : List Envelope) (kept : Kept) → kept_after c heard ≡ kept → EveryHourKept kept.facts
+-- and it goes by the registry's rules
+pub rules_of : RulesAreKept → (c : Settings) (heard : List Envelope) (kept : Kept) → kept_after c heard ≡ kept → GoesByRules kept.facts
 unfolding kept_after
-hours_of law c heard kept same = subst (λ (k : Kept). EveryHourKept k.facts) same (law c heard)
+rules_of law c heard kept same = subst (λ (k : Kept). GoesByRules k.facts) same (law c heard)
 
 -- a store that is up holds one thing at most
 abbrev pub HoldsOne : {K : Type 0} → Meaning K → Type 0
 HoldsOne {K} m = (keeper : K) (a b : Kept) → m.sound keeper → m.down keeper ≡ false → m.holds keeper a → m.holds keeper b → a ≡ b
 
--- so no hour holds more in what a store holds that is in order
-pub holds_hours : {K : Type 0} (m : Meaning K) → HoldsOne m → HoursAreKept → (c : Settings) (heard : List Envelope) (keeper : K) → m.sound keeper
-    → IsInOrder m c keeper heard → HoldsHours m keeper
-holds_hours m one law c heard keeper sound order = λ kept up held.
-    hours_of law c heard kept (one keeper (kept_after c heard) kept sound up order.kept held)
+-- so what a store holds that is in order goes by the rules
+pub holds_rules : {K : Type 0} (m : Meaning K) → HoldsOne m → RulesAreKept → (c : Settings) (heard : List Envelope) (keeper : K) → m.sound keeper
+    → IsInOrder m c keeper heard → HoldsRules m keeper
+holds_rules m one law c heard keeper sound order = λ kept up held.
+    rules_of law c heard kept (one keeper (kept_after c heard) kept sound up order.kept held)

@@ -2,7 +2,7 @@
 use Rattle.std.specs.Prelude.{◌≡◌, ◌⊎◌, ◌≤◌, Bool, true, false, List, [], ◌∷◌, ◌++◌, length, map, Option, Some, if◌then◌else◌}
 use Rattle.registry_core.specs.declared.answers.Answer.{Answer}
 use Rattle.registry_core.specs.declared.messages.Envelope.{Envelope}
-use Rattle.registry_core.specs.Bookings.{EveryHourKept}
+use Rattle.registry_core.specs.Rules.{GoesByRules}
 use Rattle.registry_core.specs.Heard.{IsHeard, answers_of, most_heard, state_of}
 use Rattle.registry_core.specs.Settings.{Settings}
 use Rattle.desk_store.specs.Kept.{Entry, Kept, entry_with}
@@ -37,9 +37,9 @@ pub record WasInOrder {K : Type 0} (m : Meaning K) (c : Settings) (heard : List 
 abbrev pub HasNoRoom : {K : Type 0} → Meaning K → K → List Envelope → Type 0
 HasNoRoom m keeper heard = (most_heard ≤ length heard) ⊎ m.sized keeper
 
--- in whatever a store that is up holds, no hour of any gateway's band has more downlinks than the limit
-abbrev pub HoldsHours : {K : Type 0} → Meaning K → K → Type 0
-HoldsHours m keeper = (kept : Kept) → m.down keeper ≡ false → m.holds keeper kept → EveryHourKept kept.facts
+-- whatever a store that is up holds goes by the registry's rules
+abbrev pub HoldsRules : {K : Type 0} → Meaning K → K → Type 0
+HoldsRules m keeper = (kept : Kept) → m.down keeper ≡ false → m.holds keeper kept → GoesByRules kept.facts
 
 -- the doubtful message could be heard, and a crash leaves these, or these with it
 pub record IsInDoubt {K : Type 0} (m : Meaning K) (c : Settings) (keeper : K) (heard : List Envelope) (e : Envelope) : Type 0 where

@@ -1,6 +1,6 @@
 //! The whole over plain lists, from nothing, with no premise.
 ghost use Rattle.std.specs.Prelude.{◌≡◌, ℕ, [], map, take, IfOk};
-ghost use Rattle.registry_core.specs.Bookings.{EveryHourKept};
+ghost use Rattle.registry_core.specs.Rules.{GoesByRules};
 ghost use Rattle.registry_core.specs.Heard.{state_of};
 ghost use Rattle.registry_core.specs.State.{opening};
 ghost use Rattle.desk_store.specs.Lists.{kept_of, settings_of};
@@ -12,7 +12,7 @@ use crate::delivering::run;
 use crate::outcomes::Outcome;
 use desk_store::Lists;
 use registry_core::Config;
-use registry_core::laws::{hours_are_kept, nothing_is_heard};
+use registry_core::laws::{nothing_is_heard, rules_are_kept};
 use std::alloc::{AllocError, Global};
 
 /// Answers texts in order over lists made for it, for every configuration and every list of texts.
@@ -27,13 +27,13 @@ pub fn run_from_nothing(
     ensures kept { IfOk result (λ ran. kept_of ran.0
         ≡ kept_after config (heard_all config [] (deliveries_of (map (λ t. t.now) texts.now) ran.1.items))) }
 
-    // No hour of any gateway's band holds more downlinks than the limit: after each beginning of the list, and in what the
-    // lists keep.
-    ensures hours_before { IfOk result (λ ran. (n : ℕ) → EveryHourKept (state_of config
+    // No two sessions have one device and one nonce, no two uplinks have one session, one kind and one counter, and no hour of
+    // any gateway's band has more downlinks than the limit: after each beginning of the list, and in what the lists keep.
+    ensures rules_before { IfOk result (λ ran. (n : ℕ) → GoesByRules (state_of config
         (heard_all config [] (take n (deliveries_of (map (λ t. t.now) texts.now) ran.1.items))))) }
-    ensures hours { IfOk result (λ ran. EveryHourKept (kept_of ran.0).facts) }
+    ensures rules { IfOk result (λ ran. GoesByRules (kept_of ran.0).facts) }
 {
-    hours_are_kept();
+    rules_are_kept();
     nothing_is_heard();
     let mut lists = opened(alloc, config)?;
     match run(alloc, &mut *lists, texts) {

@@ -6,7 +6,7 @@ ghost use Rattle.desk_engine.specs.Reports.{OwnerReportsAgree};
 use desk_store::Keeper;
 use desk_wire::laws::reads_in_range;
 use duty_core::laws::peak_has_an_edge;
-use registry_core::laws::{heard_lists_stay, hours_are_kept, same_message_tells, senders_stay};
+use registry_core::laws::{heard_lists_stay, rules_are_kept, same_message_tells, senders_stay};
 
 /// One more delivery leaves a heard list, while there is room.
 #[tactic(auto, using(crate::proofs::HeardTexts::deliveries_leave_heard_lists))]
@@ -29,7 +29,7 @@ pub fn calls_hear_in_order<K: Keeper>()
     ensures reads { ReadsHearNothing K.meaning }
     ensures none { NoCallHearsNothing K.meaning }
 {
-    hours_are_kept();
+    rules_are_kept();
 }
 
 /// Whatever is delivered, the answer that was given to an envelope stays at its place.

@@ -55,7 +55,7 @@ join_parts s device nonce u h =
     }
 
 -- a device has each nonce once
-session_once : (sessions : List Session) (m n : ℕ) (a b : Session) → NoncesRiseIn sessions → item_at sessions m ≡ Some a → item_at sessions n ≡ Some b → a.device ≡ b.device → a.nonce ≡ b.nonce
+pub session_once : (sessions : List Session) (m n : ℕ) (a b : Session) → NoncesRiseIn sessions → item_at sessions m ≡ Some a → item_at sessions n ≡ Some b → a.device ≡ b.device → a.nonce ≡ b.nonce
     → (m ≡ n) ⊎ ((m < n) ⊎ (n < m)) → m ≡ n
 session_once sessions m n a b rise em en device nonce (inl same) = same
 session_once sessions m n a b rise em en device nonce (inr (inl below)) = let lt : a.nonce < b.nonce = rise m n a b em en device below in absurd (omega (arith, lt, nonce))

@@ -25,7 +25,7 @@ use Rattle.registry_core.specs.Bookings.{downlinks, downlinks_in, is_answered, l
 use Rattle.registry_core.specs.Checks.{Checked, ◌>>=◌, ◌>>◌, wants, needs}
 use Rattle.registry_core.specs.Decision.{Decision, decision_or_refusal}
 use Rattle.registry_core.specs.Derived.{address_of}
-use Rattle.registry_core.specs.DownlinkLaws.{BookedExactly, CopiesLieInBands, DownlinksAreShort, DownlinksHaveBands, HoursAreKept, IsAccepted, tells_booking}
+use Rattle.registry_core.specs.DownlinkLaws.{BookedExactly, CopiesLieInBands, DownlinksAreShort, DownlinksHaveBands, IsAccepted, tells_booking}
 use Rattle.registry_core.specs.Downlinks.{down_added, down_book, on_air}
 use Rattle.registry_core.specs.Frames.{counts_as, downlink_to, frame_at, goes_to}
 use Rattle.registry_core.specs.Heard.{state_of}
@@ -37,9 +37,6 @@ use Rattle.registry_core.specs.Windows.{delay, rate_in}
 use Rattle.registry_core.proofs.BookedHours.{kept_of}
 use Rattle.registry_core.proofs.Decisions.{sound_of}
 use Rattle.registry_core.proofs.Telling.{NoRefusal, Tells, from_needs, from_wants, to_needs, to_wants}
-
-pub hours_are_kept : AirtimeIsBounded → HoursWithinTells → HoursAreKept
-hours_are_kept bounded tells c heard = (kept_of bounded tells c heard).hours
 
 pub downlinks_are_short : AirtimeIsBounded → HoursWithinTells → DownlinksAreShort
 downlinks_are_short bounded tells c heard = All-from_recursion (λ (b : Booking). b.span.len ≤ greatest_length) (state_of c heard).bookings (kept_of bounded tells c heard).short

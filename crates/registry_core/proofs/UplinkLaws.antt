@@ -8,7 +8,7 @@ use Rattle.registry_core.specs.declared.facts.Kind.{Kind}
 use Rattle.registry_core.specs.declared.facts.Kind.TheVariants.{Join, Data}
 use Rattle.registry_core.specs.declared.facts.Uplink.{Uplink}
 use Rattle.registry_core.specs.Heard.{state_of}
-use Rattle.registry_core.specs.Laws.{UplinksHaveCopies, UplinksStay, FramesAreBookedOnce, CountersRise, CountersAgreeWithFrames}
+use Rattle.registry_core.specs.Laws.{UplinksHaveCopies, UplinksStay, CountersRise, CountersAgreeWithFrames}
 use Rattle.registry_core.specs.Numbered.{item_at}
 use Rattle.registry_core.specs.Settings.{Settings}
 use Rattle.registry_core.specs.State.{State, state_with}
@@ -35,9 +35,6 @@ once_by c s m n u v Data sound em en same ku kv counter (inr (inr above)) =
 pub uplink_once : (c : Settings) (s : State) (m n : ℕ) (u v : Uplink) → IsSound c s → item_at s.uplinks m ≡ Some u → item_at s.uplinks n ≡ Some v
     → u.session ≡ v.session → u.kind ≡ v.kind → u.counter ≡ v.counter → m ≡ n
 uplink_once c s m n u v sound em en same kinds counter = once_by c s m n u v v.kind sound em en same kinds refl counter (cases_order m n)
-
-pub frames_are_booked_once : FramesAreBookedOnce
-frames_are_booked_once c heard m n u v = uplink_once c (state_of c heard) m n u v (sound_of c heard)
 
 pub uplinks_have_copies : UplinksHaveCopies
 uplinks_have_copies c heard = (sound_of c heard).copied

@@ -14,7 +14,7 @@ use Rattle.registry_core.specs.declared.frames.Downlink.{Downlink}
 use Rattle.registry_core.specs.declared.messages.Envelope.{Envelope}
 use Rattle.registry_core.specs.declared.messages.Message.TheVariants.{DownBook}
 use Rattle.registry_core.specs.declared.windows.Window.{Window}
-use Rattle.registry_core.specs.Bookings.{EveryHourKept, downlinks, downlinks_in, is_answered, is_dropped, limit_in, next_down, stands_at}
+use Rattle.registry_core.specs.Bookings.{downlinks, downlinks_in, is_answered, is_dropped, limit_in, next_down, stands_at}
 use Rattle.registry_core.specs.Derived.{address_of}
 use Rattle.registry_core.specs.Downlinks.{on_air}
 use Rattle.registry_core.specs.Frames.{counts_as, downlink_to, frame_at, goes_to}
@@ -24,10 +24,6 @@ use Rattle.registry_core.specs.Settings.{Settings}
 use Rattle.registry_core.specs.State.{State}
 use Rattle.registry_core.specs.Step.{step}
 use Rattle.registry_core.specs.Windows.{delay, rate_in}
-
--- no hour of any gateway's band holds more than the limit, whatever was heard
-abbrev pub HoursAreKept : Type 0
-HoursAreKept = (c : Settings) (heard : List Envelope) → EveryHourKept (state_of c heard)
 
 -- no downlink is longer than what makes another one near, 3,000,000 microseconds
 abbrev pub DownlinksAreShort : Type 0

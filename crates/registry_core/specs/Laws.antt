@@ -59,11 +59,6 @@ abbrev pub UplinksHaveSessions : Type 0
 UplinksHaveSessions = (c : Settings) (heard : List Envelope) (n : ℕ) (u : Uplink) → item_at (state_of c heard).uplinks n ≡ Some u
     → (a : Session) × (item_at (state_of c heard).sessions u.session ≡ Some a) × (u.kind ≡ Join → a.nonce ≡ u.counter)
 
--- no two uplinks have one session, one kind and one counter
-abbrev pub FramesAreBookedOnce : Type 0
-FramesAreBookedOnce = (c : Settings) (heard : List Envelope) (m n : ℕ) (u v : Uplink) → item_at (state_of c heard).uplinks m ≡ Some u
-    → item_at (state_of c heard).uplinks n ≡ Some v → u.session ≡ v.session → u.kind ≡ v.kind → u.counter ≡ v.counter → m ≡ n
-
 -- a session's counters rise from data uplink to data uplink
 abbrev pub CountersRise : Type 0
 CountersRise = (c : Settings) (heard : List Envelope) (m n : ℕ) (u v : Uplink) → item_at (state_of c heard).uplinks m ≡ Some u

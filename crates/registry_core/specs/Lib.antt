@@ -22,6 +22,7 @@ pub mod Ranges
 pub mod Refusals
 pub mod ReportOrder
 pub mod Reports
+pub mod Rules
 pub mod Same
 pub mod Settings
 pub mod State

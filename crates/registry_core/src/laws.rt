@@ -4,14 +4,15 @@ ghost use Rattle.std.specs.Prelude.{ℕ, ◌<◌, ◌^◌, IfSome, get_or};
 ghost use Rattle.registry_core.specs.AirtimeLaws.{BookingsAreDownlinks, UplinksAreReceived};
 ghost use Rattle.registry_core.specs.CopyLaws.{CopiesAddOneAtMost, CopiesStay};
 ghost use Rattle.registry_core.specs.Counts.{FactsAreNoMoreThanMessages};
-ghost use Rattle.registry_core.specs.DownlinkLaws.{BookedExactly, CopiesLieInBands, DownlinksAreShort, DownlinksHaveBands, GatewaysSendOneAtATime, HoursAreKept, UplinksAreAnsweredOnce};
+ghost use Rattle.registry_core.specs.DownlinkLaws.{BookedExactly, CopiesLieInBands, DownlinksAreShort, DownlinksHaveBands, GatewaysSendOneAtATime, UplinksAreAnsweredOnce};
 ghost use Rattle.registry_core.specs.Fits.{DecisionsFit};
 ghost use Rattle.registry_core.specs.Heard.{FirstAnswersStay, HeardListsStay, NewNumbersAreDecided, NothingIsHeard, UsedNumbersAreRefused};
-ghost use Rattle.registry_core.specs.Laws.{AddressesAreApart, AddressesLieInBlock, CopiesBookNothing, CountersAgreeWithFrames, CountersRise, DataCopiesAreFound, FramesAreBookedOnce, JoinCopiesAreFound, NoncesRise, OperatorsKeepTheRegister, RefusalsChangeNothing, SendersStay, SessionsAreFound, SessionsHaveJoins, StepsRefuseByNumber, UplinksHaveCopies, UplinksHaveSessions, UplinksStay};
+ghost use Rattle.registry_core.specs.Laws.{AddressesAreApart, AddressesLieInBlock, CopiesBookNothing, CountersAgreeWithFrames, CountersRise, DataCopiesAreFound, JoinCopiesAreFound, NoncesRise, OperatorsKeepTheRegister, RefusalsChangeNothing, SendersStay, SessionsAreFound, SessionsHaveJoins, StepsRefuseByNumber, UplinksHaveCopies, UplinksHaveSessions, UplinksStay};
 ghost use Rattle.registry_core.specs.LimitLaws.{LimitsAreWithin, OtherLimitsStay, SetExactly, SetLimitsStand};
 ghost use Rattle.registry_core.specs.NumberedLaws.{FirstIsFirst, GreatestIsMost, OneIsChanged};
 ghost use Rattle.registry_core.specs.Ranges.{IsEnvelope, IsMessage, IsName, IsOctets, IsReport, IsSettings};
 ghost use Rattle.registry_core.specs.ReportOrder.{DataInAnyOrder, JoinsInAnyOrder};
+ghost use Rattle.registry_core.specs.Rules.{RulesAreKept};
 ghost use Rattle.registry_core.specs.Same.{SameMessageTells};
 ghost use Rattle.registry_core.specs.UplinkLaws.{FramesBookedExactly, JoinedExactly};
 
@@ -75,12 +76,6 @@ pub fn addresses_are_apart()
 #[tactic(auto, using(crate::proofs::SessionLaws::nonces_rise))]
 pub fn nonces_rise()
     ensures { NoncesRise }
-{}
-
-/// Whatever was heard, no two uplinks have one session, one kind and one counter: each frame is booked once.
-#[tactic(auto, using(crate::proofs::UplinkLaws::frames_are_booked_once))]
-pub fn frames_are_booked_once()
-    ensures { FramesAreBookedOnce }
 {}
 
 /// Which frames are booked as new uplinks. Whatever was heard, a join request makes a session exactly where it comes of a known
@@ -180,9 +175,10 @@ pub fn uplinks_are_received()
     band_is_found();
 }
 
-/// Whatever was heard, no hour of any gateway's band holds more downlinks than the limit.
-pub fn hours_are_kept()
-    ensures { HoursAreKept }
+/// Whatever was heard, no two sessions have one device and one nonce, no two uplinks have one session, one kind and one
+/// counter, and no hour of any gateway's band has more downlinks than the limit.
+pub fn rules_are_kept()
+    ensures { RulesAreKept }
 {
     airtime_is_bounded();
     computed_forms_tell();

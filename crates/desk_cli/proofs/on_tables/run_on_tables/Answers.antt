@@ -28,8 +28,8 @@ returns-in-Ok-run-clause-crash g c = λ clean.
 
 pub returns-in-Ok-run-clause-rules : goal.returns-in-Ok-run-clause-rules
 returns-in-Ok-run-clause-rules g c = λ clean is.
-    keeps_rules c.frames_are_booked_once.ensures c.hours_are_kept.ensures c.args.config _ _ (returns-in-Ok-run-clause-tables g c clean is).0.tables
+    keeps_rules c.rules_are_kept.ensures c.args.config _ _ (returns-in-Ok-run-clause-tables g c clean is).0.tables
 
 pub returns-in-Ok-run-clause-rules_left : goal.returns-in-Ok-run-clause-rules_left
 returns-in-Ok-run-clause-rules_left g c = λ clean trees may.
-    leaves_rules c.frames_are_booked_once.ensures c.hours_are_kept.ensures c.args.config _ _ trees (returns-in-Ok-run-clause-crash g c clean trees may)
+    leaves_rules c.rules_are_kept.ensures c.args.config _ _ trees (returns-in-Ok-run-clause-crash g c clean trees may)

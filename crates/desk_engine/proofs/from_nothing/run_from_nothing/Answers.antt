@@ -1,9 +1,9 @@
 use Rattle.std.proofs.Common.{[], sym, ap, ◌≡◌, ◌∙◌, subst}
-use Rattle.registry_core.specs.Bookings.{EveryHourKept}
+use Rattle.registry_core.specs.Rules.{GoesByRules}
 use Rattle.desk_store.specs.Lists.{kept_of, lists_meaning}
 use Rattle.desk_store.specs.declared.lists.Lists.{Lists}
 use Rattle.desk_engine.specs.InOrder.{IsInOrder, kept_after}
-use Rattle.desk_engine.proofs.KeptAfter.{hours_of}
+use Rattle.desk_engine.proofs.KeptAfter.{rules_of}
 use Rattle.desk_engine.proofs.from_nothing.run_from_nothing.Goals as goal
 
 pub returns-in-Ok-clause-outcomes : goal.returns-in-Ok-clause-outcomes
@@ -21,11 +21,11 @@ returns-in-Ok-clause-kept c =
     let back : c.into_inner.result ≡ c.run.new.keeper = c.into_inner.ensures in
     ap kept_of back ∙ sym (c.in-Ok.ensures.store.order c.args.config [] (record { its = sym (rw (sym lists) at c.in_ok-lists.ensures.config); sound = tt; order = order })).kept
 
-pub returns-in-Ok-clause-hours : goal.returns-in-Ok-clause-hours
+pub returns-in-Ok-clause-rules : goal.returns-in-Ok-clause-rules
 unfolding kept_after
-returns-in-Ok-clause-hours c =
+returns-in-Ok-clause-rules c =
     let lists : c.deref_mut.result.now ≡ c.in_ok-lists.lists.value = c.deref_mut.ensures.value in
     let order : IsInOrder lists_meaning c.args.config c.deref_mut.result.now [] = record { list = c.nothing_is_heard.ensures c.args.config; kept = sym (rw (sym lists) at c.in_ok-lists.ensures.opens) } in
     let back : c.into_inner.result ≡ c.run.new.keeper = c.into_inner.ensures in
     let after = c.in-Ok.ensures.store.order c.args.config [] (record { its = sym (rw (sym lists) at c.in_ok-lists.ensures.config); sound = tt; order = order }) in
-    subst (λ (l : Lists). EveryHourKept (kept_of l).facts) (sym back) (hours_of c.hours_are_kept.ensures c.args.config _ _ after.kept)
+    subst (λ (l : Lists). GoesByRules (kept_of l).facts) (sym back) (rules_of c.rules_are_kept.ensures c.args.config _ _ after.kept)
