@@ -1,8 +1,9 @@
 -- A run goes on by one text.
-use Rattle.std.proofs.Common.{◌≡◌, ℕ, true, false, cond, List, [], ◌∷◌, ◌++◌, Option, Some, None, refl, ap, ◌∙◌, ◌<◌, ◌≤◌, ◌+◌, map, take, length, get_or, Bor}
+use Rattle.std.proofs.Common.{◌≡◌, ℕ, true, false, cond, List, [], ◌∷◌, ◌++◌, Option, Some, None, refl, ap, inl, inr, ◌∙◌, ◌<◌, ◌≤◌, ◌+◌, map, take, length, get_or, Bor}
 use Rattle.std.specs.Prelude.{◌||◌, Result, Ok, Err}
 use Rattle.std.proofs.lemmas.List.{take_more, map-append, take_all}
 use Rattle.registry_core.specs.declared.messages.Envelope.{Envelope}
+use Rattle.registry_core.specs.Heard.{most_heard}
 use Rattle.registry_core.specs.Settings.{Settings}
 use Rattle.desk_store.specs.declared.faults.StoreFault.TheVariants.{Size}
 use Rattle.desk_store.specs.Calls.{is_disk, is_foreign}
@@ -75,7 +76,7 @@ module _ {K : Type 0} (m : Meaning K) where
       (λ c heard was. first_doubt-push c heard ts os t o (told c heard (was_before m c heard old mid new more.call.was_sound was))))
 
   sizes-push : (c : Settings) (heard : List Envelope) (ts : List (List ℕ)) (os : List Outcome) (t : List ℕ) (o : Outcome) → AreOutcomes c heard ts os
-      → SizesAreTold m c heard ts os → (fault_of o ≡ Some Size → (k : K) × HasNoRoom m k (heard_all c heard (deliveries_of ts os)))
+      → SizesAreTold m c heard ts os → (fault_of o ≡ Some Size → ((k : K) → ¬ (m.sized k)) → most_heard ≤ length (heard_all c heard (deliveries_of ts os)))
       → SizesAreTold m c heard (ts ++ t ∷ []) (os ++ o ∷ [])
   sizes-push c heard [] [] t o all told size = (size, tt)
   sizes-push c heard (x ∷ xs) (y ∷ ys) t o all told size = (told.0, sizes-push c (heard_after c heard (delivery_of x y)) xs ys t o all.1 told.1 size)
@@ -93,7 +94,7 @@ module _ {K : Type 0} (m : Meaning K) where
       → HasTold c heard (ts ++ t ∷ []) (os ++ o ∷ [])
   told_more c heard ts os t o new told outcome size = record {
     outcomes = outcomes-push c heard ts os t o told.outcomes outcome;
-    sizes = sizes-push c heard ts os t o told.outcomes told.sizes (λ is. (new, size is));
+    sizes = sizes-push c heard ts os t o told.outcomes told.sizes (λ is unsized. elim (size is) [ inl full ↦ full | inr sized ↦ absurd (unsized new sized) ]);
   }
 
 -- what the texts say, as far as the loop has come

@@ -1,8 +1,9 @@
 -- Outcomes of the code against what is told.
-use Rattle.std.specs.Prelude.{◌≡◌, ◌||◌, ℕ, Bool, true, false, List, [], ◌∷◌, Option, Some, None, Result, Ok, Err, if◌then◌else◌}
+use Rattle.std.specs.Prelude.{◌≡◌, ◌≤◌, ◌||◌, ℕ, Bool, true, false, List, [], ◌∷◌, length, Option, Some, None, Result, Ok, Err, if◌then◌else◌}
 use Rattle.registry_core.specs.declared.answers.Refusal.{Refusal}
 use Rattle.registry_core.specs.declared.answers.Refusal.TheVariants.{Malformed, InvalidProtocolVersion, UnknownReceiver, UnknownSender, TransactionReused, BadBody, UnknownType}
 use Rattle.registry_core.specs.declared.messages.Envelope.{Envelope}
+use Rattle.registry_core.specs.Heard.{most_heard}
 use Rattle.registry_core.specs.Settings.{Settings}
 use Rattle.desk_store.specs.declared.faults.StoreFault.{StoreFault}
 use Rattle.desk_store.specs.declared.faults.StoreFault.TheVariants.{Size}
@@ -13,7 +14,6 @@ use Rattle.desk_engine.specs.declared.outcomes.Outcome.{Outcome}
 use Rattle.desk_engine.specs.declared.outcomes.Outcome.TheVariants.{Answered, Refused, Unavailable}
 use Rattle.desk_engine.specs.Told.{Told, AnswerText, RefusalText, envelope_of_text, text_told}
 use Rattle.desk_engine.specs.Deliveries.{Delivery, heard_after}
-use Rattle.desk_engine.specs.InOrder.{HasNoRoom}
 
 -- ---- one outcome
 
@@ -96,10 +96,11 @@ abbrev pub has_foreign : List Outcome → Bool
 has_foreign [] = false
 has_foreign (o ∷ os) = is_foreign (fault_of o) || has_foreign os
 
--- each that is Unavailable for size found a store without room
+-- Each that is Unavailable for size came when as many were heard as ever may be. Said of stores whose medium has no size of its own:
+-- of others it isn't told which of the two it was.
 abbrev pub SizesAreTold : {K : Type 0} → Meaning K → Settings → List Envelope → List (List ℕ) → List Outcome → Type 0
 SizesAreTold {K} m c heard (t ∷ ts) (o ∷ os) =
-    (fault_of o ≡ Some Size → (k : K) × HasNoRoom m k heard) × SizesAreTold m c (heard_after c heard (delivery_of t o)) ts os
+    (fault_of o ≡ Some Size → ((k : K) → ¬ (m.sized k)) → most_heard ≤ length heard) × SizesAreTold m c (heard_after c heard (delivery_of t o)) ts os
 SizesAreTold m c heard (t ∷ ts) [] = Unit {0}
 SizesAreTold m c heard [] os = Unit {0}
 

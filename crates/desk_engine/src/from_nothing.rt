@@ -1,12 +1,12 @@
 //! The whole over plain lists, from nothing, with no premise.
-ghost use Rattle.std.specs.Prelude.{◌≡◌, ℕ, [], map, take, IfOk};
+ghost use Rattle.std.specs.Prelude.{◌≡◌, ℕ, false, [], map, take, IfOk};
 ghost use Rattle.registry_core.specs.Rules.{GoesByRules};
 ghost use Rattle.registry_core.specs.Heard.{state_of};
 ghost use Rattle.registry_core.specs.State.{opening};
-ghost use Rattle.desk_store.specs.Lists.{kept_of, settings_of};
+ghost use Rattle.desk_store.specs.Lists.{kept_of, lists_meaning, settings_of};
 ghost use Rattle.desk_engine.specs.Deliveries.{heard_all};
 ghost use Rattle.desk_engine.specs.InOrder.{kept_after};
-ghost use Rattle.desk_engine.specs.Outcomes.{AreOutcomes, deliveries_of};
+ghost use Rattle.desk_engine.specs.Outcomes.{AreOutcomes, SizesAreTold, deliveries_of, has_disk, has_foreign};
 
 use crate::delivering::run;
 use crate::outcomes::Outcome;
@@ -28,10 +28,14 @@ pub fn run_from_nothing(
         ≡ kept_after config (heard_all config [] (deliveries_of (map (λ t. t.now) texts.now) ran.1.items))) }
 
     // No two sessions have one device and one nonce, no two uplinks have one session, one kind and one counter, and no hour of
-    // any gateway's band has more downlinks than the limit: after each beginning of the list, and in what the lists keep.
+    // any gateway's band holds more booked time on air than its limit: after each beginning of the list, and in what the lists keep.
     ensures rules_before { IfOk result (λ ran. (n : ℕ) → GoesByRules (state_of config
         (heard_all config [] (take n (deliveries_of (map (λ t. t.now) texts.now) ran.1.items))))) }
     ensures rules { IfOk result (λ ran. GoesByRules (kept_of ran.0).facts) }
+
+    // None is told a fault of the disk, or that what is stored is no desk's; and size only when as many were heard as ever may be.
+    ensures faults { IfOk result (λ ran. (has_disk ran.1.items ≡ false) × (has_foreign ran.1.items ≡ false)) }
+    ensures sizes { IfOk result (λ ran. SizesAreTold lists_meaning config [] (map (λ t. t.now) texts.now) ran.1.items) }
 {
     rules_are_kept();
     nothing_is_heard();

@@ -9,6 +9,7 @@ pub enum Outcome {
     Answered(Vec<u8>),
     /// What isn't heard: one of the refusals 1 to 5, 7 and 8, and its text.
     Refused(Refusal, Vec<u8>),
-    /// Refusal 32: the message isn't heard, and has no text.
+    /// Refusal 32, or 33 where the store turns out to be no desk's; it has no text. The message isn't heard, but where the disk
+    /// failed a store that is opened again may have heard it.
     Unavailable(StoreFault),
 }

@@ -157,32 +157,29 @@ pub(crate) fn standing_at(row: &Row, at: usize) -> Result<Standing, RowFault>
     }
 }
 
+fn octet_at(row: &Row, at: usize) -> Result<u8, RowFault>
+    ensures { ReadsAt number (λ n. n < 2 ^ 8) row.now at result }
+{
+    match u8::try_from(number_at(row, at)?) {
+        Ok(octet) => Ok(octet),
+        Err(_) => Err(RowFault::Row),
+    }
+}
+
 pub(crate) fn band_at(row: &Row, at: usize) -> Result<Band, RowFault>
     ensures { ReadsAt (λ band. number (band_number band)) (λ band. Unit {0}) row.now at result }
 {
-    match number_at(row, at)? {
-        1 => Ok(Band::B1),
-        2 => Ok(Band::B2),
-        3 => Ok(Band::B3),
-        4 => Ok(Band::B4),
-        5 => Ok(Band::B5),
-        6 => Ok(Band::B6),
-        _ => Err(RowFault::Row),
+    match Band::new(octet_at(row, at)?) {
+        Some(band) => Ok(band),
+        None => Err(RowFault::Row),
     }
 }
 
 pub(crate) fn data_rate_at(row: &Row, at: usize) -> Result<DataRate, RowFault>
     ensures { ReadsAt (λ dr. number (dr_number dr)) (λ dr. Unit {0}) row.now at result }
 {
-    match number_at(row, at)? {
-        0 => Ok(DataRate::Dr0),
-        1 => Ok(DataRate::Dr1),
-        2 => Ok(DataRate::Dr2),
-        3 => Ok(DataRate::Dr3),
-        4 => Ok(DataRate::Dr4),
-        5 => Ok(DataRate::Dr5),
-        6 => Ok(DataRate::Dr6),
-        7 => Ok(DataRate::Dr7),
-        _ => Err(RowFault::Row),
+    match DataRate::new(octet_at(row, at)?) {
+        Some(dr) => Ok(dr),
+        None => Err(RowFault::Row),
     }
 }

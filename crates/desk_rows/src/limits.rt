@@ -17,7 +17,7 @@ use radio_core::{Band, Name};
 use registry_core::BandLimit;
 use sqlite::{Alter, Connection, Transaction};
 
-/// The limit that was set for the gateway's band, if one was: the one that was set last.
+/// The limit that was set for the gateway's band, if one was, in microseconds within any hour: the one that was set last.
 pub fn limit_at<S: Alter>(
     conn: &mut Connection<S>,
     gateway: &Name,

@@ -92,8 +92,8 @@ fn near_in_one<S: Alter>(
     )
 }
 
-/// When the gateway's bookings that aren't dropped and start near the given start are on the air, of one band or of all, in
-/// order of start: equal starts in order of number.
+/// When the gateway's bookings that aren't dropped and start near the given start, in microseconds since 1970 UTC, are on the air,
+/// of one band or of all, in order of start: equal starts in order of number.
 pub fn near<S: Alter>(
     alloc: Global,
     conn: &mut Connection<S>,

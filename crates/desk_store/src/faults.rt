@@ -4,8 +4,9 @@ ghost use Rattle.desk_store.specs.declared.faults.StoreFault.TheVariants.{Memory
 
 use std::alloc::{AllocError, AllocFailed};
 
-/// Why a store doesn't answer. A store that holds something and is sound tells the first three alone; the others are for
-/// stores that are made or opened on a disk, and `Lists` tells none of them.
+/// Why a store doesn't answer. A store that holds something and is sound tells the first three alone; a call may tell the fourth
+/// of what turns out to be no desk's; the last two are told where a desk is made, opened or moved. `Lists` tells `Memory` and
+/// `Size` alone.
 #[derive(Clone, Copy, Debug, PartialEq, Eq)]
 pub enum StoreFault {
     /// A request for memory was refused: refusal 32.

@@ -59,10 +59,12 @@ impl Switched {
         })
     }
 
-    /// The call after so many fails.
+    /// The call after so many fails, and what is held stays. That it fails is for the tests to see: of a call that goes well each
+    /// contract says more.
     pub fn fail_after(&mut self, calls: u64, failure: Failure)
         ensures same { switched_meaning.configuration self.new ≡ switched_meaning.configuration self.old }
         ensures down { switched_meaning.down self.new ≡ switched_meaning.down self.old }
+        ensures held { IsOfADesk failure → (kept : Kept) → switched_meaning.holds self.old kept → switched_meaning.holds self.new kept }
         ensures left { (all : List Kept) → switched_meaning.leaves self.old all → switched_meaning.leaves self.new all }
     {
         self.failure = failure;

@@ -124,12 +124,14 @@ impl<S: Alter> Tables<S> {
         }
     }
 
-    /// The connection: of a store that holds something the database is of a desk that holds that, and all of it is committed. A
-    /// crash leaves what it left of the store.
+    /// The connection: of a store that holds something the database is of a desk that holds that, all of it is committed, and the
+    /// connection is at rest, so that it can be opened again. A crash leaves what it left of the store.
     pub fn close(self) -> Connection<S>
         ensures sound { HasCleanDisk (state S.Store result) → (meaning_of S.Store).sound self }
         ensures in_order { (kept : Kept) → (meaning_of S.Store).sound self → (meaning_of S.Store).down self ≡ false → (meaning_of S.Store).holds self kept
             → IsOfDesk ((meaning_of S.Store).configuration self) kept (state S.Store result).now × ((state S.Store result).now ≡ (state S.Store result).committed) }
+        ensures rest { (kept : Kept) → (meaning_of S.Store).sound self → (meaning_of S.Store).down self ≡ false → (meaning_of S.Store).holds self kept
+            → (result.in_transaction ≡ false) × (result.step_limit ≡ None) }
         ensures left { (all : List Kept) → (meaning_of S.Store).leaves self all → (trees : Trees) → (state S.Store result).may_leave trees
             → (kept : Kept) × IsOneOf all kept × AreOfDesk ((meaning_of S.Store).configuration self) kept trees }
     {

@@ -15,10 +15,10 @@ ghost use Rattle.desk_tables.specs.Opening.{IsTaken, TreesHold};
 
 use crate::desk_shape::{is_blank, is_taken};
 use crate::faults::store_fault;
-use desk_rows::{RowFault, create_tables, insert_sender, insert_settings};
+use desk_rows::{RowFault, create_tables, fault_of, insert_sender, insert_settings};
 use desk_store::StoreFault;
 use registry_core::{Config, Role};
-use sqlite::{Alter, Connection, Error, ErrorCode, Transaction};
+use sqlite::{Alter, Connection, Error, Transaction};
 
 /// What the desk is made with, and its operator.
 fn insert_first_rows<S: Alter>(tx: &mut Transaction<'_, S>, config: &Config) -> Result<(), RowFault>
@@ -35,13 +35,13 @@ fn insert_first_rows<S: Alter>(tx: &mut Transaction<'_, S>, config: &Config) -> 
     insert_sender(tx, config.operator(), Role::Operator)
 }
 
-/// What doesn't commit for want of memory doesn't for the disk.
+/// Why tables aren't made or moved that could be written: whatever is neither memory nor size is the disk.
 pub(crate) fn commit_fault(error: Error) -> RowFault
     ensures { IsEven result }
 {
-    match error {
-        Error::SqliteFailure(ErrorCode::OutOfMemory) => RowFault::Memory,
-        _ => RowFault::Disk,
+    match fault_of(error) {
+        RowFault::Row | RowFault::Refused => RowFault::Disk,
+        fault => fault,
     }
 }
 

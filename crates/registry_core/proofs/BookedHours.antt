@@ -1,4 +1,4 @@
--- No hour holds more downlinks than the limit, and no downlink is longer than what makes one near, whatever was heard.
+-- No hour holds more booked time on air than its limit, and no downlink is longer than what makes one near, whatever was heard.
 use Rattle.std.proofs.Common.{◌≡◌, ℕ, zero, suc, ◌+◌, ◌≤◌, List, [], ◌∷◌, ◌++◌, map, filter, Bool, true, false, cond, Some, refl, sym, ◌∙◌, ap, subst, arith, if◌then◌else◌}
 use Rattle.std.specs.Prelude.{ℤ, ◌==◌, ◌&&◌, not, bytes_eq}
 use Rattle.std.specs.List.{AllByRecursion}

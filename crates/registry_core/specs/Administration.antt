@@ -54,7 +54,7 @@ device_move s e dev_eui owner = do
   wants (s.owners owner) UnknownOwner
   Ok (MovesDevice dev_eui owner, Success)
 
--- an operator sets the limit of a gateway's band, where no hour of it holds more downlinks that aren't dropped
+-- an operator sets the limit of a gateway's band, where no hour of it holds more time on air, dropped bookings aside
 unfoldable pub limit_set : State → Envelope → List ℕ → Limit → Checked Decision
 limit_set s e gateway limit = do
   wants (is_operator (s.senders e.sender)) WrongRole

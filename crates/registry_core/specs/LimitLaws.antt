@@ -16,7 +16,7 @@ use Rattle.registry_core.specs.Step.{step}
 
 -- ---- which are set
 
--- The sender is an operator, the gateway is known, and no sliding hour of its band holds more downlinks that aren't dropped.
+-- The sender is an operator, the gateway is known, and no sliding hour of its band holds more time on air, dropped bookings aside.
 pub record IsSet (s : State) (e : Envelope) (gateway : List ℕ) (limit : Limit) : Type 0 where
   pub operator : IsTrue (is_operator (s.senders e.sender))
   pub known : IsTrue (s.gateways gateway)

@@ -15,7 +15,7 @@ pub record GoesByRules (s : State) : Type 0 where
   -- no two uplinks have one session, one kind and one counter
   pub frames : (m n : ℕ) (u v : Uplink) → item_at s.uplinks m ≡ Some u → item_at s.uplinks n ≡ Some v
       → u.session ≡ v.session → u.kind ≡ v.kind → u.counter ≡ v.counter → m ≡ n
-  -- no hour of any gateway's band has more downlinks than the limit
+  -- no hour of any gateway's band holds more booked time on air than its limit
   pub hours : EveryHourKept s
 
 abbrev pub RulesAreKept : Type 0

@@ -1,42 +1,77 @@
 //! Answers and refusals.
 use radio_core::{Band, DevAddr, Eui};
 
-/// Why something isn't done. The first has number 1, and the last 34 (this project's numbers).
+/// Why something isn't done. The first has number 1, and the last 34 (this project's numbers). 1 to 5, 7 and 8 are told of texts,
+/// before a message is decided; 6 and 9 to 31 are answers of a step, which are kept; 32 to 34 have no text.
 #[derive(Clone, Copy, Debug, PartialEq, Eq)]
 pub enum Refusal {
+    /// The text isn't JSON in UTF-8, isn't an object, or lacks an outer member in its form.
     Malformed = 1,
+    /// ProtocolVersion isn't `1.0`.
     InvalidProtocolVersion = 2,
+    /// ReceiverID isn't the desk's.
     UnknownReceiver = 3,
+    /// No sender has the name.
     UnknownSender = 4,
+    /// The sender's transaction number was heard with another message.
     TransactionReused = 5,
+    /// The sender is no operator.
     WrongRole = 6,
+    /// A member of the message's type is missing, or not in its form.
     BadBody = 7,
+    /// The desk knows no such MessageType.
     UnknownType = 8,
+    /// A sender, an owner or a gateway has the name, or a device the DevEUI.
     Exists = 9,
+    /// No owner has the name.
     UnknownOwner = 10,
+    /// No gateway has the name.
     UnknownGateway = 11,
+    /// No device has the DevEUI.
     UnknownDevEui = 12,
+    /// No session has the DevAddr; or a downlink's isn't that of the uplink's session.
     UnknownDevAddr = 13,
+    /// The octets are no such frame, or more than the data rate carries.
     BadFrame = 14,
+    /// The transmission lies in no sub-band with all of its bandwidth.
     OutOfBand = 15,
+    /// The security module found the integrity code wrong.
     MicFailed = 16,
+    /// The JoinEUI isn't the one that the device was added with.
     JoinEui = 17,
+    /// The DevNonce isn't above those of the device's sessions.
     Nonce = 18,
+    /// There are as many sessions as addresses.
     Addresses = 19,
+    /// The session has an uplink with this counter, and other octets.
     Replayed = 20,
+    /// The counter is below the session's last.
     Late = 21,
+    /// The counter isn't the one that FCnt gives after the session's last.
     Gap = 22,
+    /// A later session of the device has a data uplink.
     SessionEnded = 23,
+    /// No uplink has the number and a reception at the gateway.
     NoUplink = 24,
+    /// FCnt isn't that of the session's next downlink counter.
     DownCounter = 25,
+    /// The gateway is on the air at the time, in whatever band.
     Collision = 26,
+    /// Some sliding hour of the band would hold more time on air than the limit.
     Duty = 27,
+    /// A booking that isn't dropped answers the uplink.
     Answered = 28,
+    /// No booking has the number.
     NoBooking = 29,
+    /// The booking was sent or dropped already.
     Done = 30,
+    /// The time is before 2000 or past the beginning of 2100; of a report, the text is no month.
     Time = 31,
+    /// Memory or the disk failed, or there is no room: nothing is heard.
     Unavailable = 32,
+    /// What is stored is no desk's.
     NotADesk = 33,
+    /// What is stored is a desk's of another schema.
     SchemaVersion = 34,
 }
 
@@ -55,6 +90,7 @@ impl Refusal {
 /// What a message that was decided is answered: success, or why not.
 #[derive(Clone, Copy, Debug, PartialEq, Eq)]
 pub enum Answer {
+    /// Done, with nothing more to tell.
     Success,
     /// A join: the time on air in microseconds and the band, whether it is a copy, the session's address, and the number
     /// of its uplink.
@@ -83,5 +119,6 @@ pub enum Answer {
         booking: u64,
         start: u64,
     },
+    /// Not done, and nothing is changed.
     Refused(Refusal),
 }

@@ -7,17 +7,22 @@ use radio_core::{Eui, Name};
 /// The one change that a message makes. What is numbered goes to the end of its list.
 #[derive(Clone, Copy, Debug, PartialEq, Eq)]
 pub enum Effect {
+    /// All stays as it is.
     Nothing,
+    /// A sender of this name and role.
     AddsSender {
         name: Name,
         role: Role,
     },
+    /// An owner of this name.
     AddsOwner {
         name: Name,
     },
+    /// A gateway of this name.
     AddsGateway {
         name: Name,
     },
+    /// A device with this DevEUI.
     AddsDevice {
         dev_eui: Eui,
         device: Device,
@@ -46,6 +51,7 @@ pub enum Effect {
         gateway: Name,
         reception: Reception,
     },
+    /// The downlink, to be sent.
     AddsBooking {
         booking: Booking,
     },

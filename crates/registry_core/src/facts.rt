@@ -3,7 +3,7 @@ use crate::wholes::Whole;
 use duty_core::Span;
 use radio_core::{Band, Eui, Name, Octets, Rate};
 
-/// A device, by its DevEUI.
+/// What is kept of a device, which is found by its DevEUI.
 #[derive(Clone, Copy, Debug, PartialEq, Eq)]
 pub struct Device {
     pub join_eui: Eui,
@@ -20,7 +20,9 @@ pub struct Session {
 /// What an uplink is.
 #[derive(Clone, Copy, Debug, PartialEq, Eq)]
 pub enum Kind {
+    /// A join request.
     Join,
+    /// A confirmed or unconfirmed data frame.
     Data,
 }
 
@@ -37,7 +39,8 @@ pub struct Uplink {
     pub band: Band,
 }
 
-/// A copy of an uplink as one gateway received it: when its last symbol ended, and how it was sent.
+/// A copy of an uplink as one gateway received it: when its last symbol ended, in microseconds since 1970 UTC, and how it was
+/// sent.
 #[derive(Clone, Copy, Debug, PartialEq, Eq)]
 pub struct Reception {
     pub end: Whole,
@@ -55,8 +58,8 @@ pub enum Standing {
     Dropped,
 }
 
-/// A downlink that a gateway is to send: the number of the uplink that it answers, and when it is on the air, in
-/// microseconds.
+/// A downlink that a gateway is to send: the number of the uplink that it answers, and when it is on the air, in microseconds
+/// since 1970 UTC.
 #[derive(Clone, Copy, Debug, PartialEq, Eq)]
 pub struct Booking {
     pub uplink: u64,

@@ -176,7 +176,7 @@ pub fn uplinks_are_received()
 }
 
 /// Whatever was heard, no two sessions have one device and one nonce, no two uplinks have one session, one kind and one
-/// counter, and no hour of any gateway's band has more downlinks than the limit.
+/// counter, and no hour of any gateway's band holds more booked time on air than its limit.
 pub fn rules_are_kept()
     ensures { RulesAreKept }
 {

@@ -7,14 +7,18 @@ use radio_core::{Eui, Name, Octets, Rate};
 /// What a sender may send.
 #[derive(Clone, Copy, Debug, PartialEq, Eq)]
 pub enum Role {
+    /// Every message.
     Operator,
+    /// JoinHeard, FrameHeard, DownBook and DownDone.
     Radio,
 }
 
 /// What the security module found of a join request's integrity code.
 #[derive(Clone, Copy, Debug, PartialEq, Eq)]
 pub enum JoinVerdict {
+    /// The code is right.
     Good,
+    /// It isn't.
     Bad,
 }
 
@@ -31,30 +35,37 @@ pub struct Report {
 /// What a sender asks.
 #[derive(Clone, Copy, Debug, PartialEq, Eq)]
 pub enum Message {
+    /// A sender with this name and role is added.
     SenderAdd {
         sender: Name,
         role: Role,
     },
+    /// An owner is added.
     OwnerAdd {
         owner: Name,
     },
+    /// A gateway is added.
     GatewayAdd {
         gateway: Name,
     },
+    /// A device of this owner is added.
     DeviceAdd {
         dev_eui: Eui,
         join_eui: Eui,
         owner: Name,
     },
+    /// The device has this owner from now on.
     DeviceMove {
         dev_eui: Eui,
         owner: Name,
     },
+    /// A gateway heard a join request.
     JoinHeard {
         report: Report,
         verdict: JoinVerdict,
     },
-    /// The verdict is the counter at which the security module found the integrity code right, if there is one.
+    /// A gateway heard a data frame. The verdict is the counter at which the security module found the integrity code right, if
+    /// there is one.
     FrameHeard {
         report: Report,
         verdict: Option<u32>,

@@ -4,7 +4,8 @@ use crate::messages::Role;
 use duty_core::Span;
 use radio_core::Eui;
 
-/// What the registry holds for one message. What the message doesn't ask for is false, 0, absent or empty.
+/// What the registry holds for one message. The sender's role, the block and the three counts are there for each message; of the
+/// rest what it doesn't ask for is false, 0, absent or empty.
 #[derive(Debug, Drop)]
 pub struct View {
     /// The sender's.
@@ -39,11 +40,12 @@ pub struct View {
     pub next_down: u64,
     /// How the booking that the message names stands.
     pub booking: Option<Standing>,
-    /// The limit of the gateway's band, for a new downlink.
+    /// The limit of the gateway's band, for a new downlink: microseconds on the air within an hour.
     pub limit: u64,
-    /// When the gateway is on the air near a new downlink, in all bands.
+    /// When the gateway is on the air near a new downlink, in all bands, dropped bookings aside.
     pub near: Vec<Span>,
-    /// When it is on the air in the band: near a new downlink, or at any time where the message sets the band's limit.
+    /// When it is on the air in the band, dropped bookings aside: near a new downlink, or at any time where the message sets the
+    /// band's limit.
     pub in_band: Vec<Span>,
 }
 

@@ -9,7 +9,9 @@ use radio_core::{DataRate, Rate};
 /// One of the two receive windows that a device opens after it has sent.
 #[derive(Clone, Copy, Debug, PartialEq, Eq)]
 pub enum Window {
+    /// RX1, at the uplink's own frequency and data rate.
     First,
+    /// RX2, at 869,525,000 Hz and DR0.
     Second,
 }
 

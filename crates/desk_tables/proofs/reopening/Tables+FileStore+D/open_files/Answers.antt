@@ -1,9 +1,13 @@
-use Rattle.std.proofs.Common.{arith}
+use Rattle.std.proofs.Common.{◌≡◌, ◌∙◌, ap, arith, subst}
+use Rattle.std.specs.Prelude.{pos}
 use Rattle.std.proofs.Math.Logic.{∥∥₁_map}
 use Rattle.sqlite_store.specs.Laws.{settled_at}
+use Rattle.sqlite_trees.specs.Tree.{Trees}
 use Rattle.sqlite_trees.proofs.Doubt.{no_doubt}
+use Rattle.sqlite.specs.Effect.{Database}
 use Rattle.sqlite.specs.Files.{file_state, over_files}
 use Rattle.sqlite.specs.State.{HasCleanDisk}
+use Rattle.desk_rows.specs.Meta.{TellsMeta}
 use Rattle.desk_tables.specs.Store.{own_law}
 use Rattle.desk_tables.proofs.ReopeningLemmas.{found_desk, if_some, left_desk, opening_fails}
 use Rattle.desk_tables.proofs.reopening.Tables+FileStore+D.open_files.Goals as goal
@@ -16,6 +20,13 @@ pub returns-in-Err-clause-unavailable_after_crash : goal.returns-in-Err-clause-u
 returns-in-Err-clause-unavailable_after_crash g c clean left =
     if_some c.store_fault.result (left_desk c.args.files left.0 left.1 left.2)
     (λ it. returns-in-Err-clause-unavailable g c left.0.config it.0 it.2 clean)
+
+-- what was opened is what the files hold
+pub returns-in-Ok-open-clause-desk : goal.returns-in-Ok-open-clause-desk
+returns-in-Ok-open-clause-desk g c trees held clean =
+    let early : HasCleanDisk (file_state c.in-Ok.conn) = c.in-Ok-open.ensures.clean clean in
+    let same : (file_state c.in-Ok.conn).now.trees ≡ trees = ap (λ (d : Database). d.trees) (c.in-Ok.ensures.opened early).0.clean ∙ (c.in-Ok.ensures.found early).holds trees held in
+    subst (λ (t : Trees). TellsMeta t (pos 2) c.in-Ok-open.tables.config) same (c.in-Ok-open.ensures.desk clean).1
 
 pub returns-in-Ok-open-clause-in_order : goal.returns-in-Ok-open-clause-in_order
 returns-in-Ok-open-clause-in_order g c settings kept held clean =
