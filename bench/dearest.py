@@ -22,6 +22,7 @@ from pathlib import Path
 from normal_operation import ROOT
 
 sys.path.append(str(ROOT / "checks"))
+from common import add_program, ready  # noqa: E402
 from http_client import free_port, received  # noqa: E402
 
 TEXT, HEAD, REPORT = 65_536, 8_192, 16_777_216
@@ -195,12 +196,10 @@ def measure_reports(desk, file, runs):
 
 def main():
     words = argparse.ArgumentParser(description=__doc__, formatter_class=argparse.RawDescriptionHelpFormatter)
-    words.add_argument("--program", type=Path, default=ROOT / "desk", metavar="PATH", help="the built program, in place of ./desk")
+    add_program(words, metavar="PATH")
     words.add_argument("--runs", type=int, default=5)
     given = words.parse_args()
-    desk = given.program.resolve()
-    # the first call may prove and build the program
-    subprocess.run([desk, "lines"], stdin=subprocess.DEVNULL, check=True)
+    desk = ready(given.program)
     dearest = {}
     begun = time.monotonic()
     with tempfile.TemporaryDirectory() as name:

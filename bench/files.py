@@ -15,7 +15,6 @@ Speeds tell of the disk and of what else runs: compare only figures of one run. 
 
 import argparse
 import json
-import socket
 import subprocess
 import sys
 import tempfile
@@ -25,6 +24,10 @@ from pathlib import Path
 import dictionaries
 from dictionaries import BANDS, most_in_an_hour
 from normal_operation import DEVICES, ROOT, Stream, normal_operation, peak_of
+
+sys.path.append(str(ROOT / "checks"))
+from common import add_program, log_of, ready, text_of  # noqa: E402
+from http_client import free_port, posted  # noqa: E402
 
 REQUESTS = [2_000, 20_000]
 RECORDS = [2_000, 20_000, 100_000]
@@ -73,14 +76,10 @@ class Table:
     @staticmethod
     def start(what, size, ran, file):
         files = f"{file.name} of {file.stat().st_size / 1e6:.1f} MB"
-        log = file.with_name(file.name + "-wal")
+        log = log_of(file)
         if log.exists():
             files += f", its log of {log.stat().st_size / 1e6:.1f} MB"
         print(f"{what:<16} {size:>8} {ran.seconds:>9.3f} {'':>7} {'':>9} {'':>7} {ran.peak / 1024:>9.1f}  {files}", flush=True)
-
-
-def text_of(lines):
-    return "".join(line + "\n" for line in lines)
 
 
 def plain(lines):
@@ -123,24 +122,6 @@ def measure_hear(table, desk, folder, sizes, seed, runs):
         table.start("start", size, opened, file)
         for left in folder.iterdir():
             left.unlink()
-
-
-def free_port():
-    with socket.socket() as bound:
-        bound.bind(("127.0.0.1", 0))
-        return bound.getsockname()[1]
-
-
-def posted(port, line):
-    """The body of the response to the line, of a connection of its own."""
-    body = line.encode()
-    head = f"POST /v1/messages HTTP/1.1\r\nhost: 127.0.0.1\r\ncontent-length: {len(body)}\r\n\r\n".encode()
-    parts = []
-    with socket.create_connection(("127.0.0.1", port), timeout=60) as connection:
-        connection.sendall(head + body)
-        while part := connection.recv(65_536):
-            parts.append(part)
-    return b"".join(parts).partition(b"\r\n\r\n")[2].decode()
 
 
 def posted_all(port, lines, answers):
@@ -241,18 +222,16 @@ def measure_report(table, desk, folder, sizes, seed):
 
 def main():
     words = argparse.ArgumentParser(description=__doc__, formatter_class=argparse.RawDescriptionHelpFormatter)
-    words.add_argument("--program", type=Path, default=ROOT / "desk", metavar="PATH", help="the built program, in place of ./desk")
+    add_program(words, metavar="PATH")
     words.add_argument("--folder", type=Path, help="where the files stand while it runs")
     words.add_argument("--seed", type=int, default=1)
     words.add_argument("--sizes", default="20000,200000")
     words.add_argument("--runs", type=int, default=1, help="of `hear` and peer.py by turns, on new files")
     words.add_argument("--only", default="hear,serve,import,report")
     given = words.parse_args()
-    desk = given.program.resolve()
     sizes = [int(size) for size in given.sizes.split(",")]
     wanted = given.only.split(",")
-    # the first call may prove and build the program
-    subprocess.run([desk, "lines"], stdin=subprocess.DEVNULL, check=True)
+    desk = ready(given.program)
     table = Table()
     with tempfile.TemporaryDirectory(dir=given.folder) as name:
         folder = Path(name)

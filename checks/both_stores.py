@@ -16,15 +16,14 @@ import argparse
 import json
 import os
 import re
-import sqlite3
 import subprocess
 import sys
 import tempfile
 from pathlib import Path
 
+from common import ROOT, add_program, reading, text_of
 from mixed_operation import mixed_operation
 
-ROOT = Path(__file__).resolve().parent.parent
 sys.path.insert(0, str(ROOT / "bench"))
 import dictionaries
 
@@ -46,7 +45,7 @@ def told_by(store, lines):
     ran = subprocess.run(
         [TESTS, TEST],
         env={**os.environ, "DESK_STORE": store},
-        input="".join(line + "\n" for line in lines),
+        input=text_of(lines),
         capture_output=True,
         text=True,
     )
@@ -58,7 +57,7 @@ def told_by(store, lines):
 
 
 def printed_by(program, *words, lines=(), statuses=(0,)):
-    ran = subprocess.run([program, *map(str, words)], input="".join(line + "\n" for line in lines), capture_output=True, text=True)
+    ran = subprocess.run([program, *map(str, words)], input=text_of(lines), capture_output=True, text=True)
     if ran.returncode not in statuses:
         sys.exit(f"{' '.join(map(str, words))}: {ran.returncode} {ran.stderr}")
     return ran.stdout.splitlines()
@@ -130,15 +129,16 @@ def rows_of(desk):
 
 
 def compare_rows(file, desk):
-    conn = sqlite3.connect(f"file:{file}?mode=ro", uri=True)
-    for table, wanted in rows_of(desk).items():
-        found = conn.execute(f"SELECT * FROM {table}").fetchall()
-        if sorted(found, key=repr) != sorted(wanted, key=repr):
-            differing = [row for row in found if row not in wanted][:3], [row for row in wanted if row not in found][:3]
-            sys.exit(f"{table}: {len(found)} rows, and {len(wanted)} are wanted; in the file, and wanted: {differing}")
-        print(f"{table}: {len(found)} rows agree")
-    print("integrity:", conn.execute("PRAGMA integrity_check").fetchone()[0])
-    conn.close()
+    with reading(file) as conn:
+        for table, wanted in rows_of(desk).items():
+            found = conn.execute(f"SELECT * FROM {table}").fetchall()
+            if sorted(found, key=repr) != sorted(wanted, key=repr):
+                counts = f"{len(found)} rows, and {len(wanted)} are wanted"
+                other = [row for row in found if row not in wanted][:3]
+                missing = [row for row in wanted if row not in found][:3]
+                sys.exit(f"{table}: {counts}; in the file, and wanted: {(other, missing)}")
+            print(f"{table}: {len(found)} rows agree")
+        print("integrity:", conn.execute("PRAGMA integrity_check").fetchone()[0])
 
 
 def main():
@@ -146,7 +146,7 @@ def main():
     words.add_argument("--size", type=int, default=20_000)
     words.add_argument("--seed", type=int, default=1)
     words.add_argument("--built", action="store_true", help="take the test that rt test built last")
-    words.add_argument("--program", type=Path, default=ROOT / "desk", metavar="FILE", help="the built program, in place of ./desk")
+    add_program(words)
     given = words.parse_args()
     program = given.program.resolve()
     if not given.built:

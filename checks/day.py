@@ -12,22 +12,16 @@ import argparse
 import itertools
 import os
 import signal
-import socket
 import subprocess
 import sys
 import tempfile
-from pathlib import Path
 
-ROOT = Path(__file__).resolve().parent.parent
+from common import ROOT, add_program, ready
+from http_client import free_port
+
 DAY = ROOT / "examples" / "day.sh"
 WANTED = ROOT / "examples" / "day.txt"
 SECONDS = 60
-
-
-def free_port():
-    with socket.socket() as bound:
-        bound.bind(("127.0.0.1", 0))
-        return bound.getsockname()[1]
 
 
 def first_difference(written, wanted):
@@ -39,10 +33,8 @@ def first_difference(written, wanted):
 
 def main():
     words = argparse.ArgumentParser(description=__doc__.splitlines()[0])
-    words.add_argument("--program", type=Path, default=ROOT / "desk", metavar="FILE", help="the built program, in place of ./desk")
-    program = words.parse_args().program.resolve()
-    # the first call may prove and build the program, and says so
-    subprocess.run([program, "lines"], stdin=subprocess.DEVNULL, check=True)
+    add_program(words)
+    program = ready(words.parse_args().program)
     with tempfile.TemporaryDirectory() as folder:
         given = {**os.environ, "DESK": str(program), "PORT": str(free_port()), "TMPDIR": folder}
         pipes = {"stdin": subprocess.DEVNULL, "stdout": subprocess.PIPE, "stderr": subprocess.PIPE}

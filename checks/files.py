@@ -21,9 +21,9 @@ import tempfile
 import time
 from pathlib import Path
 
-from http_client import asked, body, free_port, get, post, received
+from common import ROOT, add_program, ready
+from http_client import asked, body, free_port, get, post, posted, received
 
-ROOT = Path(__file__).resolve().parent.parent
 EXAMPLES = ROOT / "examples"
 REGISTRY = (EXAMPLES / "1-registry.jsonl").read_text()
 MESSAGES = "".join(path.read_text() for path in sorted(EXAMPLES.glob("[1-4]-*.jsonl")))
@@ -160,6 +160,7 @@ def strangers(desk):
         desk.ends(status, told, "report", name, "town", "2024-02")
         desk.ends(status, told, "check", name)
         desk.ends(status, told, "migrate", name)
+        desk.ends(status, told, "serve", name, "--port", str(free_port()), "--count", "1")
         desk.wants(Path(name).read_bytes() == before, f"{name} is left as it was")
     desk.ends(1, "desk: not a desk\n", "init", "other.db")
     desk.ends(3, "desk: file\n", "init", "text.db")
@@ -338,7 +339,7 @@ def killed(desk):
     for count in (1, 5, 16):
         file = desk.made(f"killed-{count}.db", "")
         program, port = desk.serving(file, 100)
-        bodies = [body(asked(port, post(line))) + "\n" for line in MESSAGES.splitlines()[:count]]
+        bodies = [posted(port, line) + "\n" for line in MESSAGES.splitlines()[:count]]
         program.send_signal(signal.SIGKILL)
         program.communicate()
         desk.wants("".join(bodies) == ANSWERS[: nth(ANSWERS, count)], "the answers before the kill")
@@ -410,7 +411,7 @@ def slow_clients(desk):
         desk.wants(received(connection) == b"", "who says nothing gets no response")
     took = time.monotonic() - begun
     desk.wants(9 < took < 12, f"who says nothing is let go after {took:.1f} s")
-    desk.wants(body(asked(port, post(MESSAGES.splitlines()[0]))) + "\n" == ANSWERS[: nth(ANSWERS, 1)], "the next is served")
+    desk.wants(posted(port, MESSAGES.splitlines()[0]) + "\n" == ANSWERS[: nth(ANSWERS, 1)], "the next is served")
     begun = time.monotonic()
     with socket.create_connection(("127.0.0.1", port), timeout=0.1) as connection:
         for octet in post(MESSAGES.splitlines()[1]):
@@ -424,7 +425,8 @@ def slow_clients(desk):
                 break
     took = time.monotonic() - begun
     desk.wants(27 < took < 45, f"who says an octet every two seconds is let go after {took:.1f} s")
-    desk.wants(body(asked(port, post(MESSAGES.splitlines()[1]))) + "\n" == ANSWERS[nth(ANSWERS, 1) : nth(ANSWERS, 2)], "the next is served")
+    second = ANSWERS[nth(ANSWERS, 1) : nth(ANSWERS, 2)]
+    desk.wants(posted(port, MESSAGES.splitlines()[1]) + "\n" == second, "the next is served")
     desk.ended(program)
 
 
@@ -451,12 +453,10 @@ PARTS = [
 
 def main():
     words = argparse.ArgumentParser(description=__doc__, formatter_class=argparse.RawDescriptionHelpFormatter)
-    words.add_argument("--program", type=Path, default=ROOT / "desk", metavar="FILE", help="the built program, in place of ./desk")
+    add_program(words)
     words.add_argument("--only", default=",".join(part.__name__ for part in PARTS), metavar="NAME,..")
     given = words.parse_args()
-    desk = Desk(given.program.resolve())
-    # the first call may prove and build the program
-    subprocess.run([desk.program, "lines"], stdin=subprocess.DEVNULL, check=True)
+    desk = Desk(ready(given.program))
     chosen = [part for part in PARTS if part.__name__ in given.only.split(",")]
     for part in chosen:
         print(f"{part.__name__}: {part.__doc__}", flush=True)

@@ -26,7 +26,8 @@ def received(connection):
 
 
 def post(line):
-    return f"POST /v1/messages HTTP/1.1\r\nhost: a\r\ncontent-length: {len(line)}\r\n\r\n{line}".encode()
+    octets = line.encode()
+    return f"POST /v1/messages HTTP/1.1\r\nhost: a\r\ncontent-length: {len(octets)}\r\n\r\n".encode() + octets
 
 
 def get(target):
@@ -35,3 +36,8 @@ def get(target):
 
 def body(response):
     return response.partition(b"\r\n\r\n")[2].decode()
+
+
+def posted(port, line):
+    """The body of the response to the line, of a connection of its own."""
+    return body(asked(port, post(line)))

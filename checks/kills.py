@@ -17,16 +17,14 @@ isn't current, or with --program the built one in FILE.
 import argparse
 import random
 import signal
-import socket
-import sqlite3
 import subprocess
-import sys
 import tempfile
 import threading
 import time
 from pathlib import Path
 
-from both_stores import ROOT, rows_of
+from both_stores import rows_of
+from common import add_program, reading, ready, text_of, wants
 from http_client import asked, body, free_port, post
 from mixed_operation import NO_MESSAGE, mixed_operation
 import dictionaries
@@ -48,17 +46,9 @@ class Model:
         self.replies = rows_of(self.desk)["reply"]
 
 
-def wants(holds, what):
-    if not holds:
-        sys.exit(f"kills.py: {what}")
-
-
 def replies_in(file):
-    conn = sqlite3.connect(f"file:{file}?mode=ro", uri=True)
-    try:
+    with reading(file) as conn:
         return conn.execute("SELECT * FROM reply ORDER BY seq").fetchall()
-    finally:
-        conn.close()
 
 
 class Runs:
@@ -97,7 +87,7 @@ class Runs:
 
     def by_hear(self, seconds):
         program = self.starts("hear", self.file)
-        given = "".join(line + "\n" for line in self.lines[self.place : self.place + 4 * LINES_A_KILL]).encode()
+        given = text_of(self.lines[self.place : self.place + 4 * LINES_A_KILL]).encode()
         feeder = threading.Thread(target=feed, args=(program.stdin, given))
         feeder.start()
         first = program.stdout.readline() if self.chance.random() < 0.9 else b""
@@ -129,7 +119,8 @@ class Runs:
     def finish(self):
         """The rest, and the whole once more, without a kill."""
         for lines in (self.lines[self.place :], self.lines):
-            ran = subprocess.run([self.program, "hear", str(self.file)], input="".join(line + "\n" for line in lines), capture_output=True, text=True)
+            words = [self.program, "hear", str(self.file)]
+            ran = subprocess.run(words, input=text_of(lines), capture_output=True, text=True)
             wants((ran.returncode, ran.stderr) == (0, ""), f"the rest ends with {ran.returncode} {ran.stderr}")
             answers = ran.stdout.splitlines()
             if lines is self.lines:
@@ -143,12 +134,11 @@ class Runs:
             wants(len(answers) == len(wanted), f"{len(answers)} answers to {len(wanted)} lines of the rest")
             for place, (answer, told) in enumerate(zip(answers, wanted)):
                 wants(answer == told, f"line {place} of the rest is answered by\n{answer}\nand not by\n{told}")
-        conn = sqlite3.connect(f"file:{self.file}?mode=ro", uri=True)
-        for table, wanted in rows.items():
-            found = conn.execute(f"SELECT * FROM {table}").fetchall()
-            wants(sorted(found, key=repr) == sorted(wanted, key=repr), f"the rows of {table} are others")
-        wants(conn.execute("PRAGMA integrity_check").fetchall() == [("ok",)], "SQLite finds the file damaged")
-        conn.close()
+        with reading(self.file) as conn:
+            for table, wanted in rows.items():
+                found = conn.execute(f"SELECT * FROM {table}").fetchall()
+                wants(sorted(found, key=repr) == sorted(wanted, key=repr), f"the rows of {table} are others")
+            wants(conn.execute("PRAGMA integrity_check").fetchall() == [("ok",)], "SQLite finds the file damaged")
 
 
 def feed(pipe, given):
@@ -174,13 +164,11 @@ def answer_of(port, line):
 
 def main():
     words = argparse.ArgumentParser(description=__doc__, formatter_class=argparse.RawDescriptionHelpFormatter)
-    words.add_argument("--program", type=Path, default=ROOT / "desk", metavar="FILE", help="the built program, in place of ./desk")
+    add_program(words)
     words.add_argument("--kills", type=int, default=300)
     words.add_argument("--seed", type=int, default=1)
     given = words.parse_args()
-    program = given.program.resolve()
-    # the first call may prove and build the program
-    subprocess.run([program, "lines"], stdin=subprocess.DEVNULL, check=True)
+    program = ready(given.program)
     lines = mixed_operation(LINES_A_KILL * given.kills, given.seed)
     model = Model(lines)
     chance = random.Random(given.seed)

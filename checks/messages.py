@@ -17,9 +17,9 @@ import json
 import re
 import subprocess
 import sys
-from pathlib import Path
 
-ROOT = Path(__file__).resolve().parent.parent
+from common import ROOT, add_program, text_of
+
 PAGE = ROOT / "docs" / "MESSAGES.md"
 HANDBOOK = ROOT / "docs" / "HANDBOOK.md"
 MESSAGES = ["SenderAdd", "OwnerAdd", "GatewayAdd", "DeviceAdd", "DeviceMove", "JoinHeard", "FrameHeard", "DownBook", "DownDone", "LimitSet"]
@@ -53,7 +53,7 @@ def read_page(lines):
 
 
 def run(program, words, requests):
-    given = "".join(line + "\n" for line in requests)
+    given = text_of(requests)
     ran = subprocess.run(["desk", *words], executable=program, input=given, stdout=subprocess.PIPE, text=True)
     if ran.returncode:
         sys.exit(f"{program} ended with status {ran.returncode}")
@@ -103,7 +103,7 @@ def differences_of_handbook(requests, answers, told):
 
 def main():
     words = argparse.ArgumentParser(description=__doc__.splitlines()[0])
-    words.add_argument("--program", type=Path, default=ROOT / "desk", metavar="FILE", help="the built program, in place of ./desk")
+    add_program(words)
     program = words.parse_args().program.resolve()
     given, requests, answers, told = read_page(PAGE.read_text().splitlines())
     if not given or not requests:

@@ -25,23 +25,19 @@ import argparse
 import itertools
 import json
 import random
-import shutil
 import signal
-import sqlite3
 import subprocess
-import sys
 import tempfile
 import time
-from contextlib import closing
 from pathlib import Path
 
-from both_stores import ROOT, compare_rows
+from both_stores import compare_rows
+from common import TABLES_OF_SCHEMA_1, add_program, copy_to, execute, log_of, reading, ready, removed, text_of, wants
 from kills import MALFORMED
-from mixed_operation import NO_MESSAGE, mixed_operation
+from mixed_operation import mixed_operation
 from dictionaries import BANDS, most_in_an_hour
 from normal_operation import GATEWAYS
 
-TABLES = ["meta", "sender", "reply", "owner", "gateway", "device", "session", "uplink", "copy", "booking"]
 BAND_LIMIT = "CREATE TABLE band_limit (gateway TEXT NOT NULL, band INTEGER NOT NULL, value INTEGER NOT NULL, PRIMARY KEY (gateway, band)) STRICT"
 # a shorter log holds no page
 EMPTY_LOG = 512
@@ -49,15 +45,6 @@ EMPTY_LOG = 512
 IN_LOG = 50
 # transaction numbers that the stream doesn't use
 LATER = 1_000_000
-
-
-def wants(holds, what):
-    if not holds:
-        sys.exit(f"{Path(sys.argv[0]).name}: {what}")
-
-
-def text_of(lines):
-    return "".join(line + "\n" for line in lines)
 
 
 class Program:
@@ -86,10 +73,6 @@ class Program:
 # ---- files
 
 
-def log_of(file):
-    return file.with_name(file.name + "-wal")
-
-
 def log_size(file):
     try:
         return log_of(file).stat().st_size
@@ -101,24 +84,8 @@ def copied(file, name):
     """A copy of the file and of its log."""
     copy = file.with_name(name)
     removed(copy)
-    shutil.copy(file, copy)
-    if log_of(file).exists():
-        shutil.copy(log_of(file), log_of(copy))
+    copy_to(file, copy)
     return copy
-
-
-def removed(file):
-    for path in file.parent.glob(f"{file.name}*"):
-        path.unlink()
-
-
-def reading(file):
-    return closing(sqlite3.connect(f"file:{file}?mode=ro", uri=True))
-
-
-def execute(file, text):
-    with closing(sqlite3.connect(file)) as conn:
-        conn.executescript(text)
 
 
 def is_left(file, before):
@@ -143,7 +110,7 @@ def same_rows(first, file, made):
         wants(version in (1, 2), f"{file.name} is of schema {version}")
         schema = schema_of(wanted) if version == 1 else made
         wants(schema_of(found) == schema, f"{file.name}: version {version}, and other tables: {schema_of(found)}")
-        for table in TABLES:
+        for table in TABLES_OF_SCHEMA_1:
             pairs = itertools.zip_longest(rows_of(wanted, table, version), rows_of(found, table, "version"))
             for row, other in pairs:
                 wants(row == other, f"{file.name}: a row of {table} was {row}, and is {other}")
@@ -280,15 +247,13 @@ def kills(new, firsts, made, count, seconds, chance):
 def main():
     words = argparse.ArgumentParser(description=__doc__, formatter_class=argparse.RawDescriptionHelpFormatter)
     words.add_argument("--old", type=Path, required=True, metavar="PROGRAM", help="a program that makes files of schema 1")
-    words.add_argument("--program", type=Path, default=ROOT / "desk", metavar="FILE", help="the built program, in place of ./desk")
+    add_program(words)
     words.add_argument("--messages", type=int, default=200_000)
     words.add_argument("--kills", type=int, default=50)
     words.add_argument("--seed", type=int, default=1)
     words.add_argument("--folder", type=Path, help="where the files stand while it runs")
     given = words.parse_args()
-    old, new = Program(given.old.resolve()), Program(given.program.resolve())
-    # the first call may prove and build the program
-    subprocess.run([new.path, "lines"], stdin=subprocess.DEVNULL, check=True)
+    old, new = Program(given.old.resolve()), Program(ready(given.program))
     begun = time.monotonic()
     lines = mixed_operation(given.messages, given.seed, old=True)
     with tempfile.TemporaryDirectory(dir=given.folder) as folder:

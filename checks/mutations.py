@@ -20,22 +20,19 @@ import json
 import random
 import re
 import resource
-import sqlite3
 import subprocess
-import sys
 import tempfile
 import time
 from pathlib import Path
 
-from both_stores import ROOT
-from dictionaries import BANDS
+from common import TABLES, add_program, reading, ready, text_of, wants
 from http_client import asked, free_port, post
 from mixed_operation import NO_MESSAGE, mixed_operation
+from dictionaries import BANDS
 
 # the most of memory that a run is given, in MiB: of addresses, so the program itself and the C library are in it
 MEMORY = 64
 
-TABLES = ["meta", "sender", "reply", "owner", "gateway", "device", "session", "uplink", "copy", "booking", "band_limit"]
 # what isn't heard, by its ResultCode and Description
 UNHEARD = {
     ("Other", "malformed"),
@@ -52,11 +49,6 @@ EDGES += ["946684799999999", "4102444800000001", "18446744073709551615", "184467
 EDGES += [str(limit + more) for limit in sorted({limit for _, _, limit in BANDS.values()}) for more in (0, 1)]
 BAND_TEXTS = [f'"{band}"' for band in BANDS] + ['"B0"', '"B7"', '"b1"', '"B"', '"B11"', '" B1"', '"B1\\u0000"', "1", "null"]
 LONGEST = 65_536
-
-
-def wants(holds, what):
-    if not holds:
-        sys.exit(f"mutations.py: {what}")
 
 
 # ---- changes
@@ -164,10 +156,9 @@ def made(program, folder, name):
 
 
 def rows_in(file):
-    conn = sqlite3.connect(f"file:{file}?mode=ro", uri=True)
-    rows = {table: conn.execute(f"SELECT * FROM {table} ORDER BY rowid").fetchall() for table in TABLES}
-    wants(conn.execute("PRAGMA integrity_check").fetchall() == [("ok",)], "SQLite finds the file damaged")
-    conn.close()
+    with reading(file) as conn:
+        rows = {table: conn.execute(f"SELECT * FROM {table} ORDER BY rowid").fetchall() for table in TABLES}
+        wants(conn.execute("PRAGMA integrity_check").fetchall() == [("ok",)], "SQLite finds the file damaged")
     return rows
 
 
@@ -262,7 +253,7 @@ def reports(program, folder, lines, count, chance):
     frames = [line for line in heads if json.loads(line)["MessageType"] in ("JoinHeard", "FrameHeard")]
     file, alone = made(program, folder, "reports.db"), made(program, folder, "reports-alone.db")
     for desk in (file, alone):
-        wants(Ran([program, "hear", desk], "".join(line + "\n" for line in adds).encode()).status == 0, "the names are added")
+        wants(Ran([program, "hear", desk], text_of(adds).encode()).status == 0, "the names are added")
     header = "transaction,type,gateway,time_us,freq_hz,dr,phy,verdict\n"
     words = ["--sender", "bridge"]
     ends = {}
@@ -287,15 +278,13 @@ def reports(program, folder, lines, count, chance):
 
 def main():
     words = argparse.ArgumentParser(description=__doc__, formatter_class=argparse.RawDescriptionHelpFormatter)
-    words.add_argument("--program", type=Path, default=ROOT / "desk", metavar="FILE", help="the built program, in place of ./desk")
+    add_program(words)
     words.add_argument("--messages", type=int, default=100_000)
     words.add_argument("--requests", type=int, default=20_000)
     words.add_argument("--reports", type=int, default=2_000)
     words.add_argument("--seed", type=int, default=1)
     given = words.parse_args()
-    program = given.program.resolve()
-    # the first call may prove and build the program
-    subprocess.run([program, "lines"], stdin=subprocess.DEVNULL, check=True)
+    program = ready(given.program)
     chance = random.Random(given.seed)
     lines = list(mixed_operation(2000, given.seed))
     with tempfile.TemporaryDirectory() as folder:

@@ -12,12 +12,11 @@ The program is `./desk`, which is proved and built first where it isn't current,
 
 import argparse
 import json
-import subprocess
 import tempfile
 from pathlib import Path
 
-from both_stores import ROOT
-from migrations import LATER, TABLES, Program, reading, text_of, wants
+from common import TABLES, add_program, reading, ready, text_of, wants
+from migrations import LATER, Program
 from mixed_operation import mixed_operation
 
 FSK = 7
@@ -25,7 +24,7 @@ FSK = 7
 
 def rows_of(file):
     with reading(file) as conn:
-        return {table: conn.execute(f"SELECT rowid, * FROM {table} ORDER BY rowid").fetchall() for table in [*TABLES, "band_limit"]}
+        return {table: conn.execute(f"SELECT rowid, * FROM {table} ORDER BY rowid").fetchall() for table in TABLES}
 
 
 def at_fsk(lines):
@@ -37,13 +36,11 @@ def at_fsk(lines):
 def main():
     words = argparse.ArgumentParser(description=__doc__, formatter_class=argparse.RawDescriptionHelpFormatter)
     words.add_argument("--old", type=Path, required=True, metavar="PROGRAM", help="an earlier program, of schema 2")
-    words.add_argument("--program", type=Path, default=ROOT / "desk", metavar="FILE", help="the built program, in place of ./desk")
+    add_program(words)
     words.add_argument("--messages", type=int, default=3_000)
     words.add_argument("--seed", type=int, default=1)
     given = words.parse_args()
-    old, new = Program(given.old.resolve()), Program(given.program.resolve())
-    # the first call may prove and build the program
-    subprocess.run([new.path, "lines"], stdin=subprocess.DEVNULL, check=True)
+    old, new = Program(given.old.resolve()), Program(ready(given.program))
     lines = mixed_operation(given.messages, given.seed, old=True)
     with tempfile.TemporaryDirectory() as folder:
         file = Path(folder) / "town.db"

@@ -19,20 +19,16 @@ The program is the one that `./desk` proves and builds, or with --program the bu
 """
 
 import argparse
-import shutil
-import sqlite3
 import subprocess
-import sys
 import tempfile
 from concurrent.futures import ThreadPoolExecutor
-from contextlib import closing
 from pathlib import Path
 
+from common import ROOT, TO_SCHEMA_1, copy_to, execute, reading, ready
 from http_client import asked, body, free_port, get, post
 from messages import PAGE, read_page
 from refusing_heap import build_heap, refusing, requests_of
 
-ROOT = Path(__file__).resolve().parent.parent
 BUILT = ROOT / "crates" / "desk_cli" / "out" / "desk_cli"
 EXAMPLES = ROOT / "examples"
 # the cases of which each request is refused
@@ -51,24 +47,11 @@ def wants(holds, what):
         raise AssertionError(what)
 
 
-# ---- files
-
-
-def log_of(file):
-    return file.with_name(file.name + "-wal")
-
-
-def copy_to(file, to):
-    shutil.copy(file, to)
-    if log_of(file).exists():
-        shutil.copy(log_of(file), log_of(to))
-
-
 def rows_of(file):
     """Each table's rows as the real SQLite reads them; none where there is no file, or one that has no table."""
     if not file.exists():
         return {}
-    with closing(sqlite3.connect(f"file:{file}?mode=ro", uri=True)) as conn:
+    with reading(file) as conn:
         tables = conn.execute("SELECT name FROM sqlite_schema WHERE type = 'table' ORDER BY rowid").fetchall()
         return {table: conn.execute(f"SELECT rowid, * FROM {table} ORDER BY rowid").fetchall() for (table,) in tables}
 
@@ -230,12 +213,6 @@ def answers_to(requests, answers):
     return [(line, next(left) + "\n" if line else "") for line in requests]
 
 
-def schema_1(file):
-    """The file as one was made before there were limits."""
-    with closing(sqlite3.connect(file)) as conn:
-        conn.executescript("DROP TABLE band_limit; UPDATE meta SET version = 1")
-
-
 def cases_in(program, folder):
     words, requests, answers, _ = read_page(PAGE.read_text().splitlines())
     messages = answers_to(requests, [line for _, line in answers])
@@ -264,7 +241,7 @@ def cases_in(program, folder):
     yield Case("check", day, "check", written=counted)
     first = folder / "first.db"
     copy_to(day, first)
-    schema_1(first)
+    execute(first, TO_SCHEMA_1)
     yield Case("migrate", first, "migrate", again=(1, "desk: schema\n", ""))
     line, answer = lines.splitlines()[0], told.splitlines()[0]
     empty = folder / "empty.db"
@@ -307,8 +284,7 @@ def main():
     words.add_argument("--folder", type=Path, help="where the files stand while it runs")
     given = words.parse_args()
     if not given.program:
-        # the first call may prove and build the program
-        subprocess.run([ROOT / "desk", "lines"], stdin=subprocess.DEVNULL, check=True)
+        ready(ROOT / "desk")
     wanted = tuple(given.only.split(","))
     with tempfile.TemporaryDirectory(dir=given.folder) as folder:
         folder = Path(folder)

@@ -22,7 +22,8 @@ import subprocess
 import sys
 import time
 
-from both_stores import ROOT, TESTS
+from both_stores import TESTS
+from common import ROOT, text_of
 from mixed_operation import mixed_operation
 
 TEST = "tests::stops::given_lines"
@@ -39,7 +40,7 @@ def runs_of(fuses, lines, what):
     ran = subprocess.run(
         [TESTS, TEST],
         env={**os.environ, "DESK_STOPS": " ".join(fuses)},
-        input="".join(line + "\n" for line in lines),
+        input=text_of(lines),
         capture_output=True,
         text=True,
     )

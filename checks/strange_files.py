@@ -4,20 +4,22 @@
     checks/strange_files.py [--program FILE]
 
 A text, a file of zeros, somebody's database, and a desk's file: of version 7, of schema 1, with the tables of the one
-schema and the version of the other, without its row of meta, with a bad name in it, and with a table more. `desk check`,
-`hear`, `import`, `report` and `bands` get each of them. An empty file is refused too, and is a database without tables
-then. The program is `./desk`, which is proved and built first where it isn't current, or with --program the built one in
-FILE.
+schema and the version of the other, without its row of meta, with a bad name in it, and with a table more. `desk
+check`, `hear`, `import`, `report`, `bands` and `serve` get each of them. The port of `serve` is taken, so that it would
+tell of that if it bound the port before it has opened the file. An empty file is refused too, and is a database without
+tables then. The program is `./desk`, which is proved and built first where it isn't current, or with --program the
+built one in FILE.
 """
 
 import argparse
+import socket
 import sqlite3
 import subprocess
 import sys
 import tempfile
 from pathlib import Path
 
-ROOT = Path(__file__).resolve().parent.parent
+from common import TO_SCHEMA_1, add_program, execute, ready, removed
 
 # a status, and what is on standard error
 NOT_A_DESK = 1, "desk: not a desk\n"
@@ -27,7 +29,7 @@ FILE = 3, "desk: file\n"
 # what sqlite3 does to a desk's file, and what the program tells of it then
 CHANGED = [
     ("another version", "UPDATE meta SET version = 7", SCHEMA),
-    ("schema 1", "DROP TABLE band_limit; UPDATE meta SET version = 1", SCHEMA),
+    ("schema 1", TO_SCHEMA_1, SCHEMA),
     ("version 1 with the tables of schema 2", "UPDATE meta SET version = 1", SCHEMA),
     ("version 2 with the tables of schema 1", "DROP TABLE band_limit", NOT_A_DESK),
     ("no row of meta", "DELETE FROM meta", NOT_A_DESK),
@@ -35,6 +37,7 @@ CHANGED = [
     ("a table more", "CREATE TABLE note (id INTEGER PRIMARY KEY) STRICT", NOT_A_DESK),
 ]
 
+# beside `serve`, whose words have a port
 COMMANDS = [
     ["check", "town.db"],
     ["hear", "town.db"],
@@ -42,13 +45,6 @@ COMMANDS = [
     ["report", "town.db", "town", "2024-02"],
     ["bands", "town.db", "gw-a"],
 ]
-
-
-def execute(file, text):
-    conn = sqlite3.connect(file)
-    conn.executescript(text)
-    conn.commit()
-    conn.close()
 
 
 def is_as_it_was(file, before):
@@ -61,27 +57,25 @@ def is_as_it_was(file, before):
     return tables == 0
 
 
-def removed(file):
-    for path in file.parent.glob(f"{file.name}*"):
-        path.unlink()
-
-
-def refused(program, what, file, wanted):
-    for words in COMMANDS:
+def refused(program, commands, what, file, wanted):
+    for words in commands:
         before = file.read_bytes()
-        ran = subprocess.run([program, *words], cwd=file.parent, stdin=subprocess.DEVNULL, capture_output=True, text=True)
+        ran = subprocess.run(
+            [program, *words], cwd=file.parent, stdin=subprocess.DEVNULL, capture_output=True, text=True
+        )
         if (ran.returncode, ran.stderr) != wanted or ran.stdout:
             sys.exit(f"{what}: {words[0]} ends with {ran.returncode} {ran.stdout!r} {ran.stderr!r}")
         if not is_as_it_was(file, before):
             sys.exit(f"{what}: {words[0]} has changed the file")
-    print(f"{what}: refused by {len(COMMANDS)} commands")
+    print(f"{what}: refused by {len(commands)} commands")
 
 
 def main():
     words = argparse.ArgumentParser(description=__doc__, formatter_class=argparse.RawDescriptionHelpFormatter)
-    words.add_argument("--program", type=Path, default=ROOT / "desk", metavar="FILE", help="the built program, in place of ./desk")
-    program = words.parse_args().program.resolve()
-    with tempfile.TemporaryDirectory() as folder:
+    add_program(words)
+    program = ready(words.parse_args().program)
+    with tempfile.TemporaryDirectory() as folder, socket.create_server(("127.0.0.1", 0)) as taken:
+        commands = [*COMMANDS, ["serve", "town.db", "--port", str(taken.getsockname()[1]), "--count", "1"]]
         file = Path(folder) / "town.db"
         for what, octets, wanted in [
             ("an empty file", b"", NOT_A_DESK),
@@ -89,15 +83,15 @@ def main():
             ("zeros", bytes(8192), FILE),
         ]:
             file.write_bytes(octets)
-            refused(program, what, file, wanted)
+            refused(program, commands, what, file, wanted)
             removed(file)
         execute(file, "CREATE TABLE note (id INTEGER PRIMARY KEY, text TEXT)")
-        refused(program, "somebody's database", file, NOT_A_DESK)
+        refused(program, commands, "somebody's database", file, NOT_A_DESK)
         for what, text, wanted in CHANGED:
             removed(file)
             subprocess.run([program, "init", file], check=True)
             execute(file, text)
-            refused(program, what, file, wanted)
+            refused(program, commands, what, file, wanted)
 
 
 if __name__ == "__main__":

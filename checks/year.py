@@ -20,19 +20,17 @@ long the reports. The program is `./desk`, which is proved and built first where
 import argparse
 import datetime
 import random
-import sqlite3
 import subprocess
 import sys
 import tempfile
 import time
-from contextlib import closing
 from pathlib import Path
 
-from http_client import asked, body, free_port, post
+from common import ROOT, add_program, reading, ready, wants
+from http_client import free_port, posted
 
-ROOT = Path(__file__).resolve().parent.parent
 sys.path.insert(0, str(ROOT / "bench"))
-from normal_operation import BASE, FIRST_DEV_EUI, JOIN_EUI, SECOND, Stream
+from normal_operation import FIRST_DEV_EUI, JOIN_EUI, SECOND, Stream
 
 GATEWAYS, DEVICES, FRAMES_A_DAY = 12, 400, 6
 OWNERS = ["town", "harbour"]
@@ -45,11 +43,6 @@ DAYS_A_RUN = 3
 MOVED_A_MONTH = 5
 # on which day of the year the limit of each gateway's band is set
 LIMITS = {100: 18_000_000, 250: 36_000_000}
-
-
-def wants(holds, what):
-    if not holds:
-        sys.exit(f"year.py: {what}")
 
 
 class Town(Stream):
@@ -177,7 +170,7 @@ def serving(program, file, lines, wanted, month):
         ran.stdout.readline()
         month.openings.append(time.monotonic() - begun)
         for line, told in zip(lines, wanted):
-            answer = month.timed(lambda line: body(asked(port, post(line))), line)
+            answer = month.timed(lambda line: posted(port, line), line)
             wants(answer == told, f"{line}\n{answer}\n{told}")
         wants(ran.wait() == 0, f"serve ends with {ran.returncode}")
 
@@ -205,7 +198,7 @@ def report(program, file, day, month):
 
 
 def replies(file):
-    with closing(sqlite3.connect(f"file:{file}?mode=ro", uri=True)) as conn:
+    with reading(file) as conn:
         return conn.execute("SELECT count(*) FROM reply").fetchone()[0]
 
 
@@ -235,14 +228,12 @@ def year(program, file, days, seed):
 
 def main():
     words = argparse.ArgumentParser(description=__doc__, formatter_class=argparse.RawDescriptionHelpFormatter)
-    words.add_argument("--program", type=Path, default=ROOT / "desk", metavar="FILE", help="the built program, in place of ./desk")
+    add_program(words)
     words.add_argument("--days", type=int, default=365)
     words.add_argument("--seed", type=int, default=1)
     words.add_argument("--folder", type=Path, help="where the file stands while it runs")
     given = words.parse_args()
-    program = given.program.resolve()
-    # the first call may prove and build the program
-    subprocess.run([program, "lines"], stdin=subprocess.DEVNULL, check=True)
+    program = ready(given.program)
     begun = time.monotonic()
     with tempfile.TemporaryDirectory(dir=given.folder) as folder:
         file = Path(folder) / "town.db"

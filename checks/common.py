@@ -1,0 +1,79 @@
+"""What several scripts share: the program that they run, lines of text, and a desk's two files.
+
+Those of bench/ find it by the path of checks/, which they put behind their own.
+"""
+
+import shutil
+import sqlite3
+import subprocess
+import sys
+from contextlib import closing
+from pathlib import Path
+
+ROOT = Path(__file__).resolve().parent.parent
+
+TABLES_OF_SCHEMA_1 = ["meta", "sender", "reply", "owner", "gateway", "device", "session", "uplink", "copy", "booking"]
+TABLES = [*TABLES_OF_SCHEMA_1, "band_limit"]
+# what sqlite3 does to a desk's file, which is of schema 1 then
+TO_SCHEMA_1 = "DROP TABLE band_limit; UPDATE meta SET version = 1"
+
+
+def wants(holds, what):
+    if not holds:
+        sys.exit(f"{Path(sys.argv[0]).name}: {what}")
+
+
+def text_of(lines):
+    return "".join(line + "\n" for line in lines)
+
+
+# ---- the program
+
+
+def add_program(words, metavar="FILE"):
+    """The option that names it."""
+    words.add_argument(
+        "--program",
+        type=Path,
+        default=ROOT / "desk",
+        metavar=metavar,
+        help="the built program, in place of ./desk",
+    )
+
+
+def ready(program):
+    """Its whole path, after a first call, which may prove and build it, and says so."""
+    path = program.resolve()
+    subprocess.run([path, "lines"], stdin=subprocess.DEVNULL, check=True)
+    return path
+
+
+# ---- files
+
+
+def log_of(file):
+    return file.with_name(file.name + "-wal")
+
+
+def copy_to(file, to):
+    """Copies the file, and its log where it has one."""
+    shutil.copy(file, to)
+    if log_of(file).exists():
+        shutil.copy(log_of(file), log_of(to))
+
+
+def removed(file):
+    """Removes the file and what stands beside it by its name."""
+    for path in file.parent.glob(f"{file.name}*"):
+        path.unlink()
+
+
+def reading(file):
+    """A connection that only reads, and is closed at the end of its block."""
+    return closing(sqlite3.connect(f"file:{file}?mode=ro", uri=True))
+
+
+def execute(file, text):
+    """Has sqlite3 run these statements."""
+    with closing(sqlite3.connect(file)) as conn:
+        conn.executescript(text)
