@@ -16,7 +16,7 @@ pub is_check : {K X : Type 0} (m : Meaning K) (c : Settings) (heard : List Envel
 is_check m c heard old new octets was sound (Ok text) told =
     let is = told (kept_after c heard) sound was.store.holds in
     (is.0, is.1, is.2 ∙ ap (λ config. check_text config is.0) was.store.configuration)
-is_check m c heard old new octets was sound (Err (Unavailable fault)) told = tt
+is_check m c heard old new octets was sound (Err (Unavailable fault)) told = told (kept_after c heard) sound was.store.holds
 is_check m c heard old new octets was sound (Err Time) told = absurd told
 is_check m c heard old new octets was sound (Err Owner) told = absurd told
 is_check m c heard old new octets was sound (Err Gateway) told = absurd told

@@ -1,5 +1,5 @@
 -- A report that a store was asked for, printed.
-use Rattle.std.proofs.Common.{◌≡◌, ◌↔◌, ◌⊎◌, ℕ, List, false, Option, Result, Ok, Err, IfOk, IfErr, OnOk, IsTrue, inl, inr, refl, ap, subst}
+use Rattle.std.proofs.Common.{◌≡◌, ◌↔◌, ◌⊎◌, ℕ, List, false, Option, Result, Ok, Err, IfOk, IfErr, OnOk, IsTrue, inl, inr, refl, ap, subst, sym}
 use Rattle.std.specs.Prelude.{ℤ}
 use Rattle.std.specs.Io.KnownBytes.{Keeps}
 use Rattle.registry_core.specs.State.{State}
@@ -13,7 +13,7 @@ use Rattle.desk_engine.specs.Reports.{IsBandReport, IsOwnerReport, is_gateway, i
 use Rattle.desk_http.specs.Reports.{IsBandAnswer}
 use Rattle.desk_cli.proofs.Opened.{err}
 use Rattle.desk_cli.specs.Faults.{fault_of_report}
-use Rattle.desk_cli.specs.Printing.{IsOwnersMonth, PrintsBy}
+use Rattle.desk_cli.specs.Printing.{IsOwnersMonth, PrintsBy, RefusesMonth}
 use Rattle.desk_cli.specs.steps.Printing.{IsPrinted}
 use Rattle.desk_cli.specs.declared.faults.Fault.{Fault}
 use Rattle.desk_cli.specs.declared.faults.Fault.TheVariants as told
@@ -31,7 +31,7 @@ module _ {X : Type 0} (octets : X → List ℕ) (s : State) where
   owners_month owner month (Ok text) time known report fault = record {
     answer_is = record { known = known; report = report; fault = fault };
     time = λ is. absurd (differs is);
-    month_is = λ none. let is = time.1 none in absurd (is_ok is);
+    no_month = λ none. absurd (is_ok (time.1 none));
   }
     where
       Answers : {Y : Type 0} → Result Y ReportFault → Type 0
@@ -46,7 +46,7 @@ module _ {X : Type 0} (octets : X → List ℕ) (s : State) where
   owners_month owner month (Err why) time known report fault = record {
     answer_is = record { known = known; report = report; fault = fault };
     time = λ is. let same : why ≡ Time = cc in time.0 (ap Err same);
-    month_is = tt;
+    no_month = λ none. subst (λ (r : Result X ReportFault). RefusesMonth (shown octets r)) (sym (time.1 none)) tt;
   }
 
   pub gateways_bands : (gateway : List ℕ) (r : Result X ReportFault) → OnOk r (IsTrue (is_gateway s gateway))

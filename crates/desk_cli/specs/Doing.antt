@@ -51,11 +51,15 @@ OnDeskByRules g Opens given_back result file Untouched Does =
 -- What a connection to a file is; what is answered at the ports; the connection that a run gives back; what a reader has left before and
 -- after, and what a writer holds before and after.
 module _ {S T : Type 0} (g : Ghosts S) (Opens : Text → Held S → Type 0) (ports : AtPorts) (given_back : Option (Held S)) (left rest before after : Option (List ℕ)) (result : Result T Fault) where
-  -- what was asked was done, by how it ended
+  -- what was asked was done, by how it ended; what isn't asked of a stream leaves it as it was
   abbrev pub DoesAsked : Asked → Type 0
   DoesAsked (lines c) = AnswersLines left rest before after c result × (given_back ≡ None)
-  DoesAsked (init file c) = OnFile Opens given_back result file (Unit {0}) (λ conn back. InitsBy g conn back c result)
-  DoesAsked (migrate file) = OnFile Opens given_back result file (Unit {0}) (λ conn back. MigratesBy g conn back result)
+  DoesAsked (init file c) =
+      OnFile Opens given_back result file (Unit {0}) (λ conn back. InitsBy g conn back c result)
+      × Keeps left rest × Keeps before after
+  DoesAsked (migrate file) =
+      OnFile Opens given_back result file (Unit {0}) (λ conn back. MigratesBy g conn back result)
+      × Keeps left rest × Keeps before after
   DoesAsked (hear file) =
       OnDeskByRules g Opens given_back result file (Keeps left rest × Keeps before after) (λ back c heard. HearsBy g back c heard left rest before after result)
   DoesAsked (import file sender) =
@@ -64,12 +68,16 @@ module _ {S T : Type 0} (g : Ghosts S) (Opens : Text → Held S → Type 0) (por
   DoesAsked (serve file port connections) =
       OnDeskByRules g Opens given_back result file (Keeps before after)
       (λ back c heard. ServesBy c heard (KeepsHeard g back c) (IsLeft g back c) ports port connections before after result)
+      × Keeps left rest
   DoesAsked (report file owner month) =
       OnDeskByRules g Opens given_back result file (Keeps before after)
       (λ back c heard. PrintsBy (KeepsHeard g back c heard) (IsLeft g back c heard None) before after (IsOwnersMonth (state_of c heard) owner month) result)
+      × Keeps left rest
   DoesAsked (bands file gateway) =
       OnDeskByRules g Opens given_back result file (Keeps before after)
       (λ back c heard. PrintsBy (KeepsHeard g back c heard) (IsLeft g back c heard None) before after (IsBandAnswer (state_of c heard) gateway) result)
+      × Keeps left rest
   DoesAsked (check file) =
       OnDeskByRules g Opens given_back result file (Keeps before after)
       (λ back c heard. PrintsBy (KeepsHeard g back c heard) (IsLeft g back c heard None) before after (IsCheck c heard) result)
+      × Keeps left rest

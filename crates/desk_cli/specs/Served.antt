@@ -82,7 +82,7 @@ module _ {L R W K : Type 0} (l : Connections L R W) (remaining : R → Option (L
 
 -- Messages were delivered, in this order, and reports may have been asked for. Where the store was in order for a heard list, it ends in
 -- order for what is heard with the deliveries; a crash then leaves that, or after a fault of the disk that with the message in doubt;
--- and in what it holds no hour of any gateway's band has more downlinks than the limit.
+-- and what it holds goes by the registry's rules.
 pub record HearsDeliveries {K : Type 0} (m : Meaning K) (old new : K) : Type 0 where
   pub deliveries : List Delivery
   -- a call told a fault of the disk

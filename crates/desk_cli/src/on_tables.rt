@@ -41,8 +41,8 @@ pub fn run_on_tables<S: Alter>(
         (first_doubt config (map (λ t. t.now) texts.now) outcomes.items) trees) }
 
     // Whatever the database then holds, and whatever a crash leaves, goes by the registry's rules: no two sessions have one device
-    // and one nonce, no two uplinks have one session, one kind and one counter, and no hour of any gateway's band has more
-    // downlinks than the limit.
+    // and one nonce, no two uplinks have one session, one kind and one counter, and no hour of any gateway's band holds more booked
+    // time on air than its limit. What is said of the database is said while no outcome tells a fault of the disk.
     ensures rules { HasCleanDisk (state S.Store result.1) → IfOk result.0 (λ outcomes. has_disk outcomes.items ≡ false
         → KeepsRules config (state S.Store result.1).now) }
     ensures rules_left { HasCleanDisk (state S.Store result.1) → IfOk result.0 (λ outcomes. LeavesRules S.Store result.1 config) }

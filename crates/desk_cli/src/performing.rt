@@ -32,6 +32,19 @@ use std::io::{Read, Write};
 /// What came of a command, and the connection to its file, where it has one that could be opened.
 pub type Performed<S> = (Result<(), Fault>, Option<Connection<S>>);
 
+/// What a command does with the connection to its file, which is given back; or why the file can't be opened.
+macro_rules! on_file {
+    ($opened:expr, |$conn:ident| $command:expr) => {
+        match $opened {
+            Ok($conn) => {
+                let (done, $conn) = $command;
+                (done, Some($conn))
+            }
+            Err(fault) => (Err(fault), None),
+        }
+    };
+}
+
 /// Does what the command asks.
 pub(crate) fn perform<S: Alter, N: Files<S>, B: Network, R: Read, W: Write>(
     alloc: Global,
@@ -74,25 +87,13 @@ fn init_file<S: Alter, N: Files<S>>(
 ) -> Performed<S>
     ensures { OnFile (N.opens files) result.1 result.0 file.now (Unit {0}) (λ conn back. InitsBy S.Store conn back config result.0) }
 {
-    match files.make(file) {
-        Ok(conn) => {
-            let (done, conn) = init_command(alloc, conn, config);
-            (done, Some(conn))
-        }
-        Err(fault) => (Err(fault), None),
-    }
+    on_file!(files.make(file), |conn| init_command(alloc, conn, config))
 }
 
 fn migrate_file<S: Alter, N: Files<S>>(alloc: Global, files: N, file: &str) -> Performed<S>
     ensures { OnFile (N.opens files) result.1 result.0 file.now (Unit {0}) (λ conn back. MigratesBy S.Store conn back result.0) }
 {
-    match files.open(file) {
-        Ok(conn) => {
-            let (done, conn) = migrate_command(alloc, conn);
-            (done, Some(conn))
-        }
-        Err(fault) => (Err(fault), None),
-    }
+    on_file!(files.open(file), |conn| migrate_command(alloc, conn))
 }
 
 fn hear_file<S: Alter, N: Files<S>, R: Read, W: Write>(
@@ -107,13 +108,10 @@ fn hear_file<S: Alter, N: Files<S>, R: Read, W: Write>(
         (λ back c heard. HearsBy S.Store back c heard (R.remaining reader.old) (R.remaining reader.new)
         (W.contents answers.old) (W.contents answers.new) result.0) }
 {
-    match files.open(file) {
-        Ok(conn) => {
-            let (done, conn) = hear_command(alloc, conn, reader, answers);
-            (done, Some(conn))
-        }
-        Err(fault) => (Err(fault), None),
-    }
+    on_file!(
+        files.open(file),
+        |conn| hear_command(alloc, conn, reader, answers)
+    )
 }
 
 fn import_file<S: Alter, N: Files<S>, R: Read, W: Write>(
@@ -129,13 +127,10 @@ fn import_file<S: Alter, N: Files<S>, R: Read, W: Write>(
         (λ back c heard. ImportsBy c heard sender.now (KeepsHeard S.Store back c) (IsLeft S.Store back c)
         (R.remaining reader.old) (R.remaining reader.new) (W.contents answers.old) (W.contents answers.new) result.0) }
 {
-    match files.open(file) {
-        Ok(conn) => {
-            let (done, conn) = import_command(alloc, conn, sender, reader, answers);
-            (done, Some(conn))
-        }
-        Err(fault) => (Err(fault), None),
-    }
+    on_file!(
+        files.open(file),
+        |conn| import_command(alloc, conn, sender, reader, answers)
+    )
 }
 
 fn serve_file<S: Alter, N: Files<S>, B: Network, W: Write>(
@@ -152,13 +147,10 @@ fn serve_file<S: Alter, N: Files<S>, B: Network, W: Write>(
         (λ back c heard. ServesBy c heard (KeepsHeard S.Store back c) (IsLeft S.Store back c)
         (at_ports B.ports network.now B.Port.meaning B.Port.Reader.remaining B.Port.Writer.contents) port connections (W.contents answers.old) (W.contents answers.new) result.0) }
 {
-    match files.open(file) {
-        Ok(conn) => {
-            let (done, conn) = serve_command(alloc, conn, network, port, connections, answers);
-            (done, Some(conn))
-        }
-        Err(fault) => (Err(fault), None),
-    }
+    on_file!(
+        files.open(file),
+        |conn| serve_command(alloc, conn, network, port, connections, answers)
+    )
 }
 
 fn report_file<S: Alter, N: Files<S>, W: Write>(
@@ -174,13 +166,10 @@ fn report_file<S: Alter, N: Files<S>, W: Write>(
         (λ back c heard. PrintsBy (KeepsHeard S.Store back c heard) (IsLeft S.Store back c heard None)
         (W.contents answers.old) (W.contents answers.new) (IsOwnersMonth (state_of c heard) owner.now month.now) result.0) }
 {
-    match files.open(file) {
-        Ok(conn) => {
-            let (done, conn) = report_command(alloc, conn, owner, month, answers);
-            (done, Some(conn))
-        }
-        Err(fault) => (Err(fault), None),
-    }
+    on_file!(
+        files.open(file),
+        |conn| report_command(alloc, conn, owner, month, answers)
+    )
 }
 
 fn bands_file<S: Alter, N: Files<S>, W: Write>(
@@ -195,13 +184,10 @@ fn bands_file<S: Alter, N: Files<S>, W: Write>(
         (λ back c heard. PrintsBy (KeepsHeard S.Store back c heard) (IsLeft S.Store back c heard None)
         (W.contents answers.old) (W.contents answers.new) (IsBandAnswer (state_of c heard) gateway.now) result.0) }
 {
-    match files.open(file) {
-        Ok(conn) => {
-            let (done, conn) = bands_command(alloc, conn, gateway, answers);
-            (done, Some(conn))
-        }
-        Err(fault) => (Err(fault), None),
-    }
+    on_file!(
+        files.open(file),
+        |conn| bands_command(alloc, conn, gateway, answers)
+    )
 }
 
 fn check_file<S: Alter, N: Files<S>, W: Write>(
@@ -215,11 +201,5 @@ fn check_file<S: Alter, N: Files<S>, W: Write>(
         (λ back c heard. PrintsBy (KeepsHeard S.Store back c heard) (IsLeft S.Store back c heard None)
         (W.contents answers.old) (W.contents answers.new) (IsCheck c heard) result.0) }
 {
-    match files.open(file) {
-        Ok(conn) => {
-            let (done, conn) = check_command(alloc, conn, answers);
-            (done, Some(conn))
-        }
-        Err(fault) => (Err(fault), None),
-    }
+    on_file!(files.open(file), |conn| check_command(alloc, conn, answers))
 }

@@ -133,6 +133,7 @@ pub struct Sockets<'a, R> {
 }
 
 impl<'a, R> Sockets<'a, R> {
+    /// Those that this runtime reaches.
     pub fn new(rt: &'a R) -> Self {
         Sockets { rt }
     }

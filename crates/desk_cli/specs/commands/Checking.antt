@@ -5,6 +5,7 @@ use Rattle.clap.specs.Simple.{App, new_app, with_rule}
 use Rattle.clap.specs.Walk.{Row}
 use Rattle.registry_core.specs.declared.messages.Envelope.{Envelope}
 use Rattle.registry_core.specs.Settings.{Settings}
+use Rattle.desk_store.specs.Calls.{IsUnavailability}
 use Rattle.desk_engine.specs.declared.report_faults.ReportFault.{ReportFault}
 use Rattle.desk_engine.specs.declared.report_faults.ReportFault.TheVariants.{Unavailable}
 use Rattle.desk_engine.specs.InOrder.{kept_after}
@@ -63,5 +64,5 @@ check_text c t = settings_lines c (named_lines t (numbered_lines t))
 -- what is printed of a desk that has heard these, or why it isn't: memory or the disk failed
 abbrev pub IsCheck : Settings → List Envelope → Result (List ℕ) ReportFault → Type 0
 IsCheck c heard (Ok text) = (t : Totals) × AreTotals (kept_after c heard) t × (text ≡ check_text c t)
-IsCheck c heard (Err (Unavailable fault)) = Unit {0}
+IsCheck c heard (Err (Unavailable fault)) = IsUnavailability fault
 IsCheck c heard (Err _) = ⊥

@@ -20,7 +20,7 @@ use Rattle.desk_cli.specs.Named.{Named, migrate, named_as}
 use Rattle.desk_cli.specs.OnTables.{KeepsHeard}
 use Rattle.desk_cli.specs.Options.{◌>>=◌, place_rule, placed}
 use Rattle.desk_cli.specs.declared.faults.Fault.{Fault}
-use Rattle.desk_cli.specs.declared.faults.Fault.TheVariants.{Exists, Schema, Unavailable}
+use Rattle.desk_cli.specs.declared.faults.Fault.TheVariants.{Exists, NotADesk, Schema, Unavailable}
 
 -- its words
 abbrev pub migrate_app : App
@@ -39,18 +39,25 @@ pub record HasHeardInFirst (c : Settings) (heard : List Envelope) (db : Database
   pub list : IsHeard c heard
   pub tables : IsOfFirstSchema c (kept_after c heard) db
 
+-- the database has a table meta, whose row is that of a desk of this version
+abbrev pub IsOfVersion : {S : Type 0} → Ghosts S → Held S → ℤ → Type 0
+IsOfVersion g conn version = HasMeta conn.schema × ((c : Settings) × TellsMeta (state g conn).now.trees version c)
+
 -- Of a file of schema 1: with status 0 it has schema 2 and keeps all that was heard, and else memory or the disk failed, and a crash
--- leaves what it left before or the tables moved. Where meta tells another version than 1, or the name of the table that is to be
--- made is taken, the file is given back as it was.
+-- leaves what it left before or the tables moved. Of any file: the schema is told of a desk of another version than 1 alone, and that
+-- something exists where the name of the table that is to be made is taken; what is no desk's of version 1 is given back as it was.
 pub record MigratesBy {S : Type 0} (g : Ghosts S) (conn back : Held S) {T : Type 0} (result : Result T Fault) : Type 0 where
   pub moved : (c : Settings) (heard : List Envelope) → HasHeardInFirst c heard (state g conn).now → OnOk result (HasCleanDisk (state g back) → KeepsHeard g back c heard)
   pub unavailable : (c : Settings) (heard : List Envelope) → HasHeardInFirst c heard (state g conn).now → OnErr result (HasCleanDisk (state g back) → result ≡ Err Unavailable)
   pub given_back : (c : Settings) (heard : List Envelope) → HasHeardInFirst c heard (state g conn).now
       → OnErr result (IsBackFromMove c (kept_after c heard) (state g conn) (state g back))
-  pub first : OnOk result (HasCleanDisk (state g back) → conn.schema ≡ first_schema)
-  pub other_version : HasMeta conn.schema → (version : ℤ) (c : Settings) → TellsMeta (state g conn).now.trees version c → version ≢ pos 1
+  pub first : OnOk result (HasCleanDisk (state g back) → (conn.schema ≡ first_schema) × IsOfVersion g conn (pos 1))
+  pub told : OnErr result ((result ≡ Err NotADesk) ⊎ ((result ≡ Err Schema) ⊎ ((result ≡ Err Exists) ⊎ (result ≡ Err Unavailable))))
+  pub version : HasCleanDisk (state g back) → result ≡ Err Schema → (version : ℤ) × IsOfVersion g conn version × (version ≢ pos 1)
+  pub other_version : (version : ℤ) → IsOfVersion g conn version → version ≢ pos 1
       → OnErr result (HasCleanDisk (state g back) → (result ≡ Err Schema) ⊎ (result ≡ Err Unavailable))
-  pub taken : HasMeta conn.schema → (c : Settings) → TellsMeta (state g conn).now.trees (pos 1) c → IsTrue (is_used conn.schema limit_name)
+  pub exists : HasCleanDisk (state g back) → result ≡ Err Exists → IsOfVersion g conn (pos 1) × IsTrue (is_used conn.schema limit_name)
+  pub taken : IsOfVersion g conn (pos 1) → IsTrue (is_used conn.schema limit_name)
       → OnErr result (HasCleanDisk (state g back) → (result ≡ Err Exists) ⊎ (result ≡ Err Unavailable))
   pub untouched : (conn.schema ≡ first_schema → (c : Settings) → ¬ TellsMeta (state g conn).now.trees (pos 1) c)
       → OnErr result (IsGivenBack (state g conn) (state g back) (λ _. ⊥))

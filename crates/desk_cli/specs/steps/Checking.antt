@@ -1,7 +1,7 @@
 -- What is printed of a desk, as a store tells it.
 use Rattle.std.specs.Prelude.{◌≡◌, ℕ, List, Result, Ok, Err}
 use Rattle.registry_core.specs.Settings.{Settings}
-use Rattle.desk_store.specs.Calls.{ForHeld}
+use Rattle.desk_store.specs.Calls.{ForHeld, IsUnavailability}
 use Rattle.desk_store.specs.Kept.{Kept}
 use Rattle.desk_store.specs.Meaning.{Meaning}
 use Rattle.desk_engine.specs.declared.report_faults.ReportFault.{ReportFault}
@@ -17,5 +17,5 @@ TellsTotals kept c text = (t : Totals) × AreTotals kept t × (text ≡ check_te
 module _ {K X : Type 0} (m : Meaning K) (old new : K) (octets : X → List ℕ) where
   abbrev pub IsCheckOf : Result X ReportFault → Type 0
   IsCheckOf (Ok text) = ForHeld m old new (λ kept. TellsTotals kept (m.configuration old) (octets text))
-  IsCheckOf (Err (Unavailable fault)) = Unit {0}
+  IsCheckOf (Err (Unavailable fault)) = ForHeld m old new (λ kept. IsUnavailability fault)
   IsCheckOf (Err _) = ⊥

@@ -62,6 +62,7 @@ fn deliveries(rt: HostRuntime) -> Result<(), Fail> {
             let mut store = opening::<Switched>(rt.alloc(), 65_536)?;
             store.fail_after(calls, failure);
             if !deliver_with_failure(&rt, &mut *store, &all, fault) {
+                assert!(rt; calls > 0);
                 break;
             }
             store.reopen();
@@ -98,6 +99,7 @@ fn imports(rt: HostRuntime) -> Result<(), Fail> {
             store.fail_after(calls, failure);
             let stopped = import_worked(&rt, &mut *store, &envelopes);
             if stopped.is_none() {
+                assert!(rt; calls > 0);
                 break;
             }
             assert_eq!(rt; stopped, Some(fault));
@@ -118,6 +120,7 @@ fn reports(rt: HostRuntime) -> Result<(), Fail> {
             let owned = owner_report(rt.alloc(), &mut *store, "town", "2024-02");
             let booked = band_report(rt.alloc(), &mut *store, "gw-a");
             if owned.is_ok() && booked.is_ok() {
+                assert!(rt; calls > 0);
                 break;
             }
             let told = owned.err().or(booked.err());

@@ -11,6 +11,10 @@ use registry_core::{Booking, Effect, Envelope, Kind, Message, Session, Standing}
 use sqlite::MemStore;
 use std::test::Fail;
 
+const MESSAGE: &[u8] = b"message";
+
+const ANSWER: &[u8] = b"answer";
+
 fn envelope(transaction: u32) -> Result<Envelope, &'static str> {
     let sender = named("office")?;
     let message = Message::OwnerAdd { owner: sender };
@@ -26,7 +30,7 @@ fn heard<K: Keeper>(
     transaction: u32,
     effect: &Effect,
 ) -> Result<Result<(), StoreFault>, &'static str> {
-    Ok(store.commit(&envelope(transaction)?, b"message", effect, b"answer"))
+    Ok(store.commit(&envelope(transaction)?, MESSAGE, effect, ANSWER))
 }
 
 fn owner_heard<K: Keeper>(
@@ -68,8 +72,19 @@ fn has_owner<K: Looks>(store: &mut K, owner: &str) -> Result<bool, &'static str>
     Ok(store.has_owner(&named(owner)?) == Ok(true))
 }
 
+/// Whether the pair has its texts, each in its place.
 fn has_reply<K: Looks>(store: &mut K, transaction: u32) -> Result<bool, &'static str> {
-    Ok(matches!(store.texts_of(&envelope(transaction)?), Ok(Some(_))))
+    let Ok(texts) = store.texts_of(&envelope(transaction)?) else {
+        return Err("a fault");
+    };
+    let Some(texts) = texts else {
+        return Ok(false);
+    };
+    if texts.message.as_slice() == MESSAGE && texts.answer.as_slice() == ANSWER {
+        Ok(true)
+    } else {
+        Err("other texts")
+    }
 }
 
 fn counts_are<K: Looks>(store: &mut K, sessions: u64, uplinks: u64) -> bool {

@@ -30,7 +30,7 @@ pub returns-in-Err : goal.returns-in-Err
 returns-in-Err g c = record {
   prints = λ clean config heard kept.
       let back = c.in-Err.ensures.unavailable clean config heard kept in
-      prints_unopened _ _ _ _ c.in-Err.fault back.0 back.1 (Keeps-refl _) (record { answer_is = record { known = tt; report = λ from to month. tt; fault = λ from to month. tt }; time = λ is. absurd (unavailable_is_no_time is); month_is = tt });
+      prints_unopened _ _ _ _ c.in-Err.fault back.0 back.1 (Keeps-refl _) (record { answer_is = record { known = tt; report = λ from to month. tt; fault = λ from to month. tt }; time = λ is. absurd (unavailable_is_no_time is); no_month = λ none. tt });
   no_desk = λ clean none. (c.in-Err.ensures.refused clean, Keeps-refl _);
   clean = λ clean. let given = (c.in-Err.ensures.refused clean).given_back in omega (arith, given.clean, clean);
 }
