@@ -9,6 +9,7 @@ pub mod KeptAfter
 pub mod LineCuts
 pub mod LineParts
 pub mod LineRuns
+pub mod NewLists
 pub mod OwnerLines
 pub mod Places
 pub mod Replies

@@ -1,4 +1,4 @@
 use Rattle.desk_http.proofs.serving.refuse_method.Goals as goal
 
-pub returns-in-Ok : goal.returns-in-Ok
-returns-in-Ok g c path = (c.as_u16.ensures.value, rw (c.method_of.ensures path) at c.in-Ok.ensures)
+pub returns : goal.returns
+returns g c path = rw (c.method_of.ensures path) at c.respond.ensures
