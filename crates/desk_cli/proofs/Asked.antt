@@ -10,7 +10,7 @@ use Rattle.desk_cli.specs.CommandLine.{named_by}
 use Rattle.desk_cli.specs.Doing.{DoesAsked}
 use Rattle.desk_cli.specs.Endings.{ending_of}
 use Rattle.desk_cli.specs.Faults.{ending_of_fault, ending_of_result}
-use Rattle.desk_cli.specs.Named.{Asked, Named, Tells, asked_of, bad, names, refused}
+use Rattle.desk_cli.specs.Named.{Asked, Named, TellsNamed, asked_of, bad, names, refused}
 use Rattle.desk_cli.specs.Runs.{AsksFor, Given, IsNamed, Runs}
 use Rattle.desk_cli.specs.declared.commands.Command.{Command}
 use Rattle.desk_cli.specs.declared.endings.Ending.{Ending}
@@ -74,12 +74,12 @@ module _ {S : Type 0} (g : Ghosts S) (Opens : Text → Held S → Type 0) (ports
       is_misused misused = cc
 
   -- the words name a command, and it was done
-  pub runs_command : (words : List Text) (command : Command) (ending : Ending) (r : Result (Unit {0}) Fault) → Tells (named_by words) (Ok command) → ending ≡ ending_of_result r
+  pub runs_command : (words : List Text) (command : Command) (ending : Ending) (r : Result (Unit {0}) Fault) → TellsNamed (named_by words) (Ok command) → ending ≡ ending_of_result r
       → DoesAsked g Opens ports back left rest before after r (asked_of command) → Runs g Opens ports back left rest before after (Ok words) ending
   runs_command words command ending r tells is does = inl (asked_of command, tells, record { result = r; ending_is = is; does = does })
 
 -- words that name no command, or weren't read for want of memory
-names_none : (named : Named) (usage : Usage) (ending : Ending) → Tells named (Err usage) → ending ≡ ending_of usage
+names_none : (named : Named) (usage : Usage) (ending : Ending) → TellsNamed named (Err usage) → ending ≡ ending_of usage
     → (ending ≡ Failed) ⊎ ((ending ≡ Misused) × ((asked : Asked) → ¬ (named ≡ names asked)))
 names_none named Memory ending tells is = inl is
 names_none named NotText ending tells is = absurd tells
@@ -90,7 +90,7 @@ names_none (bad value) (Words error) ending tells is = absurd tells
 
 module _ {S : Type 0} (g : Ghosts S) (Opens : Text → Held S → Type 0) (ports : AtPorts) (left before : Option (List ℕ)) where
   -- nothing was done
-  pub runs_nothing : (words : List Text) (usage : Usage) (ending : Ending) → Tells (named_by words) (Err usage) → ending ≡ ending_of usage
+  pub runs_nothing : (words : List Text) (usage : Usage) (ending : Ending) → TellsNamed (named_by words) (Err usage) → ending ≡ ending_of usage
       → Runs g Opens ports None left left before before (Ok words) ending
   runs_nothing words usage ending tells is =
       inr (record { unopened = refl; unread = Keeps-refl left; unwritten = Keeps-refl before; ending_is = names_none (named_by words) usage ending tells is })

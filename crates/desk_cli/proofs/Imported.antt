@@ -25,7 +25,7 @@ use Rattle.desk_engine.specs.Outcomes.{IsOutcome, is_unavailable}
 use Rattle.desk_engine.specs.Told.{Told, envelope_told, text_of}
 use Rattle.desk_cli.proofs.OnTables.{unshut_by}
 use Rattle.desk_cli.proofs.Opened.{err, is_unavailable as is_told_unavailable}
-use Rattle.desk_cli.specs.Answering.{Keeps, Leaves}
+use Rattle.desk_cli.specs.Answering.{StoreKeeps, StoreLeaves}
 use Rattle.desk_cli.specs.Faults.{fault_of_csv, fault_of_store}
 use Rattle.desk_cli.specs.commands.Importing.{ImportsBy, ImportsFirst, RefusesReport, answer_envelopes}
 use Rattle.desk_cli.specs.steps.Importing.{HearsEnvelopes, HearsSome, line_of}
@@ -118,16 +118,16 @@ imports_unopened c heard sender Kept Left rest before T fault is left =
 module _ {K : Type 0} (m : Meaning K) (c : Settings) (heard : List Envelope) (old new : K) (es : List Envelope) (os : List Outcome) (stopped : Option StoreFault) (before after : Option (List ℕ))
     {foreign : Bool} (store : Hears m old new (is_disk stopped) foreign (λ d all. heard_in_order d all (take (length os) es)) (λ d. doubt_at_stop es os stopped))
     (was : WasInOrder m c heard old new) where
-  leaves_first : Leaves m c heard old new (heard_in_order c heard (take (length os) es)) (doubt_at_stop es os stopped)
+  leaves_first : StoreLeaves m c heard old new (heard_in_order c heard (take (length os) es)) (doubt_at_stop es os stopped)
   leaves_first = record { order = store.order c heard was; crash = λ doubt. store.crash c heard doubt was }
 
   hears_some : (Written : List ℕ → Type 0) → Written (answer_envelopes c heard (take (length os) es))
-      → HearsSome c heard (Keeps m c heard old new) (Leaves m c heard old new) es before after Written
+      → HearsSome c heard (StoreKeeps m c heard old new) (StoreLeaves m c heard old new) es before after Written
   hears_some Written written =
       record { count = length os; doubt = doubt_at_stop es os stopped; in_doubt = in_doubt es os stopped; left_is = leaves_first; answers = written }
 
   -- the answers couldn't be written
-  pub unwritten : HearsSome c heard (Keeps m c heard old new) (Leaves m c heard old new) es before after (λ _. ⊤)
+  pub unwritten : HearsSome c heard (StoreKeeps m c heard old new) (StoreLeaves m c heard old new) es before after (λ _. ⊤)
   unwritten = hears_some (λ _. ⊤) tt
 
   module _ (are : AreAnswers c heard (take (length os) es) os) (written : Appends before after (flat_map line_of os)) where
@@ -136,19 +136,19 @@ module _ {K : Type 0} (m : Meaning K) (c : Settings) (heard : List Envelope) (ol
 
     -- an envelope found the store unavailable
     pub stopped_at : (T : Type 0) (why : StoreFault) → IsUnavailability why → (fault : Fault) → fault ≡ fault_of_store why
-        → HearsEnvelopes c heard (Keeps m c heard old new) (Leaves m c heard old new) es before after (err {T = T} fault)
+        → HearsEnvelopes c heard (StoreKeeps m c heard old new) (StoreLeaves m c heard old new) es before after (err {T = T} fault)
     stopped_at T why unavailable fault is =
-        subst (λ f. HearsEnvelopes c heard (Keeps m c heard old new) (Leaves m c heard old new) es before after (err {T = T} f)) (sym (is ∙ is_told_unavailable why unavailable))
+        subst (λ f. HearsEnvelopes c heard (StoreKeeps m c heard old new) (StoreLeaves m c heard old new) es before after (err {T = T} f)) (sym (is ∙ is_told_unavailable why unavailable))
         (hears_some (Appends before after) its_answers)
 
     -- all were heard
     pub heard_all_of : stopped ≡ None → length os ≡ length es
-        → Keeps m c heard old new (heard_in_order c heard es) × Appends before after (answer_envelopes c heard es)
+        → StoreKeeps m c heard old new (heard_in_order c heard es) × Appends before after (answer_envelopes c heard es)
     heard_all_of none whole =
         let all : take (length os) es ≡ es = rw whole (take-length es) in
         let doubt : doubt_at_stop es os stopped ≡ None = no_doubt es os stopped none in
-        let leaves : Leaves m c heard old new (heard_in_order c heard es) None =
-        subst (λ envelopes. Leaves m c heard old new (heard_in_order c heard envelopes) None) all (subst (Leaves m c heard old new (heard_in_order c heard (take (length os) es))) doubt leaves_first) in
+        let leaves : StoreLeaves m c heard old new (heard_in_order c heard es) None =
+        subst (λ envelopes. StoreLeaves m c heard old new (heard_in_order c heard envelopes) None) all (subst (StoreLeaves m c heard old new (heard_in_order c heard (take (length os) es))) doubt leaves_first) in
         (record { leaves = leaves; still = unshut_by m old new store.call (ap is_disk none) }, subst (λ envelopes. Appends before after (answer_envelopes c heard envelopes)) all its_answers)
 
 -- ---- a report that was read

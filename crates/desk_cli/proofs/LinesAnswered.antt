@@ -12,35 +12,35 @@ use Rattle.desk_engine.specs.Lines.{FailsToWrite, HasHeard, IsCutShort, all_line
 use Rattle.desk_cli.proofs.OnTables.{unshut_by}
 use Rattle.desk_cli.proofs.Opened.{err, is_unavailable}
 use Rattle.desk_cli.specs.Faults.{fault_of_store}
-use Rattle.desk_cli.specs.Answering.{AnswersBy, AnswersFirst, HearsFirst, Keeps, Leaves}
+use Rattle.desk_cli.specs.Answering.{AnswersBy, AnswersFirst, HearsFirst, StoreKeeps, StoreLeaves}
 use Rattle.desk_cli.specs.declared.faults.Fault.{Fault}
 use Rattle.desk_cli.specs.declared.faults.Fault.TheVariants.{Exists, NotADesk, Schema, Owner, Gateway, Month, CsvSize, CsvEnd, CsvHeader, CsvRecord, Unavailable, File, Network}
 
 module _ {K : Type 0} (m : Meaning K) (c : Settings) (heard : List Envelope) (old new : K) where
   -- what was heard is kept, unless a fault of the disk was told
   pub keeps_lines : {disk foreign : Bool} → IsCall m old new disk foreign → disk ≡ false → (lines : List (List ℕ)) → HasHeard m c heard old new lines None
-      → Keeps m c heard old new (heard_lines c heard lines)
+      → StoreKeeps m c heard old new (heard_lines c heard lines)
   keeps_lines call is lines hears = record { leaves = record { order = hears.order; crash = hears.crash }; still = unshut_by m old new call is }
 
   module _ (left rest before after : Option (List ℕ)) (input : List ℕ) (read : Consumes left rest input) where
     -- all lines were heard, and handing the answers on failed
     pub hears_all : {foreign : Bool} → IsCall m old new false foreign → HasHeard m c heard old new (all_lines input) None
-        → HearsFirst c heard (Keeps m c heard old new) (Leaves m c heard old new) left rest before after
+        → HearsFirst c heard (StoreKeeps m c heard old new) (StoreLeaves m c heard old new) left rest before after
     hears_all call hears = record { input = input; read = read; lines = all_lines input; beginning = ([], sym (append-nil (all_lines input))); kept = keeps_lines call refl _ hears }
 
     -- a read failed after the lines that are ended
     pub hears_ended : {foreign : Bool} → IsCall m old new false foreign → HasHeard m c heard old new (whole_lines input) None
-        → HearsFirst c heard (Keeps m c heard old new) (Leaves m c heard old new) left rest before after
+        → HearsFirst c heard (StoreKeeps m c heard old new) (StoreLeaves m c heard old new) left rest before after
     hears_ended call hears = record { input = input; read = read; lines = whole_lines input; beginning = (last_line input ∷ [], refl); kept = keeps_lines call refl _ hears }
 
     -- a write failed after the line
     pub hears_unwritten : {foreign : Bool} → IsCall m old new false foreign → FailsToWrite m c heard old new input
-        → HearsFirst c heard (Keeps m c heard old new) (Leaves m c heard old new) left rest before after
+        → HearsFirst c heard (StoreKeeps m c heard old new) (StoreLeaves m c heard old new) left rest before after
     hears_unwritten call fails = record { input = input; read = read; lines = fails.lines ++ fails.line ∷ []; beginning = fails.beginning; kept = keeps_lines call refl _ fails.hears }
 
     -- a line found the store unavailable
     is_cut_short : (fault : StoreFault) → IsCutShort m c heard old new before after input fault
-        → AnswersFirst c heard (Keeps m c heard old new) (Leaves m c heard old new) left rest before after
+        → AnswersFirst c heard (StoreKeeps m c heard old new) (StoreLeaves m c heard old new) left rest before after
     is_cut_short fault cut = record {
       input = input;
       read = read;
@@ -54,9 +54,9 @@ module _ {K : Type 0} (m : Meaning K) (c : Settings) (heard : List Envelope) (ol
 
     -- and that is told
     pub cut_short : (why : StoreFault) → IsCutShort m c heard old new before after input why → (fault : Fault) → fault ≡ fault_of_store why
-        → AnswersBy c heard (Keeps m c heard old new) (Leaves m c heard old new) left rest before after (err {T = Unit {0}} fault)
+        → AnswersBy c heard (StoreKeeps m c heard old new) (StoreLeaves m c heard old new) left rest before after (err {T = Unit {0}} fault)
     cut_short why cut fault is =
-        subst (λ f. AnswersBy c heard (Keeps m c heard old new) (Leaves m c heard old new) left rest before after (err {T = Unit {0}} f))
+        subst (λ f. AnswersBy c heard (StoreKeeps m c heard old new) (StoreLeaves m c heard old new) left rest before after (err {T = Unit {0}} f))
         (sym (is ∙ is_unavailable why cut.unavailability)) (is_cut_short why cut)
 
 module _ (c : Settings) (heard : List Envelope) (Kept Stands : List Envelope → Type 0) (Left Stays : List Envelope → Option Envelope → Type 0)

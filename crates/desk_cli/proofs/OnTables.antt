@@ -17,7 +17,7 @@ use Rattle.desk_tables.specs.Store.{meaning_of, one_kept, own_law}
 use Rattle.desk_tables.specs.declared.tables.Tables.{Tables}
 use Rattle.desk_engine.specs.InOrder as engine
 use Rattle.desk_engine.specs.InOrder.{Survives, WasInOrder, doubt_after, kept_after}
-use Rattle.desk_cli.specs.Answering.{Keeps, Leaves}
+use Rattle.desk_cli.specs.Answering.{StoreKeeps, StoreLeaves}
 use Rattle.desk_cli.specs.OnTables.{HasHeard, IsLeft, KeepsHeard, KeepsRules, LeftHeard, WasOpened}
 
 -- a desk that was made has heard nothing
@@ -97,12 +97,12 @@ module _ {S : Type 0} (g : Ghosts S) (c : Settings) (before : List Envelope) (ol
         (was_sound : (meaning_of g).sound old) (sound : (meaning_of g).sound new)
         (leaves : (all : List Kept) → (meaning_of g).leaves new all → (trees : Trees) → (state g conn).may_leave trees
         → (kept : Kept) × IsOneOf all kept × AreOfDesk ((meaning_of g).configuration new) kept trees) where
-      pub is_left : (heard : List Envelope) (doubt : Option Envelope) → Leaves (meaning_of g) c before old new heard doubt → IsLeft g conn c heard doubt
+      pub is_left : (heard : List Envelope) (doubt : Option Envelope) → StoreLeaves (meaning_of g) c before old new heard doubt → IsLeft g conn c heard doubt
       is_left heard doubt given = left heard doubt (given.crash None (survives g c before old was settled was_sound)) leaves
 
       pub keeps : ((kept : Kept) → (meaning_of g).sound new → (meaning_of g).down new ≡ false → (meaning_of g).holds new kept
           → IsOfDesk ((meaning_of g).configuration new) kept (state g conn).now × ((state g conn).now ≡ (state g conn).committed))
-          → (heard : List Envelope) → Keeps (meaning_of g) c before old new heard → KeepsHeard g conn c heard
+          → (heard : List Envelope) → StoreKeeps (meaning_of g) c before old new heard → KeepsHeard g conn c heard
       keeps closes heard given =
           let back = closed heard given.still sound given.leaves.order closes in
           record { now = back.0; committed = back.1; left = is_left heard None given.leaves }

@@ -7,7 +7,7 @@ use Rattle.desk_store.specs.Meaning.{Meaning}
 use Rattle.desk_engine.specs.InOrder.{WasInOrder}
 use Rattle.desk_cli.proofs.OnTables.{unshut_by}
 use Rattle.desk_cli.proofs.Opened.{err}
-use Rattle.desk_cli.specs.Answering.{Keeps, Leaves}
+use Rattle.desk_cli.specs.Answering.{StoreKeeps, StoreLeaves}
 use Rattle.desk_cli.specs.Answered.{AtPorts}
 use Rattle.desk_cli.specs.Served.{Connections, HearsEach, Ports, at_ports, delivered_by}
 use Rattle.desk_cli.specs.commands.Serving.{HearsServed, ServesBy}
@@ -17,15 +17,15 @@ use Rattle.desk_cli.specs.declared.faults.Fault.TheVariants.{Exists, NotADesk, S
 pub hears_served : {N L R W K : Type 0} (m : Meaning K) (ports : Ports N L) (network : N) (l : Connections L R W) (remaining : R → Option (List ℕ)) (contents : W → Option (List ℕ)) (n : ℕ)
     (c : Settings) (heard : List Envelope) (old new : K) (first last : L) (port : ℕ) (before after : Option (List ℕ))
     → ports.listens network port first → WasInOrder m c heard old new → HearsEach m l remaining contents n old new first last
-    → HearsServed c heard (Keeps m c heard old new) (Leaves m c heard old new) (at_ports ports network l remaining contents) port n before after
+    → HearsServed c heard (StoreKeeps m c heard old new) (StoreLeaves m c heard old new) (at_ports ports network l remaining contents) port n before after
 hears_served m ports network l remaining contents n c heard old new first last port before after listens was each =
     let by = each.hears in
-    let leaves : Leaves m c heard old new _ (by.doubtful c) = record { order = by.hears.order c heard was; crash = λ doubt. by.hears.crash c heard doubt was } in
+    let leaves : StoreLeaves m c heard old new _ (by.doubtful c) = record { order = by.hears.order c heard was; crash = λ doubt. by.hears.crash c heard doubt was } in
     record {
       delivered = delivered_by by c;
       answered = (first, last, listens, each.answers c heard was);
       undoubted = λ is. by.undoubted is c;
-      kept = λ is. record { leaves = subst (Leaves m c heard old new _) (by.undoubted is c) leaves; still = unshut_by m old new by.hears.call is };
+      kept = λ is. record { leaves = subst (StoreLeaves m c heard old new _) (by.undoubted is c) leaves; still = unshut_by m old new by.hears.call is };
       left_is = leaves;
     }
 

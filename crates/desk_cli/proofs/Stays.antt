@@ -5,7 +5,7 @@ use Rattle.registry_core.specs.declared.messages.Envelope.{Envelope}
 use Rattle.registry_core.specs.Settings.{Settings}
 use Rattle.desk_store.specs.Meaning.{Meaning}
 use Rattle.desk_engine.specs.InOrder.{Survives, WasInOrder, doubt_after}
-use Rattle.desk_cli.specs.Answering.{Keeps}
+use Rattle.desk_cli.specs.Answering.{StoreKeeps}
 
 module _ {K : Type 0} (m : Meaning K) (c : Settings) (heard : List Envelope) (keeper : K) where
   -- a store that is up is in no doubt
@@ -14,5 +14,5 @@ module _ {K : Type 0} (m : Meaning K) (c : Settings) (heard : List Envelope) (ke
   still_survives true is doubt survives = survives
   still_survives false is doubt survives = elim survives [ inl own ↦ inl own | inr in_doubt ↦ absurd (true≢false (sym in_doubt.2.is_down ∙ is)) ]
 
-  pub stays : WasInOrder m c heard keeper keeper → Keeps m c heard keeper keeper heard
+  pub stays : WasInOrder m c heard keeper keeper → StoreKeeps m c heard keeper keeper heard
   stays was = record { leaves = record { order = was.order; crash = still_survives (m.down keeper) refl }; still = refl }

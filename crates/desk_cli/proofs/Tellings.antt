@@ -8,20 +8,20 @@ use Rattle.clap.specs.Walk.{Row, Text}
 use Rattle.clap.specs.declared.error.Error.{Error}
 use Rattle.clap.specs.declared.parser.matches.ArgMatches.{ArgMatches}
 use Rattle.desk_cli.specs.CommandLine.{command_named, desk_app, named_by, named_unless}
-use Rattle.desk_cli.specs.Named.{IsUsageOf, Tells}
+use Rattle.desk_cli.specs.Named.{IsUsageOf, TellsNamed}
 use Rattle.desk_cli.specs.declared.commands.Command.{Command}
 use Rattle.desk_cli.specs.declared.usage.Usage.{Usage}
 use Rattle.desk_cli.specs.declared.usage.Usage.TheVariants.{Words, Value, NotText, Memory}
 
 -- words that have no fault name what the subcommand that they enter says
 unfaulted : (kinds : Kinds) (met found : Option (Text × List Row)) (r : Result Command Usage)
-    → kinds ≡ [] → found ≡ met → Tells (command_named found) r → Tells (named_unless kinds met) r
+    → kinds ≡ [] → found ≡ met → TellsNamed (command_named found) r → TellsNamed (named_unless kinds met) r
 unfaulted kinds met found r free same tells =
-    subst (λ ks. Tells (named_unless ks met) r) (sym free) (subst (λ m. Tells (command_named m) r) same tells)
+    subst (λ ks. TellsNamed (named_unless ks met) r) (sym free) (subst (λ m. TellsNamed (command_named m) r) same tells)
 
 -- an error on the words has one of their faults
 faulted : (kinds : Kinds) (met : Option (Text × List Row)) (error : Error) (usage : Usage)
-    → HasKind kinds error → IsUsageOf error usage → Tells (named_unless kinds met) (Err usage)
+    → HasKind kinds error → IsUsageOf error usage → TellsNamed (named_unless kinds met) (Err usage)
 faulted kinds met error Memory has is = tt
 faulted kinds met error (Value value) has is = absurd is
 faulted kinds met error NotText has is = absurd is
@@ -33,7 +33,7 @@ faulted (kind ∷ kinds) met error (Words same) (inr among) is =
 -- the same of the desk's command line, at a parse that gives matches and at one that gives an error
 pub tells_command : (app : App) (words : List Text) (m : ArgMatches) (r : Result Command Usage) → app ≡ desk_app
     → (is_simple_and_free app ≡ true → fault_of app words ≡ []) → HasMatchesOf app words m
-    → Tells (command_named (subcommand_rows_of m)) r → Tells (named_by words) r
+    → TellsNamed (command_named (subcommand_rows_of m)) r → TellsNamed (named_by words) r
 tells_command app words m r is free has tells =
     let desk_free = subst (λ a. is_simple_and_free a ≡ true → fault_of a words ≡ []) is free in
     let desk_has = subst (λ a. HasMatchesOf a words m) is has in
@@ -41,7 +41,7 @@ tells_command app words m r is free has tells =
 
 pub tells_usage : (app : App) (words : List Text) (error : Error) (usage : Usage) → app ≡ desk_app
     → (is_simple_and_free app ≡ true → HasKind (fault_of app words) error) → IsUsageOf error usage
-    → Tells (named_by words) (Err usage)
+    → TellsNamed (named_by words) (Err usage)
 tells_usage app words error usage is has same =
     let desk_has = subst (λ a. is_simple_and_free a ≡ true → HasKind (fault_of a words) error) is has in
     faulted _ _ error usage (desk_has refl) same

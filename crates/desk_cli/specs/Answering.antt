@@ -16,13 +16,13 @@ use Rattle.desk_cli.specs.declared.faults.Fault.TheVariants.{File, Unavailable}
 
 module _ {K : Type 0} (m : Meaning K) (c : Settings) (heard : List Envelope) (old new : K) where
   -- it is in order for what is heard now, and a crash leaves that, or that with the message in doubt
-  pub record Leaves (after : List Envelope) (now : Option Envelope) : Type 0 where
+  pub record StoreLeaves (after : List Envelope) (now : Option Envelope) : Type 0 where
     pub order : IsInOrder m c new after
     pub crash : (doubt : Option Envelope) → Survives m c old heard doubt → Survives m c new after (doubt_after (m.down old) doubt now)
 
   -- no fault of the disk has shut it, and a crash leaves that alone
-  pub record Keeps (after : List Envelope) : Type 0 where
-    pub leaves : Leaves after None
+  pub record StoreKeeps (after : List Envelope) : Type 0 where
+    pub leaves : StoreLeaves after None
     pub still : m.down new ≡ m.down old
 
 -- ---- lines

@@ -63,9 +63,9 @@ IsUsageOf error (Value value) = ⊥
 IsUsageOf error NotText = ⊥
 
 -- the answer is what the words name, unless memory ran out
-abbrev pub Tells : Named → Result Command Usage → Type 0
-Tells named (Ok command) = named ≡ names (asked_of command)
-Tells named (Err (Words error)) = IsRefusal (kind_of error) named
-Tells named (Err (Value value)) = named ≡ bad value
-Tells named (Err NotText) = ⊥
-Tells named (Err Memory) = Unit {0}
+abbrev pub TellsNamed : Named → Result Command Usage → Type 0
+TellsNamed named (Ok command) = named ≡ names (asked_of command)
+TellsNamed named (Err (Words error)) = IsRefusal (kind_of error) named
+TellsNamed named (Err (Value value)) = named ≡ bad value
+TellsNamed named (Err NotText) = ⊥
+TellsNamed named (Err Memory) = Unit {0}

@@ -50,8 +50,8 @@ unknown_ports = record { listens = λ network port listening. Unit {0}; refuses 
 -- What is done of a request is said of something as it was and as it is: of a store, or of what was delivered so far.
 module _ {L R W K : Type 0} (l : Connections L R W) (remaining : R → Option (List ℕ)) (contents : W → Option (List ℕ)) (Does : K → K → Request → List ℕ → Response → Type 0) where
   -- One serving: of what the reader gives, to what the writer takes. It ended so.
-  abbrev pub ServesBy : K → K → R → R → W → W → ServeEnd → Type 0
-  ServesBy old new reader left writer written end = ServingEndsBy old new
+  abbrev pub ServesOnce : K → K → R → R → W → W → ServeEnd → Type 0
+  ServesOnce old new reader left writer written end = ServingEndsBy old new
       (λ response. (input : List ℕ) × Consumes (remaining reader) (remaining left) input
       × (request : Request) × (body : List ℕ) × Reads input (remaining left) request body × Does old new request body response)
       (Consumes (remaining reader) (remaining left) [] × IsAtEnd (remaining left))
@@ -66,7 +66,7 @@ module _ {L R W K : Type 0} (l : Connections L R W) (remaining : R → Option (L
     pub written : W
     pub end : ServeEnd
     pub comes : l.comes before meanwhile reader writer
-    pub served : ServesBy old new reader left writer written end
+    pub served : ServesOnce old new reader left writer written end
     pub goes : l.goes meanwhile after left written end
 
   -- The same; or the connection failed to come, and nothing was done.

@@ -3,7 +3,7 @@ ghost use Rattle.std.specs.Prelude.{◌≡◌, List};
 ghost use Rattle.registry_core.specs.declared.messages.Envelope.{Envelope};
 ghost use Rattle.registry_core.specs.Settings.{Settings};
 ghost use Rattle.desk_engine.specs.InOrder.{WasInOrder};
-ghost use Rattle.desk_cli.specs.Answering.{AnswersBy, Keeps, Leaves};
+ghost use Rattle.desk_cli.specs.Answering.{AnswersBy, StoreKeeps, StoreLeaves};
 
 use crate::faults::Fault;
 use desk_engine::{LinesEnd, run_lines};
@@ -21,7 +21,7 @@ pub(crate) fn answer_lines<K: Keeper, R: Read, W: Write>(
     ensures same { K.meaning.configuration keeper.new ≡ K.meaning.configuration keeper.old }
     ensures was_sound { K.meaning.sound keeper.new → K.meaning.sound keeper.old }
     ensures ends { (c : Settings) (heard : List Envelope) → WasInOrder K.meaning c heard keeper.old keeper.new
-        → AnswersBy c heard (Keeps K.meaning c heard keeper.old keeper.new) (Leaves K.meaning c heard keeper.old keeper.new)
+        → AnswersBy c heard (StoreKeeps K.meaning c heard keeper.old keeper.new) (StoreLeaves K.meaning c heard keeper.old keeper.new)
         (R.remaining reader.old) (R.remaining reader.new) (W.contents answers.old) (W.contents answers.new) result }
 {
     match run_lines(alloc, keeper, reader, answers) {

@@ -4,7 +4,7 @@ ghost use Rattle.clap.specs.Matches.{found_of};
 ghost use Rattle.clap.specs.Simple.{app_of, subcommand_rows_of};
 ghost use Rattle.clap.specs.Walk.{rows_of};
 ghost use Rattle.desk_cli.specs.CommandLine.{command_named, desk_app, named_with, with_readers};
-ghost use Rattle.desk_cli.specs.Named.{Tells};
+ghost use Rattle.desk_cli.specs.Named.{TellsNamed};
 ghost use Rattle.desk_cli.specs.steps.CommandLine.{Adds};
 
 mod checking;
@@ -130,7 +130,7 @@ pub(crate) fn command_of<'a>(
     matches: &ArgMatches<'a>,
     desk: &mut clap::Command<'a>,
 ) -> Result<Command<'a>, Usage>
-    ensures { Tells (command_named (subcommand_rows_of matches.now)) result }
+    ensures { TellsNamed (command_named (subcommand_rows_of matches.now)) result }
 {
     let Some((name, options)) = matches.subcommand() else {
         return Err(no_command(desk));
@@ -144,7 +144,7 @@ fn command_with<'a>(
     options: &ArgMatches<'a>,
     desk: &mut clap::Command<'a>,
 ) -> Result<Command<'a>, Usage>
-    ensures { Tells (named_with name.now (rows_of (found_of options.now))) result }
+    ensures { TellsNamed (named_with name.now (rows_of (found_of options.now))) result }
 {
     if name == "lines" {
         lines_of(options)

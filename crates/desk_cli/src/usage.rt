@@ -1,7 +1,7 @@
 //! Why words name no command.
 ghost use Rattle.std.specs.Prelude.{◌≡◌, [], ◌∷◌, Err};
 ghost use Rattle.clap.specs.declared.error.kind.ErrorKind.TheVariants.{MissingSubcommand};
-ghost use Rattle.desk_cli.specs.Named.{refused, IsUsageOf, Tells};
+ghost use Rattle.desk_cli.specs.Named.{refused, IsUsageOf, TellsNamed};
 ghost use Rattle.desk_cli.specs.declared.usage.Usage.TheVariants.{Value};
 
 use clap::error::{Error, ErrorKind};
@@ -86,7 +86,7 @@ impl From<BadValue> for Usage {
 
 /// No command where one is needed.
 pub(crate) fn no_command(desk: &mut clap::Command<'_>) -> Usage
-    ensures { Tells (refused (MissingSubcommand ∷ [])) (Err result) }
+    ensures { TellsNamed (refused (MissingSubcommand ∷ [])) (Err result) }
 {
     match desk.error(ErrorKind::MissingSubcommand, "a command is needed") {
         Ok(error) => usage_of(error),

@@ -13,7 +13,7 @@ ghost use Rattle.registry_core.specs.Settings.{Settings};
 ghost use Rattle.desk_store.specs.Calls.{IsRead, Tells, fault_in};
 ghost use Rattle.desk_engine.specs.Reporting.{store_fault};
 ghost use Rattle.desk_tables.specs.Store.{meaning_of};
-ghost use Rattle.desk_cli.specs.Named.{Tells as TellsWords};
+ghost use Rattle.desk_cli.specs.Named.{TellsNamed};
 ghost use Rattle.desk_cli.specs.NoDesk.{HoldsNoDesk, RefusesFile};
 ghost use Rattle.desk_cli.specs.OnTables.{IsLeft, KeepsHeard};
 ghost use Rattle.desk_cli.specs.Printing.{PrintsBy};
@@ -50,7 +50,7 @@ pub(crate) fn check_app<'a>(alloc: Global) -> Result<clap::Command<'a>, AllocErr
 
 /// The command that its words give.
 pub(crate) fn check_of<'a>(options: &ArgMatches<'a>) -> Result<Command<'a>, Usage>
-    ensures { TellsWords (check_named (rows_of (found_of options.now))) result }
+    ensures { TellsNamed (check_named (rows_of (found_of options.now))) result }
 {
     let file = placed(options, "file")?;
     Ok(Command::Check { file })

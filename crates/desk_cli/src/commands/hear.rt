@@ -6,7 +6,7 @@ ghost use Rattle.clap.specs.Simple.{app_of};
 ghost use Rattle.clap.specs.Walk.{rows_of};
 ghost use Rattle.clap.specs.declared.builder.command.Command.TheViews.{out-Command as fields_of};
 ghost use Rattle.desk_cli.specs.commands.Hear.{hear_app, hear_named, HearsBy};
-ghost use Rattle.desk_cli.specs.Named.{Tells};
+ghost use Rattle.desk_cli.specs.Named.{TellsNamed};
 ghost use Rattle.sqlite.specs.Held.{state};
 ghost use Rattle.sqlite.specs.State.{HasCleanDisk};
 ghost use Rattle.registry_core.specs.declared.messages.Envelope.{Envelope};
@@ -38,7 +38,7 @@ pub(crate) fn hear_app<'a>(alloc: Global) -> Result<clap::Command<'a>, AllocErro
 
 /// The command that its words give.
 pub(crate) fn hear_of<'a>(options: &ArgMatches<'a>) -> Result<Command<'a>, Usage>
-    ensures { Tells (hear_named (rows_of (found_of options.now))) result }
+    ensures { TellsNamed (hear_named (rows_of (found_of options.now))) result }
 {
     let file = placed(options, "file")?;
     Ok(Command::Hear { file })

@@ -5,9 +5,9 @@ ghost use Rattle.clap.specs.Simple.{app_of};
 ghost use Rattle.clap.specs.Walk.{rows_of};
 ghost use Rattle.clap.specs.declared.builder.command.Command.TheViews.{out-Command as fields_of};
 ghost use Rattle.desk_cli.specs.commands.Importing.{import_app, import_named, ImportsBy};
-ghost use Rattle.desk_cli.specs.Named.{Tells};
+ghost use Rattle.desk_cli.specs.Named.{TellsNamed};
 ghost use Rattle.std.specs.List.{flat_map};
-ghost use Rattle.std.specs.Io.KnownBytes.{Appends, Consumes, IsAtEnd, Keeps as KeepsBytes};
+ghost use Rattle.std.specs.Io.KnownBytes.{Appends, Consumes, IsAtEnd, Keeps};
 ghost use Rattle.sqlite.specs.Held.{state};
 ghost use Rattle.sqlite.specs.State.{HasCleanDisk};
 ghost use Rattle.registry_core.specs.declared.messages.Envelope.{Envelope};
@@ -15,7 +15,7 @@ ghost use Rattle.registry_core.specs.Settings.{Settings};
 ghost use Rattle.desk_engine.specs.InOrder.{WasInOrder};
 ghost use Rattle.desk_engine.specs.Lines.{line_feed};
 ghost use Rattle.desk_wire.specs.CsvReports.{longest_report};
-ghost use Rattle.desk_cli.specs.Answering.{Keeps, Leaves};
+ghost use Rattle.desk_cli.specs.Answering.{StoreKeeps, StoreLeaves};
 ghost use Rattle.desk_cli.specs.NoDesk.{HoldsNoDesk, RefusesFile};
 ghost use Rattle.desk_cli.specs.OnTables.{IsLeft, KeepsHeard};
 ghost use Rattle.desk_cli.specs.steps.Importing.{line_of, HearsEnvelopes};
@@ -49,7 +49,7 @@ pub(crate) fn import_app<'a>(alloc: Global) -> Result<clap::Command<'a>, AllocEr
 
 /// The command that its words give.
 pub(crate) fn import_of<'a>(options: &ArgMatches<'a>) -> Result<Command<'a>, Usage>
-    ensures { Tells (import_named (rows_of (found_of options.now))) result }
+    ensures { TellsNamed (import_named (rows_of (found_of options.now))) result }
 {
     let file = placed(options, "file")?;
     let sender = name_at(options, "sender").ok_or(BadValue::Sender)?;
@@ -76,7 +76,7 @@ pub fn import_command<S: Alter, R: Read, W: Write>(
         → ImportsBy c heard sender.now (KeepsHeard S.Store result.1 c) (IsLeft S.Store result.1 c)
         (R.remaining reader.old) (R.remaining reader.new) (W.contents answers.old) (W.contents answers.new) result.0 }
     ensures no_desk { HasCleanDisk (state S.Store result.1) → HoldsNoDesk S.Store conn
-        → RefusesFile S.Store conn result.1 (KeepsBytes (R.remaining reader.old) (R.remaining reader.new) × KeepsBytes (W.contents answers.old) (W.contents answers.new)) result.0 }
+        → RefusesFile S.Store conn result.1 (Keeps (R.remaining reader.old) (R.remaining reader.new) × Keeps (W.contents answers.old) (W.contents answers.new)) result.0 }
     ensures clean { HasCleanDisk (state S.Store result.1) → HasCleanDisk (state S.Store conn) }
 {
     match opened(alloc, conn) {
@@ -100,7 +100,7 @@ fn import_report<K: Keeper, R: Read, W: Write>(
     ensures same { K.meaning.configuration keeper.new ≡ K.meaning.configuration keeper.old }
     ensures was_sound { K.meaning.sound keeper.new → K.meaning.sound keeper.old }
     ensures imports { (c : Settings) (heard : List Envelope) → WasInOrder K.meaning c heard keeper.old keeper.new
-        → ImportsBy c heard sender.now (Keeps K.meaning c heard keeper.old keeper.new) (Leaves K.meaning c heard keeper.old keeper.new)
+        → ImportsBy c heard sender.now (StoreKeeps K.meaning c heard keeper.old keeper.new) (StoreLeaves K.meaning c heard keeper.old keeper.new)
         (R.remaining reader.old) (R.remaining reader.new) (W.contents answers.old) (W.contents answers.new) result }
 {
     let text = match report_text(alloc, reader) {
@@ -146,7 +146,7 @@ fn hear_envelopes<K: Keeper, W: Write>(
     ensures same { K.meaning.configuration keeper.new ≡ K.meaning.configuration keeper.old }
     ensures was_sound { K.meaning.sound keeper.new → K.meaning.sound keeper.old }
     ensures hears { (c : Settings) (heard : List Envelope) → WasInOrder K.meaning c heard keeper.old keeper.new
-        → HearsEnvelopes c heard (Keeps K.meaning c heard keeper.old keeper.new) (Leaves K.meaning c heard keeper.old keeper.new)
+        → HearsEnvelopes c heard (StoreKeeps K.meaning c heard keeper.old keeper.new) (StoreLeaves K.meaning c heard keeper.old keeper.new)
         envelopes.now (W.contents answers.old) (W.contents answers.new) result }
 {
     let imported = import(alloc, keeper, envelopes);

@@ -5,7 +5,7 @@ ghost use Rattle.clap.specs.Simple.{app_of};
 ghost use Rattle.clap.specs.Walk.{rows_of};
 ghost use Rattle.clap.specs.declared.builder.command.Command.TheViews.{out-Command as fields_of};
 ghost use Rattle.desk_cli.specs.commands.Init.{init_app, init_named, InitsBy};
-ghost use Rattle.desk_cli.specs.Named.{Tells};
+ghost use Rattle.desk_cli.specs.Named.{TellsNamed};
 
 use super::Command;
 use crate::faults::Fault;
@@ -35,7 +35,7 @@ pub(crate) fn init_app<'a>(alloc: Global) -> Result<clap::Command<'a>, AllocErro
 
 /// The command that its words give.
 pub(crate) fn init_of<'a>(options: &ArgMatches<'a>) -> Result<Command<'a>, Usage>
-    ensures { Tells (init_named (rows_of (found_of options.now))) result }
+    ensures { TellsNamed (init_named (rows_of (found_of options.now))) result }
 {
     let file = placed(options, "file")?;
     let config = config_of(options)?;

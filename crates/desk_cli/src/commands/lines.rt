@@ -7,7 +7,7 @@ ghost use Rattle.clap.specs.declared.builder.command.Command.TheViews.{out-Comma
 ghost use Rattle.registry_core.specs.State.{opening};
 ghost use Rattle.desk_store.specs.Lists.{kept_of, settings_of};
 ghost use Rattle.desk_cli.specs.commands.Lines.{AnswersLines, lines_app, lines_named};
-ghost use Rattle.desk_cli.specs.Named.{Tells};
+ghost use Rattle.desk_cli.specs.Named.{TellsNamed};
 ghost use Rattle.desk_cli.specs.Options.{config_of};
 
 use super::Command;
@@ -34,7 +34,7 @@ pub(crate) fn lines_app<'a>(alloc: Global) -> Result<clap::Command<'a>, AllocErr
 
 /// The command that its options give.
 pub(crate) fn lines_of<'a>(options: &ArgMatches<'a>) -> Result<Command<'a>, Usage>
-    ensures { Tells (lines_named (config_of (rows_of (found_of options.now)))) result }
+    ensures { TellsNamed (lines_named (config_of (rows_of (found_of options.now)))) result }
 {
     let config = config_of(options)?;
     Ok(Command::Lines { config })

@@ -5,7 +5,7 @@ ghost use Rattle.clap.specs.Simple.{app_of};
 ghost use Rattle.clap.specs.Walk.{rows_of};
 ghost use Rattle.clap.specs.declared.builder.command.Command.TheViews.{out-Command as fields_of};
 ghost use Rattle.desk_cli.specs.commands.Migrating.{migrate_app, migrate_named, MigratesBy};
-ghost use Rattle.desk_cli.specs.Named.{Tells};
+ghost use Rattle.desk_cli.specs.Named.{TellsNamed};
 
 use super::Command;
 use crate::faults::Fault;
@@ -34,7 +34,7 @@ pub(crate) fn migrate_app<'a>(alloc: Global) -> Result<clap::Command<'a>, AllocE
 
 /// The command that its words give.
 pub(crate) fn migrate_of<'a>(options: &ArgMatches<'a>) -> Result<Command<'a>, Usage>
-    ensures { Tells (migrate_named (rows_of (found_of options.now))) result }
+    ensures { TellsNamed (migrate_named (rows_of (found_of options.now))) result }
 {
     let file = placed(options, "file")?;
     Ok(Command::Migrate { file })

@@ -6,7 +6,7 @@ ghost use Rattle.clap.specs.Simple.{app_of};
 ghost use Rattle.clap.specs.Walk.{rows_of};
 ghost use Rattle.clap.specs.declared.builder.command.Command.TheViews.{out-Command as fields_of};
 ghost use Rattle.desk_cli.specs.commands.Reports.{bands_app, bands_named, report_app, report_named};
-ghost use Rattle.desk_cli.specs.Named.{Tells};
+ghost use Rattle.desk_cli.specs.Named.{TellsNamed};
 ghost use Rattle.sqlite.specs.Held.{state};
 ghost use Rattle.sqlite.specs.State.{HasCleanDisk};
 ghost use Rattle.registry_core.specs.declared.messages.Envelope.{Envelope};
@@ -44,7 +44,7 @@ pub(crate) fn report_app<'a>(alloc: Global) -> Result<clap::Command<'a>, AllocEr
 
 /// The command that they give.
 pub(crate) fn report_of<'a>(options: &ArgMatches<'a>) -> Result<Command<'a>, Usage>
-    ensures { Tells (report_named (rows_of (found_of options.now))) result }
+    ensures { TellsNamed (report_named (rows_of (found_of options.now))) result }
 {
     let file = placed(options, "file")?;
     let owner = placed(options, "owner")?;
@@ -66,7 +66,7 @@ pub(crate) fn bands_app<'a>(alloc: Global) -> Result<clap::Command<'a>, AllocErr
 
 /// The command that they give.
 pub(crate) fn bands_of<'a>(options: &ArgMatches<'a>) -> Result<Command<'a>, Usage>
-    ensures { Tells (bands_named (rows_of (found_of options.now))) result }
+    ensures { TellsNamed (bands_named (rows_of (found_of options.now))) result }
 {
     let file = placed(options, "file")?;
     let gateway = placed(options, "gateway")?;

@@ -1,6 +1,6 @@
 //! `desk serve`: requests over HTTP, one a connection, for a desk in a file.
 ghost use Rattle.std.specs.Prelude.{◌≡◌, false, None, List, IfOk};
-ghost use Rattle.std.specs.Io.KnownBytes.{Keeps as KeepsBytes};
+ghost use Rattle.std.specs.Io.KnownBytes.{Keeps};
 ghost use Rattle.std.specs.String.{string_bytes};
 ghost use Rattle.clap.specs.Matches.{found_of};
 ghost use Rattle.clap.specs.Simple.{app_of};
@@ -11,8 +11,8 @@ ghost use Rattle.sqlite.specs.State.{HasCleanDisk};
 ghost use Rattle.registry_core.specs.declared.messages.Envelope.{Envelope};
 ghost use Rattle.registry_core.specs.Settings.{Settings};
 ghost use Rattle.desk_engine.specs.InOrder.{WasInOrder};
-ghost use Rattle.desk_cli.specs.Answering.{Keeps, Leaves};
-ghost use Rattle.desk_cli.specs.Named.{Tells};
+ghost use Rattle.desk_cli.specs.Answering.{StoreKeeps, StoreLeaves};
+ghost use Rattle.desk_cli.specs.Named.{TellsNamed};
 ghost use Rattle.desk_cli.specs.NoDesk.{HoldsNoDesk, RefusesFile};
 ghost use Rattle.desk_cli.specs.OnTables.{IsLeft, KeepsHeard};
 ghost use Rattle.desk_http.specs.Serving.{ServesRequest};
@@ -59,7 +59,7 @@ pub(crate) fn serve_app<'a>(alloc: Global) -> Result<clap::Command<'a>, AllocErr
 
 /// The command that its words give.
 pub(crate) fn serve_of<'a>(options: &ArgMatches<'a>) -> Result<Command<'a>, Usage>
-    ensures { Tells (serve_named (rows_of (found_of options.now))) result }
+    ensures { TellsNamed (serve_named (rows_of (found_of options.now))) result }
 {
     let file = placed(options, "file")?;
     let port = port_at(options, "port").ok_or(BadValue::Port)?;
@@ -92,7 +92,7 @@ pub fn serve_command<S: Alter, B: Network, W: Write>(
         (at_ports B.ports network.now B.Port.meaning B.Port.Reader.remaining B.Port.Writer.contents)
         port connections (W.contents answers.old) (W.contents answers.new) result.0 }
     ensures no_desk { HasCleanDisk (state S.Store result.1) → HoldsNoDesk S.Store conn
-        → RefusesFile S.Store conn result.1 (KeepsBytes (W.contents answers.old) (W.contents answers.new)) result.0 }
+        → RefusesFile S.Store conn result.1 (Keeps (W.contents answers.old) (W.contents answers.new)) result.0 }
     ensures clean { HasCleanDisk (state S.Store result.1) → HasCleanDisk (state S.Store conn) }
 {
     match opened(alloc, conn) {
@@ -117,7 +117,7 @@ fn serve_port<K: Keeper, B: Network, W: Write>(
     ensures same { K.meaning.configuration keeper.new ≡ K.meaning.configuration keeper.old }
     ensures was_sound { K.meaning.sound keeper.new → K.meaning.sound keeper.old }
     ensures serves { (c : Settings) (heard : List Envelope) → WasInOrder K.meaning c heard keeper.old keeper.new
-        → ServesBy c heard (Keeps K.meaning c heard keeper.old keeper.new) (Leaves K.meaning c heard keeper.old keeper.new)
+        → ServesBy c heard (StoreKeeps K.meaning c heard keeper.old keeper.new) (StoreLeaves K.meaning c heard keeper.old keeper.new)
         (at_ports B.ports network.now B.Port.meaning B.Port.Reader.remaining B.Port.Writer.contents)
         port connections (W.contents answers.old) (W.contents answers.new) result }
 {

@@ -2,7 +2,6 @@
 //! of its own: a proof that carries the clauses of many calls takes minutes.
 mod keeping;
 mod opening;
-mod reopening;
 
 use super::config;
 use registry_core::Config;

@@ -1,11 +1,11 @@
 use Rattle.std.proofs.Common.{Err, ap, map, string_bytes, subst, ◌∙◌}
 use Rattle.clap.specs.Walk.{texts}
 use Rattle.desk_cli.specs.CommandLine.{named_by}
-use Rattle.desk_cli.specs.Named.{Tells}
+use Rattle.desk_cli.specs.Named.{TellsNamed}
 use Rattle.desk_cli.proofs.Asked.{runs_nothing}
 use Rattle.desk_cli.proofs.program.run_strings.Goals as goal
 
 pub returns-in-Err-clause-runs : goal.returns-in-Err-clause-runs
 returns-in-Err-clause-runs g c =
     runs_nothing g.S.Store (g.N.Files.opens c.args.files) _ _ _ (map string_bytes c.args.strings.now) c.in-Err.usage c.tell-in-Err.result
-    (subst (λ words. Tells (named_by words) (Err c.in-Err.usage)) (ap texts c.deref.ensures.value ∙ c.in-Ok.ensures) c.in-Err.ensures) c.tell-in-Err.ensures
+    (subst (λ words. TellsNamed (named_by words) (Err c.in-Err.usage)) (ap texts c.deref.ensures.value ∙ c.in-Ok.ensures) c.in-Err.ensures) c.tell-in-Err.ensures
