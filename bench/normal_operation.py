@@ -1,7 +1,7 @@
 #!/usr/bin/env python3
 """Measures `desk lines` on streams of normal operation.
 
-    bench/normal_operation.py [--sizes 2000,10000,50000] [--seed 1] [--write FILE]
+    bench/normal_operation.py [--program FILE] [--sizes 2000,10000,50000] [--seed 1] [--write FILE]
 
 A stream is one owner, 8 gateways and 200 devices, which join, and then send data frames that 1 to 3 gateways hear. Every
 tenth data frame is answered in its first window, and each downlink is told as sent. Now and then the operator sets the
@@ -21,6 +21,9 @@ import time
 from pathlib import Path
 
 ROOT = Path(__file__).resolve().parent.parent
+
+sys.path.append(str(ROOT / "checks"))
+from common import add_program, ready  # noqa: E402
 
 GATEWAYS = 8
 DEVICES = 200
@@ -172,9 +175,9 @@ def run(words, lines):
         return seconds, peak, told.read().splitlines()
 
 
-def measure(lines):
+def measure(program, lines):
     """Seconds, kilobytes at the peak, and the seconds of the plain program."""
-    seconds, peak, answers = run([ROOT / "desk", "lines"], lines)
+    seconds, peak, answers = run([program, "lines"], lines)
     plain_seconds, _, plain_answers = run([sys.executable, ROOT / "bench" / "dictionaries.py"], lines)
     if len(answers) != len(lines):
         sys.exit(f"{len(answers)} answers to {len(lines)} lines")
@@ -188,6 +191,7 @@ def measure(lines):
 
 def main():
     words = argparse.ArgumentParser(description=__doc__, formatter_class=argparse.RawDescriptionHelpFormatter)
+    add_program(words)
     words.add_argument("--sizes", default="2000,10000,50000")
     words.add_argument("--seed", type=int, default=1)
     words.add_argument("--write", metavar="FILE")
@@ -196,12 +200,11 @@ def main():
     if given.write:
         Path(given.write).write_text("".join(line + "\n" for line in normal_operation(max(sizes), given.seed)))
         return
-    # the first call may prove and build the program
-    subprocess.run([ROOT / "desk", "lines"], stdin=subprocess.DEVNULL, check=True)
+    program = ready(given.program)
     print(f"{'lines':>8} {'seconds':>9} {'lines/s':>9} {'growth':>8} {'peak MiB':>9} {'plain/desk':>11}")
     before = None
     for size in sizes:
-        seconds, peak, plain_seconds = measure(normal_operation(size, given.seed))
+        seconds, peak, plain_seconds = measure(program, normal_operation(size, given.seed))
         growth = "" if before is None else f"{(seconds / before[1]) / (size / before[0]):.2f}"
         print(f"{size:>8} {seconds:>9.2f} {size / seconds:>9.0f} {growth:>8} {peak / 1024:>9.1f} {plain_seconds / seconds:>11.1f}")
         before = (size, seconds)

@@ -7,11 +7,17 @@ A text, a file of zeros, somebody's database, and a desk's file: of version 7, o
 schema and the version of the other, without its row of meta, with a bad name in it, and with a table more. `desk
 check`, `hear`, `import`, `report`, `bands` and `serve` get each of them. The port of `serve` is taken, so that it would
 tell of that if it bound the port before it has opened the file. An empty file is refused too, and is a database without
-tables then. The program is `./desk`, which is proved and built first where it isn't current, or with --program the
-built one in FILE.
+tables then.
+
+And a desk's file of which one value is out of its range, in each column that the program reads: a message, or a report,
+that needs the row finds no desk, and leaves all rows as they are.
+
+The program is `./desk`, which is proved and built first where it isn't current, or with --program the built one in
+FILE.
 """
 
 import argparse
+import json
 import socket
 import sqlite3
 import subprocess
@@ -19,7 +25,7 @@ import sys
 import tempfile
 from pathlib import Path
 
-from common import TO_SCHEMA_1, add_program, execute, ready, removed
+from common import ROOT, TABLES, TO_SCHEMA_1, add_program, copy_to, execute, reading, ready, removed
 
 # a status, and what is on standard error
 NOT_A_DESK = 1, "desk: not a desk\n"
@@ -47,6 +53,57 @@ COMMANDS = [
 ]
 
 
+# what the desk has heard before one of its values is out of range
+HEARD = ["1-registry.jsonl", "2-joins.jsonl", "3-data-frames.jsonl", "4-downlinks.jsonl"]
+
+# a message of each kind that reads rows: a new join, a new data frame, a copy of one that was heard, and so on
+AT_A = {"Gateway": "gw-a", "Freq": 868300000, "DataRate": 5}
+NEW_JOIN = "00010000d07ed5b3703c2b1a000ba304000100a1b2c3d4"
+JOIN = ("JoinHeard", {**AT_A, "Time": 1706745800061696, "PHYPayload": NEW_JOIN, "Verdict": "Good"})
+FRAME = ("FrameHeard", {**AT_A, "Time": 1706745900041216, "PHYPayload": "400000a00100010011223344", "Verdict": 0})
+COPY = ("FrameHeard", {**AT_A, "Time": 1706745700041216, "PHYPayload": "400000a00100000011223344", "Verdict": 0})
+DOWN = ("DownBook", {"Uplink": 2, "Gateway": "gw-a", "Window": 1, "PHYPayload": "600000a00100010055667788"})
+DONE = ("DownDone", {"Booking": 3, "Sent": True})
+MOVE = ("DeviceMove", {"DevEUI": "0004a30b001a2b3c", "Owner": "town"})
+REPORT = ["report", "town.db", "town", "2024-02"]
+BANDS = ["bands", "town.db", "gw-b"]
+
+# what sqlite3 does to a row, and what needs the row
+OUT_OF_RANGE = [
+    ("UPDATE sender SET role = 2 WHERE name = 'bridge'", FRAME),
+    ("UPDATE sender SET role = -1 WHERE name = 'bridge'", FRAME),
+    ("UPDATE device SET join_eui = x'00'", JOIN),
+    ("UPDATE device SET owner = 'two words'", MOVE),
+    ("UPDATE device SET floor = -1", FRAME),
+    ("UPDATE session SET device = x'0004a30b001a2b'", FRAME),
+    ("UPDATE session SET nonce = 65536", JOIN),
+    ("UPDATE session SET nonce = -1", FRAME),
+    ("UPDATE session SET next_down = -1", DOWN),
+    ("UPDATE uplink SET counter = 4294967296 WHERE number = 2", FRAME),
+    ("UPDATE uplink SET session = -1 WHERE number = 2", DOWN),
+    ("UPDATE uplink SET kind = 2 WHERE number = 2", DOWN),
+    ("UPDATE uplink SET counter = -1 WHERE number = 2", DOWN),
+    ("UPDATE uplink SET octets = zeroblob(256) WHERE number = 2", COPY),
+    ("UPDATE uplink SET start = -1 WHERE number = 2", COPY),
+    ("UPDATE uplink SET start = 9007199254740992 WHERE number = 2", DOWN),
+    ("UPDATE uplink SET airtime = 4294967296 WHERE number = 2", DOWN),
+    ("UPDATE uplink SET airtime = -1", REPORT),
+    ("UPDATE uplink SET band = 0 WHERE number = 2", DOWN),
+    ("UPDATE uplink SET band = 7 WHERE number = 2", DOWN),
+    ("UPDATE copy SET ended = -1", DOWN),
+    ("UPDATE copy SET freq = 4294967296", DOWN),
+    ("UPDATE copy SET dr = 8", DOWN),
+    ("UPDATE booking SET uplink = -1 WHERE number = 3", DONE),
+    ("UPDATE booking SET gateway = 'two words' WHERE number = 3", DONE),
+    ("UPDATE booking SET band = 7 WHERE number = 3", DONE),
+    ("UPDATE booking SET start = 9223372036854775807 WHERE number = 3", DONE),
+    ("UPDATE booking SET airtime = 4294967296", BANDS),
+    ("UPDATE booking SET state = 3 WHERE number = 3", DONE),
+    ("UPDATE booking SET state = -1 WHERE number = 3", DONE),
+    ("INSERT INTO band_limit VALUES ('gw-b', 5, -1)", BANDS),
+]
+
+
 def is_as_it_was(file, before):
     """Whether the file has these octets, or, where it had none, is a database without tables."""
     if before:
@@ -68,6 +125,43 @@ def refused(program, commands, what, file, wanted):
         if not is_as_it_was(file, before):
             sys.exit(f"{what}: {words[0]} has changed the file")
     print(f"{what}: refused by {len(commands)} commands")
+
+
+def rows_of(file):
+    with reading(file) as conn:
+        return [conn.execute(f"SELECT * FROM {table} ORDER BY rowid").fetchall() for table in TABLES]
+
+
+def asked(program, file, needs):
+    """How the program ends where this message or command needs a row of the file."""
+    words, text = needs, ""
+    if isinstance(needs, tuple):
+        kind, members = needs
+        sender = "office" if kind == "DeviceMove" else "bridge"
+        head = {"ProtocolVersion": "1.0", "SenderID": sender, "ReceiverID": "desk", "TransactionID": 900}
+        words, text = ["hear", "town.db"], json.dumps({**head, "MessageType": kind, **members}) + "\n"
+    return subprocess.run([program, *words], cwd=file.parent, input=text, capture_output=True, text=True)
+
+
+def out_of_range(program, folder):
+    whole, file = Path(folder) / "whole.db", Path(folder) / "town.db"
+    subprocess.run([program, "init", whole], check=True)
+    lines = "".join((ROOT / "examples" / name).read_text() for name in HEARD)
+    subprocess.run([program, "hear", whole], input=lines, stdout=subprocess.DEVNULL, check=True, text=True)
+    for change, needs in OUT_OF_RANGE:
+        removed(file)
+        copy_to(whole, file)
+        if asked(program, file, needs).returncode:
+            sys.exit(f"{needs[0]}: isn't answered by the desk as it is")
+        removed(file)
+        copy_to(whole, file)
+        execute(file, change)
+        before, ran = rows_of(file), asked(program, file, needs)
+        if (ran.returncode, ran.stderr) != NOT_A_DESK or ran.stdout:
+            sys.exit(f"{change}: {needs[0]} ends with {ran.returncode} {ran.stdout!r} {ran.stderr!r}")
+        if rows_of(file) != before:
+            sys.exit(f"{change}: {needs[0]} has changed a row")
+    print(f"{len(OUT_OF_RANGE)} values out of range: each told, and nothing changed")
 
 
 def main():
@@ -92,6 +186,8 @@ def main():
             subprocess.run([program, "init", file], check=True)
             execute(file, text)
             refused(program, commands, what, file, wanted)
+        removed(file)
+        out_of_range(program, folder)
 
 
 if __name__ == "__main__":

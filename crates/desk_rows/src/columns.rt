@@ -1,5 +1,6 @@
 //! Values as columns of a row tell them.
 ghost use Rattle.std.specs.Prelude.{◌≡◌, ◌+◌, ◌<◌, ◌≤◌, ◌^◌, ℕ, List, Ok, length, IfOk, IfErr};
+ghost use Rattle.std.specs.Int.{to_be_bytes, w64};
 ghost use Rattle.sqlite_value.specs.declared.value.Value.TheVariants.{Blob, Int, Text};
 ghost use Rattle.sqlite_value.specs.Order.{column};
 ghost use Rattle.duty_core.specs.Range.{IsStart};
@@ -9,7 +10,7 @@ ghost use Rattle.radio_core.specs.DataRates.{dr_number};
 ghost use Rattle.registry_core.specs.Ranges.{IsEui, IsName};
 ghost use Rattle.registry_core.specs.Wholes.{IsWhole};
 ghost use Rattle.desk_rows.specs.Faults.{IsEven};
-ghost use Rattle.desk_rows.specs.steps.Errors.{ReadsAt};
+ghost use Rattle.desk_rows.specs.steps.Errors.{ReadsAt, StandsAt};
 ghost use Rattle.desk_rows.specs.Rows.{eui, kind_number, number, role_number, standing_number};
 
 use crate::faults::{RowFault, read_fault};
@@ -20,7 +21,8 @@ use sqlite::Row;
 use sqlite_value::value::ValueRef;
 
 pub(crate) fn integer_at(row: &Row, at: usize) -> Result<i64, RowFault>
-    ensures { ReadsAt Int (λ n. Unit {0}) row.now at result }
+    ensures reads { ReadsAt Int (λ n. Unit {0}) row.now at result }
+    ensures stands { StandsAt Int row.now at result }
 {
     match row.get_ref(at) {
         Ok(ValueRef::Int(n)) => Ok(n),
@@ -29,7 +31,8 @@ pub(crate) fn integer_at(row: &Row, at: usize) -> Result<i64, RowFault>
 }
 
 pub(crate) fn number_at(row: &Row, at: usize) -> Result<u64, RowFault>
-    ensures { ReadsAt number (λ n. Unit {0}) row.now at result }
+    ensures reads { ReadsAt number (λ n. Unit {0}) row.now at result }
+    ensures stands { StandsAt number row.now at result }
 {
     match row.get_ref(at) {
         Ok(ValueRef::Int(n)) => match u64::try_from(n) {
@@ -41,7 +44,8 @@ pub(crate) fn number_at(row: &Row, at: usize) -> Result<u64, RowFault>
 }
 
 pub(crate) fn word_at(row: &Row, at: usize) -> Result<u32, RowFault>
-    ensures { ReadsAt number (λ n. n < 2 ^ 32) row.now at result }
+    ensures reads { ReadsAt number (λ n. n < 2 ^ 32) row.now at result }
+    ensures stands { StandsAt number row.now at result }
 {
     match u32::try_from(number_at(row, at)?) {
         Ok(n) => Ok(n),
@@ -50,7 +54,8 @@ pub(crate) fn word_at(row: &Row, at: usize) -> Result<u32, RowFault>
 }
 
 pub(crate) fn short_at(row: &Row, at: usize) -> Result<u16, RowFault>
-    ensures { ReadsAt number (λ n. n < 2 ^ 16) row.now at result }
+    ensures reads { ReadsAt number (λ n. n < 2 ^ 16) row.now at result }
+    ensures stands { StandsAt number row.now at result }
 {
     match u16::try_from(number_at(row, at)?) {
         Ok(n) => Ok(n),
@@ -59,7 +64,8 @@ pub(crate) fn short_at(row: &Row, at: usize) -> Result<u16, RowFault>
 }
 
 pub(crate) fn whole_at(row: &Row, at: usize) -> Result<Whole, RowFault>
-    ensures { ReadsAt number IsWhole row.now at result }
+    ensures reads { ReadsAt number IsWhole row.now at result }
+    ensures stands { StandsAt number row.now at result }
 {
     match Whole::new(number_at(row, at)?) {
         Some(n) => Ok(n),
@@ -68,7 +74,8 @@ pub(crate) fn whole_at(row: &Row, at: usize) -> Result<Whole, RowFault>
 }
 
 pub(crate) fn name_at(row: &Row, at: usize) -> Result<Name, RowFault>
-    ensures { ReadsAt Text IsName row.now at result }
+    ensures reads { ReadsAt Text IsName row.now at result }
+    ensures stands { StandsAt Text row.now at result }
 {
     match row.get_ref(at) {
         Ok(ValueRef::Text(octets)) => match Name::new(octets) {
@@ -90,7 +97,8 @@ pub(crate) fn octets_at(row: &Row, at: usize) -> Result<Vec<u8>, RowFault>
 }
 
 pub(crate) fn frame_at(row: &Row, at: usize) -> Result<Octets, RowFault>
-    ensures { ReadsAt Blob (λ octets. length octets ≤ 255) row.now at result }
+    ensures reads { ReadsAt Blob (λ octets. length octets ≤ 255) row.now at result }
+    ensures stands { StandsAt Blob row.now at result }
 {
     match row.get_ref(at) {
         Ok(ValueRef::Blob(octets)) => match Octets::new(octets) {
@@ -102,21 +110,31 @@ pub(crate) fn frame_at(row: &Row, at: usize) -> Result<Octets, RowFault>
 }
 
 pub(crate) fn eui_at(row: &Row, at: usize) -> Result<Eui, RowFault>
-    ensures { ReadsAt eui IsEui row.now at result }
+    ensures reads { ReadsAt eui IsEui row.now at result }
+    ensures stands { StandsAt eui row.now at result }
 {
     match row.get_ref(at) {
-        Ok(ValueRef::Blob(octets)) => match <[u8; 8]>::try_from(octets) {
-            Ok(octets) => Ok(Eui::new(u64::from_be_bytes(octets))),
-            Err(_) => Err(RowFault::Row),
-        },
+        Ok(ValueRef::Blob(octets)) => eui_of(octets),
         _ => Err(RowFault::Row),
+    }
+}
+
+/// The EUI of eight octets, the most significant first.
+fn eui_of(octets: &[u8]) -> Result<Eui, RowFault>
+    ensures reads { (n : ℕ) → IsEui n → octets.now ≡ to_be_bytes w64 n → result ≡ Ok n }
+    ensures stands { IfOk result (λ n. octets.now ≡ to_be_bytes w64 n) }
+{
+    match <[u8; 8]>::try_from(octets) {
+        Ok(octets) => Ok(Eui::new(u64::from_be_bytes(octets))),
+        Err(_) => Err(RowFault::Row),
     }
 }
 
 /// A span, its length one place on.
 pub(crate) fn span_at(row: &Row, at: u8) -> Result<Span, RowFault>
-    ensures { (span : Interval) → IsStart span.start → span.len < 2 ^ 32 → column row.now at ≡ Int span.start → column row.now (at + 1) ≡ number span.len
+    ensures reads { (span : Interval) → IsStart span.start → span.len < 2 ^ 32 → column row.now at ≡ Int span.start → column row.now (at + 1) ≡ number span.len
         → at + 1 < length row.now → result ≡ Ok span }
+    ensures stands { IfOk result (λ span. (column row.now at ≡ Int span.start) × (column row.now (at + 1) ≡ number span.len)) }
 {
     let start = integer_at(row, usize::from(at))?;
     let len = word_at(row, usize::from(at) + 1)?;
@@ -127,7 +145,8 @@ pub(crate) fn span_at(row: &Row, at: u8) -> Result<Span, RowFault>
 }
 
 pub(crate) fn role_at(row: &Row, at: usize) -> Result<Role, RowFault>
-    ensures { ReadsAt (λ role. number (role_number role)) (λ role. Unit {0}) row.now at result }
+    ensures reads { ReadsAt (λ role. number (role_number role)) (λ role. Unit {0}) row.now at result }
+    ensures stands { StandsAt (λ role. number (role_number role)) row.now at result }
 {
     match number_at(row, at)? {
         0 => Ok(Role::Operator),
@@ -137,7 +156,8 @@ pub(crate) fn role_at(row: &Row, at: usize) -> Result<Role, RowFault>
 }
 
 pub(crate) fn kind_at(row: &Row, at: usize) -> Result<Kind, RowFault>
-    ensures { ReadsAt (λ kind. number (kind_number kind)) (λ kind. Unit {0}) row.now at result }
+    ensures reads { ReadsAt (λ kind. number (kind_number kind)) (λ kind. Unit {0}) row.now at result }
+    ensures stands { StandsAt (λ kind. number (kind_number kind)) row.now at result }
 {
     match number_at(row, at)? {
         0 => Ok(Kind::Join),
@@ -147,7 +167,8 @@ pub(crate) fn kind_at(row: &Row, at: usize) -> Result<Kind, RowFault>
 }
 
 pub(crate) fn standing_at(row: &Row, at: usize) -> Result<Standing, RowFault>
-    ensures { ReadsAt (λ standing. number (standing_number standing)) (λ standing. Unit {0}) row.now at result }
+    ensures reads { ReadsAt (λ standing. number (standing_number standing)) (λ standing. Unit {0}) row.now at result }
+    ensures stands { StandsAt (λ standing. number (standing_number standing)) row.now at result }
 {
     match number_at(row, at)? {
         0 => Ok(Standing::Booked),
@@ -158,7 +179,8 @@ pub(crate) fn standing_at(row: &Row, at: usize) -> Result<Standing, RowFault>
 }
 
 fn octet_at(row: &Row, at: usize) -> Result<u8, RowFault>
-    ensures { ReadsAt number (λ n. n < 2 ^ 8) row.now at result }
+    ensures reads { ReadsAt number (λ n. n < 2 ^ 8) row.now at result }
+    ensures stands { StandsAt number row.now at result }
 {
     match u8::try_from(number_at(row, at)?) {
         Ok(octet) => Ok(octet),
@@ -167,7 +189,8 @@ fn octet_at(row: &Row, at: usize) -> Result<u8, RowFault>
 }
 
 pub(crate) fn band_at(row: &Row, at: usize) -> Result<Band, RowFault>
-    ensures { ReadsAt (λ band. number (band_number band)) (λ band. Unit {0}) row.now at result }
+    ensures reads { ReadsAt (λ band. number (band_number band)) (λ band. Unit {0}) row.now at result }
+    ensures stands { StandsAt (λ band. number (band_number band)) row.now at result }
 {
     match Band::new(octet_at(row, at)?) {
         Some(band) => Ok(band),
@@ -176,7 +199,8 @@ pub(crate) fn band_at(row: &Row, at: usize) -> Result<Band, RowFault>
 }
 
 pub(crate) fn data_rate_at(row: &Row, at: usize) -> Result<DataRate, RowFault>
-    ensures { ReadsAt (λ dr. number (dr_number dr)) (λ dr. Unit {0}) row.now at result }
+    ensures reads { ReadsAt (λ dr. number (dr_number dr)) (λ dr. Unit {0}) row.now at result }
+    ensures stands { StandsAt (λ dr. number (dr_number dr)) row.now at result }
 {
     match DataRate::new(octet_at(row, at)?) {
         Some(dr) => Ok(dr),
