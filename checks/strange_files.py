@@ -9,8 +9,8 @@ check`, `hear`, `import`, `report`, `bands` and `serve` get each of them. The po
 tell of that if it bound the port before it has opened the file. An empty file is refused too, and is a database without
 tables then.
 
-And a desk's file of which one value is out of its range, in each column that the program reads: a message, or a report,
-that needs the row finds no desk, and leaves all rows as they are.
+And a desk's file of which one value is out of its range, in the columns that messages and reports read: a message or a
+report that needs the row finds no desk, and leaves all rows as they are.
 
 The program is `./desk`, which is proved and built first where it isn't current, or with --program the built one in
 FILE.
@@ -56,10 +56,12 @@ COMMANDS = [
 # what the desk has heard before one of its values is out of range
 HEARD = ["1-registry.jsonl", "2-joins.jsonl", "3-data-frames.jsonl", "4-downlinks.jsonl"]
 
-# a message of each kind that reads rows: a new join, a new data frame, a copy of one that was heard, and so on
+# a message of each kind that reads rows: a new join, a copy of one that was heard, so of data frames, and so on
 AT_A = {"Gateway": "gw-a", "Freq": 868300000, "DataRate": 5}
 NEW_JOIN = "00010000d07ed5b3703c2b1a000ba304000100a1b2c3d4"
+HEARD_JOIN = "00010000d07ed5b3703c2b1a000ba304000000a1b2c3d4"
 JOIN = ("JoinHeard", {**AT_A, "Time": 1706745800061696, "PHYPayload": NEW_JOIN, "Verdict": "Good"})
+JOIN_COPY = ("JoinHeard", {**AT_A, "Time": 1706745600061696, "PHYPayload": HEARD_JOIN, "Verdict": "Good"})
 FRAME = ("FrameHeard", {**AT_A, "Time": 1706745900041216, "PHYPayload": "400000a00100010011223344", "Verdict": 0})
 COPY = ("FrameHeard", {**AT_A, "Time": 1706745700041216, "PHYPayload": "400000a00100000011223344", "Verdict": 0})
 DOWN = ("DownBook", {"Uplink": 2, "Gateway": "gw-a", "Window": 1, "PHYPayload": "600000a00100010055667788"})
@@ -70,16 +72,22 @@ BANDS = ["bands", "town.db", "gw-b"]
 
 # what sqlite3 does to a row, and what needs the row
 OUT_OF_RANGE = [
+    ("UPDATE meta SET operator = 'two words'", FRAME),
+    ("UPDATE meta SET base = 4294967296", FRAME),
+    ("UPDATE meta SET addresses = -1", FRAME),
     ("UPDATE sender SET role = 2 WHERE name = 'bridge'", FRAME),
     ("UPDATE sender SET role = -1 WHERE name = 'bridge'", FRAME),
+    ("UPDATE device SET eui = x'00'", REPORT),
     ("UPDATE device SET join_eui = x'00'", JOIN),
     ("UPDATE device SET owner = 'two words'", MOVE),
     ("UPDATE device SET floor = -1", FRAME),
+    ("UPDATE session SET number = -1", JOIN_COPY),
     ("UPDATE session SET device = x'0004a30b001a2b'", FRAME),
     ("UPDATE session SET nonce = 65536", JOIN),
     ("UPDATE session SET nonce = -1", FRAME),
     ("UPDATE session SET next_down = -1", DOWN),
     ("UPDATE uplink SET counter = 4294967296 WHERE number = 2", FRAME),
+    ("UPDATE uplink SET number = -1 WHERE number = 2", COPY),
     ("UPDATE uplink SET session = -1 WHERE number = 2", DOWN),
     ("UPDATE uplink SET kind = 2 WHERE number = 2", DOWN),
     ("UPDATE uplink SET counter = -1 WHERE number = 2", DOWN),

@@ -1,5 +1,5 @@
 //! Values as columns of a row tell them.
-ghost use Rattle.std.specs.Prelude.{◌≡◌, ◌+◌, ◌<◌, ◌≤◌, ◌^◌, ℕ, List, Ok, length, IfOk, IfErr};
+ghost use Rattle.std.specs.Prelude.{◌≡◌, ◌⊎◌, ◌+◌, ◌<◌, ◌≤◌, ◌^◌, ℕ, List, Ok, length, IfOk, IfErr};
 ghost use Rattle.std.specs.Int.{to_be_bytes, w64};
 ghost use Rattle.sqlite_value.specs.declared.value.Value.TheVariants.{Blob, Int, Text};
 ghost use Rattle.sqlite_value.specs.Order.{column};
@@ -89,6 +89,7 @@ pub(crate) fn name_at(row: &Row, at: usize) -> Result<Name, RowFault>
 pub(crate) fn octets_at(row: &Row, at: usize) -> Result<Vec<u8>, RowFault>
     ensures ok { IfOk result (λ octets. column row.now at ≡ Blob octets.items) }
     ensures in_order { IfErr result (λ fault. (octets : List ℕ) → column row.now at ≡ Blob octets → at < length row.now → IsEven fault) }
+    ensures fault { IfErr result (λ fault. (fault ≡ RowFault.Memory) ⊎ (fault ≡ RowFault.Row)) }
 {
     match row.get(at) {
         Ok(octets) => Ok(octets),
@@ -123,6 +124,7 @@ pub(crate) fn eui_at(row: &Row, at: usize) -> Result<Eui, RowFault>
 fn eui_of(octets: &[u8]) -> Result<Eui, RowFault>
     ensures reads { (n : ℕ) → IsEui n → octets.now ≡ to_be_bytes w64 n → result ≡ Ok n }
     ensures stands { IfOk result (λ n. octets.now ≡ to_be_bytes w64 n) }
+    ensures fault { IfErr result (λ fault. fault ≡ RowFault.Row) }
 {
     match <[u8; 8]>::try_from(octets) {
         Ok(octets) => Ok(Eui::new(u64::from_be_bytes(octets))),
@@ -135,6 +137,7 @@ pub(crate) fn span_at(row: &Row, at: u8) -> Result<Span, RowFault>
     ensures reads { (span : Interval) → IsStart span.start → span.len < 2 ^ 32 → column row.now at ≡ Int span.start → column row.now (at + 1) ≡ number span.len
         → at + 1 < length row.now → result ≡ Ok span }
     ensures stands { IfOk result (λ span. (column row.now at ≡ Int span.start) × (column row.now (at + 1) ≡ number span.len)) }
+    ensures fault { IfErr result (λ fault. fault ≡ RowFault.Row) }
 {
     let start = integer_at(row, usize::from(at))?;
     let len = word_at(row, usize::from(at) + 1)?;

@@ -31,10 +31,10 @@ read_fault _ = OutOfRange
 abbrev pub ReadsAt : {T : Type 0} → (T → Value) → (T → Type 0) → Row → ℕ → Result T RowFault → Type 0
 ReadsAt {T} shows InRange row at result = (x : T) → InRange x → column row at ≡ shows x → at < length row → result ≡ Ok x
 
--- what is read of it stands there
+-- What is read of a place of a row stands there, whatever the row is; else it is told that the row is out of shape.
 abbrev pub StandsAt : {T : Type 0} → (T → Value) → Row → ℕ → Result T RowFault → Type 0
 StandsAt shows row at (Ok x) = column row at ≡ shows x
-StandsAt shows row at (Err fault) = Unit {0}
+StandsAt shows row at (Err fault) = fault ≡ OutOfRange
 
 -- What is read of a row that shows a value in its range is that value, and such a row is read while memory lasts.
 abbrev pub Decodes : {T Seen : Type 0} → (T → Seen) → (Seen → Row) → (Seen → Type 0) → Row → Result T RowFault → Type 0
