@@ -8,7 +8,7 @@ use Rattle.registry_core.specs.Settings.{Settings}
 use Rattle.desk_store.specs.declared.faults.StoreFault.{StoreFault}
 use Rattle.desk_store.specs.Calls.{IsCall}
 use Rattle.desk_store.specs.Meaning.{Meaning}
-use Rattle.desk_engine.specs.Lines.{FailsToWrite, HasHeard, IsCutShort, all_lines, heard_lines, last_line, whole_lines}
+use Rattle.desk_engine.specs.Lines.{FailsToWrite, HasHeardLines, IsCutShort, all_lines, heard_lines, last_line, whole_lines}
 use Rattle.desk_cli.proofs.OnTables.{unshut_by}
 use Rattle.desk_cli.proofs.Opened.{err, is_unavailable}
 use Rattle.desk_cli.specs.Faults.{fault_of_store}
@@ -18,18 +18,18 @@ use Rattle.desk_cli.specs.declared.faults.Fault.TheVariants.{Exists, NotADesk, S
 
 module _ {K : Type 0} (m : Meaning K) (c : Settings) (heard : List Envelope) (old new : K) where
   -- what was heard is kept, unless a fault of the disk was told
-  pub keeps_lines : {disk foreign : Bool} → IsCall m old new disk foreign → disk ≡ false → (lines : List (List ℕ)) → HasHeard m c heard old new lines None
+  pub keeps_lines : {disk foreign : Bool} → IsCall m old new disk foreign → disk ≡ false → (lines : List (List ℕ)) → HasHeardLines m c heard old new lines None
       → StoreKeeps m c heard old new (heard_lines c heard lines)
   keeps_lines call is lines hears = record { leaves = record { order = hears.order; crash = hears.crash }; still = unshut_by m old new call is }
 
   module _ (left rest before after : Option (List ℕ)) (input : List ℕ) (read : Consumes left rest input) where
     -- all lines were heard, and handing the answers on failed
-    pub hears_all : {foreign : Bool} → IsCall m old new false foreign → HasHeard m c heard old new (all_lines input) None
+    pub hears_all : {foreign : Bool} → IsCall m old new false foreign → HasHeardLines m c heard old new (all_lines input) None
         → HearsFirst c heard (StoreKeeps m c heard old new) (StoreLeaves m c heard old new) left rest before after
     hears_all call hears = record { input = input; read = read; lines = all_lines input; beginning = ([], sym (append-nil (all_lines input))); kept = keeps_lines call refl _ hears }
 
     -- a read failed after the lines that are ended
-    pub hears_ended : {foreign : Bool} → IsCall m old new false foreign → HasHeard m c heard old new (whole_lines input) None
+    pub hears_ended : {foreign : Bool} → IsCall m old new false foreign → HasHeardLines m c heard old new (whole_lines input) None
         → HearsFirst c heard (StoreKeeps m c heard old new) (StoreLeaves m c heard old new) left rest before after
     hears_ended call hears = record { input = input; read = read; lines = whole_lines input; beginning = (last_line input ∷ [], refl); kept = keeps_lines call refl _ hears }
 

@@ -19,7 +19,7 @@ use Rattle.desk_engine.specs.Reporting.{store_fault}
 use Rattle.desk_engine.specs.Told.{envelope_of_text}
 use Rattle.desk_http.specs.declared.serving.ServeEnd.{ServeEnd}
 use Rattle.desk_http.specs.declared.serving.ServeEnd.TheVariants.{Done, Closed, Read, Write, Memory}
-use Rattle.desk_http.specs.Requests.{Reads, Request, refused, message, owner_report, band_report}
+use Rattle.desk_http.specs.Requests.{IsReadAs, Request, refused, message, owner_report, band_report}
 use Rattle.desk_http.specs.Responses.{Response}
 use Rattle.desk_http.specs.Serving.{IsDelivered, ServesRequest, ServingEndsBy}
 use Rattle.desk_cli.specs.Answered.{Answers, Delivered, and_then, none_delivered}
@@ -192,7 +192,7 @@ module _ {K : Type 0} (m : Meaning K) (in_order : CallsHearInOrder m) (reads : R
           comes = one.comes;
           served = end_answers old new _
               (λ now response. (input : List ℕ) × Consumes (remaining one.reader) (remaining one.left) input
-              × (request : Request) × (body : List ℕ) × Reads input (remaining one.left) request body × Answers c heard before now request body response)
+              × (request : Request) × (body : List ℕ) × IsReadAs input (remaining one.left) request body × Answers c heard before now request body response)
               _ _ _ one.end _
               (λ response served. (served.0, served.1, served.2, served.3, served.4, request_answers old new served.2 served.3 response served.5 was)) one.served;
           goes = one.goes;

@@ -8,7 +8,7 @@ use Rattle.desk_engine.specs.Deliveries.{Delivery, heard_all}
 use Rattle.desk_engine.specs.Hearing.{Hears}
 use Rattle.desk_engine.specs.InOrder.{WasInOrder}
 use Rattle.desk_http.specs.declared.serving.ServeEnd.{ServeEnd}
-use Rattle.desk_http.specs.Requests.{Reads, Request}
+use Rattle.desk_http.specs.Requests.{IsReadAs, Request}
 use Rattle.desk_http.specs.Responses.{Response}
 use Rattle.desk_http.specs.Serving.{ServingEndsBy}
 use Rattle.desk_cli.specs.Answered.{Answers, AtPorts, Delivered, none_delivered}
@@ -53,7 +53,7 @@ module _ {L R W K : Type 0} (l : Connections L R W) (remaining : R → Option (L
   abbrev pub ServesOnce : K → K → R → R → W → W → ServeEnd → Type 0
   ServesOnce old new reader left writer written end = ServingEndsBy old new
       (λ response. (input : List ℕ) × Consumes (remaining reader) (remaining left) input
-      × (request : Request) × (body : List ℕ) × Reads input (remaining left) request body × Does old new request body response)
+      × (request : Request) × (body : List ℕ) × IsReadAs input (remaining left) request body × Does old new request body response)
       (Consumes (remaining reader) (remaining left) [] × IsAtEnd (remaining left))
       (contents writer) (contents written) end
 

@@ -146,25 +146,16 @@ fn command_with<'a>(
 ) -> Result<Command<'a>, Usage>
     ensures { TellsNamed (named_with name.now (rows_of (found_of options.now))) result }
 {
-    if name == "lines" {
-        lines_of(options)
-    } else if name == "init" {
-        init_of(options)
-    } else if name == "migrate" {
-        migrate_of(options)
-    } else if name == "hear" {
-        hear_of(options)
-    } else if name == "import" {
-        import_of(options)
-    } else if name == "serve" {
-        serve_of(options)
-    } else if name == "report" {
-        report_of(options)
-    } else if name == "bands" {
-        bands_of(options)
-    } else if name == "check" {
-        check_of(options)
-    } else {
-        Err(no_command(desk))
+    match name {
+        "lines" => lines_of(options),
+        "init" => init_of(options),
+        "migrate" => migrate_of(options),
+        "hear" => hear_of(options),
+        "import" => import_of(options),
+        "serve" => serve_of(options),
+        "report" => report_of(options),
+        "bands" => bands_of(options),
+        "check" => check_of(options),
+        _ => Err(no_command(desk)),
     }
 }

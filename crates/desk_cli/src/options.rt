@@ -1,10 +1,11 @@
 //! The values of commands: the words that give them, and how they are read.
-ghost use Rattle.std.specs.Prelude.{◌≡◌, false, option_map, IfOk};
+ghost use Rattle.std.specs.Prelude.{◌≡◌, codes, false, option_map};
 ghost use Rattle.clap.specs.Matches.{found_of};
-ghost use Rattle.clap.specs.Simple.{app_of, new_app};
+ghost use Rattle.clap.specs.Simple.{app_of, new_app, with_rule};
 ghost use Rattle.clap.specs.Walk.{first_of, rows_of, rule_of};
 ghost use Rattle.clap.specs.declared.builder.command.Command.TheViews.{out-Command as fields_of};
 ghost use Rattle.desk_cli.specs.Numbers.{base_of, connections_of, count_of, port_of};
+ghost use Rattle.desk_cli.specs.steps.CommandLine.{AddsWord, IsCommand};
 ghost use Rattle.desk_cli.specs.Options.{behind, config_of, name_of, needed_rule, option_rule, place_rule, placed, settings_of, value_at, with_settings};
 
 use crate::numbers::{base_of, connections_of, count_of, port_of};
@@ -27,6 +28,29 @@ pub(crate) fn command<'a>(
     clap::Command::new(alloc, name)
         .about(about)
         .after_help(example)
+}
+
+/// A command with one word more, if there was memory for it.
+pub(crate) fn with_word<'a>(
+    command: Result<clap::Command<'a>, AllocError>,
+    word: Arg<'a>,
+) -> Result<clap::Command<'a>, AllocError>
+    ensures { AddsWord command.entry word.entry result }
+{
+    command?.arg(word)
+}
+
+/// A command on a desk's file, which is its first word.
+pub(crate) fn command_on_file<'a>(
+    alloc: Global,
+    name: &'a str,
+    about: &'a str,
+    example: &'a str,
+) -> Result<clap::Command<'a>, AllocError>
+    ensures { IsCommand (with_rule (new_app name.entry.now) (place_rule (codes "file"))) result }
+{
+    let file = place(alloc, "file", "FILE", "The desk's file");
+    with_word(Ok(command(alloc, name, about, example)), file)
 }
 
 /// An option of one value, with its default.
@@ -77,26 +101,26 @@ pub(crate) fn command_with_settings<'a>(
     about: &'a str,
     example: &'a str,
 ) -> Result<clap::Command<'a>, AllocError>
-    ensures app { IfOk result (λ c. app_of c ≡ with_settings (new_app name.entry.now)) }
-    ensures local { IfOk result (λ c. (fields_of c).has_globals ≡ false) }
+    ensures { IsCommand (with_settings (new_app name.entry.now)) result }
 {
-    command(alloc, name, about, example)
-        .arg(option(alloc, "receiver", "NAME", "desk", "The desk's own name"))?
-        .arg(option(alloc, "operator", "NAME", "office", "The first operator"))?
-        .arg(option(
-            alloc,
-            "base",
-            "HEX8",
-            "01a00000",
-            "The first device address",
-        ))?
-        .arg(option(
-            alloc,
-            "addresses",
-            "COUNT",
-            "65536",
-            "How many device addresses",
-        ))
+    let receiver = option(alloc, "receiver", "NAME", "desk", "The desk's own name");
+    let operator = option(alloc, "operator", "NAME", "office", "The first operator");
+    let base = option(
+        alloc,
+        "base",
+        "HEX8",
+        "01a00000",
+        "The first device address",
+    );
+    let addresses = option(
+        alloc,
+        "addresses",
+        "COUNT",
+        "65536",
+        "How many device addresses",
+    );
+    let command = with_word(Ok(command(alloc, name, about, example)), receiver);
+    with_word(with_word(with_word(command, operator), base), addresses)
 }
 
 /// The configuration of the four options.

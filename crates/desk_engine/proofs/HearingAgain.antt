@@ -11,7 +11,7 @@ use Rattle.std.proofs.lemmas.Slice.Eq.{bytes_eq-Decides}
 use Rattle.registry_core.specs.declared.answers.Answer.{Answer}
 use Rattle.registry_core.specs.declared.messages.Envelope.{Envelope}
 use Rattle.registry_core.specs.declared.messages.Role.{Role}
-use Rattle.registry_core.specs.Heard.{answers_of, has_pair, heard_with, is_sender, place_of, reply_at, reply_to, same_pair, state_of}
+use Rattle.registry_core.specs.Heard.{answers_of, has_pair, heard_with, is_sender, pair_place, reply_at, reply_to, same_pair, state_of}
 use Rattle.registry_core.specs.Laws.{SendersStay, adds_sender}
 use Rattle.registry_core.specs.Same.{SameMessageTells}
 use Rattle.registry_core.specs.Settings.{Settings}
@@ -22,29 +22,29 @@ use Rattle.desk_engine.specs.Deliveries.{heard_after, heard_all, heard_read}
 use Rattle.desk_engine.specs.Laws.{AddsNoSender, HeardAgain, KeptAnswersStay, delivered, told_each}
 use Rattle.desk_engine.specs.Told.{envelope_of_text, read_told, reply_told}
 use Rattle.desk_engine.proofs.KeptAfter.{answers_after-push, state_after-push}
-use Rattle.desk_engine.proofs.Places.{cases_option, has_pair-place_of}
+use Rattle.desk_engine.proofs.Places.{cases_option, has_pair-pair_place}
 use Rattle.desk_engine.proofs.Replies.{heard_with-new, reply-known, reply-stranger, unless-again, unless-stranger}
 
 -- ---- places stay
 
 -- with an envelope at the end, what was found is found
-place_pushed : (c : Settings) (heard : List Envelope) (new e : Envelope) (kept : Envelope × Answer) → place_of c heard e ≡ Some kept → place_of c (heard ++ new ∷ []) e ≡ Some kept
+place_pushed : (c : Settings) (heard : List Envelope) (new e : Envelope) (kept : Envelope × Answer) → pair_place c heard e ≡ Some kept → pair_place c (heard ++ new ∷ []) e ≡ Some kept
 place_pushed c heard new e kept at =
     let tail : List (Envelope × Answer) = (new, (step c (state_of c heard) new).1) ∷ [] in
     ap (find (λ x. same_pair e x.0)) (answers_after-push c (opening c) heard new)
     ∙ find-append (λ (x : Envelope × Answer). same_pair e x.0) (answers_of c heard) tail
     ∙ ap (λ found. option_or found (find (λ (x : Envelope × Answer). same_pair e x.0) tail)) at
 
-place_by : (c : Settings) (heard : List Envelope) (new e : Envelope) (kept : Envelope × Answer) (b : Bool) → place_of c heard e ≡ Some kept → place_of c (if b then heard ++ new ∷ [] else heard) e ≡ Some kept
+place_by : (c : Settings) (heard : List Envelope) (new e : Envelope) (kept : Envelope × Answer) (b : Bool) → pair_place c heard e ≡ Some kept → pair_place c (if b then heard ++ new ∷ [] else heard) e ≡ Some kept
 place_by c heard new e kept true at = place_pushed c heard new e kept at
 place_by c heard new e kept false at = at
 
-place_stays : (c : Settings) (heard : List Envelope) (new e : Envelope) (kept : Envelope × Answer) → place_of c heard e ≡ Some kept → place_of c (heard_with c heard new) e ≡ Some kept
+place_stays : (c : Settings) (heard : List Envelope) (new e : Envelope) (kept : Envelope × Answer) → pair_place c heard e ≡ Some kept → pair_place c (heard_with c heard new) e ≡ Some kept
 unfolding heard_with
 place_stays c heard new e kept at = place_by c heard new e kept _ at
 
-read_stays : (unavailable : Bool) (c : Settings) (heard : List Envelope) (wanted : Result Envelope WireFault) (e : Envelope) (kept : Envelope × Answer) → place_of c heard e ≡ Some kept
-    → place_of c (heard_read unavailable c heard wanted) e ≡ Some kept
+read_stays : (unavailable : Bool) (c : Settings) (heard : List Envelope) (wanted : Result Envelope WireFault) (e : Envelope) (kept : Envelope × Answer) → pair_place c heard e ≡ Some kept
+    → pair_place c (heard_read unavailable c heard wanted) e ≡ Some kept
 read_stays unavailable c heard (Err fault) e kept at = at
 read_stays true c heard (Ok new) e kept at = at
 read_stays false c heard (Ok new) e kept at = place_stays c heard new e kept at
@@ -56,7 +56,7 @@ kept_answers_stay c heard d e kept at = read_stays d.unavailable c heard (envelo
 
 record Extends (c : Settings) (before after : List Envelope) : Type 0 where
   senders : (name : List ℕ) → is_sender (state_of c after) name ≡ is_sender (state_of c before) name
-  places : (e : Envelope) (kept : Envelope × Answer) → place_of c before e ≡ Some kept → place_of c after e ≡ Some kept
+  places : (e : Envelope) (kept : Envelope × Answer) → pair_place c before e ≡ Some kept → pair_place c after e ≡ Some kept
 
 itself : (c : Settings) (heard : List Envelope) → Extends c heard heard
 itself c heard = record { senders = λ name. refl; places = λ e kept at. at }
@@ -85,15 +85,15 @@ record Again (c : Settings) (before after : List Envelope) (e : Envelope) : Type
 
 -- where its pair has a place, that tells what it is replied, and nothing is heard
 placed : (c : Settings) (before after : List Envelope) (e : Envelope) (kept : Envelope × Answer) → is_sender (state_of c before) e.sender ≡ true → is_sender (state_of c after) e.sender ≡ true
-    → place_of c before e ≡ Some kept → place_of c after e ≡ Some kept → Again c before after e
+    → pair_place c before e ≡ Some kept → pair_place c after e ≡ Some kept → Again c before after e
 placed c before after e kept known_before known_after at_before at_after = record {
   reply = reply-known c after e known_after ∙ ap (λ place. reply_at place e (step c (state_of c after) e).1) at_after
       ∙ sym (reply-known c before e known_before ∙ ap (λ place. reply_at place e (step c (state_of c before) e).1) at_before);
-  stays = unless-again false c after e (has_pair-place_of c after e ∙ ap is_some at_after);
+  stays = unless-again false c after e (has_pair-pair_place c after e ∙ ap is_some at_after);
 }
 
 -- the place of an envelope that has just been heard
-new_place : (c : Settings) (heard : List Envelope) (e : Envelope) → place_of c heard e ≡ None → place_of c (heard ++ e ∷ []) e ≡ Some (e, (step c (state_of c heard) e).1)
+new_place : (c : Settings) (heard : List Envelope) (e : Envelope) → pair_place c heard e ≡ None → pair_place c (heard ++ e ∷ []) e ≡ Some (e, (step c (state_of c heard) e).1)
 new_place c heard e none =
     let tail : List (Envelope × Answer) = (e, (step c (state_of c heard) e).1) ∷ [] in
     ap (find (λ x. same_pair e x.0)) (answers_after-push c (opening c) heard e)
@@ -103,12 +103,12 @@ new_place c heard e none =
 
 -- a new one is replied by its own answer, then and later
 newly_placed : (same : SameMessageTells) (c : Settings) (before after : List Envelope) (e : Envelope) → is_sender (state_of c before) e.sender ≡ true → is_sender (state_of c after) e.sender ≡ true
-    → place_of c before e ≡ None → place_of c after e ≡ Some (e, (step c (state_of c before) e).1) → Again c before after e
+    → pair_place c before e ≡ None → pair_place c after e ≡ Some (e, (step c (state_of c before) e).1) → Again c before after e
 newly_placed same c before after e known_before known_after at_before at_after = record {
   reply = reply-known c after e known_after ∙ ap (λ place. reply_at place e (step c (state_of c after) e).1) at_after
       ∙ rw ((same e.message e.message).1 refl) refl
       ∙ sym (reply-known c before e known_before ∙ ap (λ place. reply_at place e (step c (state_of c before) e).1) at_before);
-  stays = unless-again false c after e (has_pair-place_of c after e ∙ ap is_some at_after);
+  stays = unless-again false c after e (has_pair-pair_place c after e ∙ ap is_some at_after);
 }
 
 again : (same : SameMessageTells) (c : Settings) (before after : List Envelope) (e : Envelope) → Extends c before after → Extends c (heard_with c before e) after → Again c before after e
@@ -118,12 +118,12 @@ again same c before after e from_before from_with = elim (cases_Bool (is_sender 
       record { reply = reply-stranger c after e later ∙ sym (reply-stranger c before e unknown); stays = unless-stranger false c after e later }
   | inl known ↦
       let later : is_sender (state_of c after) e.sender ≡ true = from_before.senders e.sender ∙ known in
-      elim (cases_option (place_of c before e)) [
+      elim (cases_option (pair_place c before e)) [
         | inr found ↦ placed c before after e found.0 known later found.1 (from_before.places e found.0 found.1)
         | inl none ↦
-            let new : has_pair before e ≡ false = has_pair-place_of c before e ∙ ap is_some none in
+            let new : has_pair before e ≡ false = has_pair-pair_place c before e ∙ ap is_some none in
             newly_placed same c before after e known later none
-            (from_with.places e (e, (step c (state_of c before) e).1) (ap (λ l. place_of c l e) (heard_with-new c before e known new) ∙ new_place c before e none))
+            (from_with.places e (e, (step c (state_of c before) e).1) (ap (λ l. pair_place c l e) (heard_with-new c before e known new) ∙ new_place c before e none))
       ]
 ]
 

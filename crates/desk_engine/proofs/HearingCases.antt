@@ -8,7 +8,7 @@ use Rattle.registry_core.specs.declared.answers.Refusal.TheVariants.{UnknownSend
 use Rattle.registry_core.specs.declared.messages.Envelope.{Envelope}
 use Rattle.registry_core.specs.declared.views.View.{View}
 use Rattle.registry_core.specs.Fits.{Fits}
-use Rattle.registry_core.specs.Heard.{HeardListsStay, IsHeard, Answers, has_pair, is_sender, most_heard, place_of, reply_at, reply_to, state_of}
+use Rattle.registry_core.specs.Heard.{HeardListsStay, IsHeard, Answers, has_pair, is_sender, most_heard, pair_place, reply_at, reply_to, state_of}
 use Rattle.registry_core.specs.Ranges.{IsEnvelope, IsName}
 use Rattle.registry_core.specs.Same.{SameMessageTells, same_message}
 use Rattle.registry_core.specs.Settings.{Settings}
@@ -32,7 +32,7 @@ use Rattle.desk_engine.specs.Outcomes.{IfRefused, IsOutcome, IsUnheardEnvelope, 
 use Rattle.desk_engine.specs.steps.Hearing.{HearsNew, Repeats, Says}
 use Rattle.desk_engine.specs.Told.{AnswerText, RefusalText, Told, envelope_told, refusal_told, reply_told}
 use Rattle.desk_engine.proofs.KeptAfter.{length-kept_after}
-use Rattle.desk_engine.proofs.Places.{cases_option, entry_of-entries_of, has_pair-place_of, no_place, same_envelope, stands_for}
+use Rattle.desk_engine.proofs.Places.{cases_option, entry_of-entries_of, has_pair-pair_place, no_place, same_envelope, stands_for}
 use Rattle.desk_engine.proofs.Replies.{heard_with-new, reply-known, reply-stranger}
 
 -- ---- what is said
@@ -90,10 +90,10 @@ stranger_outcome c heard e o unknown said = rw (reply-stranger c heard e unknown
 -- ---- a pair that was heard
 
 texts_at : (c : Settings) (heard : List Envelope) (e : Envelope) (message answer : List ℕ) → option_map texts_of (entry_of e (entries_of c heard)) ≡ Some (message, answer)
-    → (x : Envelope × Answer) × (place_of c heard e ≡ Some x) × (message_text c.receiver x.0 ≡ message) × (answer_text c.receiver (head_of_envelope x.0) x.1 ≡ answer)
+    → (x : Envelope × Answer) × (pair_place c heard e ≡ Some x) × (message_text c.receiver x.0 ≡ message) × (answer_text c.receiver (head_of_envelope x.0) x.1 ≡ answer)
 texts_at c heard e message answer texts =
     let at = ap (option_map texts_of) (sym (entry_of-entries_of c heard e)) ∙ texts in
-    elim (cases_option (place_of c heard e)) [
+    elim (cases_option (pair_place c heard e)) [
       | inl none ↦ absurd (let k : None ≡ Some (message, answer) = sym (ap (λ p. option_map texts_of (option_map (entry_at c) p)) none) ∙ at in cc)
       | inr found ↦
           let both : Some (message_text c.receiver found.0.0, answer_text c.receiver (head_of_envelope found.0.0) found.0.1) ≡ Some (message, answer) =
@@ -111,7 +111,7 @@ texts_at c heard e message answer texts =
 
 pub heard_pair : (c : Settings) (heard : List Envelope) (e : Envelope) (message answer : List ℕ) → option_map texts_of (entry_of e (entries_of c heard)) ≡ Some (message, answer)
     → has_pair heard e ≡ true
-heard_pair c heard e message answer texts = has_pair-place_of c heard e ∙ ap is_some (texts_at c heard e message answer texts).1
+heard_pair c heard e message answer texts = has_pair-pair_place c heard e ∙ ap is_some (texts_at c heard e message answer texts).1
 
 -- what is written of one envelope is written of no other
 one_text : (receiver : List ℕ) (a b : Envelope) → MessageReadsBack → IsName receiver → IsEnvelope a → IsEnvelope b → message_text receiver a ≡ message_text receiver b → a ≡ b
@@ -155,7 +155,7 @@ new_outcome m c heard e new o known none hears = rw (reply-known c heard e known
     by_outcome (Unavailable fault) h = h.0
 
 new_pair : (c : Settings) (heard : List Envelope) (e : Envelope) → entry_of e (entries_of c heard) ≡ None → has_pair heard e ≡ false
-new_pair c heard e none = has_pair-place_of c heard e ∙ ap is_some (no_place c heard e none)
+new_pair c heard e none = has_pair-pair_place c heard e ∙ ap is_some (no_place c heard e none)
 
 new_order : {K : Type 0} (m : Meaning K) (c : Settings) (heard : List Envelope) (e : Envelope) (new : K) (o : Outcome)
     → is_sender (state_of c heard) e.sender ≡ true → has_pair heard e ≡ false → HearsNew m c heard e new o

@@ -17,7 +17,7 @@ use Rattle.desk_engine.specs.declared.outcomes.Outcome.{Outcome}
 use Rattle.desk_engine.specs.declared.outcomes.Outcome.TheVariants as outcome
 use Rattle.desk_engine.specs.Deliveries.{heard_after, heard_read}
 use Rattle.desk_engine.specs.InOrder.{HasNoRoom, IsInOrder, Survives, doubt_after}
-use Rattle.desk_engine.specs.Lines.{line_feed, has_line_feed, delivery_of_line, whole_lines, last_line, all_lines, heard_line, answer_line, heard_lines, answer_lines, IsBeginning, HasHeard, HasAnswered, LinesEndBy}
+use Rattle.desk_engine.specs.Lines.{line_feed, has_line_feed, delivery_of_line, whole_lines, last_line, all_lines, heard_line, answer_line, heard_lines, answer_lines, IsBeginning, HasHeardLines, HasAnswered, LinesEndBy}
 use Rattle.desk_engine.specs.Outcomes.{delivery_of, doubt_of_text, doubt_read, is_unavailable}
 use Rattle.desk_engine.specs.steps.Lines.{line_with, part, lines_end_of, TakesLine, StandsAt}
 use Rattle.desk_engine.specs.Told.{text_of, text_told, envelope_of_text}
@@ -72,8 +72,8 @@ heard_read-unavailable c heard (Err fault) = refl
 module _ {K : Type 0} (m : Meaning K) (c : Settings) where
   -- these lines were heard, and then more
   pub hears-then : (heard : List Envelope) (old mid new : K) (lines more : List (List ℕ)) (now : Option Envelope) → m.down mid ≡ m.down old
-      → HasHeard m c heard old mid lines None → HasHeard m c (heard_lines c heard lines) mid new more now
-      → HasHeard m c heard old new (lines ++ more) now
+      → HasHeardLines m c heard old mid lines None → HasHeardLines m c (heard_lines c heard lines) mid new more now
+      → HasHeardLines m c heard old new (lines ++ more) now
   hears-then heard old mid new lines more now up first second =
       let joined : heard_lines c heard (lines ++ more) ≡ heard_lines c (heard_lines c heard lines) more = heard_lines-append c heard lines more in
       record {
@@ -95,8 +95,8 @@ module _ {K : Type 0} (m : Meaning K) (c : Settings) where
 
   -- ---- the kept part of a line for the whole
 
-  hears-whole : (heard : List Envelope) (old new : K) (line : List ℕ) (now : Option Envelope) → HasHeard m c heard old new (part line ∷ []) now
-      → HasHeard m c heard old new (line ∷ []) now
+  hears-whole : (heard : List Envelope) (old new : K) (line : List ℕ) (now : Option Envelope) → HasHeardLines m c heard old new (part line ∷ []) now
+      → HasHeardLines m c heard old new (line ∷ []) now
   hears-whole heard old new line now h = record {
     order = subst (λ k. IsInOrder m c new k) (parts.heard_line-part c heard line) h.order;
     crash = λ doubt s. subst (λ k. Survives m c new k (doubt_after (m.down old) doubt now)) (parts.heard_line-part c heard line) (h.crash doubt s);
@@ -113,7 +113,7 @@ module _ {K : Type 0} (m : Meaning K) (c : Settings) where
 
   -- it was heard, and its answer was written or not
   takes-heard : (T : Type 0) (heard : List Envelope) (old new : K) (w v : Option (List ℕ)) (x : ℕ) (line text : List ℕ) (r : Result T Stop)
-      → text_of (text_told c heard (x ∷ line)) ≡ text → HasHeard m c heard old new ((x ∷ line) ∷ []) None
+      → text_of (text_told c heard (x ∷ line)) ≡ text → HasHeardLines m c heard old new ((x ∷ line) ∷ []) None
       → OnOk r (Appends w v (text ++ line_feed ∷ [])) → IfErr r (λ stop. stop ≡ Write)
       → TakesLine m c heard old new w v (x ∷ line) r
   takes-heard T heard old new w v x line text (Ok done) told hears written failed = record {
@@ -187,7 +187,7 @@ module _ {K : Type 0} (m : Meaning K) (c : Settings) where
     beginning = beginning;
     hears = hears-then heard start mid new (whole_lines input) (last_line input ∷ []) None stands.up stands.answered.hears
         (hears-whole (heard_lines c heard (whole_lines input)) mid new (last_line input) None
-        (subst (λ l. HasHeard m c (heard_lines c heard (whole_lines input)) mid new (l ∷ []) None) (same ∙ stands.begun) took.1));
+        (subst (λ l. HasHeardLines m c (heard_lines c heard (whole_lines input)) mid new (l ∷ []) None) (same ∙ stands.begun) took.1));
   }
   ends-stopped T (Unavailable fault) heard start mid new w u v input all line slice beginning stands same took = record {
     lines = whole_lines input;

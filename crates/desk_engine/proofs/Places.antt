@@ -7,7 +7,7 @@ use Rattle.std.proofs.lemmas.Bool.{and_parts, eqb-true}
 use Rattle.std.proofs.lemmas.Slice.Eq.{bytes_eq-Decides}
 use Rattle.registry_core.specs.declared.answers.Answer.{Answer}
 use Rattle.registry_core.specs.declared.messages.Envelope.{Envelope}
-use Rattle.registry_core.specs.Heard.{AreHeard, IsHeard, answers_after, answers_of, has_pair, place_of, same_pair}
+use Rattle.registry_core.specs.Heard.{AreHeard, IsHeard, answers_after, answers_of, has_pair, pair_place, same_pair}
 use Rattle.registry_core.specs.Ranges.{IsEnvelope}
 use Rattle.registry_core.specs.Settings.{Settings}
 use Rattle.registry_core.specs.State.{State, opening}
@@ -28,7 +28,7 @@ entry_of-map c e (x ∷ xs) =
     ]
 
 -- the entry of an envelope is that of the place that has its pair
-pub entry_of-entries_of : (c : Settings) (heard : List Envelope) (e : Envelope) → entry_of e (entries_of c heard) ≡ option_map (entry_at c) (place_of c heard e)
+pub entry_of-entries_of : (c : Settings) (heard : List Envelope) (e : Envelope) → entry_of e (entries_of c heard) ≡ option_map (entry_at c) (pair_place c heard e)
 entry_of-entries_of c heard e = entry_of-map c e (answers_of c heard)
 
 pair_at : (c : Settings) (s : State) (heard : List Envelope) (e : Envelope) → list_any (same_pair e) heard ≡ is_some (find (λ x. same_pair e x.0) (answers_after c s heard))
@@ -40,12 +40,12 @@ pair_at c s (h ∷ hs) e =
     ]
 
 -- the list has the pair where some place has it
-pub has_pair-place_of : (c : Settings) (heard : List Envelope) (e : Envelope) → has_pair heard e ≡ is_some (place_of c heard e)
-has_pair-place_of c heard e = pair_at c (opening c) heard e
+pub has_pair-pair_place : (c : Settings) (heard : List Envelope) (e : Envelope) → has_pair heard e ≡ is_some (pair_place c heard e)
+has_pair-pair_place c heard e = pair_at c (opening c) heard e
 
 -- no entry, no place
-pub no_place : (c : Settings) (heard : List Envelope) (e : Envelope) → entry_of e (entries_of c heard) ≡ None → place_of c heard e ≡ None
-no_place c heard e none = elim (cases_option (place_of c heard e)) [
+pub no_place : (c : Settings) (heard : List Envelope) (e : Envelope) → entry_of e (entries_of c heard) ≡ None → pair_place c heard e ≡ None
+no_place c heard e none = elim (cases_option (pair_place c heard e)) [
   | inl same ↦ same
   | inr found ↦ let k : None ≡ Some (entry_at c found.0) = sym none ∙ entry_of-entries_of c heard e ∙ ap (option_map (entry_at c)) found.1 in cc
 ]
@@ -66,7 +66,7 @@ stands_for_from c before (h ∷ hs) s e x each at =
       | false ↦ λ differ later. stands_for_from c (before ++ h ∷ []) hs (step c s h).0 e x each.3 later
     ]) refl at
 
-pub stands_for : (c : Settings) (heard : List Envelope) (e : Envelope) (x : Envelope × Answer) → IsHeard c heard → place_of c heard e ≡ Some x → StandsFor e x.0
+pub stands_for : (c : Settings) (heard : List Envelope) (e : Envelope) (x : Envelope × Answer) → IsHeard c heard → pair_place c heard e ≡ Some x → StandsFor e x.0
 stands_for c heard e x list at = stands_for_from c [] heard (opening c) e x list.each at
 
 -- two of one pair and one message are one

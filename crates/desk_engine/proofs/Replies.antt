@@ -2,7 +2,7 @@
 use Rattle.std.proofs.Common.{◌≡◌, Bool, true, false, cond, List, [], ◌∷◌, ◌++◌, refl}
 use Rattle.std.specs.Prelude.{◌&&◌}
 use Rattle.registry_core.specs.declared.messages.Envelope.{Envelope}
-use Rattle.registry_core.specs.Heard.{Stranger, has_pair, heard_with, is_sender, place_of, reply_at, reply_to, state_of}
+use Rattle.registry_core.specs.Heard.{Stranger, has_pair, heard_with, is_sender, pair_place, reply_at, reply_to, state_of}
 use Rattle.registry_core.specs.Settings.{Settings}
 use Rattle.registry_core.specs.Step.{step}
 use Rattle.desk_engine.specs.Deliveries.{heard_unless}
@@ -12,7 +12,7 @@ unfolding reply_to
 reply-stranger c heard e unknown = rw unknown
 
 pub reply-known : (c : Settings) (heard : List Envelope) (e : Envelope) → is_sender (state_of c heard) e.sender ≡ true
-    → reply_to c heard e ≡ reply_at (place_of c heard e) e (step c (state_of c heard) e).1
+    → reply_to c heard e ≡ reply_at (pair_place c heard e) e (step c (state_of c heard) e).1
 unfolding reply_to
 reply-known c heard e known = rw known
 

@@ -2,7 +2,7 @@
 use Rattle.std.specs.Prelude.{◌≡◌, ℕ, ◌<◌, ◌||◌, Bool, false, List, [], ◌∷◌, ◌++◌, length, map, All, Option, Some, None, IfOk, if◌then◌else◌}
 use Rattle.registry_core.specs.declared.answers.Answer.{Answer}
 use Rattle.registry_core.specs.declared.messages.Envelope.{Envelope}
-use Rattle.registry_core.specs.Heard.{IsHeard, most_heard, place_of}
+use Rattle.registry_core.specs.Heard.{IsHeard, most_heard, pair_place}
 use Rattle.registry_core.specs.Laws.{adds_sender}
 use Rattle.registry_core.specs.Ranges.{IsSettings}
 use Rattle.registry_core.specs.Settings.{Settings}
@@ -44,8 +44,8 @@ module _ {K : Type 0} (m : Meaning K) where
 
 -- whatever is delivered, by whichever sender, the place of an envelope that was heard stays, with the answer that was given there
 abbrev pub KeptAnswersStay : Type 0
-KeptAnswersStay = (c : Settings) (heard : List Envelope) (d : Delivery) (e : Envelope) (kept : Envelope × Answer) → place_of c heard e ≡ Some kept
-    → place_of c (heard_after c heard d) e ≡ Some kept
+KeptAnswersStay = (c : Settings) (heard : List Envelope) (d : Delivery) (e : Envelope) (kept : Envelope × Answer) → pair_place c heard e ≡ Some kept
+    → pair_place c (heard_after c heard d) e ≡ Some kept
 
 -- ---- the same texts again
 

@@ -97,14 +97,14 @@ fault_of_end _ = None
 
 module _ {K : Type 0} (m : Meaning K) (c : Settings) (heard : List Envelope) (old new : K) where
   -- the store is in order for what is heard after these lines, and a crash leaves that, or that with the message in doubt
-  pub record HasHeard (lines : List (List ℕ)) (now : Option Envelope) : Type 0 where
+  pub record HasHeardLines (lines : List (List ℕ)) (now : Option Envelope) : Type 0 where
     pub order : IsInOrder m c new (heard_lines c heard lines)
     pub crash : (doubt : Option Envelope) → Survives m c old heard doubt
         → Survives m c new (heard_lines c heard lines) (doubt_after (m.down old) doubt now)
 
   -- and their answers are what was written
   pub record HasAnswered (before after : Option (List ℕ)) (lines : List (List ℕ)) (now : Option Envelope) : Type 0 where
-    pub hears : HasHeard lines now
+    pub hears : HasHeardLines lines now
     pub answers : Appends before after (answer_lines c heard lines)
 
   -- these lines were heard, and a last one with an octet; nothing is said of what was written
@@ -113,7 +113,7 @@ module _ {K : Type 0} (m : Meaning K) (c : Settings) (heard : List Envelope) (ol
     pub line : List ℕ
     pub some : line ≢ []
     pub beginning : IsBeginning (lines ++ line ∷ []) (all_lines input)
-    pub hears : HasHeard (lines ++ line ∷ []) None
+    pub hears : HasHeardLines (lines ++ line ∷ []) None
 
   -- these lines were answered, and the line after them, which has an octet, found the store unavailable
   pub record IsCutShort (before after : Option (List ℕ)) (input : List ℕ) (fault : StoreFault) : Type 0 where

@@ -6,7 +6,7 @@ use Rattle.std.specs.List.Sorted.{IsStrictlyIncreasing}
 use Rattle.radio_core.specs.declared.bands.Band.{Band}
 use Rattle.radio_core.specs.Bands.{band_number, bands}
 use Rattle.radio_core.specs.Names.{is_name}
-use Rattle.registry_core.specs.Bookings.{downlinks_in, limit_in}
+use Rattle.registry_core.specs.Bookings.{downlinks_in, limit_standing}
 use Rattle.registry_core.specs.Reports.{IsUse, Use, in_band, is_owned, uplinks_from}
 use Rattle.registry_core.specs.State.{State}
 use Rattle.desk_wire.specs.Hexadecimal.{eui_digits}
@@ -70,4 +70,4 @@ is_gateway s name = is_name name && s.gateways name
 pub record IsBandReport (s : State) (gateway : List ℕ) (text : List ℕ) : Type 0 where
   pub used : Band → Use
   pub used_is : (band : Band) → IsUse (downlinks_in s.bookings gateway band) (used band)
-  pub text_is : text ≡ band_header ++ flat_map (λ band. band_line band (limit_in s gateway band) (used band)) bands
+  pub text_is : text ≡ band_header ++ flat_map (λ band. band_line band (limit_standing s gateway band) (used band)) bands

@@ -1,6 +1,6 @@
 -- Laws of requests: a path names one resource at most, with the names in it, and an input is one request at most.
 use Rattle.std.specs.Prelude.{◌≡◌, ℕ, List, ◌++◌, Option, Some}
-use Rattle.desk_http.specs.Requests.{Reads, Request}
+use Rattle.desk_http.specs.Requests.{IsReadAs, Request}
 use Rattle.desk_http.specs.Targets.{Names, Resource}
 
 -- what a path names is one, be it none
@@ -10,5 +10,5 @@ NamedIsOne = (path : List ℕ) (first second : Option Resource) → Names path f
 -- two requests that were read of one input, with more or less of it left, are one, and have the same body
 abbrev pub RequestsAreOne : Type 0
 RequestsAreOne = (input left other later : List ℕ) (first second : Request) (body text : List ℕ)
-    → Reads input (Some left) first body → Reads other (Some later) second text → input ++ left ≡ other ++ later
+    → IsReadAs input (Some left) first body → IsReadAs other (Some later) second text → input ++ left ≡ other ++ later
     → (first ≡ second) × (body ≡ text)

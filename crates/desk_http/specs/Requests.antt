@@ -51,7 +51,7 @@ IsBodyOf (message count) body rest = (length body ≡ count) ⊎ ((length body <
 IsBodyOf _ body rest = body ≡ []
 
 -- What was read is this request with this body: no head; or a head, and after it no more than the body that it asks for. This may be left of the input.
-pub data Reads (input : List ℕ) (rest : Option (List ℕ)) (request : Request) (body : List ℕ) : Type 0 where
-  bad_head : IsNoHead input rest → request ≡ refused no_head → body ≡ [] → Reads input rest request body
+pub data IsReadAs (input : List ℕ) (rest : Option (List ℕ)) (request : Request) (body : List ℕ) : Type 0 where
+  bad_head : IsNoHead input rest → request ≡ refused no_head → body ≡ [] → IsReadAs input rest request body
   head : (h : RequestHead) → IsRequestHead h → IsWithinLimits h → Asks h request → input ≡ print_request h ++ body → IsBodyOf request body rest
-      → Reads input rest request body
+      → IsReadAs input rest request body

@@ -20,7 +20,7 @@ use Rattle.desk_engine.specs.Told.{text_told}
 use Rattle.desk_http.specs.declared.serving.ServeEnd.{ServeEnd}
 use Rattle.desk_http.specs.declared.serving.ServeEnd.TheVariants.{Done, Closed, Read, Write, Memory}
 use Rattle.desk_http.specs.Reports.{IsBandAnswer, IsOwnerAnswer}
-use Rattle.desk_http.specs.Requests.{Reads, Request, refused, message, owner_report, band_report}
+use Rattle.desk_http.specs.Requests.{IsReadAs, Request, refused, message, owner_report, band_report}
 use Rattle.desk_http.specs.Responses.{Response, response_text, cut_body, outcome_response, report_response}
 
 module _ {K : Type 0} (m : Meaning K) (old new : K) where
@@ -65,7 +65,7 @@ module _ {K : Type 0} (m : Meaning K) (old new : K) where
 
   -- This input was read, and this may be left of it: a request, which was served so.
   abbrev pub Serves : List ℕ → Option (List ℕ) → Response → Type 0
-  Serves input rest response = (request : Request) × (body : List ℕ) × Reads input rest request body × ServesRequest request body response
+  Serves input rest response = (request : Request) × (body : List ℕ) × IsReadAs input rest request body × ServesRequest request body response
 
 -- the store stands as before, and nothing was written
 abbrev pub IsIdle : {K : Type 0} → K → K → Option (List ℕ) → Option (List ℕ) → Type 0

@@ -27,7 +27,7 @@ use Rattle.desk_rows.specs.Rows.{Rows, Holds, table_of}
 use Rattle.desk_rows.specs.steps.Queries.{HasRun, IsReadOf, Finds, Knows}
 use Rattle.desk_rows.specs.CallLaws.{read_weaker}
 use Rattle.desk_rows.proofs.Ordered.{Asked, joined, query_of, by_rowid, head, zip_from, encode, first_by_rowid, some_map, map_twice, found_holds, zip_all, mapped_holds}
-use Rattle.desk_rows.specs.Calls.{IsRead, Reads}
+use Rattle.desk_rows.specs.Calls.{IsReadingCall, Reads}
 use Rattle.desk_rows.specs.Faults.{is_odd, IsEven, fault_of}
 use Rattle.desk_rows.specs.steps.Errors.{found_of, known_of}
 use Rattle.desk_rows.specs.declared.faults.RowFault.{RowFault}
@@ -160,7 +160,7 @@ module _ {sql : List ℕ} {many : ℕ} {trees : List ℕ} {a : Asked trees} (tex
 -- a call of query_row changes nothing
 pub lookup_reads : {sql : List ℕ} {many : ℕ} {trees : List ℕ} {a : Asked trees} (text : IsLookup sql many a) (params : Row) (old new : State) (r : Result Row Error)
     → (doubt old.is_clean ≤ doubt new.is_clean) → (old.in_transaction ≡ false → new.in_transaction ≡ false)
-    → Survives old new (CommitsShowing sql params old) → (HasCleanDisk new → QueriesRow sql params old new r) → IsRead old new (is_ok (found_of r))
+    → Survives old new (CommitsShowing sql params old) → (HasCleanDisk new → QueriesRow sql params old new r) → IsReadingCall old new (is_ok (found_of r))
 lookup_reads {sql} text params old new r clean mode survives ran = record {
   clean = clean;
   mode = mode;
@@ -172,7 +172,7 @@ lookup_reads {sql} text params old new r clean mode survives ran = record {
 
 module _ {sql : List ℕ} {many : ℕ} {trees : List ℕ} {a : Asked trees} (text : IsLookup sql many a) (params : Row) (old new : State) (answer : Result Row Error) (run : HasRun sql params old new answer)
     (many_is : many ≡ length params) (typed : accepts_program desk_schema [] (query_of a) params ≡ true) where
-  has_read : IsRead old new (is_ok (found_of answer))
+  has_read : IsReadingCall old new (is_ok (found_of answer))
   has_read = lookup_reads text params old new answer run.clean run.mode run.survives run.ran
 
   -- the first row is the one that is wanted
@@ -193,7 +193,7 @@ module _ {sql : List ℕ} {many : ℕ} {trees : List ℕ} {a : Asked trees} (tex
   pub knows : (result : Result Bool RowFault) → result ≡ known_of (found_of answer) → (want : Rows → Option Row) → ((r : Rows) → Holds old.now r → IsFirst (want r))
       → Reads old new result (λ r known. known ≡ is_some (want r))
   knows result is want first = rw is (record {
-    read = subst (IsRead old new) (sym (known_ok (found_of answer))) has_read;
+    read = subst (IsReadingCall old new) (sym (known_ok (found_of answer))) has_read;
     told = λ sure r has. told (found_of answer) (want r) (found_is sure r has (want r) (first r has));
     in_order = λ sure unlimited r has. even (found_of answer) (found_even sure unlimited r has);
   })

@@ -9,7 +9,7 @@ use Rattle.sqlite.specs.declared.error.Error.{Error}
 use Rattle.sqlite.specs.declared.error.Error.TheVariants.{SqliteFailure, SqlInputError, InvalidParameterCount, ExecuteReturnedResults, InvalidQuery, MultipleStatement, QueryReturnedNoRows, InvalidColumnIndex, InvalidColumnType, IntegralValueOutOfRange, Utf8Error}
 use Rattle.desk_rows.specs.steps.Errors.{found_of}
 use Rattle.std.specs.Result.{is_ok}
-use Rattle.desk_rows.specs.Calls.{Leaves}
+use Rattle.desk_rows.specs.Calls.{StaysOrRollsBack}
 use Rattle.sqlite.specs.Effect.{Database, RefusesToRead}
 use Rattle.sqlite.specs.Listing.{understood}
 use Rattle.sqlite.specs.State.{State, QueriesRow, Shown, FailsToQuery, FailsToShow, ShowsRows, IsNotRun, IsNoStatement, IsUnchanged, IsRolledBack, store_error}
@@ -68,7 +68,7 @@ leaves sql params old new plain (Ok row) (inr h) = let same = shown_leaves sql p
 leaves sql params old new plain (Err e) (inl h) = (tt, fails_leave sql params old new e plain h)
 leaves sql params old new plain (Err e) (inr h) = (tt, inl (shown_leaves sql params old new [] plain h.1))
 
-pub found_leaves : (sql : List ℕ) (params : Row) (old new : State) → IsPlain (understood old.now.schema sql) → (r : Result Row Error) → QueriesRow sql params old new r → Leaves (is_ok (found_of r)) old new
+pub found_leaves : (sql : List ℕ) (params : Row) (old new : State) → IsPlain (understood old.now.schema sql) → (r : Result Row Error) → QueriesRow sql params old new r → StaysOrRollsBack (is_ok (found_of r)) old new
 found_leaves sql params old new plain (Ok row) h = (leaves sql params old new plain (Ok row) h).0
 found_leaves sql params old new plain (Err QueryReturnedNoRows) h = shown_leaves sql params old new [] plain (shows_none sql params old new plain h)
 found_leaves sql params old new plain (Err (SqliteFailure code)) h = (leaves sql params old new plain _ h).1

@@ -23,7 +23,7 @@ use Rattle.sqlite.proofs.Callers.{never_commits}
 use Rattle.sqlite.proofs.StateLemmas.{survives_weaker}
 use Rattle.duty_core.specs.Range.{IsStart}
 use Rattle.duty_core.specs.Use.{Interval}
-use Rattle.desk_rows.specs.Calls.{Leaves, Reads}
+use Rattle.desk_rows.specs.Calls.{StaysOrRollsBack, Reads}
 use Rattle.desk_rows.specs.Faults.{fault_of, is_odd, IsEven}
 use Rattle.desk_rows.specs.Rows.{Rows, Holds, table_of}
 use Rattle.desk_rows.specs.Schema.{desk_schema}
@@ -72,7 +72,7 @@ module _ {sql : List ℕ} {many : ℕ} {trees : List ℕ} {a : Asked trees} (tex
   abbrev End : Result (Vec T Global) RowFault → Type 0
   End = EndsWith sql params old new seen shows Fits
 
-  left : (result : Result (Vec T Global) RowFault) → End result → Leaves (is_ok result) old new
+  left : (result : Result (Vec T Global) RowFault) → End result → StaysOrRollsBack (is_ok result) old new
   left (Ok all) h = shown_leaves sql params old new h.0 (plain_now text params old new has) h.1
   left (Err fault) (inl failed) = fails_leave sql params old new failed.0 (plain_now text params old new has) failed.2
   left (Err fault) (inr up) = inl up.0

@@ -5,13 +5,13 @@ use Rattle.sqlite.specs.State.{State, HasCleanDisk, IsUnchanged, IsRolledBack}
 use Rattle.sqlite.proofs.Callers.{unchanged_then}
 use Rattle.sqlite.proofs.StateLemmas.{survives_then}
 use Rattle.desk_rows.specs.Schema.{desk_schema}
-use Rattle.desk_rows.specs.Calls.{Leaves, IsRead, GoesOn, Writes, IsWrite}
+use Rattle.desk_rows.specs.Calls.{StaysOrRollsBack, IsReadingCall, GoesOn, Writes, IsWritingCall}
 
 -- what read well may then be found out of its range
-pub read_weaker : (old new : State) (a ok : Bool) → (IsTrue ok → IsTrue a) → IsRead old new a → IsRead old new ok
+pub read_weaker : (old new : State) (a ok : Bool) → (IsTrue ok → IsTrue a) → IsReadingCall old new a → IsReadingCall old new ok
 read_weaker old new a ok then_ok read = record { clean = read.clean; mode = read.mode; survives = read.survives; leaves = λ has up sure. go a ok then_ok (read.leaves has up sure) }
   where
-    go : (a ok : Bool) → (IsTrue ok → IsTrue a) → Leaves a old new → Leaves ok old new
+    go : (a ok : Bool) → (IsTrue ok → IsTrue a) → StaysOrRollsBack a old new → StaysOrRollsBack ok old new
     go true true h same = same
     go true false h same = inl same
     go false false h left = left
@@ -26,12 +26,12 @@ back_then a b c p q = record {
   counts = record { changes = q.counts.changes ∙ p.1.changes; last_rowid = q.counts.last_rowid ∙ p.1.last_rowid };
 }
 
-leaves_then : (ok : Bool) (a b c : State) → IsUnchanged a b → Leaves ok b c → Leaves ok a c
+leaves_then : (ok : Bool) (a b c : State) → IsUnchanged a b → StaysOrRollsBack ok b c → StaysOrRollsBack ok a c
 leaves_then true a b c p q = unchanged_then a b c p q
 leaves_then false a b c p (inl q) = inl (unchanged_then a b c p q)
 leaves_then false a b c p (inr q) = inr (back_then a b c p q)
 
-pub reads_then : (a b c : State) (ok : Bool) → IsRead a b true → IsRead b c ok → IsRead a c ok
+pub reads_then : (a b c : State) (ok : Bool) → IsReadingCall a b true → IsReadingCall b c ok → IsReadingCall a c ok
 reads_then a b c ok one two =
     let early = λ (sure : HasCleanDisk c). let e : HasCleanDisk b = omega (arith, two.clean, sure) in e in
     let has = λ (h : a.now.schema ≡ desk_schema) (up : IsTrue a.is_open) (sure : HasCleanDisk c).
@@ -62,7 +62,7 @@ then_writes false a b c p (inr q) = inr (record {
   ended = q.ended;
 })
 
-pub writes_then : (a b c : State) (ok : Bool) → IsWrite a b true → IsWrite b c ok → IsWrite a c ok
+pub writes_then : (a b c : State) (ok : Bool) → IsWritingCall a b true → IsWritingCall b c ok → IsWritingCall a c ok
 writes_then a b c ok one two = record {
   survives = survives_then a b c (λ _. ⊥) (λ _. ⊥) (λ _. ⊥) (λ _ db none. none) (λ _ db none. none) one.survives two.survives;
   goes_on = λ sure inside up.

@@ -11,21 +11,21 @@ use Rattle.desk_rows.specs.declared.faults.RowFault.{RowFault}
 -- ---- reading
 
 -- all is as it was, or after a failure rolled back
-abbrev pub Leaves : Bool → State → State → Type 0
-Leaves true old new = IsUnchanged old new
-Leaves false old new = IsUnchanged old new ⊎ IsRolledBack old new
+abbrev pub StaysOrRollsBack : Bool → State → State → Type 0
+StaysOrRollsBack true old new = IsUnchanged old new
+StaysOrRollsBack false old new = IsUnchanged old new ⊎ IsRolledBack old new
 
 -- a reading call, which answered Ok or not
-pub record IsRead (old new : State) (ok : Bool) : Type 0 where
+pub record IsReadingCall (old new : State) (ok : Bool) : Type 0 where
   pub clean : doubt old.is_clean ≤ doubt new.is_clean
   pub mode : old.in_transaction ≡ false → new.in_transaction ≡ false
   pub survives : old.now.schema ≡ desk_schema → IsTrue old.is_open → HasCleanDisk new → Survives old new (λ _. ⊥)
-  pub leaves : old.now.schema ≡ desk_schema → IsTrue old.is_open → HasCleanDisk new → Leaves ok old new
+  pub leaves : old.now.schema ≡ desk_schema → IsTrue old.is_open → HasCleanDisk new → StaysOrRollsBack ok old new
 
 -- A look-up changes nothing, and what it answers is so of the rows that are held. Over tables that hold rows, with no
 -- limit on steps, it fails only for memory, the disk or a size.
 pub record Reads {X : Type 0} (old new : State) (result : Result X RowFault) (Says : Rows → X → Type 0) : Type 0 where
-  pub read : IsRead old new (is_ok result)
+  pub read : IsReadingCall old new (is_ok result)
   pub told : HasCleanDisk new → (r : Rows) → Holds old.now r → IfOk result (Says r)
   pub in_order : HasCleanDisk new → old.step_limit ≡ None → (r : Rows) → Holds old.now r → IfErr result IsEven
 
@@ -46,14 +46,14 @@ Writes true old new = GoesOn old new
 Writes false old new = GoesOn old new ⊎ IsUndone old new
 
 -- a writing call inside a transaction, which answered Ok or not
-pub record IsWrite (old new : State) (ok : Bool) : Type 0 where
+pub record IsWritingCall (old new : State) (ok : Bool) : Type 0 where
   pub survives : Survives old new (λ _. ⊥)
   pub goes_on : HasCleanDisk new → IsTrue old.in_transaction → IsTrue old.is_open → Writes ok old new
 
 -- A statement inside a transaction makes these rows of the rows that are held, where what it writes is in its range. Over
 -- tables that hold rows that it may change, with no limit on steps, it fails only for memory, the disk or a size.
 pub record Changes {X : Type 0} (old new : State) (result : Result X RowFault) (InRange : Type 0) (May : Rows → Type 0) (after : Rows → Rows) : Type 0 where
-  pub write : IsWrite old new (is_ok result)
+  pub write : IsWritingCall old new (is_ok result)
   pub schema : HasCleanDisk new → IsTrue old.in_transaction → old.now.schema ≡ desk_schema → OnOk result (new.now.schema ≡ desk_schema)
   pub made : HasCleanDisk new → IsTrue old.in_transaction → InRange → (r : Rows) → Holds old.now r → OnOk result (Holds new.now (after r))
   pub in_order : HasCleanDisk new → IsTrue old.in_transaction → old.step_limit ≡ None → InRange → (r : Rows) → Holds old.now r → May r → IfErr result IsEven

@@ -2,7 +2,7 @@
 ghost use Rattle.std.specs.Prelude.{◌≡◌, None, IsTrue, IfErr, OnOk, is_ok};
 ghost use Rattle.sqlite.specs.Held.{state};
 ghost use Rattle.sqlite.specs.State.{HasCleanDisk, KeepsCommit, Survives};
-ghost use Rattle.desk_rows.specs.Calls.{IsWrite};
+ghost use Rattle.desk_rows.specs.Calls.{IsWritingCall};
 ghost use Rattle.desk_rows.specs.Faults.{IsEven};
 ghost use Rattle.desk_rows.specs.Making.{IsBare, settings_rows};
 ghost use Rattle.desk_rows.specs.Rows.{Holds};
@@ -41,7 +41,7 @@ pub fn insert_settings<S: Alter>(
     config: &Config,
 ) -> Result<(), RowFault>
     ensures same_reference { tx.new.conn.ghost_name ≡ tx.old.conn.ghost_name }
-    ensures write { IsWrite (state S.Store tx.old.conn.now) (state S.Store tx.new.conn.now) (is_ok result) }
+    ensures write { IsWritingCall (state S.Store tx.old.conn.now) (state S.Store tx.new.conn.now) (is_ok result) }
     ensures made { HasCleanDisk (state S.Store tx.new.conn.now) → IsTrue (state S.Store tx.old.conn.now).in_transaction
         → IsBare (state S.Store tx.old.conn.now).now → OnOk result (Holds (state S.Store tx.new.conn.now).now (settings_rows config.now)) }
     ensures in_order { HasCleanDisk (state S.Store tx.new.conn.now) → IsTrue (state S.Store tx.old.conn.now).in_transaction

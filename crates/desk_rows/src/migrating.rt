@@ -3,7 +3,7 @@ ghost use Rattle.std.specs.Prelude.{◌≡◌, None, IsTrue, IfErr, OnOk, is_ok}
 ghost use Rattle.sqlite.specs.Held.{state};
 ghost use Rattle.sqlite.specs.State.{HasCleanDisk};
 ghost use Rattle.sqlite_catalog.specs.Change.{is_used};
-ghost use Rattle.desk_rows.specs.Calls.{IsWrite};
+ghost use Rattle.desk_rows.specs.Calls.{IsWritingCall};
 ghost use Rattle.desk_rows.specs.Faults.{IsEven};
 ghost use Rattle.desk_rows.specs.Migrating.{HoldsBetween, HoldsFirst, limit_name};
 ghost use Rattle.desk_rows.specs.Rows.{Holds, Rows};
@@ -15,7 +15,7 @@ use sqlite::{Alter, Transaction};
 /// Adds the table of limits, empty, to the ten tables. It is refused where a table, an index or a view has the name.
 pub fn create_limits<S: Alter>(tx: &mut Transaction<'_, S>) -> Result<(), RowFault>
     ensures same_reference { tx.new.conn.ghost_name ≡ tx.old.conn.ghost_name }
-    ensures write { IsWrite (state S.Store tx.old.conn.now) (state S.Store tx.new.conn.now) (is_ok result) }
+    ensures write { IsWritingCall (state S.Store tx.old.conn.now) (state S.Store tx.new.conn.now) (is_ok result) }
     ensures made { HasCleanDisk (state S.Store tx.new.conn.now) → IsTrue (state S.Store tx.old.conn.now).in_transaction
         → (r : Rows) → HoldsFirst (state S.Store tx.old.conn.now).now r → OnOk result (HoldsBetween (state S.Store tx.new.conn.now).now r) }
     ensures taken { HasCleanDisk (state S.Store tx.new.conn.now) → IsTrue (state S.Store tx.old.conn.now).in_transaction
@@ -33,7 +33,7 @@ pub fn create_limits<S: Alter>(tx: &mut Transaction<'_, S>) -> Result<(), RowFau
 /// Has meta tell version 2, once the table of limits is there. All rows stay.
 pub fn raise_version<S: Alter>(tx: &mut Transaction<'_, S>) -> Result<(), RowFault>
     ensures same_reference { tx.new.conn.ghost_name ≡ tx.old.conn.ghost_name }
-    ensures write { IsWrite (state S.Store tx.old.conn.now) (state S.Store tx.new.conn.now) (is_ok result) }
+    ensures write { IsWritingCall (state S.Store tx.old.conn.now) (state S.Store tx.new.conn.now) (is_ok result) }
     ensures made { HasCleanDisk (state S.Store tx.new.conn.now) → IsTrue (state S.Store tx.old.conn.now).in_transaction
         → (r : Rows) → HoldsBetween (state S.Store tx.old.conn.now).now r → OnOk result (Holds (state S.Store tx.new.conn.now).now r) }
     ensures in_order { HasCleanDisk (state S.Store tx.new.conn.now) → IsTrue (state S.Store tx.old.conn.now).in_transaction

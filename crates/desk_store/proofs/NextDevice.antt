@@ -18,7 +18,7 @@ use Rattle.registry_core.specs.Reports.{IsNextDevice, is_after, is_owned}
 use Rattle.registry_core.specs.State.{State}
 use Rattle.desk_store.specs.declared.devices.Owned.{Owned}
 use Rattle.desk_store.specs.Devices.{devices_of}
-use Rattle.desk_store.specs.steps.Devices.{AreOwned, bound_above, has_owner, owned_cmp}
+use Rattle.desk_store.specs.steps.Devices.{AreOwned, bound_above, is_owned_by, owned_cmp}
 
 then_between : (r s t u : Ordering) → r ≡ ordering_reverse s → is_gt (ordering_then r t) ≡ false → is_gt (ordering_then s u) ≡ false → r ≡ Equal
 then_between Less Less t u turned above below = let no : Less ≡ Greater = turned in cc
@@ -85,7 +85,7 @@ range_as owned from to all os start pairs range =
 module _ (devices : List (ℕ × Device)) (owned : BTreeSet Owned) (are : AreOwned devices owned) (owner : List ℕ) (after : Option ℕ)
     (s : State) (told : s.devices ≡ devices_of devices) where
   owned_is : (dev_eui : ℕ) → is_owned s owner dev_eui ≡ contains owned_cmp owned (pair_of owner dev_eui)
-  owned_is dev_eui = ap (λ devices. has_owner owner (devices dev_eui)) told ∙ sym (are.has (pair_of owner dev_eui))
+  owned_is dev_eui = ap (λ devices. is_owned_by owner (devices dev_eui)) told ∙ sym (are.has (pair_of owner dev_eui))
 
   module _ (dev_eui : ℕ) (passes : IsTrue (is_owned s owner dev_eui && is_after after dev_eui)) where
     its_range : IsInRange owned_cmp (bound_above owner after) Unbounded (pair_of owner dev_eui)

@@ -9,7 +9,7 @@ use Rattle.std.proofs.lemmas.Bool.{eqb-true}
 use Rattle.registry_core.specs.declared.facts.Device.{Device}
 use Rattle.desk_store.specs.declared.devices.Owned.{Owned}
 use Rattle.desk_store.specs.Devices.{devices_of}
-use Rattle.desk_store.specs.steps.Devices.{AreOwned, has_owner, owned_cmp}
+use Rattle.desk_store.specs.steps.Devices.{AreOwned, is_owned_by, owned_cmp}
 
 and_false : (b : Bool) → (b && false) ≡ false
 and_false true = refl
@@ -52,49 +52,49 @@ module _ (old new : List (ℕ × Device)) (dev_eui : ℕ) (device : Device) (was
     (put : (n : ℕ) → devices_of new n ≡ cond (nat_eq dev_eui n) (Some device) (devices_of old n))
     (with_pair : (pair : Owned) → contains owned_cmp noted pair
     ≡ cond (is_eq (owned_cmp (record { owner = device.owner; dev_eui = dev_eui }) pair)) true (contains owned_cmp was pair)) where
-  other : (pair : Owned) → nat_eq dev_eui pair.dev_eui ≡ false → contains owned_cmp noted pair ≡ has_owner pair.owner (devices_of new pair.dev_eui)
+  other : (pair : Owned) → nat_eq dev_eui pair.dev_eui ≡ false → contains owned_cmp noted pair ≡ is_owned_by pair.owner (devices_of new pair.dev_eui)
   other pair apart = with_pair pair
       ∙ ap (λ b. cond b true (contains owned_cmp was pair)) (apart_pair (record { owner = device.owner; dev_eui = dev_eui }) pair apart)
       ∙ are.has pair
-      ∙ ap (has_owner pair.owner) (sym (put pair.dev_eui ∙ ap (λ b. cond b (Some device) (devices_of old pair.dev_eui)) apart))
+      ∙ ap (is_owned_by pair.owner) (sym (put pair.dev_eui ∙ ap (λ b. cond b (Some device) (devices_of old pair.dev_eui)) apart))
 
-  its_owner : (pair : Owned) → nat_eq dev_eui pair.dev_eui ≡ true → has_owner pair.owner (devices_of new pair.dev_eui) ≡ bytes_eq device.owner pair.owner
-  its_owner pair same = ap (has_owner pair.owner) (put pair.dev_eui ∙ ap (λ b. cond b (Some device) (devices_of old pair.dev_eui)) same)
+  its_owner : (pair : Owned) → nat_eq dev_eui pair.dev_eui ≡ true → is_owned_by pair.owner (devices_of new pair.dev_eui) ≡ bytes_eq device.owner pair.owner
+  its_owner pair same = ap (is_owned_by pair.owner) (put pair.dev_eui ∙ ap (λ b. cond b (Some device) (devices_of old pair.dev_eui)) same)
 
   its_pair : (pair : Owned) → nat_eq dev_eui pair.dev_eui ≡ true
-      → contains owned_cmp noted pair ≡ cond (bytes_eq device.owner pair.owner) true (has_owner pair.owner (devices_of old dev_eui))
+      → contains owned_cmp noted pair ≡ cond (bytes_eq device.owner pair.owner) true (is_owned_by pair.owner (devices_of old dev_eui))
   its_pair pair same = with_pair pair
       ∙ ap (λ b. cond b true (contains owned_cmp was pair)) (owners_pair (record { owner = device.owner; dev_eui = dev_eui }) pair same)
       ∙ ap (cond (bytes_eq device.owner pair.owner) true) (are.has pair
-      ∙ ap (λ n. has_owner pair.owner (devices_of old n)) (sym (eqb-true dev_eui pair.dev_eui same)))
+      ∙ ap (λ n. is_owned_by pair.owner (devices_of old n)) (sym (eqb-true dev_eui pair.dev_eui same)))
 
-  put_by : ((owner : List ℕ) → cond (bytes_eq device.owner owner) true (has_owner owner (devices_of old dev_eui)) ≡ bytes_eq device.owner owner)
-      → (pair : Owned) (b : Bool) → nat_eq dev_eui pair.dev_eui ≡ b → contains owned_cmp noted pair ≡ has_owner pair.owner (devices_of new pair.dev_eui)
+  put_by : ((owner : List ℕ) → cond (bytes_eq device.owner owner) true (is_owned_by owner (devices_of old dev_eui)) ≡ bytes_eq device.owner owner)
+      → (pair : Owned) (b : Bool) → nat_eq dev_eui pair.dev_eui ≡ b → contains owned_cmp noted pair ≡ is_owned_by pair.owner (devices_of new pair.dev_eui)
   put_by kept pair true same = its_pair pair same ∙ kept pair.owner ∙ sym (its_owner pair same)
   put_by kept pair false apart = other pair apart
 
   -- a new device
   pub put_new : None ≡ devices_of old dev_eui → AreOwned new noted
   put_new none = record {
-    has = λ pair. put_by (λ owner. ap (λ d. cond (bytes_eq device.owner owner) true (has_owner owner d)) (sym none) ∙ or_nothing (bytes_eq device.owner owner))
+    has = λ pair. put_by (λ owner. ap (λ d. cond (bytes_eq device.owner owner) true (is_owned_by owner d)) (sym none) ∙ or_nothing (bytes_eq device.owner owner))
         pair _ refl;
   }
 
   -- a device that keeps its owner
   pub put_kept : (before : Device) → Some before ≡ devices_of old dev_eui → before.owner ≡ device.owner → AreOwned new noted
   put_kept before there same = record {
-    has = λ pair. put_by (λ owner. ap (λ d. cond (bytes_eq device.owner owner) true (has_owner owner d)) (sym there)
+    has = λ pair. put_by (λ owner. ap (λ d. cond (bytes_eq device.owner owner) true (is_owned_by owner d)) (sym there)
         ∙ ap (λ o. cond (bytes_eq device.owner owner) true (bytes_eq o owner)) same ∙ or_itself (bytes_eq device.owner owner)) pair _ refl;
   }
 
   module _ (before : Device) (there : Some before ≡ devices_of old dev_eui) (apart : bytes_eq before.owner device.owner ≡ false) (left : BTreeSet Owned)
       (without : (pair : Owned) → contains owned_cmp left pair
       ≡ cond (is_eq (owned_cmp (record { owner = before.owner; dev_eui = dev_eui }) pair)) false (contains owned_cmp noted pair)) where
-    moved_by : (pair : Owned) (b : Bool) → nat_eq dev_eui pair.dev_eui ≡ b → contains owned_cmp left pair ≡ has_owner pair.owner (devices_of new pair.dev_eui)
+    moved_by : (pair : Owned) (b : Bool) → nat_eq dev_eui pair.dev_eui ≡ b → contains owned_cmp left pair ≡ is_owned_by pair.owner (devices_of new pair.dev_eui)
     moved_by pair true same = without pair
         ∙ ap (λ b. cond b false (contains owned_cmp noted pair)) (owners_pair (record { owner = before.owner; dev_eui = dev_eui }) pair same)
         ∙ ap (cond (bytes_eq before.owner pair.owner) false) (its_pair pair same
-        ∙ ap (λ d. cond (bytes_eq device.owner pair.owner) true (has_owner pair.owner d)) (sym there))
+        ∙ ap (λ d. cond (bytes_eq device.owner pair.owner) true (is_owned_by pair.owner d)) (sym there))
         ∙ exchanged before.owner device.owner pair.owner _ _ refl refl apart
         ∙ sym (its_owner pair same)
     moved_by pair false other_device = without pair

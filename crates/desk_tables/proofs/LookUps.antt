@@ -15,7 +15,7 @@ use Rattle.desk_store.specs.Kept.{Kept}
 use Rattle.desk_store.specs.Meaning.{Meaning}
 use Rattle.desk_rows.specs.declared.faults.RowFault.{RowFault}
 use Rattle.desk_rows.specs.declared.faults.RowFault.TheVariants.{Memory, Disk, Size, Row as OutOfRange, Refused}
-use Rattle.desk_rows.specs.Calls.{IsRead, Reads}
+use Rattle.desk_rows.specs.Calls.{IsReadingCall, Reads}
 use Rattle.desk_rows.specs.Faults.{IsEven}
 use Rattle.desk_rows.specs.Rows.{Holds, Rows}
 use Rattle.desk_tables.specs.InOrder.{IsOfDesk}
@@ -51,7 +51,7 @@ mid_is old mid (inl same) was up = (same.0.now_is, same.0.committed_is, same.0.n
 mid_is old mid (inr back) was up =
     let parts = back.undone up in (parts.0 ∙ sym was, parts.1, parts.0 ∙ sym parts.1)
 
-failed_before : (old mid new : State) (fault : RowFault) (told : StoreFault) → IsSettled old → IsRead old mid false
+failed_before : (old mid new : State) (fault : RowFault) (told : StoreFault) → IsSettled old → IsReadingCall old mid false
     → Survives old mid (λ _. ⊥) → IsUnchanged old mid ⊎ IsRolledBack old mid → Settles mid new fault told → HasCleanDisk new → is_disk (Some told) ≡ false
     → IsAsBefore old new
 failed_before old mid new fault told was read survives left settles clean not_disk =
@@ -118,7 +118,7 @@ module _ {S : Type 0} (g : Ghosts S) (old : Tables S) (mid : Held S) (up : old.d
   asked : Tables S
   asked = record old { conn = mid }
 
-  answered : IsRead (state g old.conn) (state g mid) true → calls.IsRead (meaning_of g) old (record old { conn = mid }) None
+  answered : IsReadingCall (state g old.conn) (state g mid) true → calls.IsRead (meaning_of g) old (record old { conn = mid }) None
   answered read = record {
     same = refl;
     was_sound = λ clean. omega (arith, read.clean, clean);
@@ -137,7 +137,7 @@ module _ {S : Type 0} (g : Ghosts S) (old : Tables S) (mid : Held S) (up : old.d
     unavailable = λ kept clean holds. tt;
   }
 
-  module _ (new : Held S) (fault : RowFault) (told : StoreFault) (read : IsRead (state g old.conn) (state g mid) false)
+  module _ (new : Held S) (fault : RowFault) (told : StoreFault) (read : IsReadingCall (state g old.conn) (state g mid) false)
       (settles : Settles (state g mid) (state g new) (reading_fault fault) told)
       (in_order : HasCleanDisk (state g mid) → (state g old.conn).step_limit ≡ None → (r : Rows) → Holds (state g old.conn).now r → IsEven fault) where
     abbrev after : Tables S

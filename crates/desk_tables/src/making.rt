@@ -5,7 +5,7 @@ ghost use Rattle.sqlite.specs.Held.{state};
 ghost use Rattle.sqlite.specs.State.{HasCleanDisk, KeepsCommit, Survives};
 ghost use Rattle.desk_store.specs.Calls.{IsUnavailability};
 ghost use Rattle.desk_store.specs.declared.faults.StoreFault.TheVariants.{Exists, NotADesk};
-ghost use Rattle.desk_rows.specs.Calls.{IsWrite};
+ghost use Rattle.desk_rows.specs.Calls.{IsWritingCall};
 ghost use Rattle.desk_rows.specs.Faults.{IsEven};
 ghost use Rattle.desk_rows.specs.Making.{IsBare};
 ghost use Rattle.desk_rows.specs.Rows.{Holds};
@@ -23,7 +23,7 @@ use sqlite::{Alter, Connection, Error, Transaction};
 /// What the desk is made with, and its operator.
 fn insert_first_rows<S: Alter>(tx: &mut Transaction<'_, S>, config: &Config) -> Result<(), RowFault>
     ensures same_reference { tx.new.conn.ghost_name ≡ tx.old.conn.ghost_name }
-    ensures write { IsWrite (state S.Store tx.old.conn.now) (state S.Store tx.new.conn.now) (is_ok result) }
+    ensures write { IsWritingCall (state S.Store tx.old.conn.now) (state S.Store tx.new.conn.now) (is_ok result) }
     ensures kept { HasCleanDisk (state S.Store tx.new.conn.now) → IsTrue (state S.Store tx.old.conn.now).in_transaction → IsTrue (state S.Store tx.old.conn.now).is_open
         → KeepsCommit (state S.Store tx.old.conn.now) (state S.Store tx.new.conn.now) }
     ensures made { HasCleanDisk (state S.Store tx.new.conn.now) → IsTrue (state S.Store tx.old.conn.now).in_transaction → IsTrue (state S.Store tx.old.conn.now).is_open

@@ -70,16 +70,16 @@ unfolding frame_of
 data_read = refl
 
 -- which answers a reading has, counted: a frame, Empty, Major, Kind, Length
-abbrev place_of : Result Phy FrameFault → ℕ
-place_of (Ok phy) = 0
-place_of (Err Empty) = 1
-place_of (Err Major) = 2
-place_of (Err Kind) = 3
-place_of (Err Length) = 4
+abbrev outcome_number : Result Phy FrameFault → ℕ
+outcome_number (Ok phy) = 0
+outcome_number (Err Empty) = 1
+outcome_number (Err Major) = 2
+outcome_number (Err Kind) = 3
+outcome_number (Err Length) = 4
 
 abbrev tally_of : (ℕ → List ℕ) → ℕ → List ℕ
 tally_of text count =
-    map (λ place. count_by (λ n. place_of (read_of (text n)) == place) (range_with_len 0 count)) (range_with_len 0 5)
+    map (λ place. count_by (λ n. outcome_number (read_of (text n)) == place) (range_with_len 0 count)) (range_with_len 0 5)
 
 -- the join request behind each first octet, its beginnings, and the data frame with each FCtrl
 first_octets : tally_of (λ mhdr. mhdr ∷ behind_join) 256 ≡ 8 ∷ 0 ∷ 192 ∷ 16 ∷ 40 ∷ []

@@ -15,7 +15,7 @@ use Rattle.registry_core.specs.declared.facts.Standing.{Standing}
 use Rattle.registry_core.specs.declared.facts.Standing.TheVariants.{Booked}
 use Rattle.registry_core.specs.declared.windows.Window.{Window}
 use Rattle.registry_core.specs.AirtimeLaws.{BookingsAreDownlinks, IsDownlink}
-use Rattle.registry_core.specs.Bookings.{downlinks, downlinks_in, is_answered, limit_in, next_down}
+use Rattle.registry_core.specs.Bookings.{downlinks, downlinks_in, is_answered, limit_standing, next_down}
 use Rattle.registry_core.specs.Derived.{address_of}
 use Rattle.registry_core.specs.Downlinks.{down_added, down_book, on_air}
 use Rattle.registry_core.specs.Frames.{counts_as, downlink_to, frame_at, goes_to}
@@ -42,7 +42,7 @@ added_downlink : (c : Settings) (s : State) (number : ℕ) (gateway : List ℕ) 
 unfolding down_added
 added_downlink c s number gateway band start span is =
     lets_wants (New c s) tt (is_clear (downlinks s.bookings gateway) span) Collision _ (λ _.
-    lets_wants (New c s) tt (hours_within (downlinks_in s.bookings gateway band ++ span ∷ []) (limit_in s gateway band)) Duty _ (λ _. is))
+    lets_wants (New c s) tt (hours_within (downlinks_in s.bookings gateway band ++ span ∷ []) (limit_standing s gateway band)) Duty _ (λ _. is))
 
 book_downlink : AirtimeIsComputed → BandIsFound → (c : Settings) (s : State) (number : ℕ) (gateway : List ℕ) (window : Window) (octets : List ℕ) → Lets (New c s) (down_book c s number gateway window octets)
 unfolding down_book

@@ -19,7 +19,7 @@ use Rattle.registry_core.specs.declared.facts.Booking.{Booking}
 use Rattle.registry_core.specs.declared.facts.Standing.{Standing}
 use Rattle.registry_core.specs.declared.facts.Standing.TheVariants.{Booked, Sent, Dropped}
 use Rattle.registry_core.specs.declared.messages.Envelope.{Envelope}
-use Rattle.registry_core.specs.Bookings.{downlinks_in, is_dropped, limit_in, stands_at, stands_in}
+use Rattle.registry_core.specs.Bookings.{downlinks_in, is_dropped, limit_standing, stands_at, stands_in}
 use Rattle.registry_core.specs.Heard.{state_of}
 use Rattle.registry_core.specs.Limits.{Limit}
 use Rattle.registry_core.specs.Numbered.{item_at, item_changed, place_changed}
@@ -39,7 +39,7 @@ AreShort bs = AllByRecursion (λ b. b.span.len ≤ greatest_length) bs
 
 pub record IsKept (s : State) : Type 0 where
   pub short : AreShort s.bookings
-  pub hours : (gateway : List ℕ) (band : Band) (t : ℤ) → use_by (stands_in gateway band) s.bookings t ≤ limit_in s gateway band
+  pub hours : (gateway : List ℕ) (band : Band) (t : ℤ) → use_by (stands_in gateway band) s.bookings t ≤ limit_standing s gateway band
 
 -- ---- one booking more
 
@@ -56,14 +56,14 @@ short_last : (bs : List Booking) (b : Booking) → AreShort bs → b.span.len �
 short_last [] b h k = (k, tt)
 short_last (x ∷ bs) b h k = (h.0, short_last bs b h.1 k)
 
-added_hours : (s : State) (b : Booking) (gateway : List ℕ) (band : Band) (t : ℤ) (v : Bool) → stands_in gateway band b ≡ v → use_by (stands_in gateway band) s.bookings t ≤ limit_in s gateway band
-    → EveryHourWithin (downlinks_in s.bookings b.gateway b.band ++ b.span ∷ []) (limit_in s b.gateway b.band) → use_by (stands_in gateway band) (s.bookings ++ b ∷ []) t ≤ limit_in s gateway band
+added_hours : (s : State) (b : Booking) (gateway : List ℕ) (band : Band) (t : ℤ) (v : Bool) → stands_in gateway band b ≡ v → use_by (stands_in gateway band) s.bookings t ≤ limit_standing s gateway band
+    → EveryHourWithin (downlinks_in s.bookings b.gateway b.band ++ b.span ∷ []) (limit_standing s b.gateway b.band) → use_by (stands_in gateway band) (s.bookings ++ b ∷ []) t ≤ limit_standing s gateway band
 added_hours s b gateway band t true e old new =
     let told : (stands_at gateway b ≡ true) × ((band_number b.band == band_number band) ≡ true) = and_parts _ _ e in
     let at_gateway : (bytes_eq b.gateway gateway ≡ true) × (not (is_dropped b.standing) ≡ true) = and_parts _ _ told.0 in
-    let in_both : EveryHourWithin (downlinks_in s.bookings gateway band ++ b.span ∷ []) (limit_in s gateway band) =
-    subst (λ x. EveryHourWithin (downlinks_in s.bookings gateway x ++ b.span ∷ []) (limit_in s gateway x)) (same_band b.band band (eqb-true _ _ told.1))
-    (subst (λ x. EveryHourWithin (downlinks_in s.bookings x b.band ++ b.span ∷ []) (limit_in s x b.band)) ((bytes_eq-Decides b.gateway gateway).0 at_gateway.0) new) in
+    let in_both : EveryHourWithin (downlinks_in s.bookings gateway band ++ b.span ∷ []) (limit_standing s gateway band) =
+    subst (λ x. EveryHourWithin (downlinks_in s.bookings gateway x ++ b.span ∷ []) (limit_standing s gateway x)) (same_band b.band band (eqb-true _ _ told.1))
+    (subst (λ x. EveryHourWithin (downlinks_in s.bookings x b.band ++ b.span ∷ []) (limit_standing s x b.band)) ((bytes_eq-Decides b.gateway gateway).0 at_gateway.0) new) in
     omega (arith, use_by-last (stands_in gateway band) s.bookings b t true e, in_both t, sum_by_push (λ a. shared_count a (hour_from t)) (downlinks_in s.bookings gateway band) b.span)
 added_hours s b gateway band t false e old new = omega (arith, use_by-last (stands_in gateway band) s.bookings b t false e, old)
 
@@ -125,14 +125,14 @@ ended_short sent bs (suc n) h = place_short sent bs n h
 
 -- the limit of a gateway's band: the one that is set, where it is for that
 pub limit_after : (s : State) (at : List ℕ) (limit : Limit) (gateway : List ℕ) (band : Band) (named same : Bool) → bytes_eq gateway at ≡ named → (band_number band == band_number limit.band) ≡ same
-    → limit_in (with_limit s at limit) gateway band ≡ (if named && same then limit.most else limit_in s gateway band)
+    → limit_standing (with_limit s at limit) gateway band ≡ (if named && same then limit.most else limit_standing s gateway band)
 limit_after s at limit gateway band true true is by = rw (is, by) refl
-limit_after s at limit gateway band true false is by = rw (is, by) (ap (λ x. limit_in s x band) (sym ((bytes_eq-Decides gateway at).0 is)))
+limit_after s at limit gateway band true false is by = rw (is, by) (ap (λ x. limit_standing s x band) (sym ((bytes_eq-Decides gateway at).0 is)))
 limit_after s at limit gateway band false same is by = rw is refl
 
 set_hours : HoursWithinTells → (s : State) (at : List ℕ) (limit : Limit) (gateway : List ℕ) (band : Band) (t : ℤ) (named same : Bool) → bytes_eq gateway at ≡ named → (band_number band == band_number limit.band) ≡ same
-    → hours_within (downlinks_in s.bookings at limit.band) limit.most ≡ true → use_by (stands_in gateway band) s.bookings t ≤ limit_in s gateway band
-    → use_by (stands_in gateway band) s.bookings t ≤ (if named && same then limit.most else limit_in s gateway band)
+    → hours_within (downlinks_in s.bookings at limit.band) limit.most ≡ true → use_by (stands_in gateway band) s.bookings t ≤ limit_standing s gateway band
+    → use_by (stands_in gateway band) s.bookings t ≤ (if named && same then limit.most else limit_standing s gateway band)
 set_hours tells s at limit gateway band t true true is by within old =
     subst (λ x. use_by (stands_in x band) s.bookings t ≤ limit.most) (sym ((bytes_eq-Decides gateway at).0 is))
     (subst (λ x. use_by (stands_in at x) s.bookings t ≤ limit.most) (sym (same_band band limit.band (eqb-true _ _ by)))
@@ -145,7 +145,7 @@ set_hours tells s at limit gateway band t false same is by within old = old
 change_kept : (bounded : AirtimeIsBounded) (tells : HoursWithinTells) (c : Settings) (s : State) (effect : Effect) → IsAllowed c s effect → IsKept s → IsKept (state_with s effect)
 change_kept bounded tells c s (AddsBooking b) k h = record {
   short = short_last s.bookings b h.short (omega (arith, bounded k.1.0 k.1.1 false k.1.2, k.1.3));
-  hours = λ gateway band t. added_hours s b gateway band t (stands_in gateway band b) refl (h.hours gateway band t) ((tells (downlinks_in s.bookings b.gateway b.band ++ b.span ∷ []) (limit_in s b.gateway b.band)).0 k.2);
+  hours = λ gateway band t. added_hours s b gateway band t (stands_in gateway band b) refl (h.hours gateway band t) ((tells (downlinks_in s.bookings b.gateway b.band ++ b.span ∷ []) (limit_standing s b.gateway b.band)).0 k.2);
 }
 change_kept bounded tells c s (EndsBooking number sent) k h = record {
   short = ended_short sent s.bookings number h.short;

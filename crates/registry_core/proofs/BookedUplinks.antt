@@ -38,18 +38,18 @@ use Rattle.registry_core.proofs.Decisions.{candidate_is, sound_of}
 use Rattle.registry_core.proofs.HeardStates.{IsSound}
 use Rattle.std.proofs.lemmas.Option.{same_Some}
 use Rattle.registry_core.proofs.Items.{above_each, first_is}
-use Rattle.registry_core.proofs.Telling.{NoRefusal, Tells, from_needs, from_wants, to_needs, to_wants}
+use Rattle.registry_core.proofs.Telling.{NoRefusal, AnswerPasses, from_needs, from_wants, to_needs, to_wants}
 
 -- ---- what is found, or else what follows
 
 -- where what is found doesn't pass the test, nothing was found
 from_unless : {X : Type 0} (test : Answer → Bool) (x : Option X) (found : X → Checked Decision) (rest : Checked Decision)
-    → ((y : X) → test (decision_or_refusal (found y)).1 ≡ false) → Tells test (unless x found rest) → Tells test rest
+    → ((y : X) → test (decision_or_refusal (found y)).1 ≡ false) → AnswerPasses test (unless x found rest) → AnswerPasses test rest
 from_unless test (Some y) found rest none h = absurd (both_ways (test (decision_or_refusal (found y)).1) (none y) h)
 from_unless test None found rest none h = h
 
-to_unless : {X : Type 0} (test : Answer → Bool) (x : Option X) (found : X → Checked Decision) (rest : Checked Decision) → x ≡ None → Tells test rest → Tells test (unless x found rest)
-to_unless test x found rest none h = subst (λ y. Tells test (unless y found rest)) (sym none) h
+to_unless : {X : Type 0} (test : Answer → Bool) (x : Option X) (found : X → Checked Decision) (rest : Checked Decision) → x ≡ None → AnswerPasses test rest → AnswerPasses test (unless x found rest)
+to_unless test x found rest none h = subst (λ y. AnswerPasses test (unless y found rest)) (sym none) h
 
 -- ---- items of which each passes, or none
 
@@ -98,7 +98,7 @@ good_verdict : (verdict : JoinVerdict) → is_good verdict ≡ true → verdict 
 good_verdict Good h = refl
 good_verdict Bad h = cc
 
-joined_of : (c : Settings) (s : State) (report : Report) (verdict : JoinVerdict) → Tells tells_join (join_heard c s report verdict) → IsAcceptedJoin c s report verdict
+joined_of : (c : Settings) (s : State) (report : Report) (verdict : JoinVerdict) → AnswerPasses tells_join (join_heard c s report verdict) → IsAcceptedJoin c s report verdict
 unfolding join_heard join_added
 joined_of c s report verdict h =
     let time = from_wants tells_join no_join (is_time report.time) Time _ h in
@@ -141,7 +141,7 @@ band_there : (found : Option Band) → is_some found ≡ true → (band : Band) 
 band_there (Some band) h = (band, refl)
 band_there None h = cc
 
-accepted_joins : (c : Settings) (s : State) (report : Report) (verdict : JoinVerdict) → IsSound c s → IsAcceptedJoin c s report verdict → Tells tells_join (join_heard c s report verdict)
+accepted_joins : (c : Settings) (s : State) (report : Report) (verdict : JoinVerdict) → IsSound c s → IsAcceptedJoin c s report verdict → AnswerPasses tells_join (join_heard c s report verdict)
 unfolding join_heard join_added
 accepted_joins c s report verdict sound a =
     let band = band_there (band_at report.rate.freq report.rate.dr) a.reported.band in
@@ -160,8 +160,8 @@ accepted_joins c s report verdict sound a =
 pub joined_exactly : JoinedExactly
 joined_exactly c heard e report verdict same =
     let s : State = state_of c heard in (
-      λ h. joined_of c s report verdict (subst (Tells tells_join) (ap (checked_decision c s e) same) h),
-      λ a. subst (Tells tells_join) (sym (ap (checked_decision c s e) same)) (accepted_joins c s report verdict (sound_of c heard) a),
+      λ h. joined_of c s report verdict (subst (AnswerPasses tells_join) (ap (checked_decision c s e) same) h),
+      λ a. subst (AnswerPasses tells_join) (sym (ap (checked_decision c s e) same)) (accepted_joins c s report verdict (sound_of c heard) a),
     )
 
 -- ---- data frames
@@ -197,7 +197,7 @@ floor_of c s report verdict a = each_fails (ends_it s a.session.device a.number)
       absurd (a.latest u.session m of_it.0 u of_it.1 of_it.2 (ltb-true a.number u.session front.1) at (is_data_kind u.kind front.0) refl)
 ])
 
-framed_of : (c : Settings) (s : State) (report : Report) (verdict : Option ℕ) → Tells tells_frame (frame_heard c s report verdict) → IsAcceptedFrame c s report verdict
+framed_of : (c : Settings) (s : State) (report : Report) (verdict : Option ℕ) → AnswerPasses tells_frame (frame_heard c s report verdict) → IsAcceptedFrame c s report verdict
 unfolding frame_heard data_added
 framed_of c s report verdict h =
     let time = from_wants tells_frame no_frame (is_time report.time) Time _ h in
@@ -245,7 +245,7 @@ not_below : (counter : ℕ) (last : Option ℕ) → is_above counter last ≡ tr
 not_below counter None h = refl
 not_below counter (Some last) h = grind (arith, nat_tests)
 
-accepted_frames : (c : Settings) (s : State) (report : Report) (verdict : Option ℕ) → IsAcceptedFrame c s report verdict → Tells tells_frame (frame_heard c s report verdict)
+accepted_frames : (c : Settings) (s : State) (report : Report) (verdict : Option ℕ) → IsAcceptedFrame c s report verdict → AnswerPasses tells_frame (frame_heard c s report verdict)
 unfolding frame_heard data_added original_data
 accepted_frames c s report verdict a =
     let band = band_there (band_at report.rate.freq report.rate.dr) a.reported.band in
@@ -266,6 +266,6 @@ accepted_frames c s report verdict a =
 
 pub frames_booked_exactly : FramesBookedExactly
 frames_booked_exactly c s e report verdict same = (
-  λ h. framed_of c s report verdict (subst (Tells tells_frame) (ap (checked_decision c s e) same) h),
-  λ a. subst (Tells tells_frame) (sym (ap (checked_decision c s e) same)) (accepted_frames c s report verdict a),
+  λ h. framed_of c s report verdict (subst (AnswerPasses tells_frame) (ap (checked_decision c s e) same) h),
+  λ a. subst (AnswerPasses tells_frame) (sym (ap (checked_decision c s e) same)) (accepted_frames c s report verdict a),
 )

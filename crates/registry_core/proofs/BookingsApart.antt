@@ -17,7 +17,7 @@ use Rattle.registry_core.specs.declared.facts.Booking.{Booking}
 use Rattle.registry_core.specs.declared.facts.Standing.TheVariants.{Booked}
 use Rattle.registry_core.specs.declared.messages.Envelope.{Envelope}
 use Rattle.registry_core.specs.declared.windows.Window.{Window}
-use Rattle.registry_core.specs.Bookings.{downlinks, downlinks_in, is_answer_to, is_answered, is_dropped, limit_in, next_down, stands_at}
+use Rattle.registry_core.specs.Bookings.{downlinks, downlinks_in, is_answer_to, is_answered, is_dropped, limit_standing, next_down, stands_at}
 use Rattle.registry_core.specs.Derived.{address_of}
 use Rattle.registry_core.specs.DownlinkLaws.{GatewaysSendOneAtATime, UplinksAreAnsweredOnce}
 use Rattle.registry_core.specs.Downlinks.{down_added, down_book, on_air}
@@ -48,7 +48,7 @@ added_books : (s : State) (number : ℕ) (gateway : List ℕ) (band : Band) (sta
 unfolding down_added
 added_books s number gateway band start span unanswered =
     lets_wants (Books s) tt (is_clear (downlinks s.bookings gateway) span) Collision _ (λ clear.
-    lets_wants (Books s) tt (hours_within (downlinks_in s.bookings gateway band ++ span ∷ []) (limit_in s gateway band)) Duty _ (λ _. (unanswered, clear)))
+    lets_wants (Books s) tt (hours_within (downlinks_in s.bookings gateway band ++ span ∷ []) (limit_standing s gateway band)) Duty _ (λ _. (unanswered, clear)))
 
 book_books : (c : Settings) (s : State) (number : ℕ) (gateway : List ℕ) (window : Window) (octets : List ℕ) → Lets (Books s) (down_book c s number gateway window octets)
 unfolding down_book

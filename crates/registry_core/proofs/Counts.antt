@@ -193,7 +193,7 @@ items_more n s effect h = omega (arith, h)
 
 -- ---- each list of messages
 
-record IsCounted (n : ℕ) (s : State) : Type 0 where
+record IsBoundedBy (n : ℕ) (s : State) : Type 0 where
   by_sender : IsListed (n + 1) (has_sender s)
   by_owner : IsListed n s.owners
   by_gateway : IsListed n s.gateways
@@ -203,12 +203,12 @@ record IsCounted (n : ℕ) (s : State) : Type 0 where
   by_session : length s.sessions ≤ length s.uplinks
   by_item : length s.uplinks + length s.bookings ≤ n
 
-counted_after : (n : ℕ) (c : Settings) (s : State) (es : List Envelope) → IsCounted n s → IsCounted (n + length es) (state_after c s es)
-counted_after n c s [] h = let same : n ≡ n + 0 = omega arith in subst (λ m. IsCounted m s) same h
+counted_after : (n : ℕ) (c : Settings) (s : State) (es : List Envelope) → IsBoundedBy n s → IsBoundedBy (n + length es) (state_after c s es)
+counted_after n c s [] h = let same : n ≡ n + 0 = omega arith in subst (λ m. IsBoundedBy m s) same h
 counted_after n c s (e ∷ es) h =
     let effect : Effect = (decision_of c s e).0 in
     let same : n + 1 + length es ≡ n + length (e ∷ es) = omega arith in
-    subst (λ m. IsCounted m (state_after c s (e ∷ es))) same (counted_after (n + 1) c (step c s e).0 es (record {
+    subst (λ m. IsBoundedBy m (state_after c s (e ∷ es))) same (counted_after (n + 1) c (step c s e).0 es (record {
       by_sender = senders_more (n + 1) s effect h.by_sender;
       by_owner = owners_more n s effect h.by_owner;
       by_gateway = gateways_more n s effect h.by_gateway;
@@ -223,7 +223,7 @@ none_listed : {Key : Type 0} → IsListed {Key = Key} 0 (λ _. false)
 none_listed = record { keys = []; few = omega arith; each = λ key e. cc }
 
 -- it opens with the configured operator alone
-opening_counted : (c : Settings) → IsCounted 0 (opening c)
+opening_counted : (c : Settings) → IsBoundedBy 0 (opening c)
 opening_counted c = record {
   by_sender = listed_with 0 (λ _. false) (has_sender (opening c)) c.operator none_listed (name_was is_some (λ _. None) c.operator (Some Operator));
   by_owner = none_listed;
@@ -238,7 +238,7 @@ opening_counted c = record {
 pub facts_are_no_more_than_messages : FactsAreNoMoreThanMessages
 facts_are_no_more_than_messages c heard =
     let same : 0 + length heard ≡ length heard = omega arith in
-    let h : IsCounted (length heard) (state_of c heard) = subst (λ m. IsCounted m (state_of c heard)) same (counted_after 0 c (opening c) heard (opening_counted c)) in
+    let h : IsBoundedBy (length heard) (state_of c heard) = subst (λ m. IsBoundedBy m (state_of c heard)) same (counted_after 0 c (opening c) heard (opening_counted c)) in
     record {
       senders = listed_at_most bytes_eq bytes_eq-Decides _ _ h.by_sender;
       owners = listed_at_most bytes_eq bytes_eq-Decides _ _ h.by_owner;

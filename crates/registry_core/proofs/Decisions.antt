@@ -36,7 +36,7 @@ use Rattle.registry_core.specs.declared.messages.Message.TheVariants.{SenderAdd,
 use Rattle.registry_core.specs.declared.messages.Report.{Report}
 use Rattle.registry_core.specs.declared.messages.Role.{Role}
 use Rattle.registry_core.specs.declared.windows.Window.{Window}
-use Rattle.registry_core.specs.Bookings.{downlinks, downlinks_in, is_answered, is_booked, limit_in, next_down}
+use Rattle.registry_core.specs.Bookings.{downlinks, downlinks_in, is_answered, is_booked, limit_standing, next_down}
 use Rattle.registry_core.specs.Checks.{Checked, ◌>>=◌, ◌>>◌, wants, needs, unless}
 use Rattle.registry_core.specs.Administration.{is_operator, sender_add, owner_add, gateway_add, device_add, device_move, limit_set}
 use Rattle.registry_core.specs.Decision.{Decision, decision_or_refusal}
@@ -308,7 +308,7 @@ down_added_decides : (c : Settings) (s : State) (number : ℕ) (gateway : List �
 unfolding down_added Decides
 down_added_decides c s number gateway band start span uplink copy known there heard time =
     after_wants c s (is_clear (downlinks s.bookings gateway) span) Collision _ (λ _.
-    after_wants c s (hours_within (downlinks_in s.bookings gateway band ++ span ∷ []) (limit_in s gateway band)) Duty _ (λ within. record { allowed = (fits_new, time, within); copy = λ k. cc; refusal = λ x h. cc }))
+    after_wants c s (hours_within (downlinks_in s.bookings gateway band ++ span ∷ []) (limit_standing s gateway band)) Duty _ (λ within. record { allowed = (fits_new, time, within); copy = λ k. cc; refusal = λ x h. cc }))
   where
     fits_new : BookingFits (record { uplink = number; gateway = gateway; band = band; span = span; standing = Booked }) s
     fits_new = record {

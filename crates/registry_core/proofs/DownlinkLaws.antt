@@ -21,7 +21,7 @@ use Rattle.registry_core.specs.declared.facts.Uplink.{Uplink}
 use Rattle.registry_core.specs.declared.messages.Envelope.{Envelope}
 use Rattle.registry_core.specs.declared.windows.Window.{Window}
 use Rattle.registry_core.specs.declared.windows.Window.TheVariants.{First, Second}
-use Rattle.registry_core.specs.Bookings.{downlinks, downlinks_in, is_answered, limit_in, next_down}
+use Rattle.registry_core.specs.Bookings.{downlinks, downlinks_in, is_answered, limit_standing, next_down}
 use Rattle.registry_core.specs.Checks.{Checked, ◌>>=◌, ◌>>◌, wants, needs}
 use Rattle.registry_core.specs.Decision.{Decision, decision_or_refusal}
 use Rattle.registry_core.specs.Derived.{address_of}
@@ -36,7 +36,7 @@ use Rattle.registry_core.specs.Step.{checked_decision}
 use Rattle.registry_core.specs.Windows.{delay, rate_in}
 use Rattle.registry_core.proofs.BookedHours.{kept_of}
 use Rattle.registry_core.proofs.Decisions.{sound_of}
-use Rattle.registry_core.proofs.Telling.{NoRefusal, Tells, from_needs, from_wants, to_needs, to_wants}
+use Rattle.registry_core.proofs.Telling.{NoRefusal, AnswerPasses, from_needs, from_wants, to_needs, to_wants}
 
 pub downlinks_are_short : AirtimeIsBounded → HoursWithinTells → DownlinksAreShort
 downlinks_are_short bounded tells c heard = All-from_recursion (λ (b : Booking). b.span.len ≤ greatest_length) (state_of c heard).bookings (kept_of bounded tells c heard).short
@@ -44,21 +44,21 @@ downlinks_are_short bounded tells c heard = All-from_recursion (λ (b : Booking)
 -- ---- what is booked
 
 abbrev Books : Checked Decision → Type 0
-Books checked = Tells tells_booking checked
+Books checked = AnswerPasses tells_booking checked
 
 no_refusal : NoRefusal tells_booking
 no_refusal r = refl
 
 -- on the air it is clear, and every hour is within the limit
 added_on_air : (s : State) (number : ℕ) (gateway : List ℕ) (band : Band) (start : ℕ) (span : Interval) → Books (down_added s number gateway band start span)
-    → (is_clear (downlinks s.bookings gateway) span ≡ true) × (hours_within (downlinks_in s.bookings gateway band ++ span ∷ []) (limit_in s gateway band) ≡ true)
+    → (is_clear (downlinks s.bookings gateway) span ≡ true) × (hours_within (downlinks_in s.bookings gateway band ++ span ∷ []) (limit_standing s gateway band) ≡ true)
 unfolding down_added
 added_on_air s number gateway band start span h =
     let first = from_wants tells_booking no_refusal (is_clear (downlinks s.bookings gateway) span) Collision _ h in
-    (first.0, (from_wants tells_booking no_refusal (hours_within (downlinks_in s.bookings gateway band ++ span ∷ []) (limit_in s gateway band)) Duty _ first.1).0)
+    (first.0, (from_wants tells_booking no_refusal (hours_within (downlinks_in s.bookings gateway band ++ span ∷ []) (limit_standing s gateway band)) Duty _ first.1).0)
 
 added_books : (s : State) (number : ℕ) (gateway : List ℕ) (band : Band) (start : ℕ) (span : Interval) → is_clear (downlinks s.bookings gateway) span ≡ true
-    → hours_within (downlinks_in s.bookings gateway band ++ span ∷ []) (limit_in s gateway band) ≡ true → Books (down_added s number gateway band start span)
+    → hours_within (downlinks_in s.bookings gateway band ++ span ∷ []) (limit_standing s gateway band) ≡ true → Books (down_added s number gateway band start span)
 unfolding down_added
 added_books s number gateway band start span clear within = rw (clear, within) refl
 
@@ -92,7 +92,7 @@ accepted_of clear hours c s number gateway window octets h =
       band = lies.0;
       lies_in_it = lies.1;
       clear = (clear (downlinks s.bookings gateway) span).0 added.0;
-      hours = (hours (downlinks_in s.bookings gateway lies.0 ++ span ∷ []) (limit_in s gateway lies.0)).0 added.1;
+      hours = (hours (downlinks_in s.bookings gateway lies.0 ++ span ∷ []) (limit_standing s gateway lies.0)).0 added.1;
     }
 
 booked_of : IsClearTells → HoursWithinTells → (c : Settings) (s : State) (number : ℕ) (gateway : List ℕ) (window : Window) (octets : List ℕ) → IsAccepted c s number gateway window octets
@@ -110,7 +110,7 @@ booked_of clear hours c s number gateway window octets a =
     (to_wants tells_booking (not (is_answered s.bookings number)) Answered _ (ap not a.unanswered)
     (to_wants tells_booking (counts_as (next_down s.bookings s.uplinks a.uplink.session) a.down) DownCounter _ a.counter
     (to_needs tells_booking (band_at rate.freq rate.dr) OutOfBand _ a.band a.lies_in_it
-    (added_books s number gateway a.band start span ((clear (downlinks s.bookings gateway) span).1 a.clear) ((hours (downlinks_in s.bookings gateway a.band ++ span ∷ []) (limit_in s gateway a.band)).1 a.hours)))))))))
+    (added_books s number gateway a.band start span ((clear (downlinks s.bookings gateway) span).1 a.clear) ((hours (downlinks_in s.bookings gateway a.band ++ span ∷ []) (limit_standing s gateway a.band)).1 a.hours)))))))))
 
 pub booked_exactly : IsClearTells → HoursWithinTells → BookedExactly
 booked_exactly clear hours c s e number gateway window octets same = (
@@ -150,7 +150,7 @@ there_band None rest is h = cc
 added_band : (s : State) (number : ℕ) (gateway : List ℕ) (band : Band) (start : ℕ) (span : Interval) → HasBand (down_added s number gateway band start span)
 unfolding down_added tells_no_band HasBand
 added_band s number gateway band start span =
-    wants_band (is_clear (downlinks s.bookings gateway) span) Collision _ refl (wants_band (hours_within (downlinks_in s.bookings gateway band ++ span ∷ []) (limit_in s gateway band)) Duty _ refl refl)
+    wants_band (is_clear (downlinks s.bookings gateway) span) Collision _ refl (wants_band (hours_within (downlinks_in s.bookings gateway band ++ span ∷ []) (limit_standing s gateway band)) Duty _ refl refl)
 
 book_band : (c : Settings) (heard : List Envelope) (number : ℕ) (gateway : List ℕ) (window : Window) (octets : List ℕ) → HasBand (down_book c (state_of c heard) number gateway window octets)
 unfolding down_book tells_no_band

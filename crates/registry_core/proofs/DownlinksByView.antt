@@ -23,7 +23,7 @@ use Rattle.registry_core.specs.declared.messages.Message.TheVariants.{DownBook, 
 use Rattle.registry_core.specs.declared.views.UplinkView.{UplinkView}
 use Rattle.registry_core.specs.declared.views.View.{View}
 use Rattle.registry_core.specs.declared.windows.Window.{Window}
-use Rattle.registry_core.specs.Bookings.{downlinks, downlinks_in, is_answered, is_booked, limit_in, next_down, stands_at, stands_in}
+use Rattle.registry_core.specs.Bookings.{downlinks, downlinks_in, is_answered, is_booked, limit_standing, next_down, stands_at, stands_in}
 use Rattle.registry_core.specs.steps.ByView.{address_by}
 use Rattle.registry_core.specs.Checks.{Checked, ◌>>=◌, ◌>>◌, wants, needs}
 use Rattle.registry_core.specs.Decision.{Decision}
@@ -52,13 +52,13 @@ clear_same by_near s gateway near span short new_short moved = by_near (downlink
 
 hours_same : HoursWithinByNearOnes → (s : State) (gateway : List ℕ) (band : Band) (near : List Interval) (span : Interval) → IsKept s → span.len ≤ greatest_length
     → IsPermutation (near_ones span.start (downlinks_in s.bookings gateway band)) near
-    → hours_within (near ++ span ∷ []) (limit_in s gateway band) ≡ hours_within (downlinks_in s.bookings gateway band ++ span ∷ []) (limit_in s gateway band)
+    → hours_within (near ++ span ∷ []) (limit_standing s gateway band) ≡ hours_within (downlinks_in s.bookings gateway band ++ span ∷ []) (limit_standing s gateway band)
 hours_same by_near s gateway band near span kept new_short moved =
-    by_near (downlinks_in s.bookings gateway band) near span (limit_in s gateway band) moved (short_spans (stands_in gateway band) s.bookings kept.short) new_short (λ t. kept.hours gateway band t)
+    by_near (downlinks_in s.bookings gateway band) near span (limit_standing s gateway band) moved (short_spans (stands_in gateway band) s.bookings kept.short) new_short (λ t. kept.hours gateway band t)
 
 added_same : (clear : IsClearByNearOnes) (hours : HoursWithinByNearOnes) (s : State) (v : View) (number : ℕ) (gateway : List ℕ) (band : Band) (start : ℕ) (span : Interval) → IsKept s → span.len ≤ greatest_length
     → v.bookings ≡ length s.bookings → IsPermutation (near_ones span.start (downlinks s.bookings gateway)) v.near.items → IsPermutation (near_ones span.start (downlinks_in s.bookings gateway band)) v.in_band.items
-    → v.limit ≡ limit_in s gateway band → down_added_by v number gateway band start span ≡ down_added s number gateway band start span
+    → v.limit ≡ limit_standing s gateway band → down_added_by v number gateway band start span ≡ down_added s number gateway band start span
 unfolding down_added_by down_added
 added_same clear hours s v number gateway band start span kept short count near in_band limit =
     rw (limit, clear_same clear s gateway v.near.items span kept.short short near, hours_same hours s gateway band v.in_band.items span kept short in_band, count) refl
@@ -83,7 +83,7 @@ banded_same : (clear : IsClearByNearOnes) (hours : HoursWithinByNearOnes) (s : S
 banded_same clear hours s v number gateway start rate octets None kept short count near is in_band limit = refl
 banded_same clear hours s v number gateway start rate octets (Some band) kept short count near is in_band limit =
     added_same clear hours s v number gateway band start (on_air start rate octets) kept short count near (near_banded s gateway start rate band v.in_band.items is in_band)
-    (limit ∙ ap (λ b. option_map_or (limit_in s gateway) b 0) is)
+    (limit ∙ ap (λ b. option_map_or (limit_standing s gateway) b 0) is)
 
 -- from the frame on
 framed_same : (bounded : AirtimeIsBounded) (clear : IsClearByNearOnes) (hours : HoursWithinByNearOnes) (c : Settings) (s : State) (v : View) (number : ℕ)

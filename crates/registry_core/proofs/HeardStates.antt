@@ -17,7 +17,7 @@ use Rattle.registry_core.specs.declared.facts.Reception.{Reception}
 use Rattle.registry_core.specs.declared.facts.Session.{Session}
 use Rattle.registry_core.specs.declared.facts.Uplink.{Uplink}
 use Rattle.registry_core.specs.declared.frames.DataFrame.{DataFrame}
-use Rattle.registry_core.specs.Bookings.{downlinks_in, limit_in}
+use Rattle.registry_core.specs.Bookings.{downlinks_in, limit_standing}
 use Rattle.registry_core.specs.Derived.{address_of, is_above, is_data_of, is_session_of, last_nonce}
 use Rattle.registry_core.specs.Frames.{data_up}
 use Rattle.registry_core.specs.Fits.{Fits}
@@ -122,7 +122,7 @@ IsAllowed c s (AddsSession session uplink gateway reception) = Fits (AddsSession
 IsAllowed c s (AddsUplink uplink gateway reception) = Fits (AddsUplink uplink gateway reception) s × IsFrameOf c uplink × IsInBand reception
 IsAllowed c s (AddsCopy number gateway reception) = Fits (AddsCopy number gateway reception) s × IsInBand reception
 IsAllowed c s (AddsBooking booking) = Fits (AddsBooking booking) s × IsTimeDown booking.span.len
-    × IsTrue (hours_within (downlinks_in s.bookings booking.gateway booking.band ++ booking.span ∷ []) (limit_in s booking.gateway booking.band))
+    × IsTrue (hours_within (downlinks_in s.bookings booking.gateway booking.band ++ booking.span ∷ []) (limit_standing s booking.gateway booking.band))
 IsAllowed c s (SetsLimit gateway limit) = Fits (SetsLimit gateway limit) s × IsTrue (hours_within (downlinks_in s.bookings gateway limit.band) limit.most)
 IsAllowed c s effect = Fits effect s
 

@@ -15,7 +15,7 @@ use Rattle.registry_core.specs.declared.messages.Envelope.{Envelope}
 use Rattle.registry_core.specs.declared.messages.Message.{Message}
 use Rattle.registry_core.specs.declared.messages.Message.TheVariants.{LimitSet}
 use Rattle.registry_core.specs.Administration.{is_operator, limit_set}
-use Rattle.registry_core.specs.Bookings.{downlinks_in, limit_in}
+use Rattle.registry_core.specs.Bookings.{downlinks_in, limit_standing}
 use Rattle.registry_core.specs.Checks.{◌>>◌, wants}
 use Rattle.registry_core.specs.Decision.{Decision, decision_or_refusal}
 use Rattle.registry_core.specs.Heard.{AreHeard, state_after}
@@ -75,17 +75,17 @@ set_limits_stand c s e gateway limit same h =
     let all = held c s e gateway limit same h in
     let sets : (decision_of c s e).0 ≡ SetsLimit gateway limit =
     ap (λ (d : Decision). d.0) (decided c s e gateway limit same) ∙ rw (all.is_operator, all.is_known, all.is_within) refl in
-    ap (λ effect. limit_in (state_with s effect) gateway limit.band) sets
+    ap (λ effect. limit_standing (state_with s effect) gateway limit.band) sets
     ∙ limit_after s gateway limit gateway limit.band true true ((bytes_eq-Decides gateway gateway).1 refl) (eq-eqb (band_number limit.band) (band_number limit.band) refl)
 
 stays_by : (s : State) (at : List ℕ) (limit : Limit) (gateway : List ℕ) (band : Band) (named same : Bool) → bytes_eq gateway at ≡ named → (band_number band == band_number limit.band) ≡ same
-    → (at ≡ gateway → limit.band ≢ band) → limit_in (with_limit s at limit) gateway band ≡ limit_in s gateway band
+    → (at ≡ gateway → limit.band ≢ band) → limit_standing (with_limit s at limit) gateway band ≡ limit_standing s gateway band
 stays_by s at limit gateway band true true is by apart = absurd (apart (sym ((bytes_eq-Decides gateway at).0 is)) (sym (same_band band limit.band (eqb-true _ _ by))))
 stays_by s at limit gateway band true false is by apart = limit_after s at limit gateway band true false is by
 stays_by s at limit gateway band false same is by apart = limit_after s at limit gateway band false same is by
 
 others_stay : (s : State) (operator : Bool) (m : Message) (effect : Effect) (gateway : List ℕ) (band : Band) → IsFrom operator m effect
-    → ((limit : Limit) → m ≡ LimitSet gateway limit → limit.band ≢ band) → limit_in (state_with s effect) gateway band ≡ limit_in s gateway band
+    → ((limit : Limit) → m ≡ LimitSet gateway limit → limit.band ≢ band) → limit_standing (state_with s effect) gateway band ≡ limit_standing s gateway band
 others_stay s operator m (SetsLimit at limit) gateway band k apart =
     stays_by s at limit gateway band (bytes_eq gateway at) (band_number band == band_number limit.band) refl refl (λ same. apart limit (k.1 ∙ ap (λ name. LimitSet name limit) same))
 others_stay s operator m effect gateway band k apart = refl
@@ -96,10 +96,10 @@ other_limits_stay c s e gateway band apart = others_stay s (is_operator (s.sende
 -- ---- none is above the band's own
 
 abbrev AreWithin : State → Type 0
-AreWithin s = (gateway : List ℕ) (band : Band) → limit_in s gateway band ≤ limit_of band
+AreWithin s = (gateway : List ℕ) (band : Band) → limit_standing s gateway band ≤ limit_of band
 
 set_within : (s : State) (at : List ℕ) (limit : Limit) (gateway : List ℕ) (band : Band) (named same : Bool) → bytes_eq gateway at ≡ named → (band_number band == band_number limit.band) ≡ same
-    → limit.most ≤ limit_of limit.band → limit_in s gateway band ≤ limit_of band → limit_in (with_limit s at limit) gateway band ≤ limit_of band
+    → limit.most ≤ limit_of limit.band → limit_standing s gateway band ≤ limit_of band → limit_standing (with_limit s at limit) gateway band ≤ limit_of band
 set_within s at limit gateway band true true is by new old =
     subst (λ most. most ≤ limit_of band) (sym (limit_after s at limit gateway band true true is by))
     (subst (λ b. limit.most ≤ limit_of b) (sym (same_band band limit.band (eqb-true _ _ by))) new)

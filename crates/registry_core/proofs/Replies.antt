@@ -8,7 +8,7 @@ use Rattle.registry_core.specs.declared.effects.Effect.{Effect}
 use Rattle.registry_core.specs.declared.effects.Effect.TheVariants.{Nothing, AddsSender, AddsOwner, AddsGateway, AddsDevice, MovesDevice, AddsSession, AddsUplink, AddsCopy, AddsBooking, EndsBooking, SetsLimit}
 use Rattle.registry_core.specs.declared.messages.Envelope.{Envelope}
 use Rattle.registry_core.specs.declared.messages.Role.{Role}
-use Rattle.registry_core.specs.Heard.{AreHeard, FirstAnswersStay, NewNumbersAreDecided, UsedNumbersAreRefused, answers_after, has_pair, is_sender, place_of, reply_to, same_pair, state_after, state_of}
+use Rattle.registry_core.specs.Heard.{AreHeard, FirstAnswersStay, NewNumbersAreDecided, UsedNumbersAreRefused, answers_after, has_pair, is_sender, pair_place, reply_to, same_pair, state_after, state_of}
 use Rattle.registry_core.specs.Same.{same_message}
 use Rattle.registry_core.specs.Settings.{Settings}
 use Rattle.registry_core.specs.State.{State, opening, state_with}
@@ -69,7 +69,7 @@ pair_same e other sender transaction =
 -- ---- what is replied
 
 placed : (c : Settings) (before after : List Envelope) (e other : Envelope) → AreHeard c [] (before ++ e ∷ after) → other.sender ≡ e.sender → other.transaction ≡ e.transaction
-    → (is_sender (state_of c (before ++ e ∷ after)) other.sender ≡ true) × (place_of c (before ++ e ∷ after) other ≡ Some (e, (step c (state_of c before) e).1))
+    → (is_sender (state_of c (before ++ e ∷ after)) other.sender ≡ true) × (pair_place c (before ++ e ∷ after) other ≡ Some (e, (step c (state_of c before) e).1))
 placed c before after e other each sender transaction =
     let at = heard_at c [] before after e each in
     let new : has_pair before other ≡ has_pair before e = (λ i. list_any (λ (h : Envelope). transaction i == h.transaction && bytes_eq (sender i) h.sender) before) in (

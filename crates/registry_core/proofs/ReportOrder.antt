@@ -19,10 +19,10 @@ use Rattle.registry_core.proofs.Copies.{either_order, other_gateway}
 use Rattle.registry_core.proofs.Decisions.{no_copy, sound_after}
 use Rattle.registry_core.proofs.HeardStates.{IsSound}
 use Rattle.registry_core.proofs.Items.{first_only, item_new, kept_with}
-use Rattle.registry_core.proofs.Telling.{NoRefusal, Tells}
+use Rattle.registry_core.proofs.Telling.{NoRefusal, AnswerPasses}
 
 abbrev pub Succeeds : Checked Decision → Type 0
-Succeeds checked = Tells is_success checked
+Succeeds checked = AnswerPasses is_success checked
 
 pub no_refusal : NoRefusal is_success
 no_refusal r = refl

@@ -64,10 +64,10 @@ downlinks_in bookings gateway band = map (λ booking. booking.span) (filter (sta
 
 -- The limit of a gateway's band, the most time on air within any hour: the one that was set for it last, and else the
 -- band's own.
-abbrev pub limit_in : State → List ℕ → Band → ℕ
-limit_in s gateway band = option_map_or (λ most. most) (s.limits gateway (band_number band)) (limit_of band)
+abbrev pub limit_standing : State → List ℕ → Band → ℕ
+limit_standing s gateway band = option_map_or (λ most. most) (s.limits gateway (band_number band)) (limit_of band)
 
 -- No hour of any gateway's band holds more than the limit: the use of every sliding hour, by downlinks that aren't dropped.
 abbrev pub EveryHourKept : State → Type 0
 EveryHourKept s = (gateway : List ℕ) (band : Band)
-    → EveryHourWithin (downlinks_in s.bookings gateway band) (limit_in s gateway band)
+    → EveryHourWithin (downlinks_in s.bookings gateway band) (limit_standing s gateway band)

@@ -14,7 +14,7 @@ use Rattle.registry_core.specs.declared.frames.Downlink.{Downlink}
 use Rattle.registry_core.specs.declared.messages.Envelope.{Envelope}
 use Rattle.registry_core.specs.declared.messages.Message.TheVariants.{DownBook}
 use Rattle.registry_core.specs.declared.windows.Window.{Window}
-use Rattle.registry_core.specs.Bookings.{downlinks, downlinks_in, is_answered, is_dropped, limit_in, next_down, stands_at}
+use Rattle.registry_core.specs.Bookings.{downlinks, downlinks_in, is_answered, is_dropped, limit_standing, next_down, stands_at}
 use Rattle.registry_core.specs.Derived.{address_of}
 use Rattle.registry_core.specs.Downlinks.{on_air}
 use Rattle.registry_core.specs.Frames.{counts_as, downlink_to, frame_at, goes_to}
@@ -60,7 +60,7 @@ pub record IsAccepted (c : Settings) (s : State) (number : ℕ) (gateway : List 
   pub band : Band
   pub lies_in_it : band_at (rate_in window copy.rate).freq (rate_in window copy.rate).dr ≡ Some band
   pub clear : IsClear (downlinks s.bookings gateway) (on_air (copy.end + delay uplink.kind window) (rate_in window copy.rate) octets)
-  pub hours : EveryHourWithin (downlinks_in s.bookings gateway band ++ on_air (copy.end + delay uplink.kind window) (rate_in window copy.rate) octets ∷ []) (limit_in s gateway band)
+  pub hours : EveryHourWithin (downlinks_in s.bookings gateway band ++ on_air (copy.end + delay uplink.kind window) (rate_in window copy.rate) octets ∷ []) (limit_standing s gateway band)
 
 abbrev pub tells_booking : Answer → Bool
 tells_booking (DownSuccess airtime band booking start) = true

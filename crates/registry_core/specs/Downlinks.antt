@@ -12,7 +12,7 @@ use Rattle.registry_core.specs.declared.answers.Refusal.TheVariants.{UnknownGate
 use Rattle.registry_core.specs.declared.effects.Effect.TheVariants.{AddsBooking, EndsBooking}
 use Rattle.registry_core.specs.declared.facts.Standing.TheVariants.{Booked}
 use Rattle.registry_core.specs.declared.windows.Window.{Window}
-use Rattle.registry_core.specs.Bookings.{downlinks, downlinks_in, is_answered, is_booked, limit_in, next_down}
+use Rattle.registry_core.specs.Bookings.{downlinks, downlinks_in, is_answered, is_booked, limit_standing, next_down}
 use Rattle.registry_core.specs.Checks.{Checked, ◌>>=◌, ◌>>◌, wants, needs}
 use Rattle.registry_core.specs.Decision.{Decision}
 use Rattle.registry_core.specs.Derived.{address_of}
@@ -31,7 +31,7 @@ on_air start rate octets = record { start = pos start; len = airtime_of rate.dr 
 unfoldable pub down_added : State → ℕ → List ℕ → Band → ℕ → Interval → Checked Decision
 down_added s number gateway band start span = do
   wants (is_clear (downlinks s.bookings gateway) span) Collision
-  wants (hours_within (downlinks_in s.bookings gateway band ++ span ∷ []) (limit_in s gateway band)) Duty
+  wants (hours_within (downlinks_in s.bookings gateway band ++ span ∷ []) (limit_standing s gateway band)) Duty
   Ok (
     AddsBooking (record { uplink = number; gateway = gateway; band = band; span = span; standing = Booked }),
     DownSuccess span.len band (length s.bookings + 1) start,

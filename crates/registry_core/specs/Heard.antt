@@ -72,14 +72,14 @@ reply_at None e now = Answers now
 reply_at (Some kept) e now = if same_message kept.0.message e.message then Answers kept.1 else Reused
 
 -- the place that has the envelope's pair, with the answer that was given there
-abbrev pub place_of : Settings → List Envelope → Envelope → Option (Envelope × Answer)
-place_of c heard e = find (λ kept. same_pair e kept.0) (answers_of c heard)
+abbrev pub pair_place : Settings → List Envelope → Envelope → Option (Envelope × Answer)
+pair_place c heard e = find (λ kept. same_pair e kept.0) (answers_of c heard)
 
 -- what an envelope is replied after these
 unfoldable pub reply_to : Settings → List Envelope → Envelope → Reply
 reply_to c heard e =
     if is_sender (state_of c heard) e.sender
-    then reply_at (place_of c heard e) e (step c (state_of c heard) e).1
+    then reply_at (pair_place c heard e) e (step c (state_of c heard) e).1
     else Stranger
 
 -- a new envelope of a known sender goes to the end of the list

@@ -7,7 +7,7 @@ use Rattle.registry_core.specs.declared.answers.Answer.TheVariants.{Success}
 use Rattle.registry_core.specs.declared.messages.Envelope.{Envelope}
 use Rattle.registry_core.specs.declared.messages.Message.TheVariants.{LimitSet}
 use Rattle.registry_core.specs.Administration.{is_operator}
-use Rattle.registry_core.specs.Bookings.{downlinks_in, limit_in}
+use Rattle.registry_core.specs.Bookings.{downlinks_in, limit_standing}
 use Rattle.registry_core.specs.Heard.{IsHeard, state_of}
 use Rattle.registry_core.specs.Limits.{Limit}
 use Rattle.registry_core.specs.Settings.{Settings}
@@ -32,15 +32,15 @@ SetExactly = (c : Settings) (s : State) (e : Envelope) (gateway : List ℕ) (lim
 -- once it is set, it is the limit of the gateway's band, whatever the limit was before
 abbrev pub SetLimitsStand : Type 0
 SetLimitsStand = (c : Settings) (s : State) (e : Envelope) (gateway : List ℕ) (limit : Limit) → e.message ≡ LimitSet gateway limit
-    → (step c s e).1 ≡ Success → limit_in (step c s e).0 gateway limit.band ≡ limit.most
+    → (step c s e).1 ≡ Success → limit_standing (step c s e).0 gateway limit.band ≡ limit.most
 
 -- another message, or one for another gateway or band, leaves a band's limit as it is
 abbrev pub OtherLimitsStay : Type 0
 OtherLimitsStay = (c : Settings) (s : State) (e : Envelope) (gateway : List ℕ) (band : Band)
     → ((limit : Limit) → e.message ≡ LimitSet gateway limit → limit.band ≢ band)
-    → limit_in (step c s e).0 gateway band ≡ limit_in s gateway band
+    → limit_standing (step c s e).0 gateway band ≡ limit_standing s gateway band
 
 -- whatever was heard, no limit is above the band's own
 abbrev pub LimitsAreWithin : Type 0
 LimitsAreWithin = (c : Settings) (heard : List Envelope) (gateway : List ℕ) (band : Band) → IsHeard c heard
-    → limit_in (state_of c heard) gateway band ≤ limit_of band
+    → limit_standing (state_of c heard) gateway band ≤ limit_of band

@@ -18,7 +18,7 @@ use Rattle.registry_core.specs.declared.messages.Message.TheVariants.{SenderAdd,
 use Rattle.registry_core.specs.declared.views.SessionView.{SessionView}
 use Rattle.registry_core.specs.declared.views.UplinkView.{UplinkView}
 use Rattle.registry_core.specs.declared.views.View.{View}
-use Rattle.registry_core.specs.Bookings.{downlinks, downlinks_in, is_answered, limit_in, next_down}
+use Rattle.registry_core.specs.Bookings.{downlinks, downlinks_in, is_answered, limit_standing, next_down}
 use Rattle.registry_core.specs.Decision.{Decision}
 use Rattle.registry_core.specs.Derived.{last_nonce, join_with, session_with, data_with, last_counter, is_below_floor}
 use Rattle.registry_core.specs.Frames.{data_up, join_request}
@@ -143,7 +143,7 @@ in_band_for s m = option_map_or (near_in s (gateway_for m)) (window_for s m) []
 
 -- the limit of its gateway's band
 abbrev pub limit_at : State → List ℕ → ℕ × Rate → ℕ
-limit_at s gateway opens = option_map_or (limit_in s gateway) (band_at opens.1.freq opens.1.dr) 0
+limit_at s gateway opens = option_map_or (limit_standing s gateway) (band_at opens.1.freq opens.1.dr) 0
 
 abbrev pub limit_for : State → Message → ℕ
 limit_for s m = option_map_or (limit_at s (gateway_for m)) (window_for s m) 0

@@ -1,10 +1,20 @@
--- How the command line is put together, a command at a time.
+-- How the command line is put together: a command word by word, and the commands one after another.
 use Rattle.std.specs.Prelude.{◌≡◌, false, Result, IfOk}
-use Rattle.clap.specs.Simple.{App, app_of, with_subcommand}
+use Rattle.clap.specs.Simple.{App, app_of, with_rule, with_subcommand}
+use Rattle.clap.specs.Walk.{Rule, rule_of}
+use Rattle.clap.specs.declared.builder.arg.Arg.{Arg}
 use Rattle.clap.specs.declared.builder.command.Command.{Command}
 use Rattle.clap.specs.declared.builder.command.Command.TheViews.{out-Command as fields_of}
 
+-- where there was memory for it, this command; none of its words goes for other commands too
+abbrev pub IsCommand : {E : Type 0} → App → Result Command E → Type 0
+IsCommand app command = IfOk command (λ it. (app_of it ≡ app) × ((fields_of it).has_globals ≡ false))
+
+-- a command with one word more, where it is known what both were
+abbrev pub AddsWord : {E : Type 0} → Result Command E → Arg → Result Command E → Type 0
+AddsWord command word new = (app : App) (rule : Rule) → IsCommand app command → rule_of word ≡ rule → word.global ≡ false
+    → IsCommand (with_rule app rule) new
+
 -- a command line with one command more, where it is known what both were
 abbrev pub Adds : {E : Type 0} → Command → Result Command E → Command → Type 0
-Adds desk command new = (line words : App) → app_of desk ≡ line → IfOk command (λ it. app_of it ≡ words)
-    → IfOk command (λ it. (fields_of it).has_globals ≡ false) → app_of new ≡ with_subcommand line words.top
+Adds line command new = (app words : App) → app_of line ≡ app → IsCommand words command → app_of new ≡ with_subcommand app words.top

@@ -3,9 +3,7 @@ ghost use Rattle.std.specs.Prelude.{◌≡◌, false, IfOk, List, None};
 ghost use Rattle.std.specs.String.{string_bytes};
 ghost use Rattle.std.specs.Io.KnownBytes.{Keeps};
 ghost use Rattle.clap.specs.Matches.{found_of};
-ghost use Rattle.clap.specs.Simple.{app_of};
 ghost use Rattle.clap.specs.Walk.{rows_of};
-ghost use Rattle.clap.specs.declared.builder.command.Command.TheViews.{out-Command as fields_of};
 ghost use Rattle.sqlite.specs.Held.{state};
 ghost use Rattle.sqlite.specs.State.{HasCleanDisk};
 ghost use Rattle.registry_core.specs.declared.messages.Envelope.{Envelope};
@@ -14,6 +12,7 @@ ghost use Rattle.desk_store.specs.Calls.{IsRead, Tells, fault_in};
 ghost use Rattle.desk_engine.specs.Reporting.{store_fault};
 ghost use Rattle.desk_tables.specs.Store.{meaning_of};
 ghost use Rattle.desk_cli.specs.Named.{TellsNamed};
+ghost use Rattle.desk_cli.specs.steps.CommandLine.{IsCommand};
 ghost use Rattle.desk_cli.specs.NoDesk.{HoldsNoDesk, RefusesFile};
 ghost use Rattle.desk_cli.specs.OnTables.{IsLeft, KeepsHeard};
 ghost use Rattle.desk_cli.specs.Printing.{PrintsBy};
@@ -23,7 +22,7 @@ ghost use Rattle.desk_cli.specs.steps.Checking.{IsCheckOf, TellsTotals};
 use super::Command;
 use crate::faults::Fault;
 use crate::opening::opened;
-use crate::options::{command, place, placed};
+use crate::options::{command_on_file, placed};
 use crate::printing::print;
 use crate::usage::Usage;
 use clap::ArgMatches;
@@ -39,13 +38,11 @@ use std::io::Write;
 
 /// Its words: its name and the file.
 pub(crate) fn check_app<'a>(alloc: Global) -> Result<clap::Command<'a>, AllocError>
-    ensures app { IfOk result (λ c. app_of c ≡ check_app) }
-    ensures local { IfOk result (λ c. (fields_of c).has_globals ≡ false) }
+    ensures { IsCommand check_app result }
 {
     let about = "Prints what a desk's file was made with, and how much it holds";
     let example = "Example:\n  desk check town.db";
-    let file = place(alloc, "file", "FILE", "The desk's file");
-    command(alloc, "check", about, example).arg(file)
+    command_on_file(alloc, "check", about, example)
 }
 
 /// The command that its words give.

@@ -1,12 +1,11 @@
 //! `desk hear`: messages from a reader, answers to a writer, over a desk's file.
-ghost use Rattle.std.specs.Prelude.{◌≡◌, false, IfOk, List, None};
+ghost use Rattle.std.specs.Prelude.{◌≡◌, false, List, None};
 ghost use Rattle.std.specs.Io.KnownBytes.{Keeps};
 ghost use Rattle.clap.specs.Matches.{found_of};
-ghost use Rattle.clap.specs.Simple.{app_of};
 ghost use Rattle.clap.specs.Walk.{rows_of};
-ghost use Rattle.clap.specs.declared.builder.command.Command.TheViews.{out-Command as fields_of};
 ghost use Rattle.desk_cli.specs.commands.Hear.{hear_app, hear_named, HearsBy};
 ghost use Rattle.desk_cli.specs.Named.{TellsNamed};
+ghost use Rattle.desk_cli.specs.steps.CommandLine.{IsCommand};
 ghost use Rattle.sqlite.specs.Held.{state};
 ghost use Rattle.sqlite.specs.State.{HasCleanDisk};
 ghost use Rattle.registry_core.specs.declared.messages.Envelope.{Envelope};
@@ -18,7 +17,7 @@ use super::Command;
 use crate::answering::answer_lines;
 use crate::faults::Fault;
 use crate::opening::opened;
-use crate::options::{command, place, placed};
+use crate::options::{command_on_file, placed};
 use crate::usage::Usage;
 use clap::ArgMatches;
 use sqlite::{Alter, Connection};
@@ -27,13 +26,11 @@ use std::io::{Read, Write};
 
 /// Its words: its name and the file.
 pub(crate) fn hear_app<'a>(alloc: Global) -> Result<clap::Command<'a>, AllocError>
-    ensures app { IfOk result (λ c. app_of c ≡ hear_app) }
-    ensures local { IfOk result (λ c. (fields_of c).has_globals ≡ false) }
+    ensures { IsCommand hear_app result }
 {
     let about = "Answers the messages of standard input, one a line, for the desk in a file";
     let example = "Example:\n  desk hear town.db < messages.txt";
-    let file = place(alloc, "file", "FILE", "The desk's file");
-    command(alloc, "hear", about, example).arg(file)
+    command_on_file(alloc, "hear", about, example)
 }
 
 /// The command that its words give.

@@ -1,11 +1,10 @@
 //! `desk import`: a gateway's report from a reader, answers to a writer, over a desk's file.
 ghost use Rattle.std.specs.Prelude.{◌≡◌, false, IfOk, ◌≤◌, ◌⊎◌, ◌++◌, ◌∷◌, [], ℕ, List, None, IfErr, OnOk, length};
 ghost use Rattle.clap.specs.Matches.{found_of};
-ghost use Rattle.clap.specs.Simple.{app_of};
 ghost use Rattle.clap.specs.Walk.{rows_of};
-ghost use Rattle.clap.specs.declared.builder.command.Command.TheViews.{out-Command as fields_of};
 ghost use Rattle.desk_cli.specs.commands.Importing.{import_app, import_named, ImportsBy};
 ghost use Rattle.desk_cli.specs.Named.{TellsNamed};
+ghost use Rattle.desk_cli.specs.steps.CommandLine.{IsCommand};
 ghost use Rattle.std.specs.List.{flat_map};
 ghost use Rattle.std.specs.Io.KnownBytes.{Appends, Consumes, IsAtEnd, Keeps};
 ghost use Rattle.sqlite.specs.Held.{state};
@@ -23,7 +22,7 @@ ghost use Rattle.desk_cli.specs.steps.Importing.{line_of, HearsEnvelopes};
 use super::Command;
 use crate::faults::Fault;
 use crate::opening::opened;
-use crate::options::{command, name_at, needed, place, placed};
+use crate::options::{command_on_file, name_at, needed, placed, with_word};
 use crate::usage::{BadValue, Usage};
 use clap::ArgMatches;
 use desk_engine::{Outcome, import, read_some};
@@ -37,14 +36,12 @@ use std::io::{self, Read, Write};
 
 /// Its words: its name, the file and the sender.
 pub(crate) fn import_app<'a>(alloc: Global) -> Result<clap::Command<'a>, AllocError>
-    ensures app { IfOk result (λ c. app_of c ≡ import_app) }
-    ensures local { IfOk result (λ c. (fields_of c).has_globals ≡ false) }
+    ensures { IsCommand import_app result }
 {
     let about = "Answers the records of a gateway's CSV report on standard input, one a line";
     let example = "Example:\n  desk import town.db --sender office < report.csv";
-    command(alloc, "import", about, example)
-        .arg(place(alloc, "file", "FILE", "The desk's file"))?
-        .arg(needed(alloc, "sender", "NAME", "Who sends the report"))
+    let sender = needed(alloc, "sender", "NAME", "Who sends the report");
+    with_word(command_on_file(alloc, "import", about, example), sender)
 }
 
 /// The command that its words give.

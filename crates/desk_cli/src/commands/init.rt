@@ -1,15 +1,14 @@
 //! `desk init`: a desk is made in a file.
-ghost use Rattle.std.specs.Prelude.{◌≡◌, false, IfOk, None};
+ghost use Rattle.std.specs.Prelude.{◌≡◌, false, None};
 ghost use Rattle.clap.specs.Matches.{found_of};
-ghost use Rattle.clap.specs.Simple.{app_of};
 ghost use Rattle.clap.specs.Walk.{rows_of};
-ghost use Rattle.clap.specs.declared.builder.command.Command.TheViews.{out-Command as fields_of};
 ghost use Rattle.desk_cli.specs.commands.Init.{init_app, init_named, InitsBy};
 ghost use Rattle.desk_cli.specs.Named.{TellsNamed};
+ghost use Rattle.desk_cli.specs.steps.CommandLine.{IsCommand};
 
 use super::Command;
 use crate::faults::Fault;
-use crate::options::{command_with_settings, config_of, place, placed};
+use crate::options::{command_with_settings, config_of, place, placed, with_word};
 use crate::usage::Usage;
 use clap::ArgMatches;
 use desk_tables::Tables;
@@ -20,17 +19,12 @@ use std::alloc::{AllocError, Global};
 
 /// Its words: its name, the file, and the options of a desk's configuration.
 pub(crate) fn init_app<'a>(alloc: Global) -> Result<clap::Command<'a>, AllocError>
-    ensures app { IfOk result (λ c. app_of c ≡ init_app) }
-    ensures local { IfOk result (λ c. (fields_of c).has_globals ≡ false) }
+    ensures { IsCommand init_app result }
 {
     let about = "Makes a file for a new desk";
     let example = "Example:\n  desk init town.db --base 01a00000";
-    command_with_settings(alloc, "init", about, example)?.arg(place(
-        alloc,
-        "file",
-        "FILE",
-        "The file, which isn't there yet",
-    ))
+    let file = place(alloc, "file", "FILE", "The file, which isn't there yet");
+    with_word(command_with_settings(alloc, "init", about, example), file)
 }
 
 /// The command that its words give.

@@ -1,13 +1,12 @@
 //! `desk lines`: messages from a reader, answers to a writer, over lists in memory.
-ghost use Rattle.std.specs.Prelude.{◌≡◌, false, [], IfOk};
+ghost use Rattle.std.specs.Prelude.{◌≡◌, [], IfOk};
 ghost use Rattle.clap.specs.Matches.{found_of};
-ghost use Rattle.clap.specs.Simple.{app_of};
 ghost use Rattle.clap.specs.Walk.{rows_of};
-ghost use Rattle.clap.specs.declared.builder.command.Command.TheViews.{out-Command as fields_of};
 ghost use Rattle.registry_core.specs.State.{opening};
 ghost use Rattle.desk_store.specs.Lists.{kept_of, settings_of};
 ghost use Rattle.desk_cli.specs.commands.Lines.{AnswersLines, lines_app, lines_named};
 ghost use Rattle.desk_cli.specs.Named.{TellsNamed};
+ghost use Rattle.desk_cli.specs.steps.CommandLine.{IsCommand};
 ghost use Rattle.desk_cli.specs.Options.{config_of};
 
 use super::Command;
@@ -24,8 +23,7 @@ use std::io::{Read, Write};
 
 /// Its words: its name, what it does, and the options of a desk's configuration.
 pub(crate) fn lines_app<'a>(alloc: Global) -> Result<clap::Command<'a>, AllocError>
-    ensures app { IfOk result (λ c. app_of c ≡ lines_app) }
-    ensures local { IfOk result (λ c. (fields_of c).has_globals ≡ false) }
+    ensures { IsCommand lines_app result }
 {
     let about = "Answers the messages of standard input, one a line, for a new desk in memory";
     let example = "Example:\n  desk lines --receiver town < messages.txt";

@@ -1,15 +1,14 @@
 //! `desk migrate`: a desk's file of schema 1 becomes one of schema 2.
-ghost use Rattle.std.specs.Prelude.{◌≡◌, false, IfOk, None};
+ghost use Rattle.std.specs.Prelude.{◌≡◌, false, None};
 ghost use Rattle.clap.specs.Matches.{found_of};
-ghost use Rattle.clap.specs.Simple.{app_of};
 ghost use Rattle.clap.specs.Walk.{rows_of};
-ghost use Rattle.clap.specs.declared.builder.command.Command.TheViews.{out-Command as fields_of};
 ghost use Rattle.desk_cli.specs.commands.Migrating.{migrate_app, migrate_named, MigratesBy};
 ghost use Rattle.desk_cli.specs.Named.{TellsNamed};
+ghost use Rattle.desk_cli.specs.steps.CommandLine.{IsCommand};
 
 use super::Command;
 use crate::faults::Fault;
-use crate::options::{command, place, placed};
+use crate::options::{command_on_file, placed};
 use crate::usage::Usage;
 use clap::ArgMatches;
 use desk_tables::Tables;
@@ -24,12 +23,10 @@ Example:
 
 /// Its words: its name and the file.
 pub(crate) fn migrate_app<'a>(alloc: Global) -> Result<clap::Command<'a>, AllocError>
-    ensures app { IfOk result (λ c. app_of c ≡ migrate_app) }
-    ensures local { IfOk result (λ c. (fields_of c).has_globals ≡ false) }
+    ensures { IsCommand migrate_app result }
 {
     let about = "Moves a desk's file from schema 1 to schema 2";
-    let file = place(alloc, "file", "FILE", "The desk's file");
-    command(alloc, "migrate", about, EXAMPLE).arg(file)
+    command_on_file(alloc, "migrate", about, EXAMPLE)
 }
 
 /// The command that its words give.

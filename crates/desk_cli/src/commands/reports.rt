@@ -1,12 +1,11 @@
 //! `desk report` and `desk bands`: reports from a desk's file.
-ghost use Rattle.std.specs.Prelude.{◌≡◌, false, IfOk, List, None};
+ghost use Rattle.std.specs.Prelude.{◌≡◌, false, List, None};
 ghost use Rattle.std.specs.Io.KnownBytes.{Keeps};
 ghost use Rattle.clap.specs.Matches.{found_of};
-ghost use Rattle.clap.specs.Simple.{app_of};
 ghost use Rattle.clap.specs.Walk.{rows_of};
-ghost use Rattle.clap.specs.declared.builder.command.Command.TheViews.{out-Command as fields_of};
 ghost use Rattle.desk_cli.specs.commands.Reports.{bands_app, bands_named, report_app, report_named};
 ghost use Rattle.desk_cli.specs.Named.{TellsNamed};
+ghost use Rattle.desk_cli.specs.steps.CommandLine.{IsCommand};
 ghost use Rattle.sqlite.specs.Held.{state};
 ghost use Rattle.sqlite.specs.State.{HasCleanDisk};
 ghost use Rattle.registry_core.specs.declared.messages.Envelope.{Envelope};
@@ -20,7 +19,7 @@ ghost use Rattle.desk_cli.specs.Printing.{IsOwnersMonth, PrintsBy};
 use super::Command;
 use crate::faults::Fault;
 use crate::opening::opened;
-use crate::options::{command, place, placed};
+use crate::options::{command_on_file, place, placed, with_word};
 use crate::printing::print;
 use crate::usage::Usage;
 use clap::ArgMatches;
@@ -31,15 +30,14 @@ use std::io::Write;
 
 /// The words of `desk report`: its name, the file, the owner and the month.
 pub(crate) fn report_app<'a>(alloc: Global) -> Result<clap::Command<'a>, AllocError>
-    ensures app { IfOk result (λ c. app_of c ≡ report_app) }
-    ensures local { IfOk result (λ c. (fields_of c).has_globals ≡ false) }
+    ensures { IsCommand report_app result }
 {
     let about = "Prints the report of an owner's month";
     let example = "Example:\n  desk report town.db town 2024-02";
-    command(alloc, "report", about, example)
-        .arg(place(alloc, "file", "FILE", "The desk's file"))?
-        .arg(place(alloc, "owner", "OWNER", "The owner"))?
-        .arg(place(alloc, "month", "MONTH", "The month, as 2024-02"))
+    let owner = place(alloc, "owner", "OWNER", "The owner");
+    let month = place(alloc, "month", "MONTH", "The month, as 2024-02");
+    let command = with_word(command_on_file(alloc, "report", about, example), owner);
+    with_word(command, month)
 }
 
 /// The command that they give.
@@ -54,14 +52,12 @@ pub(crate) fn report_of<'a>(options: &ArgMatches<'a>) -> Result<Command<'a>, Usa
 
 /// The words of `desk bands`: its name, the file and the gateway.
 pub(crate) fn bands_app<'a>(alloc: Global) -> Result<clap::Command<'a>, AllocError>
-    ensures app { IfOk result (λ c. app_of c ≡ bands_app) }
-    ensures local { IfOk result (λ c. (fields_of c).has_globals ≡ false) }
+    ensures { IsCommand bands_app result }
 {
     let about = "Prints the bands of a gateway";
     let example = "Example:\n  desk bands town.db gw-a";
-    command(alloc, "bands", about, example)
-        .arg(place(alloc, "file", "FILE", "The desk's file"))?
-        .arg(place(alloc, "gateway", "GATEWAY", "The gateway"))
+    let gateway = place(alloc, "gateway", "GATEWAY", "The gateway");
+    with_word(command_on_file(alloc, "bands", about, example), gateway)
 }
 
 /// The command that they give.

@@ -3,9 +3,7 @@ ghost use Rattle.std.specs.Prelude.{◌≡◌, false, None, List, IfOk};
 ghost use Rattle.std.specs.Io.KnownBytes.{Keeps};
 ghost use Rattle.std.specs.String.{string_bytes};
 ghost use Rattle.clap.specs.Matches.{found_of};
-ghost use Rattle.clap.specs.Simple.{app_of};
 ghost use Rattle.clap.specs.Walk.{rows_of};
-ghost use Rattle.clap.specs.declared.builder.command.Command.TheViews.{out-Command as fields_of};
 ghost use Rattle.sqlite.specs.Held.{state};
 ghost use Rattle.sqlite.specs.State.{HasCleanDisk};
 ghost use Rattle.registry_core.specs.declared.messages.Envelope.{Envelope};
@@ -13,6 +11,7 @@ ghost use Rattle.registry_core.specs.Settings.{Settings};
 ghost use Rattle.desk_engine.specs.InOrder.{WasInOrder};
 ghost use Rattle.desk_cli.specs.Answering.{StoreKeeps, StoreLeaves};
 ghost use Rattle.desk_cli.specs.Named.{TellsNamed};
+ghost use Rattle.desk_cli.specs.steps.CommandLine.{IsCommand};
 ghost use Rattle.desk_cli.specs.NoDesk.{HoldsNoDesk, RefusesFile};
 ghost use Rattle.desk_cli.specs.OnTables.{IsLeft, KeepsHeard};
 ghost use Rattle.desk_http.specs.Serving.{ServesRequest};
@@ -23,7 +22,7 @@ use super::Command;
 use crate::faults::Fault;
 use crate::listening::{Listening, Network};
 use crate::opening::opened;
-use crate::options::{command, connections_at, needed, place, placed, port_at};
+use crate::options::{command_on_file, connections_at, needed, placed, port_at, with_word};
 use crate::printing::write_whole;
 use crate::usage::{BadValue, Usage};
 use clap::ArgMatches;
@@ -42,19 +41,14 @@ Example:
 
 /// Its words: its name, the file, the port and how many connections.
 pub(crate) fn serve_app<'a>(alloc: Global) -> Result<clap::Command<'a>, AllocError>
-    ensures app { IfOk result (λ c. app_of c ≡ serve_app) }
-    ensures local { IfOk result (λ c. (fields_of c).has_globals ≡ false) }
+    ensures { IsCommand serve_app result }
 {
     let about = "Serves messages, reports and bands over HTTP on 127.0.0.1";
-    command(alloc, "serve", about, EXAMPLE)
-        .arg(place(alloc, "file", "FILE", "The desk's file"))?
-        .arg(needed(alloc, "port", "P", "The port, 1 to 65535"))?
-        .arg(needed(
-            alloc,
-            "count",
-            "N",
-            "How many connections, one after another, 1 to 1000000",
-        ))
+    let port = needed(alloc, "port", "P", "The port, 1 to 65535");
+    let many = "How many connections, one after another, 1 to 1000000";
+    let count = needed(alloc, "count", "N", many);
+    let command = with_word(command_on_file(alloc, "serve", about, EXAMPLE), port);
+    with_word(command, count)
 }
 
 /// The command that its words give.

@@ -1,5 +1,5 @@
 //! Frames at DR7, which is FSK: what they are told on a new desk, and on one that was made before desks took them.
-use super::downlinks::{DEVICE_EUI, DOWN, DOWN_0, DOWN_2, UP_0, UP_1};
+use super::downlinks::{ACCEPT, DEVICE_EUI, DOWN, DOWN_0, DOWN_2, UP_0, UP_1};
 use super::joins::{BAND, FIRST, FIRST_ADDED, NONCE_1};
 use super::migrating::{ADDED_BY_SECOND_SCHEMA, FIRST_SCHEMA, made_by};
 use super::rows::Row::{Asks, Books, Frames, Joins};
@@ -30,7 +30,7 @@ const HEARD: Heard = Heard {
 
 /// After the setup: frames of 12, 23 and 255 octets, up and down.
 #[rattlefmt::skip]
-pub(super) static FSK: [Row; 13] = [
+pub(super) static FSK: [Row; 14] = [
     Asks("office", 900_004, "DeviceAdd", DEVICE, SUCCESS),
     Joins("bridge", 10, FIRST, FIRST_ADDED),
     // no data rate has the number 8, and the text isn't heard
@@ -49,6 +49,8 @@ pub(super) static FSK: [Row; 13] = [
     Frames("bridge", 18, Heard { gateway: "gw-b", freq: 868_100_000, rate: 5, ..HEARD }, Framed(3_680, "B4", true, 0, DEVICE_EUI, 2)),
     Joins("bridge", 19, Heard { rate: 7, octets: NONCE_1, ..FIRST }, Joined(5_440, "B3", false, "01a00001", 5)),
     Joins("bridge", 20, Heard { gateway: "gw-b", rate: 7, ..FIRST }, Joined(61_696, "B3", true, "01a00000", 1)),
+    // so is that of a join, six seconds after its request
+    Books("bridge", 21, Down { uplink: 5, window: 2, octets: ACCEPT, ..DOWN }, Booked(1_155_072, "B5", 4, 1_706_745_606_061_696)),
 ];
 
 /// After the ten messages: a text that was refused while data rates ended at 6, and so wasn't heard.

@@ -12,7 +12,7 @@ use Rattle.desk_engine.specs.declared.lines.Stop.{Stop}
 use Rattle.desk_engine.specs.declared.lines.Stop.TheVariants.{Write, Unavailable}
 use Rattle.desk_engine.specs.declared.outcomes.Outcome.TheVariants as outcome
 use Rattle.desk_engine.specs.InOrder.{HasNoRoom}
-use Rattle.desk_engine.specs.Lines.{whole_lines, last_line, fault_of_end, HasHeard, HasAnswered, LinesEndBy}
+use Rattle.desk_engine.specs.Lines.{whole_lines, last_line, fault_of_end, HasHeardLines, HasAnswered, LinesEndBy}
 use Rattle.desk_engine.specs.Outcomes.{doubt_of_text}
 use Rattle.desk_engine.specs.Told.{longest_message}
 
@@ -37,7 +37,7 @@ module _ {K : Type 0} (m : Meaning K) (c : Settings) (heard : List Envelope) (ol
   -- What one line does. It is answered; or, where it has an octet, heard without an answer, or the store is unavailable.
   abbrev pub TakesLine : {T : Type 0} → List ℕ → Result T Stop → Type 0
   TakesLine line (Ok done) = HasAnswered m c heard old new before after (line ∷ []) None
-  TakesLine line (Err Write) = (line ≢ []) × HasHeard m c heard old new (line ∷ []) None
+  TakesLine line (Err Write) = (line ≢ []) × HasHeardLines m c heard old new (line ∷ []) None
   TakesLine line (Err (Unavailable fault)) =
       (line ≢ []) × HasAnswered m c heard old new before after [] (doubt_of_text c line (outcome.Unavailable fault)) × IsUnavailability fault
       × (fault ≡ Size → HasNoRoom m new heard)

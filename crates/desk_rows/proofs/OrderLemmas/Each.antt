@@ -20,14 +20,14 @@ module _ {X : Type 0} (P : X → Type 0) where
   all_changed f keeps xs zero each = each
   all_changed f keeps xs (suc n) each = place_all f keeps xs n each
 
-  pub place_of : (xs : List X) (n : ℕ) (x : X) → slice_get xs n ≡ Some x → AllByRecursion P xs → P x
-  place_of [] n x is each = let no : None ≡ Some x = is in cc
-  place_of (y ∷ ys) zero x is each = let same : y ≡ x = cc in subst P same each.0
-  place_of (y ∷ ys) (suc n) x is each = place_of ys n x is each.1
+  pub holds_at : (xs : List X) (n : ℕ) (x : X) → slice_get xs n ≡ Some x → AllByRecursion P xs → P x
+  holds_at [] n x is each = let no : None ≡ Some x = is in cc
+  holds_at (y ∷ ys) zero x is each = let same : y ≡ x = cc in subst P same each.0
+  holds_at (y ∷ ys) (suc n) x is each = holds_at ys n x is each.1
 
   pub all_at : (xs : List X) (n : ℕ) (x : X) → item_at xs n ≡ Some x → AllByRecursion P xs → P x
   all_at xs zero x is each = let no : None ≡ Some x = is in cc
-  all_at xs (suc n) x is each = place_of xs n x is each
+  all_at xs (suc n) x is each = holds_at xs n x is each
 
   found_by : (p : X → Bool) (y x : X) (b : Bool) (rest : Option X) → P y → (rest ≡ Some x → P x) → cond b (Some y) rest ≡ Some x → P x
   found_by p y x true rest here later is = let same : y ≡ x = cc in subst P same here
@@ -88,7 +88,7 @@ apart_at same [] m n a b apart at_m at_n less = let no : None ≡ Some a = at_m 
 apart_at same (x ∷ xs) m zero a b apart at_m at_n less = absurd (omega arith)
 apart_at same (x ∷ xs) zero (suc n) a b apart at_m at_n less =
     let here : x ≡ a = cc in
-    ap (λ y. same y b) (sym here) ∙ place_of (λ y. same x y ≡ false) xs n b at_n apart.0
+    ap (λ y. same y b) (sym here) ∙ holds_at (λ y. same x y ≡ false) xs n b at_n apart.0
 apart_at same (x ∷ xs) (suc m) (suc n) a b apart at_m at_n less = apart_at same xs m n a b apart.1 at_m at_n (omega arith)
 
 -- ---- rows that pass no test

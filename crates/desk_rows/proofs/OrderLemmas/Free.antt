@@ -15,7 +15,7 @@ use Rattle.registry_core.specs.Fits.{Fits}
 use Rattle.registry_core.specs.Heard.{most_heard}
 use Rattle.desk_rows.specs.Rows.{Rows, CopyRow, DeviceRow, LimitRow, SenderRow, SessionRow, kind_number, is_copy, is_device, is_limit, is_sender, is_uplink}
 use Rattle.desk_rows.specs.order.Facts.{facts_in, sessions_in}
-use Rattle.desk_rows.specs.order.Keys.{HasRoom, IsFreeFor, KeysAreFree}
+use Rattle.desk_rows.specs.order.Keys.{HasRowid, IsFreeFor, KeysAreFree}
 use Rattle.desk_rows.specs.order.RowsOf.{IsFew, IsOfSession, same_join}
 use Rattle.desk_rows.proofs.OrderLemmas.Counting.{above_each}
 use Rattle.desk_rows.proofs.OrderLemmas.Each.{all_so, none_found}
@@ -65,7 +65,7 @@ module _ (uplinks : List Uplink) (session counter : ℕ) (above : IsTrue (is_abo
 
 -- ---- each effect
 
-room : {X Y : Type 0} (rows : List X) (replies : List Y) → length rows ≤ length replies + 1 → length replies < most_heard → HasRoom rows
+room : {X Y : Type 0} (rows : List X) (replies : List Y) → length rows ≤ length replies + 1 → length replies < most_heard → HasRowid rows
 room rows replies few below = omega arith
 
 free_for : (r : Rows) (effect : Effect) → AllByRecursion (IsOfSession (sessions_in r.sessions)) r.uplinks → IsFew r → Fits effect (facts_in r)

@@ -24,13 +24,13 @@ use Rattle.desk_rows.specs.order.RowsOf.{AreRowsOf}
 -- ---- rows that are added
 
 -- there is a rowid for one row more
-abbrev pub HasRoom : {X : Type 0} → List X → Type 0
-HasRoom rows = 1 + length rows < 2 ^ 63
+abbrev pub HasRowid : {X : Type 0} → List X → Type 0
+HasRowid rows = 1 + length rows < 2 ^ 63
 
 -- and no row has its key
 pub record IsFree {X : Type 0} (has_key : X → Bool) (rows : List X) : Type 0 where
   pub key : list_any has_key rows ≡ false
-  pub room : HasRoom rows
+  pub room : HasRowid rows
 
 -- where the gateway's band has no limit, its row can be added
 abbrev pub IsFreeForLimit : List ℕ → Limit → Rows → Type 0
@@ -49,7 +49,7 @@ IsFreeFor (AddsSession session uplink gateway reception) r = IsFree (is_session 
 IsFreeFor (AddsUplink uplink gateway reception) r =
     IsFree (is_uplink uplink.session uplink.kind uplink.counter) r.uplinks × IsFree (is_copy (length r.uplinks + 1) gateway) r.copies
 IsFreeFor (AddsCopy number gateway reception) r = IsFree (is_copy number gateway) r.copies
-IsFreeFor (AddsBooking booking) r = HasRoom r.bookings
+IsFreeFor (AddsBooking booking) r = HasRowid r.bookings
 IsFreeFor (EndsBooking number sent) r = Unit {0}
 IsFreeFor (SetsLimit gateway limit) r = IsFreeForLimit gateway limit r
 
@@ -119,7 +119,7 @@ IsThereFor effect r = Unit {0}
 -- of an effect that fits, while there is room for a message more: the keys of the rows that it adds are free
 abbrev pub KeysAreFree : Type 0
 KeysAreFree = (c : Settings) (facts : State) (r : Rows) (effect : Effect) → AreRowsOf c facts r → Fits effect facts → length r.replies < most_heard
-    → IsFreeFor effect r × HasRoom r.replies
+    → IsFreeFor effect r × HasRowid r.replies
 
 -- and the rows that it changes are there
 abbrev pub ChangedRowsAreThere : Type 0

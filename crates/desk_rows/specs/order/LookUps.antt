@@ -8,7 +8,7 @@ use Rattle.radio_core.specs.declared.bands.Band.{Band}
 use Rattle.radio_core.specs.Bands.{band_number, limit_of}
 use Rattle.registry_core.specs.declared.facts.Kind.TheVariants.{Join, Data}
 use Rattle.registry_core.specs.declared.facts.Uplink.{Uplink}
-use Rattle.registry_core.specs.Bookings.{is_answer_to, is_answered, limit_in, next_down}
+use Rattle.registry_core.specs.Bookings.{is_answer_to, is_answered, limit_standing, next_down}
 use Rattle.registry_core.specs.Derived.{data_with, is_below, is_below_floor, join_with, last_counter, last_nonce}
 use Rattle.registry_core.specs.Limits.{Limit}
 use Rattle.registry_core.specs.Numbered.{first_that, item_at}
@@ -125,7 +125,7 @@ pub record FramesTell (facts : State) (r : Rows) : Type 0 where
 -- own limit stands. After a limit is set, it is the one that is found.
 pub record LimitsTell (facts : State) (r : Rows) : Type 0 where
   pub standing : (gateway : List ℕ) (band : Band)
-      → option_map_or (λ most. most) (limit_found r.limits gateway (band_number band)) (limit_of band) ≡ limit_in facts gateway band
+      → option_map_or (λ most. most) (limit_found r.limits gateway (band_number band)) (limit_of band) ≡ limit_standing facts gateway band
   pub set : (gateway : List ℕ) (limit : Limit) → limit_found (limits_set gateway limit r.limits) gateway (band_number limit.band) ≡ Some limit.most
 
 abbrev pub LookUpsTell : Type 0

@@ -16,12 +16,12 @@ abbrev pub owned_cmp : Owned → Owned → Ordering
 owned_cmp = then_cmp (on (λ o. o.owner) (slice_cmp nat_cmp)) (on (λ o. o.dev_eui) nat_cmp)
 
 -- there is a device, and its owner is this one
-abbrev pub has_owner : List ℕ → Option Device → Bool
-has_owner owner found = option_map_or (λ (device : Device). bytes_eq device.owner owner) found false
+abbrev pub is_owned_by : List ℕ → Option Device → Bool
+is_owned_by owner found = option_map_or (λ (device : Device). bytes_eq device.owner owner) found false
 
 -- the set has each device with its owner, and no other pair
 pub record AreOwned (devices : List (ℕ × Device)) (owned : BTreeSet Owned) : Type 0 where
-  pub has : (pair : Owned) → contains owned_cmp owned pair ≡ has_owner pair.owner (devices_of devices pair.dev_eui)
+  pub has : (pair : Owned) → contains owned_cmp owned pair ≡ is_owned_by pair.owner (devices_of devices pair.dev_eui)
 
 -- where the owner's devices begin that are above that one, if there is one
 abbrev pub bound_above : List ℕ → Option ℕ → Bound Owned

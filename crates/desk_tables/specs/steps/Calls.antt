@@ -3,7 +3,7 @@ use Rattle.std.specs.Prelude.{◌≡◌, ◌≤◌, false, Result, IsTrue, IfOk,
 use Rattle.std.specs.Result.{is_ok}
 use Rattle.sqlite_trees.specs.View.{doubt}
 use Rattle.sqlite.specs.State.{State, HasCleanDisk, Survives}
-use Rattle.desk_rows.specs.Calls.{IsRead, IsWrite}
+use Rattle.desk_rows.specs.Calls.{IsReadingCall, IsWritingCall}
 use Rattle.desk_rows.specs.Faults.{IsEven}
 use Rattle.desk_rows.specs.Rows.{Rows, Holds}
 use Rattle.desk_rows.specs.Schema.{desk_schema}
@@ -12,7 +12,7 @@ use Rattle.desk_rows.specs.declared.faults.RowFault.{RowFault}
 -- Look-ups in a row change nothing, and what they answer is so of the rows that are held, of which Of says which they are. Over
 -- rows that they may ask for, with no limit on steps, they fail only for memory, the disk or a size.
 pub record Asks {X : Type 0} (old new : State) (result : Result X RowFault) (Of May : Rows → Type 0) (Says : Rows → X → Type 0) : Type 0 where
-  pub read : IsRead old new (is_ok result)
+  pub read : IsReadingCall old new (is_ok result)
   pub told : HasCleanDisk new → IsTrue old.is_open → (r : Rows) → Holds old.now r → Of r → IfOk result (Says r)
   pub in_order : HasCleanDisk new → IsTrue old.is_open → old.step_limit ≡ None → (r : Rows) → Holds old.now r → Of r → May r → IfErr result IsEven
 
@@ -24,7 +24,7 @@ pub record IsInside (s : State) : Type 0 where
 -- Statements in a row inside a transaction make these rows of the rows that are held, of which Of says which they are. Over
 -- rows that they may change, with no limit on steps, they fail only for memory, the disk or a size.
 pub record Makes {X : Type 0} (old new : State) (result : Result X RowFault) (Of May : Rows → Type 0) (after : Rows → Rows) : Type 0 where
-  pub write : IsWrite old new (is_ok result)
+  pub write : IsWritingCall old new (is_ok result)
   pub schema : HasCleanDisk new → IsInside old → old.now.schema ≡ desk_schema → OnOk result (new.now.schema ≡ desk_schema)
   pub made : HasCleanDisk new → IsInside old → (r : Rows) → Holds old.now r → Of r → OnOk result (Holds new.now (after r))
   pub in_order : HasCleanDisk new → IsInside old → old.step_limit ≡ None → (r : Rows) → Holds old.now r → Of r → May r → IfErr result IsEven

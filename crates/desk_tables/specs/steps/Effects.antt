@@ -36,8 +36,8 @@ abbrev pub HasSession : ℕ → Rows → Type 0
 HasSession number r = (row : SessionRow) × (item_at r.sessions number ≡ Some row)
 
 -- this is the next downlink counter of the session that the booking counts in, or it counts in none
-abbrev pub IsCounted : Booking → Rows → ℕ → Option ℕ → Type 0
-IsCounted booking r session counter =
+abbrev pub CountsInSession : Booking → Rows → ℕ → Option ℕ → Type 0
+CountsInSession booking r session counter =
     let counted = sessions_counted (kind_at r.uplinks booking.uplink) (session_at r.uplinks booking.uplink) r.sessions in
     MatchOption counter (counted ≡ r.sessions) (λ n. HasSession session r × (counted ≡ item_changed (next_down_set n) r.sessions session))
 
@@ -55,7 +55,7 @@ IsBasisOfUplink uplink r _ = ⊥
 
 abbrev pub IsBasisOfBooking : Booking → Rows → Basis → Type 0
 IsBasisOfBooking booking r (basis.Booking session kind counter) =
-    (booking_row r.uplinks booking ≡ record { booking = booking; session = session; kind = kind }) × IsCounted booking r session counter
+    (booking_row r.uplinks booking ≡ record { booking = booking; session = session; kind = kind }) × CountsInSession booking r session counter
 IsBasisOfBooking booking r _ = ⊥
 
 abbrev pub IsBasisOfLimit : List ℕ → Limit → Rows → Basis → Type 0

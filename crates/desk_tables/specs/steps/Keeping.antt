@@ -33,7 +33,7 @@ CountsWith effect old new = (s : State) → AreFew s → AreCounts s old → Are
 
 module _ {S : Type 0} (g : Ghosts S) where
   -- its fault is settled, and the store keeps what is told
-  pub record IsUndone (old new : Tables S) (fault : RowFault) (told : StoreFault) : Type 0 where
+  pub record KeepsFault (old new : Tables S) (fault : RowFault) (told : StoreFault) : Type 0 where
     pub settles : Settles (state g old.conn) (state g new.conn) fault told
     pub same : new
         ≡ record old { conn = new.conn; down = is_disk (Some told) || old.down; foreign = is_foreign (Some told) || old.foreign; sized = is_size told }
@@ -42,7 +42,7 @@ module _ {S : Type 0} (g : Ghosts S) where
   abbrev pub IsNoted : Effect → Tables S → Tables S → Result (Unit {0}) RowFault → Result (Unit {0}) StoreFault → Type 0
   IsNoted effect old new (Ok done) result = (result ≡ Ok done)
       × (new ≡ record old { sized = false; heard = old.heard + 1; counts = new.counts }) × CountsWith effect old.counts new.counts
-  IsNoted effect old new (Err fault) result = (told : StoreFault) × (result ≡ Err told) × IsUndone old new fault told
+  IsNoted effect old new (Err fault) result = (told : StoreFault) × (result ≡ Err told) × KeepsFault old new fault told
 
 -- ---- a commit
 

@@ -3,7 +3,7 @@ ghost use Rattle.std.specs.Prelude.{◌≡◌};
 ghost use Rattle.sqlite.specs.Held.{state};
 ghost use Rattle.desk_rows.specs.order.Changes.{kind_at, session_at, sessions_counted};
 ghost use Rattle.desk_tables.specs.steps.Calls.{Makes};
-ghost use Rattle.desk_tables.specs.steps.Effects.{IsCounted, WritesEffect};
+ghost use Rattle.desk_tables.specs.steps.Effects.{CountsInSession, WritesEffect};
 
 use crate::effects::basis::{Basis, whole};
 use desk_rows::{RowFault, end_booking, insert_booking, set_next_down};
@@ -19,7 +19,7 @@ fn count_down<S: Alter>(
 ) -> Result<(), RowFault>
     ensures same_reference { tx.new.conn.ghost_name ≡ tx.old.conn.ghost_name }
     ensures makes { Makes (state S.Store tx.old.conn.now) (state S.Store tx.new.conn.now) result
-        (λ r. IsCounted booking.now r session counter) (λ r. Unit {0})
+        (λ r. CountsInSession booking.now r session counter) (λ r. Unit {0})
         (λ r. record r { sessions = sessions_counted (kind_at r.uplinks booking.now.uplink) (session_at r.uplinks booking.now.uplink) r.sessions }) }
 {
     match counter {

@@ -2,7 +2,7 @@ use Rattle.std.proofs.Common.{◌∷◌, ◌++◌, [], ap, refl, sym, subst, ari
 use Rattle.registry_core.specs.Wholes.{IsWhole}
 use Rattle.desk_rows.specs.Rows.{Rows, BookingRow}
 use Rattle.desk_rows.specs.order.Changes.{kind_at, session_at, sessions_counted}
-use Rattle.desk_rows.specs.order.Keys.{HasRoom}
+use Rattle.desk_rows.specs.order.Keys.{HasRowid}
 use Rattle.desk_tables.specs.steps.Effects.{IsBasisOfBooking}
 use Rattle.desk_tables.proofs.CallLemmas.{makes_one, makes_then}
 use Rattle.desk_tables.proofs.effects.bookings.add_booking.Goals as goal
@@ -13,7 +13,7 @@ returns-clause-writes g c =
     let small : IsWhole b.uplink = c.in_ok-whole.ensures.1 in
     let found = λ (r : Rows) (of : IsBasisOfBooking b r c.args.basis). subst (IsBasisOfBooking b r) c.in-Booking.is of in
     makes_then c.in_ok-count_down.ensures.makes
-    (makes_one {Of = λ _. Unit {0}} {May = λ r. HasRoom r.bookings} c.insert_booking.ensures.changes
+    (makes_one {Of = λ _. Unit {0}} {May = λ r. HasRowid r.bookings} c.insert_booking.ensures.changes
     (λ r of. (omega (arith, small), omega (arith, c.get.ensures.same, c.get.ensures.range))) (λ r of may. (tt, may)) (λ r of. refl))
     (λ r of. (found r of).1) (λ r of may. tt) (λ r of. tt) (λ r of may. may.free)
     (λ r of. ap (λ (row : BookingRow). let all : Rows = record r {

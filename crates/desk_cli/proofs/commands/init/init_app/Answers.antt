@@ -1,0 +1,4 @@
+use Rattle.desk_cli.proofs.commands.init.init_app.Goals as goal
+
+pub returns : goal.returns
+returns c = c.with_word.ensures _ _ c.command_with_settings.ensures c.place-file.ensures.rule c.place-file.ensures.local
