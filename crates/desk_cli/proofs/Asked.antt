@@ -7,7 +7,7 @@ use Rattle.sqlite.specs.Held.{Held}
 use Rattle.sqlite_trees.specs.declared.store.Store.{Ghosts}
 use Rattle.desk_cli.specs.Answered.{AtPorts}
 use Rattle.desk_cli.specs.CommandLine.{named_by}
-use Rattle.desk_cli.specs.Doing.{DoesAsked}
+use Rattle.desk_cli.specs.Doing.{AtPaths, DoesAsked}
 use Rattle.desk_cli.specs.Endings.{ending_of}
 use Rattle.desk_cli.specs.Faults.{ending_of_fault, ending_of_result}
 use Rattle.desk_cli.specs.Named.{Asked, Named, TellsNamed, asked_of, bad, names, refused}
@@ -50,15 +50,15 @@ fault_is_not_done Network = tt
 
 -- ---- runs
 
-module _ {S : Type 0} (g : Ghosts S) (Opens : Text → Held S → Type 0) (ports : AtPorts) (back : Option (Held S)) (left rest before after : Option (List ℕ)) where
-  does_all : (asked : Asked) (r : Result (Unit {0}) Fault) → Done ≡ ending_of_result r → DoesAsked g Opens ports back left rest before after r asked
-      → DoesAsked {T = Unit {0}} g Opens ports back left rest before after (Ok tt) asked
+module _ {S : Type 0} (g : Ghosts S) (paths : AtPaths S) (ports : AtPorts) (back : Option (Held S)) (left rest before after : Option (List ℕ)) where
+  does_all : (asked : Asked) (r : Result (Unit {0}) Fault) → Done ≡ ending_of_result r → DoesAsked g paths ports back left rest before after r asked
+      → DoesAsked {T = Unit {0}} g paths ports back left rest before after (Ok tt) asked
   does_all asked (Ok x) is does = does
   does_all asked (Err fault) is does = absurd (subst IsNotDone (sym is) (fault_is_not_done fault))
 
   -- a run that ends well has done what was asked
-  pub done_asked : (words : Given) (ending : Ending) → Runs g Opens ports back left rest before after words ending → ending ≡ Done
-      → (asked : Asked) × AsksFor words asked × DoesAsked {T = Unit {0}} g Opens ports back left rest before after (Ok tt) asked
+  pub done_asked : (words : Given) (ending : Ending) → Runs g paths ports back left rest before after words ending → ending ≡ Done
+      → (asked : Asked) × AsksFor words asked × DoesAsked {T = Unit {0}} g paths ports back left rest before after (Ok tt) asked
   done_asked words ending runs is = elim runs [
     | inl asked ↦ (asked.0, asked.1, does_all asked.0 asked.2.result (subst (λ e. e ≡ ending_of_result asked.2.result) is asked.2.ending_is) asked.2.does)
     | inr none ↦ elim none.ending_is [
@@ -75,7 +75,7 @@ module _ {S : Type 0} (g : Ghosts S) (Opens : Text → Held S → Type 0) (ports
 
   -- the words name a command, and it was done
   pub runs_command : (words : List Text) (command : Command) (ending : Ending) (r : Result (Unit {0}) Fault) → TellsNamed (named_by words) (Ok command) → ending ≡ ending_of_result r
-      → DoesAsked g Opens ports back left rest before after r (asked_of command) → Runs g Opens ports back left rest before after (Ok words) ending
+      → DoesAsked g paths ports back left rest before after r (asked_of command) → Runs g paths ports back left rest before after (Ok words) ending
   runs_command words command ending r tells is does = inl (asked_of command, tells, record { result = r; ending_is = is; does = does })
 
 -- words that name no command, or weren't read for want of memory
@@ -88,12 +88,12 @@ names_none (refused kinds) (Words error) ending tells is = inr (is, λ asked e. 
 names_none (names other) (Words error) ending tells is = absurd tells
 names_none (bad value) (Words error) ending tells is = absurd tells
 
-module _ {S : Type 0} (g : Ghosts S) (Opens : Text → Held S → Type 0) (ports : AtPorts) (left before : Option (List ℕ)) where
+module _ {S : Type 0} (g : Ghosts S) (paths : AtPaths S) (ports : AtPorts) (left before : Option (List ℕ)) where
   -- nothing was done
   pub runs_nothing : (words : List Text) (usage : Usage) (ending : Ending) → TellsNamed (named_by words) (Err usage) → ending ≡ ending_of usage
-      → Runs g Opens ports None left left before before (Ok words) ending
+      → Runs g paths ports None left left before before (Ok words) ending
   runs_nothing words usage ending tells is =
       inr (record { unopened = refl; unread = Keeps-refl left; unwritten = Keeps-refl before; ending_is = names_none (named_by words) usage ending tells is })
 
-  pub runs_out : (words : Given) (ending : Ending) → ending ≡ Failed → Runs g Opens ports None left left before before words ending
+  pub runs_out : (words : Given) (ending : Ending) → ending ≡ Failed → Runs g paths ports None left left before before words ending
   runs_out words ending is = inr (record { unopened = refl; unread = Keeps-refl left; unwritten = Keeps-refl before; ending_is = inl is })

@@ -9,7 +9,7 @@ use Rattle.registry_core.specs.Settings.{Settings}
 use Rattle.desk_engine.specs.declared.report_faults.ReportFault.{ReportFault}
 use Rattle.desk_cli.specs.Answered.{AtPorts}
 use Rattle.desk_cli.specs.Answering.{AnswersBy}
-use Rattle.desk_cli.specs.Doing.{OnDeskByRules, OnDeskFile}
+use Rattle.desk_cli.specs.Doing.{AtPaths, OnDeskByRules, OnDeskFile}
 use Rattle.desk_cli.specs.OnTables.{IsLeft, KeepsHeard, LeavesRules}
 use Rattle.desk_cli.specs.Printing.{PrintsAnswer, PrintsBy}
 use Rattle.desk_cli.specs.commands.Importing.{ImportsBy}
@@ -19,10 +19,10 @@ use Rattle.desk_cli.specs.declared.faults.Fault.TheVariants.{Exists, NotADesk, S
 use Rattle.desk_cli.proofs.OnTables.{leaves_rules}
 
 -- what is said of a desk's file, with what follows of the rules
-pub by_rules : {S T : Type 0} (g : Ghosts S) (Opens : Text → Held S → Type 0) (given_back : Option (Held S)) (result : Result T Fault) (file : Text) (Untouched : Type 0)
+pub by_rules : {S T : Type 0} (g : Ghosts S) (paths : AtPaths S) (given_back : Option (Held S)) (result : Result T Fault) (file : Text) (Untouched : Type 0)
     (Does : Held S → Settings → List Envelope → Type 0) → ((back : Held S) (c : Settings) (heard : List Envelope) → Does back c heard → LeavesRules g back c)
-    → OnDeskFile g Opens given_back result file Untouched Does → OnDeskByRules g Opens given_back result file Untouched Does
-by_rules g Opens given_back result file Untouched Does rules on = elim on [
+    → OnDeskFile g paths given_back result file Untouched Does → OnDeskByRules g paths given_back result file Untouched Does
+by_rules g paths given_back result file Untouched Does rules on = elim on [
   | inl done ↦ inl (
     done.0,
     done.1,

@@ -31,53 +31,65 @@ pub record OnDesk {S T : Type 0} (g : Ghosts S) (conn back : Held S) (result : R
   pub no_desk : HasCleanDisk (state g back) → HoldsNoDesk g conn → RefusesFile g conn back Untouched result
   pub clean : HasCleanDisk (state g back) → HasCleanDisk (state g conn)
 
--- What a connection to a file is, and the connection that a run gives back: the file was opened, and this was done with the connection; or
--- it couldn't be, and the streams are untouched.
-abbrev pub OnFile : {S T : Type 0} → (Text → Held S → Type 0) → Option (Held S) → Result T Fault → Text → Type 0 → (Held S → Held S → Type 0) → Type 0
-OnFile {S} Opens given_back result file Untouched Does =
-    ((conn back : Held S) × Opens file conn × (given_back ≡ Some back) × Does conn back)
-    ⊎ ((result ≡ Err File) × (given_back ≡ None) × Untouched)
+-- What is known of files by their paths: of a connection to one that was opened, and to one that was made; which can't be opened, and
+-- which can't be made.
+pub record AtPaths (S : Type 0) : Type 1 where
+  pub opens : Text → Held S → Type 0
+  pub makes : Text → Held S → Type 0
+  pub unopened : Text → Type 0
+  pub unmade : Text → Type 0
 
--- The same of a file that is to hold a desk: what is done with it is said of whatever the desk had heard, and of the connection that comes back.
-abbrev pub OnDeskFile : {S T : Type 0} → Ghosts S → (Text → Held S → Type 0) → Option (Held S) → Result T Fault → Text → Type 0 → (Held S → Settings → List Envelope → Type 0) → Type 0
-OnDeskFile g Opens given_back result file Untouched Does =
-    OnFile Opens given_back result file Untouched (λ conn back. OnDesk g conn back result Untouched (Does back))
+-- Of each connection this is known, whichever file it is to; and nothing of why there is none.
+abbrev pub known_alike : {S : Type 0} → (Held S → Type 0) → AtPaths S
+known_alike Known = record { opens = λ path conn. Known conn; makes = λ path conn. Known conn; unopened = λ path. Unit {0}; unmade = λ path. Unit {0} }
+
+-- What is known of a connection to a file, and which file gives none; and the connection that a run gives back: the file gave one, and this was
+-- done with it; or it gives none, and the streams are untouched.
+abbrev pub OnFile : {S T : Type 0} → (Text → Held S → Type 0) → (Text → Type 0) → Option (Held S) → Result T Fault → Text → Type 0 → (Held S → Held S → Type 0) → Type 0
+OnFile {S} Gives GivesNone given_back result file Untouched Does =
+    ((conn back : Held S) × Gives file conn × (given_back ≡ Some back) × Does conn back)
+    ⊎ (GivesNone file × (result ≡ Err File) × (given_back ≡ None) × Untouched)
+
+-- The same of a file that is opened, and is to hold a desk: what is done with it is said of whatever the desk had heard, and of the connection that comes back.
+abbrev pub OnDeskFile : {S T : Type 0} → Ghosts S → AtPaths S → Option (Held S) → Result T Fault → Text → Type 0 → (Held S → Settings → List Envelope → Type 0) → Type 0
+OnDeskFile g paths given_back result file Untouched Does =
+    OnFile paths.opens paths.unopened given_back result file Untouched (λ conn back. OnDesk g conn back result Untouched (Does back))
 
 -- The same, and however it ended, whatever a crash leaves of the desk goes by the registry's rules.
-abbrev pub OnDeskByRules : {S T : Type 0} → Ghosts S → (Text → Held S → Type 0) → Option (Held S) → Result T Fault → Text → Type 0 → (Held S → Settings → List Envelope → Type 0) → Type 0
-OnDeskByRules g Opens given_back result file Untouched Does =
-    OnDeskFile g Opens given_back result file Untouched (λ back c heard. Does back c heard × LeavesRules g back c)
+abbrev pub OnDeskByRules : {S T : Type 0} → Ghosts S → AtPaths S → Option (Held S) → Result T Fault → Text → Type 0 → (Held S → Settings → List Envelope → Type 0) → Type 0
+OnDeskByRules g paths given_back result file Untouched Does =
+    OnDeskFile g paths given_back result file Untouched (λ back c heard. Does back c heard × LeavesRules g back c)
 
--- What a connection to a file is; what is answered at the ports; the connection that a run gives back; what a reader has left before and
+-- What is known of files; what is answered at the ports; the connection that a run gives back; what a reader has left before and
 -- after, and what a writer holds before and after.
-module _ {S T : Type 0} (g : Ghosts S) (Opens : Text → Held S → Type 0) (ports : AtPorts) (given_back : Option (Held S)) (left rest before after : Option (List ℕ)) (result : Result T Fault) where
+module _ {S T : Type 0} (g : Ghosts S) (paths : AtPaths S) (ports : AtPorts) (given_back : Option (Held S)) (left rest before after : Option (List ℕ)) (result : Result T Fault) where
   -- what was asked was done, by how it ended; what isn't asked of a stream leaves it as it was
   abbrev pub DoesAsked : Asked → Type 0
   DoesAsked (lines c) = AnswersLines left rest before after c result × (given_back ≡ None)
   DoesAsked (init file c) =
-      OnFile Opens given_back result file (Unit {0}) (λ conn back. InitsBy g conn back c result)
+      OnFile paths.makes paths.unmade given_back result file (Unit {0}) (λ conn back. InitsBy g conn back c result)
       × Keeps left rest × Keeps before after
   DoesAsked (migrate file) =
-      OnFile Opens given_back result file (Unit {0}) (λ conn back. MigratesBy g conn back result)
+      OnFile paths.opens paths.unopened given_back result file (Unit {0}) (λ conn back. MigratesBy g conn back result)
       × Keeps left rest × Keeps before after
   DoesAsked (hear file) =
-      OnDeskByRules g Opens given_back result file (Keeps left rest × Keeps before after) (λ back c heard. HearsBy g back c heard left rest before after result)
+      OnDeskByRules g paths given_back result file (Keeps left rest × Keeps before after) (λ back c heard. HearsBy g back c heard left rest before after result)
   DoesAsked (import file sender) =
-      OnDeskByRules g Opens given_back result file (Keeps left rest × Keeps before after)
+      OnDeskByRules g paths given_back result file (Keeps left rest × Keeps before after)
       (λ back c heard. ImportsBy c heard sender (KeepsHeard g back c) (IsLeft g back c) left rest before after result)
   DoesAsked (serve file port connections) =
-      OnDeskByRules g Opens given_back result file (Keeps before after)
+      OnDeskByRules g paths given_back result file (Keeps before after)
       (λ back c heard. ServesBy c heard (KeepsHeard g back c) (IsLeft g back c) ports port connections before after result)
       × Keeps left rest
   DoesAsked (report file owner month) =
-      OnDeskByRules g Opens given_back result file (Keeps before after)
+      OnDeskByRules g paths given_back result file (Keeps before after)
       (λ back c heard. PrintsBy (KeepsHeard g back c heard) (IsLeft g back c heard None) before after (IsOwnersMonth (state_of c heard) owner month) result)
       × Keeps left rest
   DoesAsked (bands file gateway) =
-      OnDeskByRules g Opens given_back result file (Keeps before after)
+      OnDeskByRules g paths given_back result file (Keeps before after)
       (λ back c heard. PrintsBy (KeepsHeard g back c heard) (IsLeft g back c heard None) before after (IsBandAnswer (state_of c heard) gateway) result)
       × Keeps left rest
   DoesAsked (check file) =
-      OnDeskByRules g Opens given_back result file (Keeps before after)
+      OnDeskByRules g paths given_back result file (Keeps before after)
       (λ back c heard. PrintsBy (KeepsHeard g back c heard) (IsLeft g back c heard None) before after (IsCheck c heard) result)
       × Keeps left rest

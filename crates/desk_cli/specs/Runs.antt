@@ -12,7 +12,7 @@ use Rattle.sqlite.specs.Held.{Held}
 use Rattle.sqlite_trees.specs.declared.store.Store.{Ghosts}
 use Rattle.desk_cli.specs.Answered.{AtPorts}
 use Rattle.desk_cli.specs.CommandLine.{named_by}
-use Rattle.desk_cli.specs.Doing.{DoesAsked}
+use Rattle.desk_cli.specs.Doing.{AtPaths, DoesAsked}
 use Rattle.desk_cli.specs.Faults.{ending_of_result}
 use Rattle.desk_cli.specs.Named.{Asked, names}
 use Rattle.desk_cli.specs.declared.endings.Ending.{Ending}
@@ -51,14 +51,14 @@ EndsUnread kind Failed = kind ≡ OutOfMemory
 EndsUnread kind Misused = kind ≢ OutOfMemory
 EndsUnread kind _ = ⊥
 
--- What a connection to a file is; what is answered at the ports; the connection that a run gives back; what its reader has left before and
+-- What is known of files; what is answered at the ports; the connection that a run gives back; what its reader has left before and
 -- after, and what its writer holds before and after.
-module _ {S : Type 0} (g : Ghosts S) (Opens : Text → Held S → Type 0) (ports : AtPorts) (back : Option (Held S)) (left rest before after : Option (List ℕ)) where
+module _ {S : Type 0} (g : Ghosts S) (paths : AtPaths S) (ports : AtPorts) (back : Option (Held S)) (left rest before after : Option (List ℕ)) where
   -- what was asked was done, and the program ended by how that ended
   pub record Does (ending : Ending) (asked : Asked) : Type 0 where
     pub result : Result (Unit {0}) Fault
     pub ending_is : ending ≡ ending_of_result result
-    pub does : DoesAsked g Opens ports back left rest before after result asked
+    pub does : DoesAsked g paths ports back left rest before after result asked
 
   -- Nothing was asked: no file was opened, and nothing was read or written. The words name no command, or memory ran out.
   pub record AsksNothing (words : Given) (ending : Ending) : Type 0 where

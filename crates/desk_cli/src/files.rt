@@ -1,7 +1,7 @@
 //! Where a desk's file is, and how it is opened.
-ghost use Rattle.std.specs.Prelude.{◌≡◌, false, None, ℕ, List, IfOk, IfErr};
-ghost use Rattle.sqlite.specs.Held.{Held};
+ghost use Rattle.std.specs.Prelude.{◌≡◌, false, None, IfOk, IfErr};
 ghost use Rattle.sqlite_wal.specs.Files.{image_at};
+ghost use Rattle.desk_cli.specs.Doing.{AtPaths, known_alike};
 ghost use Rattle.desk_cli.specs.InFiles.{Shows};
 
 use crate::faults::Fault;
@@ -10,19 +10,21 @@ use std::path::Path;
 
 /// Opens one file as a database, by its path.
 pub trait Files<S: Alter>: Drop + Sized {
-    /// What is known of a connection to the file at a path.
-    ghost opens: { Self → List ℕ → Held S → Type 0 };
+    /// What is known of a connection to the file at a path, and which files can't be opened or made.
+    ghost paths: { Self → AtPaths S };
 
     /// The database of the file, which has to be there.
     fn open(self, path: &str) -> Result<Connection<S>, Fault>
-        ensures opened { IfOk result (λ conn. opens self path.now conn) }
+        ensures opened { IfOk result (λ conn. (paths self).opens path.now conn) }
+        ensures unopened { IfErr result (λ fault. (paths self).unopened path.now) }
         ensures idle { IfOk result (λ conn. conn.in_transaction ≡ false) }
         ensures unlimited { IfOk result (λ conn. conn.step_limit ≡ None) }
         ensures fault { IfErr result (λ fault. fault ≡ Fault.File) };
 
     /// The database of the file, which is made where there is none.
     fn make(self, path: &str) -> Result<Connection<S>, Fault>
-        ensures opened { IfOk result (λ conn. opens self path.now conn) }
+        ensures made { IfOk result (λ conn. (paths self).makes path.now conn) }
+        ensures unmade { IfErr result (λ fault. (paths self).unmade path.now) }
         ensures idle { IfOk result (λ conn. conn.in_transaction ≡ false) }
         ensures unlimited { IfOk result (λ conn. conn.step_limit ≡ None) }
         ensures fault { IfErr result (λ fault. fault ≡ Fault.File) };
@@ -36,8 +38,8 @@ pub(crate) struct HostFiles<'a, T: Start> {
 }
 
 impl<T: Start> Files<FileStore<FileFrom<T>>> for HostFiles<'_, T> {
-    // The connection shows what the files hold, on a disk that has given back what was written to it.
-    ghost opens = { λ files path conn. Shows (image_at T.Start) conn };
+    // A connection shows what the files hold, on a disk that has given back what was written to it. Std doesn't say why there is none.
+    ghost paths = { λ files. known_alike (Shows (image_at T.Start)) };
 
     fn open(self, path: &str) -> Result<Connection<FileStore<FileFrom<T>>>, Fault> {
         if !Path::new(path).is_file(self.rt) {

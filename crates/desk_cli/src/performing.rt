@@ -54,7 +54,7 @@ pub(crate) fn perform<S: Alter, N: Files<S>, B: Network, R: Read, W: Write>(
     reader: &mut R,
     answers: &mut W,
 ) -> Performed<S>
-    ensures { DoesAsked S.Store (N.opens files) (at_ports B.ports network.now B.Port.meaning B.Port.Reader.remaining B.Port.Writer.contents) result.1
+    ensures { DoesAsked S.Store (N.paths files) (at_ports B.ports network.now B.Port.meaning B.Port.Reader.remaining B.Port.Writer.contents) result.1
         (R.remaining reader.old) (R.remaining reader.new) (W.contents answers.old) (W.contents answers.new) result.0 (asked_of command.now) }
 {
     rules_are_kept();
@@ -85,13 +85,13 @@ fn init_file<S: Alter, N: Files<S>>(
     file: &str,
     config: Config,
 ) -> Performed<S>
-    ensures { OnFile (N.opens files) result.1 result.0 file.now (Unit {0}) (λ conn back. InitsBy S.Store conn back config result.0) }
+    ensures { OnFile (N.paths files).makes (N.paths files).unmade result.1 result.0 file.now (Unit {0}) (λ conn back. InitsBy S.Store conn back config result.0) }
 {
     on_file!(files.make(file), |conn| init_command(alloc, conn, config))
 }
 
 fn migrate_file<S: Alter, N: Files<S>>(alloc: Global, files: N, file: &str) -> Performed<S>
-    ensures { OnFile (N.opens files) result.1 result.0 file.now (Unit {0}) (λ conn back. MigratesBy S.Store conn back result.0) }
+    ensures { OnFile (N.paths files).opens (N.paths files).unopened result.1 result.0 file.now (Unit {0}) (λ conn back. MigratesBy S.Store conn back result.0) }
 {
     on_file!(files.open(file), |conn| migrate_command(alloc, conn))
 }
@@ -103,7 +103,7 @@ fn hear_file<S: Alter, N: Files<S>, R: Read, W: Write>(
     reader: &mut R,
     answers: &mut W,
 ) -> Performed<S>
-    ensures { OnDeskFile S.Store (N.opens files) result.1 result.0 file.now
+    ensures { OnDeskFile S.Store (N.paths files) result.1 result.0 file.now
         (Keeps (R.remaining reader.old) (R.remaining reader.new) × Keeps (W.contents answers.old) (W.contents answers.new))
         (λ back c heard. HearsBy S.Store back c heard (R.remaining reader.old) (R.remaining reader.new)
         (W.contents answers.old) (W.contents answers.new) result.0) }
@@ -122,7 +122,7 @@ fn import_file<S: Alter, N: Files<S>, R: Read, W: Write>(
     reader: &mut R,
     answers: &mut W,
 ) -> Performed<S>
-    ensures { OnDeskFile S.Store (N.opens files) result.1 result.0 file.now
+    ensures { OnDeskFile S.Store (N.paths files) result.1 result.0 file.now
         (Keeps (R.remaining reader.old) (R.remaining reader.new) × Keeps (W.contents answers.old) (W.contents answers.new))
         (λ back c heard. ImportsBy c heard sender.now (KeepsHeard S.Store back c) (IsLeft S.Store back c)
         (R.remaining reader.old) (R.remaining reader.new) (W.contents answers.old) (W.contents answers.new) result.0) }
@@ -142,7 +142,7 @@ fn serve_file<S: Alter, N: Files<S>, B: Network, W: Write>(
     connections: u32,
     answers: &mut W,
 ) -> Performed<S>
-    ensures { OnDeskFile S.Store (N.opens files) result.1 result.0 file.now
+    ensures { OnDeskFile S.Store (N.paths files) result.1 result.0 file.now
         (Keeps (W.contents answers.old) (W.contents answers.new))
         (λ back c heard. ServesBy c heard (KeepsHeard S.Store back c) (IsLeft S.Store back c)
         (at_ports B.ports network.now B.Port.meaning B.Port.Reader.remaining B.Port.Writer.contents) port connections (W.contents answers.old) (W.contents answers.new) result.0) }
@@ -161,7 +161,7 @@ fn report_file<S: Alter, N: Files<S>, W: Write>(
     month: &str,
     answers: &mut W,
 ) -> Performed<S>
-    ensures { OnDeskFile S.Store (N.opens files) result.1 result.0 file.now
+    ensures { OnDeskFile S.Store (N.paths files) result.1 result.0 file.now
         (Keeps (W.contents answers.old) (W.contents answers.new))
         (λ back c heard. PrintsBy (KeepsHeard S.Store back c heard) (IsLeft S.Store back c heard None)
         (W.contents answers.old) (W.contents answers.new) (IsOwnersMonth (state_of c heard) owner.now month.now) result.0) }
@@ -179,7 +179,7 @@ fn bands_file<S: Alter, N: Files<S>, W: Write>(
     gateway: &str,
     answers: &mut W,
 ) -> Performed<S>
-    ensures { OnDeskFile S.Store (N.opens files) result.1 result.0 file.now
+    ensures { OnDeskFile S.Store (N.paths files) result.1 result.0 file.now
         (Keeps (W.contents answers.old) (W.contents answers.new))
         (λ back c heard. PrintsBy (KeepsHeard S.Store back c heard) (IsLeft S.Store back c heard None)
         (W.contents answers.old) (W.contents answers.new) (IsBandAnswer (state_of c heard) gateway.now) result.0) }
@@ -196,7 +196,7 @@ fn check_file<S: Alter, N: Files<S>, W: Write>(
     file: &str,
     answers: &mut W,
 ) -> Performed<S>
-    ensures { OnDeskFile S.Store (N.opens files) result.1 result.0 file.now
+    ensures { OnDeskFile S.Store (N.paths files) result.1 result.0 file.now
         (Keeps (W.contents answers.old) (W.contents answers.new))
         (λ back c heard. PrintsBy (KeepsHeard S.Store back c heard) (IsLeft S.Store back c heard None)
         (W.contents answers.old) (W.contents answers.new) (IsCheck c heard) result.0) }

@@ -6,7 +6,7 @@ ghost use Rattle.clap.specs.Walk.{texts};
 ghost use Rattle.desk_cli.specs.Doing.{DoesAsked};
 ghost use Rattle.desk_cli.specs.Endings.{ending_of};
 ghost use Rattle.desk_cli.specs.Named.{Asked};
-ghost use Rattle.desk_cli.specs.Runs.{EndsUnread, IsNamed, IsUnread, Runs, given};
+ghost use Rattle.desk_cli.specs.Runs.{EndsUnread, Given, IsNamed, IsUnread, Runs, given};
 ghost use Rattle.desk_cli.specs.Served.{at_ports};
 
 use crate::endings::{Ending, ending_of};
@@ -32,9 +32,12 @@ pub fn run<E: Env + AllocGlobal, S: Alter, N: Files<S>, B: Network, R: Read, W: 
     answers: &mut W,
     faults: &mut F,
 ) -> (Ending, Option<Connection<S>>)
-    // With status 0 what a command that words name asks was done.
+    // Some words name a command, and what it asks was done, by how it ended; or they name none, or can't be had.
+    ensures runs { (words : Given) × Runs S.Store (N.paths files) (at_ports B.ports network.now B.Port.meaning B.Port.Reader.remaining B.Port.Writer.contents) result.1
+        (R.remaining reader.old) (R.remaining reader.new) (W.contents answers.old) (W.contents answers.new) words result.0 }
+    // So with status 0 what a command that words name asks was done.
     ensures done { result.0 ≡ Ending.Done → (asked : Asked) × IsNamed asked
-        × DoesAsked {T = Unit {0}} S.Store (N.opens files) (at_ports B.ports network.now B.Port.meaning B.Port.Reader.remaining B.Port.Writer.contents) result.1
+        × DoesAsked {T = Unit {0}} S.Store (N.paths files) (at_ports B.ports network.now B.Port.meaning B.Port.Reader.remaining B.Port.Writer.contents) result.1
         (R.remaining reader.old) (R.remaining reader.new) (W.contents answers.old) (W.contents answers.new) (Ok tt) asked }
     ensures quiet { result.0 ≡ Ending.Done → faults.new ≡ faults.old }
     // Where the words name no command no file was opened, nothing was read, and nothing was answered.
@@ -63,7 +66,7 @@ pub fn run_given<S: Alter, N: Files<S>, B: Network, R: Read, W: Write, F: Write>
     faults: &mut F,
 ) -> (Ending, Option<Connection<S>>)
     // The words name a command, and what it asks was done, by how it ended; or they name none, or can't be had.
-    ensures runs { Runs S.Store (N.opens files) (at_ports B.ports network.now B.Port.meaning B.Port.Reader.remaining B.Port.Writer.contents) result.1
+    ensures runs { Runs S.Store (N.paths files) (at_ports B.ports network.now B.Port.meaning B.Port.Reader.remaining B.Port.Writer.contents) result.1
         (R.remaining reader.old) (R.remaining reader.new) (W.contents answers.old) (W.contents answers.new) (given arguments) result.0 }
     ensures quiet { result.0 ≡ Ending.Done → faults.new ≡ faults.old }
     ensures misused { result.0 ≡ Ending.Misused
@@ -86,7 +89,7 @@ fn run_words<S: Alter, N: Files<S>, B: Network, R: Read, W: Write, F: Write>(
     answers: &mut W,
     faults: &mut F,
 ) -> (Ending, Option<Connection<S>>)
-    ensures runs { Runs S.Store (N.opens files) (at_ports B.ports network.now B.Port.meaning B.Port.Reader.remaining B.Port.Writer.contents) result.1
+    ensures runs { Runs S.Store (N.paths files) (at_ports B.ports network.now B.Port.meaning B.Port.Reader.remaining B.Port.Writer.contents) result.1
         (R.remaining reader.old) (R.remaining reader.new) (W.contents answers.old) (W.contents answers.new) (Ok (map string_bytes (into_iter_items arguments))) result.0 }
     ensures quiet { result.0 ≡ Ending.Done → faults.new ≡ faults.old }
     ensures misused { result.0 ≡ Ending.Misused
@@ -108,7 +111,7 @@ fn run_strings<S: Alter, N: Files<S>, B: Network, R: Read, W: Write, F: Write>(
     answers: &mut W,
     faults: &mut F,
 ) -> (Ending, Option<Connection<S>>)
-    ensures runs { Runs S.Store (N.opens files) (at_ports B.ports network.now B.Port.meaning B.Port.Reader.remaining B.Port.Writer.contents) result.1
+    ensures runs { Runs S.Store (N.paths files) (at_ports B.ports network.now B.Port.meaning B.Port.Reader.remaining B.Port.Writer.contents) result.1
         (R.remaining reader.old) (R.remaining reader.new) (W.contents answers.old) (W.contents answers.new) (Ok (map string_bytes strings.now)) result.0 }
     ensures quiet { result.0 ≡ Ending.Done → faults.new ≡ faults.old }
     ensures misused { result.0 ≡ Ending.Misused

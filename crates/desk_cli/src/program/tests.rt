@@ -1,5 +1,6 @@
 //! Whole runs of the program, over words, a file and a network of the tests.
 ghost use Rattle.std.specs.Prelude.{◌≡◌, ◌≢◌, false, None, IfOk};
+ghost use Rattle.desk_cli.specs.Doing.{known_alike};
 ghost use Rattle.desk_cli.specs.Served.{unknown};
 
 mod one_file;
@@ -65,7 +66,7 @@ impl OneFile {
 }
 
 impl Files<MemStore> for OneFile {
-    ghost opens = { λ files path conn. Unit {0} };
+    ghost paths = { λ files. known_alike (λ conn. Unit {0}) };
 
     fn open(self, _path: &str) -> Result<Connection<MemStore>, Fault> {
         self.opened().map_err(|_| Fault::File)

@@ -1,6 +1,9 @@
 use Rattle.desk_cli.proofs.Asked.{done_asked, some_words}
 use Rattle.desk_cli.proofs.program.run.Goals as goal
 
+pub returns-clause-runs : goal.returns-clause-runs
+returns-clause-runs g c = (_, c.run_given.ensures.runs)
+
 pub returns-clause-done : goal.returns-clause-done
 returns-clause-done g c done =
     let asked = done_asked _ _ _ _ _ _ _ _ _ _ c.run_given.ensures.runs done in

@@ -1,4 +1,4 @@
 use Rattle.desk_cli.proofs.files.HostFilesFilesFileStoreFileFrom.make.Goals as goal
 
-pub returns-in-Ok-clause-opened : goal.returns-in-Ok-clause-opened
-returns-in-Ok-clause-opened g c = λ clean. (c.in-Ok.ensures.opened clean, c.in-Ok.ensures.found clean)
+pub returns-in-Ok-clause-made : goal.returns-in-Ok-clause-made
+returns-in-Ok-clause-made g c = λ clean. (c.in-Ok.ensures.opened clean, c.in-Ok.ensures.found clean)
