@@ -402,6 +402,17 @@ def full_output(desk):
     desk.ends(0, "", "hear", file, given=MESSAGES, written=ANSWERS)
 
 
+def this_machine_alone(desk):
+    """The port is listened at on 127.0.0.1, and on no other address of the machine."""
+    program, port = desk.serving(desk.made(given=""), 1)
+    lines = [line.split() for name in ("tcp", "tcp6") for line in Path(f"/proc/net/{name}").read_text().splitlines()[1:]]
+    # of each socket that listens: its address, in hexadecimal digits, and its port
+    at = [address for address, _, found in (line[1].partition(":") for line in lines if line[3] == "0A") if int(found, 16) == port]
+    desk.wants(at == ["0100007F"], f"serve listens at {at}")
+    desk.wants(posted(port, MESSAGES.splitlines()[0]) + "\n" == ANSWERS[: nth(ANSWERS, 1)], "a client of this machine is served")
+    desk.ended(program)
+
+
 def slow_clients(desk):
     """Who says nothing is let go after ten seconds, and who says an octet now and then after thirty; then others are served."""
     file = desk.made(given="")
@@ -447,6 +458,7 @@ PARTS = [
     backups,
     full_disk,
     full_output,
+    this_machine_alone,
     slow_clients,
 ]
 
