@@ -1,13 +1,12 @@
 #!/usr/bin/env python3
-"""Measures what looks at hours: the sweep, a downlink on a gateway with many bookings, and both reports.
+"""Measures what looks at hours: the sweep, and a downlink on a gateway with many bookings. Of reports files.py tells.
 
     bench/hours.py [--built]
 
-It prints the microseconds of `sweep_peak` on lists of several sizes, of one DownBook on a gateway with so many bookings, and of
-both reports on so many uplinks and bookings. The sweep and the reports are timed inside tests of duty_core and desk_cli, which
-assert what they answer: `rt test` proves and builds them first, or with --built those are run that it built last. A DownBook is
-timed through `desk lines`: of two streams the one ends with 50,000 of them more, each refused since it collides with a booking, so
-that the bookings stay as many. All times are the least of five runs.
+It prints the microseconds of `sweep_peak` on lists of several sizes, and of one DownBook on a gateway with so many bookings. The
+sweep is timed inside a test of duty_core, which asserts what it answers: `rt test` proves and builds it first, or with --built the
+one is run that it built last. A DownBook is timed through `desk lines`: of two streams the one ends with 50,000 of them more, each
+refused since it collides with a booking, so that the bookings stay as many. All times are the least of five runs.
 """
 
 import argparse
@@ -19,14 +18,8 @@ import tempfile
 
 from normal_operation import DEVICES, ROOT, SECOND, Stream
 
-SWEEP = ("duty_core", "tests::sweeps::sweeps_by_size")
-OWNER = ("desk_cli", "tests::report_sizes::an_owner_with_many_uplinks")
-GATEWAY = ("desk_cli", "tests::report_sizes::a_gateway_with_many_bookings")
-
-# devices, uplinks
-OWNERS = [(200, 10_000), (200, 100_000), (5_000, 100_000), (1, 10_000), (1, 50_000)]
-
-BOOKINGS = [10_000, 100_000]
+SWEEPING = ROOT / "crates" / "duty_core"
+SWEEP = "tests::sweeps::sweeps_by_size"
 
 # between two uplinks, in microseconds: so far apart their downlinks keep every hour
 APART = 10_000_000
@@ -36,17 +29,14 @@ MORE = 50_000
 RUNS = 5
 
 
-def timed(test, **sizes):
-    """Runs the test with these sizes, and prints what it measured."""
-    crate, name = test
-    program = ROOT / "crates" / crate / "out" / f"{crate}_tests"
-    env = {**os.environ, **{word: str(size) for word, size in sizes.items()}}
+def time_sweeps():
+    """Prints what the test of the sweep measures."""
     least = {}
     for _ in range(RUNS):
-        ran = subprocess.run([program, name], env=env, capture_output=True, text=True)
+        ran = subprocess.run([SWEEPING / "out" / "duty_core_tests", SWEEP], capture_output=True, text=True)
         told = re.findall(r"^(\w+: .*), (\d+) microseconds$", ran.stdout, re.M)
         if ran.returncode != 0 or not told:
-            sys.exit(f"{name} ended with {ran.returncode}:\n{ran.stdout}{ran.stderr}")
+            sys.exit(f"{SWEEP} ended with {ran.returncode}:\n{ran.stdout}{ran.stderr}")
         for what, took in told:
             least[what] = min(int(took), least.get(what, int(took)))
     for what, took in least.items():
@@ -111,15 +101,10 @@ def seconds(lines, refused):
 
 def main():
     words = argparse.ArgumentParser(description=__doc__, formatter_class=argparse.RawDescriptionHelpFormatter)
-    words.add_argument("--built", action="store_true", help="take the tests that rt test built last")
+    words.add_argument("--built", action="store_true", help="take the test that rt test built last")
     if not words.parse_args().built:
-        for crate in ("duty_core", "desk_cli"):
-            subprocess.run(["rt", "test"], cwd=ROOT / "crates" / crate, check=True)
-    timed(SWEEP)
-    for devices, uplinks in OWNERS:
-        timed(OWNER, DESK_DEVICES=devices, DESK_UPLINKS=uplinks)
-    for bookings in BOOKINGS:
-        timed(GATEWAY, DESK_BOOKINGS=bookings)
+        subprocess.run(["rt", "test"], cwd=SWEEPING, check=True)
+    time_sweeps()
     # the first call may prove and build the program
     subprocess.run([ROOT / "desk", "lines"], stdin=subprocess.DEVNULL, check=True)
     for count in (100, 10_000, 100_000):

@@ -1,6 +1,7 @@
 //! Worked rows: what is delivered to a new desk, and what goes back. They hold over each kind of store that tests can make.
 ghost use Rattle.std.specs.Prelude.{◌≡◌, false, None, IfOk};
 
+mod csv_reports;
 mod data_frames;
 mod downlinks;
 mod failing;
@@ -9,10 +10,9 @@ mod importing;
 mod joins;
 mod limits;
 mod lines;
-mod lists;
 mod migrating;
+mod other_databases;
 mod refused_memory;
-mod report_sizes;
 mod reports;
 pub(crate) mod requests;
 pub(crate) mod rows;
@@ -21,7 +21,7 @@ mod stops;
 mod stored_lines;
 pub(crate) mod streams;
 mod sweeping;
-mod tables;
+mod texts;
 
 use desk_engine::{Outcome, deliver};
 use desk_store::{Keeper, Lists, Switched};

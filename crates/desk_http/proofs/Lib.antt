@@ -2,6 +2,7 @@ pub mod Digits
 pub mod Ended
 pub mod Ends
 pub mod FieldSteps
+pub mod GoingOn
 pub mod Named
 pub mod OneHead
 pub mod OneRequest

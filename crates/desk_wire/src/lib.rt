@@ -16,8 +16,6 @@ mod reading;
 mod reports;
 mod results;
 mod roles;
-#[cfg(test)]
-mod tests;
 mod type_names;
 mod verdicts;
 mod windows;

@@ -1,7 +1,6 @@
 use crate::hours::{clear, fits, peak, use_at};
 use crate::interval::Span;
 use crate::near::{NearRange, is_near, near_range};
-use crate::sweep::{in_order, sweep_fits, sweep_peak};
 use std::process::Abort;
 
 mod sweeps;
@@ -141,86 +140,5 @@ fn tells_what_is_near(rt: HostRuntime) {
             !is_near(&span(&rt, last, 1), start),
             "the last, at {start}"
         );
-    }
-}
-
-/// How many microseconds of the spans lie in the hour from `t`, counted one by one.
-fn counted_use(spans: &[Span], t: i64) -> u64 {
-    let hour = i128::from(t)..i128::from(t) + i128::from(HOUR);
-    let mut count: u64 = 0;
-    for span in spans {
-        for k in 0..span.len() {
-            if hour.contains(&(i128::from(span.start()) + i128::from(k))) {
-                count = count.saturating_add(1);
-            }
-        }
-    }
-    count
-}
-
-/// Whether no microsecond of the one is one of the other's, looked at one by one.
-fn is_apart(a: Span, b: Span) -> bool {
-    for j in 0..a.len() {
-        for k in 0..b.len() {
-            if i128::from(a.start()) + i128::from(j) == i128::from(b.start()) + i128::from(k) {
-                return false;
-            }
-        }
-    }
-    true
-}
-
-/// The small spans: of up to 3 microseconds, from one of -2 to 1 or from one of the 4 an hour
-/// later.
-fn small_span(rt: &impl Abort, i: u32) -> Span {
-    let start = i64::from(i / 4 % 4) - 2;
-    span(rt, if i < 16 { start } else { start + HOUR }, i % 4)
-}
-
-/// The greatest use of any hour. As an hour slides, microseconds of small spans enter or leave it
-/// only where it begins in these three places, so every t is among them but for hours with the same
-/// use.
-fn counted_peak(spans: &[Span]) -> u64 {
-    let mut most = 0;
-    for around in [-HOUR - 3, -3, HOUR - 3] {
-        for k in 0..8 {
-            most = most.max(counted_use(spans, around.saturating_add(k)));
-        }
-    }
-    most
-}
-
-#[test]
-fn agrees_with_counting(rt: HostRuntime) {
-    for i in 0..32 {
-        for j in 0..32 {
-            for k in 0..32 {
-                let [a, b, new] = [small_span(&rt, i), small_span(&rt, j), small_span(&rt, k)];
-                let most = counted_peak(&[a, b, new]);
-                assert_eq!(rt; peak(&[a, b, new]), u128::from(most), "at {i} {j} {k}");
-                assert!(rt; fits(&[a, b], new, most), "at {i} {j} {k}");
-                if let Some(less) = most.checked_sub(1) {
-                    assert!(rt; !fits(&[a, b], new, less), "at {i} {j} {k}");
-                }
-                if in_order(&[a, b, new]) {
-                    assert_eq!(rt;
-                        sweep_peak(&[a, b, new]),
-                        u128::from(most),
-                        "at {i} {j} {k}"
-                    );
-                }
-                if in_order(&[a, b]) {
-                    assert!(rt; sweep_fits(&[a, b], new, most), "at {i} {j} {k}");
-                    if let Some(less) = most.checked_sub(1) {
-                        assert!(rt; !sweep_fits(&[a, b], new, less), "at {i} {j} {k}");
-                    }
-                }
-                assert_eq!(rt;
-                    clear(&[a, b], new),
-                    is_apart(a, new) && is_apart(b, new),
-                    "at {i} {j} {k}"
-                );
-            }
-        }
     }
 }

@@ -1,14 +1,9 @@
-//! Frames at DR7, which is FSK: what they are told on a new desk, and on one that was made before desks took them.
+//! Frames at DR7, which is FSK.
 use super::downlinks::{ACCEPT, DEVICE_EUI, DOWN, DOWN_0, DOWN_2, UP_0, UP_1};
 use super::joins::{BAND, FIRST, FIRST_ADDED, NONCE_1};
-use super::migrating::{ADDED_BY_SECOND_SCHEMA, FIRST_SCHEMA, made_by};
 use super::rows::Row::{Asks, Books, Frames, Joins};
 use super::rows::Told::{Booked, Framed, Joined};
 use super::rows::{BODY, DEVICE, Down, Heard, Row, SUCCESS};
-use super::stops::{deliveries, expect_rows, opened, rows_after_each};
-use super::{deliver_each, hear_each};
-use sqlite::Connection;
-use std::test::Fail;
 
 /// FCnt 2, and 255 octets in all.
 const UP_OF_255: &str =
@@ -52,21 +47,3 @@ pub(super) static FSK: [Row; 14] = [
     // so is that of a join, six seconds after its request
     Books("bridge", 21, Down { uplink: 5, window: 2, octets: ACCEPT, ..DOWN }, Booked(1_155_072, "B5", 4, 1_706_745_606_061_696)),
 ];
-
-/// After the ten messages: a text that was refused while data rates ended at 6, and so wasn't heard.
-#[rattlefmt::skip]
-static HEARD_NOW: [Row; 1] = [
-    Frames("bridge", 20, Heard { time: 1_706_745_800_000_000, octets: UP_1, verdict: "1", ..HEARD }, Framed(3_680, "B4", false, 1, DEVICE_EUI, 3)),
-];
-
-#[test]
-fn a_desk_of_before_hears_it_under_its_number(rt: HostRuntime) -> Result<(), Fail> {
-    let deliveries = deliveries(rt.alloc())?;
-    let wanted = rows_after_each(&rt, &deliveries)?;
-    let schema = [FIRST_SCHEMA, ADDED_BY_SECOND_SCHEMA];
-    let conn = made_by(&rt, Connection::open_in_memory(rt.alloc())?, &schema)?;
-    let mut tables = expect_rows(&rt, opened(rt.alloc(), conn)?, wanted.last())?;
-    hear_each(&rt, &mut *tables, &deliveries);
-    let mut tables = expect_rows(&rt, tables, wanted.last())?;
-    deliver_each(&rt, &mut *tables, &HEARD_NOW)
-}

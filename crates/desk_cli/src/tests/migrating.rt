@@ -12,12 +12,8 @@ use std::process::Abort;
 use std::test::Fail;
 
 /// What made the tables of schema 1.
-pub(super) const FIRST_SCHEMA: &str =
+const FIRST_SCHEMA: &str =
     "CREATE TABLE meta (id INTEGER PRIMARY KEY, version INTEGER NOT NULL, receiver TEXT NOT NULL, operator TEXT NOT NULL, base INTEGER NOT NULL, addresses INTEGER NOT NULL) STRICT; CREATE TABLE sender (name TEXT PRIMARY KEY, role INTEGER NOT NULL) STRICT; CREATE TABLE reply (seq INTEGER PRIMARY KEY, sender TEXT NOT NULL, number INTEGER NOT NULL, message BLOB NOT NULL, answer BLOB NOT NULL, UNIQUE (sender, number)) STRICT; CREATE TABLE owner (name TEXT PRIMARY KEY) STRICT; CREATE TABLE gateway (name TEXT PRIMARY KEY) STRICT; CREATE TABLE device (eui BLOB PRIMARY KEY, join_eui BLOB NOT NULL, owner TEXT NOT NULL, floor INTEGER) STRICT; CREATE TABLE session (number INTEGER PRIMARY KEY, device BLOB NOT NULL, nonce INTEGER NOT NULL, next_down INTEGER NOT NULL, UNIQUE (device, nonce)) STRICT; CREATE TABLE uplink (number INTEGER PRIMARY KEY, session INTEGER NOT NULL, kind INTEGER NOT NULL, counter INTEGER NOT NULL, octets BLOB NOT NULL, start INTEGER NOT NULL, airtime INTEGER NOT NULL, band INTEGER NOT NULL, UNIQUE (session, kind, counter)) STRICT; CREATE TABLE copy (uplink INTEGER NOT NULL, gateway TEXT NOT NULL, ended INTEGER NOT NULL, freq INTEGER NOT NULL, dr INTEGER NOT NULL, PRIMARY KEY (uplink, gateway)) STRICT; CREATE TABLE booking (number INTEGER PRIMARY KEY, uplink INTEGER NOT NULL, gateway TEXT NOT NULL, session INTEGER NOT NULL, kind INTEGER NOT NULL, band INTEGER NOT NULL, start INTEGER NOT NULL, airtime INTEGER NOT NULL, state INTEGER NOT NULL) STRICT; CREATE INDEX device_owner ON device (owner, eui); CREATE INDEX uplink_start ON uplink (session, start); CREATE INDEX booking_start ON booking (gateway, start); CREATE INDEX booking_uplink ON booking (uplink)";
-
-/// What made the table that schema 2 has beside them.
-pub(super) const ADDED_BY_SECOND_SCHEMA: &str =
-    "CREATE TABLE band_limit (gateway TEXT NOT NULL, band INTEGER NOT NULL, value INTEGER NOT NULL, PRIMARY KEY (gateway, band)) STRICT";
 
 /// How each table is read, and how a row is put into it.
 #[rattlefmt::skip]
@@ -51,29 +47,17 @@ fn copy_rows<S: Alter, T: Alter>(
     Ok(())
 }
 
-/// The database, which is empty, gets these tables with the rows of a desk that has heard the ten messages.
-pub(super) fn made_by<R: Abort + AllocGlobal, S: Alter + Drop>(
+/// The database, which is empty, gets the tables of schema 1 with the rows of a desk that has heard the ten messages.
+fn first_in<R: Abort + AllocGlobal, S: Alter + Drop>(
     rt: &R,
     conn: Connection<S>,
-    schema: &[&str],
 ) -> Result<Connection<S>, Fail> {
     let mut tables = opening::<Tables<MemStore>>(rt.alloc(), 65_536)?;
     hear_each(rt, &mut *tables, &deliveries(rt.alloc())?);
     let mut from = Box::into_inner(tables).close();
     let mut conn = conn;
-    for batch in schema {
-        conn.execute_batch(batch)?;
-    }
+    conn.execute_batch(FIRST_SCHEMA)?;
     copy_rows(rt.alloc(), &mut from, &mut conn)?;
-    Ok(conn)
-}
-
-/// The database, which is empty, gets the tables of schema 1 with those rows.
-fn first_in<R: Abort + AllocGlobal, S: Alter + Drop>(
-    rt: &R,
-    conn: Connection<S>,
-) -> Result<Connection<S>, Fail> {
-    let mut conn = made_by(rt, conn, &[FIRST_SCHEMA])?;
     conn.execute_batch("UPDATE meta SET version = 1")?;
     Ok(conn)
 }

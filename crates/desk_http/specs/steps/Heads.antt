@@ -1,7 +1,7 @@
 -- How the octets that were read of a head stand.
 use Rattle.std.specs.Prelude.{◌≡◌, ℕ, List, [], length, Option}
 use Rattle.std.specs.Io.KnownBytes.{IsAtEnd}
-use Rattle.httparse.specs.Grammar.{RequestHead, HasNoRequest}
+use Rattle.httparse.specs.Grammar.{RequestHead, HasNoRequest, MayBecomeRequest}
 use Rattle.httparse.specs.Spans.{IsRequestAt, IsRequestOf, IsRequestWithin}
 use Rattle.httparse.specs.declared.spans.HeaderSpan.{HeaderSpan}
 use Rattle.desk_http.specs.Heads.{IsWithinLimits, IsNoHead}
@@ -19,5 +19,5 @@ EndsHead Closed octets headers rest = (octets ≡ []) × IsAtEnd rest
 -- what octets are of which all but the last were no head
 abbrev pub IsHeadStep : Step → List ℕ → List HeaderSpan → Type 0
 IsHeadStep (Whole spans) octets headers = IsRequestOf octets headers spans × IsRequestWithin octets headers spans
-IsHeadStep More octets headers = HasNoRequest octets
+IsHeadStep More octets headers = HasNoRequest octets × MayBecomeRequest octets
 IsHeadStep Refused octets headers = (rest : Option (List ℕ)) → IsNoHead octets rest

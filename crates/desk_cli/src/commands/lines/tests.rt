@@ -5,7 +5,7 @@ use super::lines_command;
 use crate::endings::Ending;
 use crate::faults::end;
 use crate::tests::config;
-use crate::tests::rows::{MALFORMED, OWNERS, REQUEST, deliveries_of};
+use crate::tests::rows::{MALFORMED, REQUEST};
 use crate::tests::streams::{Failing, Pieces};
 use std::alloc::Global;
 use std::io::{self, ErrorKind, Read, Write};
@@ -22,42 +22,6 @@ fn ran<R: Read, W: Write>(
     let mut faults = Vec::new(alloc);
     let ending = end(&mut faults, done);
     Ok((ending, faults))
-}
-
-#[test]
-fn one_run(rt: HostRuntime) -> Result<(), Fail> {
-    let mut input = String::new(rt.alloc());
-    let mut wanted = String::new(rt.alloc());
-    for delivery in &deliveries_of(rt.alloc(), &OWNERS)? {
-        input.push_str(delivery.text.as_str())?;
-        input.push('\n')?;
-        wanted.push_str(delivery.wanted.as_str())?;
-        wanted.push('\n')?;
-    }
-    let mut answers = Vec::new(rt.alloc());
-    let (ending, faults) = ran(rt.alloc(), &mut input.as_bytes(), &mut answers)?;
-    assert!(rt; ending == Ending::Done);
-    assert!(rt; answers.as_slice() == wanted.as_bytes());
-    assert!(rt; faults.is_empty());
-    Ok(())
-}
-
-#[test]
-fn other_inputs(rt: HostRuntime) -> Result<(), Fail> {
-    for (input, wanted) in [
-        ("", ""),
-        ("\n\n", ""),
-        ("{", MALFORMED),
-        ("{\n\n", MALFORMED),
-    ] {
-        let mut answers = Vec::new(rt.alloc());
-        let (ending, faults) = ran(rt.alloc(), &mut input.as_bytes(), &mut answers)?;
-        assert!(rt; ending == Ending::Done);
-        assert!(rt; answers.len() == wanted.len() + usize::from(!wanted.is_empty()));
-        assert!(rt; answers.starts_with(wanted.as_bytes()));
-        assert!(rt; faults.is_empty());
-    }
-    Ok(())
 }
 
 /// Takes all, and fails to hand it on.

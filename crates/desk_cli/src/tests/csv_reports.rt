@@ -1,20 +1,11 @@
-//! Gateway reports in CSV: the worked one, and each form of a field.
-use super::name;
-use crate::{CsvFault, read_report};
-use radio_core::{DataRate, Octets, Rate};
-use registry_core::{Envelope, JoinVerdict, Message, Report, Whole};
+//! Gateway reports in CSV: each form of a field, and every beginning of the worked one.
+use super::importing::WORKED;
+use desk_wire::{CsvFault, read_report};
+use radio_core::Name;
 use std::alloc::{AllocError, Global};
 use std::test::Fail;
 
 const HEADER: &[u8] = b"transaction,type,gateway,time_us,freq_hz,dr,phy,verdict\n";
-
-const WORKED: &[u8] =
-    b"transaction,type,gateway,time_us,freq_hz,dr,phy,verdict\n10,JoinHeard,gw-a,1706745600061696,868100000,5,00010000d07ed5b3703c2b1a000ba304000000a1b2c3d4,Good\n11,FrameHeard,gw-a,1706745700041216,868300000,5,400000a00100000011223344,0\n12,FrameHeard,gw-b,1706745700041220,868300000,5,400000a00100000011223344,0\n";
-
-const JOIN: &[u8] =
-    b"\x00\x01\x00\x00\xd0\x7e\xd5\xb3\x70\x3c\x2b\x1a\x00\x0b\xa3\x04\x00\x00\x00\xa1\xb2\xc3\xd4";
-
-const DATA: &[u8] = b"\x40\x00\x00\xa0\x01\x00\x00\x00\x11\x22\x33\x44";
 
 /// Records, each alone behind the header, that are envelopes.
 static TAKEN: [&[u8]; 12] = [
@@ -98,11 +89,8 @@ static WITHOUT: [(&[u8], CsvFault); 9] = [
 ];
 
 fn read(alloc: Global, text: &[u8]) -> Result<Result<usize, CsvFault>, Fail> {
-    let read = read_report(alloc, text, &name("bridge")?);
-    Ok(match read {
-        Ok(envelopes) => Ok(envelopes.len()),
-        Err(fault) => Err(fault),
-    })
+    let sender = Name::new(b"bridge").ok_or("no name")?;
+    Ok(read_report(alloc, text, &sender).map(|envelopes| envelopes.len()))
 }
 
 /// A text of the header and this many times these records.
@@ -114,54 +102,6 @@ fn text_of(alloc: Global, records: &[u8], times: usize) -> Result<Vec<u8>, Alloc
         text.extend_from_slice(b"\n")?;
     }
     Ok(text)
-}
-
-fn report(gateway: &str, time: u64, freq: u32, octets: &[u8]) -> Result<Report, &'static str> {
-    Ok(Report {
-        gateway: name(gateway)?,
-        time: Whole::new(time).ok_or("no whole number")?,
-        rate: Rate {
-            freq,
-            dr: DataRate::Dr5,
-        },
-        octets: Octets::new(octets).ok_or("no octets")?,
-    })
-}
-
-#[test]
-fn the_worked_report_is_three_envelopes(rt: HostRuntime) -> Result<(), Fail> {
-    let sender = name("bridge")?;
-    let Ok(envelopes) = read_report(rt.alloc(), WORKED, &sender) else {
-        return Err("no report".into());
-    };
-    let wanted = [
-        Envelope {
-            sender,
-            transaction: 10,
-            message: Message::JoinHeard {
-                report: report("gw-a", 1_706_745_600_061_696, 868_100_000, JOIN)?,
-                verdict: JoinVerdict::Good,
-            },
-        },
-        Envelope {
-            sender,
-            transaction: 11,
-            message: Message::FrameHeard {
-                report: report("gw-a", 1_706_745_700_041_216, 868_300_000, DATA)?,
-                verdict: Some(0),
-            },
-        },
-        Envelope {
-            sender,
-            transaction: 12,
-            message: Message::FrameHeard {
-                report: report("gw-b", 1_706_745_700_041_220, 868_300_000, DATA)?,
-                verdict: Some(0),
-            },
-        },
-    ];
-    assert!(rt; envelopes.as_slice() == wanted.as_slice());
-    Ok(())
 }
 
 #[test]
