@@ -145,12 +145,9 @@ fn deliver_each<R: Abort + AllocGlobal, K: Keeper>(
 fn rows_hold<R: Abort + AllocGlobal, K: Opened>(rt: &R) -> Result<(), Fail> {
     runs::have_their_outcomes::<R, K>(rt)?;
     runs::hours_have_their_outcomes::<R, K>(rt)?;
-    runs::texts_have_limits::<R, K>(rt)?;
     limits::bands_show_limits::<R, K>(rt)?;
     importing::reports_are_heard_in_order::<R, K>(rt)?;
-    reports::the_worked_report::<R, K>(rt)?;
-    reports::months_have_edges::<R, K>(rt)?;
-    reports::devices_stand_in_order::<R, K>(rt)
+    reports::are_told::<R, K>(rt)
 }
 
 #[test]

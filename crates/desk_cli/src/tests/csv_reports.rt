@@ -1,8 +1,8 @@
-//! Gateway reports in CSV: each form of a field, and every beginning of the worked one.
-use super::importing::WORKED;
+//! Gateway reports in CSV: each form of a field, and of a header.
 use desk_wire::{CsvFault, read_report};
 use radio_core::Name;
 use std::alloc::{AllocError, Global};
+use std::process::Abort;
 use std::test::Fail;
 
 const HEADER: &[u8] = b"transaction,type,gateway,time_us,freq_hz,dr,phy,verdict\n";
@@ -63,108 +63,82 @@ static REFUSED: [&[u8]; 36] = [
     b"transaction,type,gateway,time_us,freq_hz,dr,phy,verdict",
 ];
 
-/// Texts that have no header, or don't end.
-static WITHOUT: [(&[u8], CsvFault); 9] = [
-    (b"", CsvFault::Unended),
-    (b"transaction,type", CsvFault::Unended),
+/// Whole texts, and how many envelopes they are, or what is wrong with them.
+static TEXTS: [(&[u8], Result<usize, CsvFault>); 14] = [
+    (b"", Err(CsvFault::Unended)),
+    (b"transaction,type", Err(CsvFault::Unended)),
     (
         b"transaction,type,gateway,time_us,freq_hz,dr,phy,verdict\r",
-        CsvFault::Unended,
+        Err(CsvFault::Unended),
     ),
-    (b"\n", CsvFault::Header),
-    (b"\n\r\n\n", CsvFault::Header),
-    (b"10,FrameHeard,gw-a,0,0,0,00,0\n", CsvFault::Header),
+    (
+        b"transaction,type,gateway,time_us,freq_hz,dr,phy,verdict\n",
+        Ok(0),
+    ),
+    (b"\n", Err(CsvFault::Header)),
+    (b"\n\r\n\n", Err(CsvFault::Header)),
+    (b"10,FrameHeard,gw-a,0,0,0,00,0\n", Err(CsvFault::Header)),
     (
         b"transaction,type,gateway,time_us,freq_hz,dr,phy\n",
-        CsvFault::Header,
+        Err(CsvFault::Header),
     ),
     (
         b"transaction,type,gateway,time_us,freq_hz,dr,phy,verdict,\n",
-        CsvFault::Header,
+        Err(CsvFault::Header),
     ),
     (
         b"Transaction,type,gateway,time_us,freq_hz,dr,phy,verdict\nx\n",
-        CsvFault::Header,
+        Err(CsvFault::Header),
+    ),
+    (
+        b"\xef\xbb\xbftransaction,type,gateway,time_us,freq_hz,dr,phy,verdict\n10,FrameHeard,gw-a,0,0,0,00,0\n",
+        Ok(1),
+    ),
+    (
+        b"transaction,type,gateway,time_us,freq_hz,dr,phy,verdict\n10,FrameHeard,gw-a,0,0,0,00,0\n11,FrameHeard,gw-b,0,0,0,00,0\n",
+        Ok(2),
+    ),
+    // a fault behind a good record leaves nothing of it
+    (
+        b"transaction,type,gateway,time_us,freq_hz,dr,phy,verdict\n10,FrameHeard,gw-a,0,0,0,00,0\n11,FrameHeard,gw-b",
+        Err(CsvFault::Unended),
+    ),
+    (
+        b"transaction,type,gateway,time_us,freq_hz,dr,phy,verdict\n10,FrameHeard,gw-a,0,0,0,00,0\n11,FrameHeard,gw-b\n",
+        Err(CsvFault::Record(3)),
     ),
 ];
 
-fn read(alloc: Global, text: &[u8]) -> Result<Result<usize, CsvFault>, Fail> {
-    let sender = Name::new(b"bridge").ok_or("no name")?;
-    Ok(read_report(alloc, text, &sender).map(|envelopes| envelopes.len()))
-}
-
-/// A text of the header and this many times these records.
-fn text_of(alloc: Global, records: &[u8], times: usize) -> Result<Vec<u8>, AllocError> {
+/// The record, alone behind the header.
+fn text_of(alloc: Global, record: &[u8]) -> Result<Vec<u8>, AllocError> {
     let mut text = Vec::new(alloc);
     text.extend_from_slice(HEADER)?;
-    for _ in 0..times {
-        text.extend_from_slice(records)?;
-        text.extend_from_slice(b"\n")?;
-    }
+    text.extend_from_slice(record)?;
+    text.extend_from_slice(b"\n")?;
     Ok(text)
 }
 
-#[test]
-fn every_beginning_of_the_worked_report_is_unended_or_shorter(rt: HostRuntime) -> Result<(), Fail> {
-    for size in 0..WORKED.len() {
-        let wanted = match size {
-            56 => Ok(0),
-            155 => Ok(1),
-            230 => Ok(2),
-            _ => Err(CsvFault::Unended),
-        };
-        let read = read(rt.alloc(), &WORKED[..size])?;
-        assert!(rt; read == wanted, "{size}");
-    }
+fn expect<R: Abort + AllocGlobal>(
+    rt: &R,
+    text: &[u8],
+    wanted: Result<usize, CsvFault>,
+) -> Result<(), Fail> {
+    let sender = Name::new(b"bridge").ok_or("no name")?;
+    let told = read_report(rt.alloc(), text, &sender).map(|envelopes| envelopes.len());
+    assert!(rt; told == wanted, "{text:?}");
     Ok(())
 }
 
 #[test]
-fn records_are_taken_or_refused_by_their_number(rt: HostRuntime) -> Result<(), Fail> {
+fn reports_are_taken_or_refused_by_the_first_fault(rt: HostRuntime) -> Result<(), Fail> {
     for record in &TAKEN {
-        let text = text_of(rt.alloc(), record, 1)?;
-        let read = read(rt.alloc(), text.as_slice())?;
-        assert!(rt; read == Ok(1), "{record:?}");
+        expect(&rt, &text_of(rt.alloc(), record)?, Ok(1))?;
     }
     for record in &REFUSED {
-        let text = text_of(rt.alloc(), record, 1)?;
-        let read = read(rt.alloc(), text.as_slice())?;
-        assert!(rt; read == Err(CsvFault::Record(2)), "{record:?}");
+        expect(&rt, &text_of(rt.alloc(), record)?, Err(CsvFault::Record(2)))?;
     }
-    for (text, fault) in &WITHOUT {
-        let read = read(rt.alloc(), text)?;
-        assert!(rt; read == Err(*fault), "{text:?}");
+    for (text, wanted) in &TEXTS {
+        expect(&rt, text, *wanted)?;
     }
-    Ok(())
-}
-
-#[test]
-fn a_fault_behind_good_records_gives_nothing(rt: HostRuntime) -> Result<(), Fail> {
-    let mut cut = WORKED.to_vec(rt.alloc())?;
-    cut.extend_from_slice(b"13,FrameHeard,gw-a,1706745700041220")?;
-    assert!(rt; read(rt.alloc(), cut.as_slice())? == Err(CsvFault::Unended));
-    cut.push(b'\n')?;
-    assert!(rt; read(rt.alloc(), cut.as_slice())? == Err(CsvFault::Record(5)));
-    let mut marked = b"\xef\xbb\xbf".to_vec(rt.alloc())?;
-    marked.extend_from_slice(WORKED)?;
-    assert!(rt; read(rt.alloc(), marked.as_slice())? == Ok(3));
-    Ok(())
-}
-
-#[test]
-fn sizes_are_taken_up_to_their_limits(rt: HostRuntime) -> Result<(), Fail> {
-    let record = b"1,FrameHeard,g,0,0,0,,";
-    let full = text_of(rt.alloc(), record, 100_000)?;
-    assert!(rt; read(rt.alloc(), full.as_slice())? == Ok(100_000));
-    let many = text_of(rt.alloc(), record, 100_001)?;
-    assert!(rt; read(rt.alloc(), many.as_slice())? == Err(CsvFault::Size));
-    let mut bad = full;
-    bad.extend_from_slice(b"x\n")?;
-    assert!(rt; read(rt.alloc(), bad.as_slice())? == Err(CsvFault::Size));
-    let mut long = HEADER.to_vec(rt.alloc())?;
-    long.resize(16_777_216, b'\n')?;
-    assert!(rt; read(rt.alloc(), long.as_slice())? == Ok(0));
-    long.push(b'\n')?;
-    assert!(rt; read(rt.alloc(), long.as_slice())? == Err(CsvFault::Size));
     Ok(())
 }

@@ -8,16 +8,16 @@ use std::alloc::Global;
 use std::process::Abort;
 use std::test::Fail;
 
-pub(super) const WORKED: &[u8] =
+const WORKED: &[u8] =
     b"transaction,type,gateway,time_us,freq_hz,dr,phy,verdict\n10,JoinHeard,gw-a,1706745600061696,868100000,5,00010000d07ed5b3703c2b1a000ba304000000a1b2c3d4,Good\n11,FrameHeard,gw-a,1706745700041216,868300000,5,400000a00100000011223344,0\n12,FrameHeard,gw-b,1706745700041220,868300000,5,400000a00100000011223344,0\n";
 
 /// A used number with another message, a frame of an unknown gateway, a repeat, and a new frame.
 const MIXED: &[u8] =
     b"transaction,type,gateway,time_us,freq_hz,dr,phy,verdict\n11,FrameHeard,gw-b,1706745700041216,868300000,5,400000a00100000011223344,0\n13,FrameHeard,gw-c,1706745700041216,868300000,5,400000a00100000011223344,0\n12,FrameHeard,gw-b,1706745700041220,868300000,5,400000a00100000011223344,0\n14,FrameHeard,gw-a,1706745800041216,868300000,5,400000a00100010011223344,1\n";
 
-pub(super) type Told = (u8, &'static str);
+type Told = (u8, &'static str);
 
-pub(super) static WORKED_ANSWERS: [Told; 3] = [
+static WORKED_ANSWERS: [Told; 3] = [
     (
         0,
         r#"{"Airtime":61696,"Band":"B3","Copy":false,"DevAddr":"01a00000","MessageType":"JoinHeardAns","ProtocolVersion":"1.0","ReceiverID":"bridge","Result":{"Description":"","ResultCode":"Success"},"SenderID":"desk","TransactionID":10,"Uplink":1}"#,
@@ -80,7 +80,7 @@ fn imported<K: Keeper>(
 }
 
 /// The report is imported whole, and each answer is the one that is told.
-pub(super) fn expect_imported<R: Abort + AllocGlobal, K: Keeper>(
+fn expect_imported<R: Abort + AllocGlobal, K: Keeper>(
     rt: &R,
     keeper: &mut K,
     text: &[u8],

@@ -1,12 +1,9 @@
-//! A desk of schema 1 is moved to schema 2: with all that it holds, and over a stop at each call of its files.
-use super::stops::{
-    connected, copied, deliveries, expect_rows, file_of, opened, opened_files, rows_after_each,
-};
+//! A desk of schema 1 is moved to schema 2 with all that it holds.
+use super::stops::{deliveries, expect_rows, opened, rows_after_each};
 use super::{hear_each, opening, ready};
 use desk_store::StoreFault;
 use desk_tables::Tables;
-use sqlite::{Alter, Connection, Files, MemStore};
-use sqlite_disk::{Crash, Disk, Fuse, Memory};
+use sqlite::{Alter, Connection, MemStore};
 use std::alloc::Global;
 use std::process::Abort;
 use std::test::Fail;
@@ -117,100 +114,4 @@ fn other_tables_are_not_moved(rt: HostRuntime) -> Result<(), Fail> {
         assert!(rt; fault == Some(*wanted), "{batch}");
     }
     Ok(())
-}
-
-// ---- over files that stop
-
-/// More than a move makes.
-const MOST_CALLS: u64 = 1_000;
-
-/// The files, which are empty, get a desk of schema 1.
-fn first_files<R: Abort + AllocGlobal, D: Disk + Drop>(
-    rt: &R,
-    files: Files<D>,
-) -> Result<Files<D>, Fail> {
-    let conn = first_in(rt, opened_files(rt.alloc(), files, 1)?)?;
-    Ok(conn.into_store().close())
-}
-
-/// The desk is moved, or the disk failed; whether it did, and the store.
-fn moved_or_stopped<R: Abort + AllocGlobal, S: Alter + Drop>(
-    rt: &R,
-    conn: Connection<S>,
-) -> Result<(bool, S), Fail> {
-    let (fault, conn) = moved(rt.alloc(), conn)?;
-    assert!(rt; matches!(fault, None | Some(StoreFault::Disk)));
-    Ok((fault.is_some(), conn.into_store()))
-}
-
-/// The desk is moved in files that stop, or it isn't; whether the disk failed, and what is there then.
-fn move_in<R: Abort + AllocGlobal, D: Disk + Drop>(
-    rt: &R,
-    files: Files<D>,
-) -> Result<(bool, Files<D>), Fail> {
-    match connected(rt.alloc(), files, 2) {
-        Ok(conn) => {
-            let (stopped, store) = moved_or_stopped(rt, conn)?;
-            Ok((stopped, store.close()))
-        }
-        Err(files) => Ok((true, files)),
-    }
-}
-
-/// The desk of the connection has schema 1 or schema 2, and these rows.
-fn expect_either<R: Abort + AllocGlobal, S: Alter + Drop>(
-    rt: &R,
-    conn: Connection<S>,
-    wanted: Option<&String>,
-) -> Result<(), Fail> {
-    let (fault, conn) = moved(rt.alloc(), conn)?;
-    assert!(rt; matches!(fault, None | Some(StoreFault::SchemaVersion)));
-    expect_rows(rt, opened(rt.alloc(), conn)?, wanted)?;
-    Ok(())
-}
-
-/// So has the one that is in the files.
-fn has_rows<R: Abort + AllocGlobal, D: Disk + Drop>(
-    rt: &R,
-    files: Files<D>,
-    wanted: Option<&String>,
-) -> Result<(), Fail> {
-    expect_either(rt, opened_files(rt.alloc(), files, 3)?, wanted)
-}
-
-/// One move in files of which the log passes so many calls on, and both ways on from its stop. Whether it met one.
-fn stops_once<R: Abort + AllocGlobal>(
-    rt: &R,
-    files: &Files<Memory>,
-    calls: u64,
-    wanted: Option<&String>,
-) -> Result<bool, Fail> {
-    let fused = Files {
-        log: Fuse::new(file_of(rt.alloc(), files.log.bytes())?, calls),
-        db: Fuse::new(file_of(rt.alloc(), files.db.bytes())?, u64::MAX),
-    };
-    let (stopped, mut left) = move_in(rt, fused)?;
-    has_rows(rt, copied(rt.alloc(), &left)?, wanted)?;
-    left.log.crash();
-    left.db.crash();
-    has_rows(rt, copied(rt.alloc(), &left)?, wanted)?;
-    Ok(stopped)
-}
-
-#[test]
-fn a_stop_leaves_one_schema_or_the_other(rt: HostRuntime) -> Result<(), Fail> {
-    let deliveries = deliveries(rt.alloc())?;
-    let wanted = rows_after_each(&rt, &deliveries)?;
-    let empty = Files {
-        log: Memory::new(rt.alloc()),
-        db: Memory::new(rt.alloc()),
-    };
-    let files = first_files(&rt, empty)?;
-    for calls in 0..MOST_CALLS {
-        if !stops_once(&rt, &files, calls, wanted.last())? {
-            assert!(rt; calls > 2);
-            return Ok(());
-        }
-    }
-    Err("each move met a stop".into())
 }

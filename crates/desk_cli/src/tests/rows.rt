@@ -240,6 +240,8 @@ pub(crate) const TOWN: &str = r#""Owner":"town""#;
 
 pub(crate) const CITY: &str = r#""Owner":"city""#;
 
+pub(crate) const PORT: &str = r#""Owner":"port""#;
+
 pub(crate) const LONG_OWNER: &str = r#""Owner":"abcdefghijklmnopqrstuvwxyzabcdefg""#;
 
 // The tables are statics: a proof goes through all rows of a constant where it is used, which takes minutes.
@@ -303,6 +305,8 @@ const OTHER_OF_CITY: &str =
 pub(crate) const DEVICE_TO_TOWN: &str = r#""DevEUI":"0004a30b001a2b3c","Owner":"town""#;
 
 pub(crate) const DEVICE_TO_CITY: &str = r#""DevEUI":"0004a30b001a2b3c","Owner":"city""#;
+
+pub(crate) const DEVICE_TO_PORT: &str = r#""DevEUI":"0004a30b001a2b3c","Owner":"port""#;
 
 const OTHER_TO_TOWN: &str = r#""DevEUI":"0004a30b001a2b3d","Owner":"town""#;
 

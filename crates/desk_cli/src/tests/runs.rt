@@ -7,11 +7,10 @@ use super::downlinks::{
 use super::fsk::FSK;
 use super::joins::{JOINS, ONE_ADDRESS};
 use super::limits::{FIRST_LIMITS, LIMITS, LOWERED};
-use super::rows::{ADDED, MALFORMED, OWNERS, REGISTRY, REQUEST, Row, SETUP, deliveries_of};
-use super::{Opened, deliver_each, expect, expect_told, opening};
-use desk_engine::{deliver, run};
+use super::rows::{OWNERS, REGISTRY, Row, SETUP, deliveries_of};
+use super::{Opened, deliver_each, expect_told, opening};
+use desk_engine::run;
 use desk_store::Keeper;
-use std::alloc::Global;
 use std::process::Abort;
 use std::test::Fail;
 
@@ -85,62 +84,4 @@ pub(super) fn hours_have_their_outcomes<R: Abort + AllocGlobal, K: Opened>(
     let lowered = [&SETUP[..], &HOUR_BEGUN, &HOURS, &LIMITS, &LOWERED];
     expect_run::<R, K>(rt, 65_536, &lowered)?;
     expect_run::<R, K>(rt, 65_536, &[&SETUP[..], &FIRST_LIMITS])
-}
-
-/// The worked request and so many spaces.
-fn spaced(alloc: Global, spaces: usize) -> Result<Vec<u8>, Fail> {
-    let mut text = REQUEST.as_bytes().to_vec(alloc)?;
-    for _ in 0..spaces {
-        text.push(b' ')?;
-    }
-    Ok(text)
-}
-
-/// The worked request with this octet in its owner's name.
-fn with_octet(alloc: Global, octet: u8) -> Result<Vec<u8>, Fail> {
-    let mut text = Vec::new(alloc);
-    for (place, other) in REQUEST.as_bytes().iter().enumerate() {
-        text.push(if place == 119 { octet } else { *other })?;
-    }
-    Ok(text)
-}
-
-/// The worked request with a further member: so many arrays, one in another.
-fn nested(alloc: Global, arrays: usize) -> Result<Vec<u8>, Fail> {
-    let mut text = b"{\"More\":".to_vec(alloc)?;
-    for _ in 0..arrays {
-        text.push(b'[')?;
-    }
-    for _ in 0..arrays {
-        text.push(b']')?;
-    }
-    text.push(b',')?;
-    for octet in REQUEST.as_bytes().iter().skip(1) {
-        text.push(*octet)?;
-    }
-    Ok(text)
-}
-
-fn expect_malformed<R: Abort + AllocGlobal, K: Keeper>(rt: &R, keeper: &mut K, text: &[u8]) {
-    let outcome = deliver(rt.alloc(), keeper, text);
-    expect(rt, &outcome, 1, MALFORMED);
-}
-
-/// Texts that are longer, deeper or of other octets than a message may be, and between them one at the limit of each kind.
-pub(super) fn texts_have_limits<R: Abort + AllocGlobal, K: Opened>(rt: &R) -> Result<(), Fail> {
-    let mut keeper = opening::<K>(rt.alloc(), 65_536)?;
-    expect_malformed(rt, &mut *keeper, &with_octet(rt.alloc(), 255)?);
-    expect_malformed(rt, &mut *keeper, &nested(rt.alloc(), 1_000)?);
-    expect_malformed(rt, &mut *keeper, &spaced(rt.alloc(), 65_414)?);
-    let longest = spaced(rt.alloc(), 65_413)?;
-    assert_eq!(rt; longest.len(), 65_536);
-    for text in [
-        longest,
-        nested(rt.alloc(), 126)?,
-        with_octet(rt.alloc(), b'w')?,
-    ] {
-        let outcome = deliver(rt.alloc(), &mut *keeper, &text);
-        expect(rt, &outcome, 0, ADDED);
-    }
-    Ok(())
 }

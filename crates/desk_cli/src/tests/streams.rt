@@ -41,22 +41,16 @@ impl Read for Pieces<'_> {
 #[derive(Drop)]
 pub(crate) struct Failing {
     until_failure: usize,
-    /// How many there were.
-    pub(crate) writes: usize,
 }
 
 impl Failing {
     pub(crate) fn new(until_failure: usize) -> Self {
-        Failing {
-            until_failure,
-            writes: 0,
-        }
+        Failing { until_failure }
     }
 }
 
 impl Write for Failing {
     fn write(&mut self, buf: &[u8]) -> io::Result<usize> {
-        self.writes = self.writes.wrapping_add(1);
         if self.until_failure == 0 {
             return Err(ErrorKind::BrokenPipe.into());
         }

@@ -17,7 +17,7 @@ use std::io::{self, ErrorKind, Write};
 use std::process::Abort;
 use std::test::Fail;
 
-/// What a peer sends. So many reads of it succeed, and so many writes to it.
+/// What a peer sends. The read and the write of it that come after so many fail.
 #[derive(Clone, Copy)]
 struct Visit<'a> {
     sends: &'a [u8],
@@ -35,7 +35,7 @@ impl<'a> Visit<'a> {
     }
 }
 
-/// Keeps what is written. So many writes succeed.
+/// Keeps what is written, also after the one write that fails, which counts down.
 #[derive(Drop)]
 struct Kept {
     octets: Vec<u8>,
@@ -45,6 +45,7 @@ struct Kept {
 impl Write for Kept {
     fn write(&mut self, buf: &[u8]) -> io::Result<usize> {
         if self.until_failure == 0 {
+            self.until_failure = usize::MAX;
             return Err(ErrorKind::BrokenPipe.into());
         }
         self.until_failure -= 1;

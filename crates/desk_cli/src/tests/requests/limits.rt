@@ -1,5 +1,5 @@
-//! Heads and bodies: their forms, their limits, and every beginning of them.
-use super::responses::{ADDED, CUT_BODY, NO_HEAD, TOO_LONG};
+//! Heads and bodies: their forms, a head's limits, and every beginning of both.
+use super::responses::{ADDED, CUT_BODY, NO_HEAD};
 use super::{expect, posted};
 use crate::tests::opening;
 use crate::tests::rows::{OTHER_OWNER, REQUEST};
@@ -100,20 +100,6 @@ fn limits_of_a_head(rt: HostRuntime) -> Result<(), Fail> {
     expect(&rt, &mut *lists, input.as_bytes(), 0, 200, ADDED);
     let input = headed(alloc, 32)?;
     expect(&rt, &mut *lists, input.as_bytes(), 0, 200, ADDED);
-    Ok(())
-}
-
-#[test]
-fn limits_of_a_body(rt: HostRuntime) -> Result<(), Fail> {
-    let alloc = rt.alloc();
-    let mut lists = opening::<Lists>(alloc, 65_536)?;
-    let spaces = String::from_utf8(vec![in alloc; b' '; 65_413]?)?;
-    let message = format!(in alloc; "{REQUEST}{spaces}")?;
-    let input = posted(alloc, message.as_str(), "")?;
-    expect(&rt, &mut *lists, input.as_bytes(), 0, 200, ADDED);
-    let message = format!(in alloc; "{REQUEST}{spaces} ")?;
-    let input = posted(alloc, message.as_str(), "")?;
-    expect(&rt, &mut *lists, input.as_bytes(), 65_537, 413, TOO_LONG);
     Ok(())
 }
 

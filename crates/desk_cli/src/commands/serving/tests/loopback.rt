@@ -31,14 +31,6 @@ fn answered(rt: &HostRuntime, pieces: &[&[u8]]) -> Result<Vec<u8>, Fail> {
 }
 
 #[test]
-fn a_message(rt: HostRuntime) -> Result<(), Fail> {
-    let input = posted(rt.alloc(), REQUEST, "")?;
-    let response = answered(&rt, &[input.as_bytes()])?;
-    assert!(rt; response.as_slice() == ADDED.as_bytes());
-    Ok(())
-}
-
-#[test]
 fn a_head_in_pieces(rt: HostRuntime) -> Result<(), Fail> {
     let input = posted(rt.alloc(), REQUEST, "")?;
     let input = input.as_bytes();
@@ -46,13 +38,6 @@ fn a_head_in_pieces(rt: HostRuntime) -> Result<(), Fail> {
     let pieces = [&input[..1], &input[1..30], &input[30..31], &input[31..]];
     let response = answered(&rt, &pieces)?;
     assert!(rt; response.as_slice() == ADDED.as_bytes());
-    Ok(())
-}
-
-#[test]
-fn a_peer_that_closes_at_once(rt: HostRuntime) -> Result<(), Fail> {
-    let response = answered(&rt, &[])?;
-    assert!(rt; response.is_empty());
     Ok(())
 }
 
