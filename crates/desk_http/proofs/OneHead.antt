@@ -20,7 +20,7 @@ within (x ∷ front) tail (y ∷ octets) left e short =
     (found.0, cc)
 
 pub no_head_is_none : NoHeadIsNone
-no_head_is_none octets left after h (bad overflows) reads limits = omega (arith, overflows left h after reads, limits.1)
+no_head_is_none octets left after h (bad before last e goes overflows) reads limits = omega (arith, overflows left h after reads, limits.1)
 no_head_is_none octets left after h (cut_off some none goes ended) reads limits =
     none h after (reads.0, sym (append-nil octets) ∙ ap (λ l. octets ++ l) (sym ended) ∙ reads.1)
 no_head_is_none octets left after h (too_long none goes long) reads limits =

@@ -22,8 +22,8 @@ IsWithinLimits h = (length (print_request h) ≤ longest_head) × (length h.fiel
 abbrev pub MayGoOn : List ℕ → Type 0
 MayGoOn octets = (line left : List ℕ) → octets ≡ line ++ line_feed ∷ left → ¬ (AllPass is_newline line) → MayBecomeRequest (line ++ line_feed ∷ [])
 
--- What was read is no head: no head with so few headers begins with these octets; or they hold none, but might have become one, and the input ended after some of them, or a head has no more octets.
+-- What was read is no head: no head with so few headers begins with these octets, of which all but the last were to be read on; or they hold none, but might have become one, and the input ended after some of them, or a head has no more octets.
 pub data IsNoHead (octets : List ℕ) (rest : Option (List ℕ)) : Type 0 where
-  bad : RequestOverflows most_headers octets → IsNoHead octets rest
+  bad : (before : List ℕ) (last : ℕ) → octets ≡ before ++ last ∷ [] → MayGoOn before → RequestOverflows most_headers octets → IsNoHead octets rest
   cut_off : 0 < length octets → HasNoRequest octets → MayGoOn octets → IsAtEnd rest → IsNoHead octets rest
   too_long : HasNoRequest octets → MayGoOn octets → longest_head ≤ length octets → IsNoHead octets rest

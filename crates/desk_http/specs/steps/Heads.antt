@@ -2,9 +2,9 @@
 use Rattle.std.specs.Prelude.{◌≡◌, ℕ, List, [], length, Option}
 use Rattle.std.specs.Io.KnownBytes.{IsAtEnd}
 use Rattle.httparse.specs.Grammar.{RequestHead, HasNoRequest, MayBecomeRequest}
-use Rattle.httparse.specs.Spans.{IsRequestAt, IsRequestOf, IsRequestWithin}
+use Rattle.httparse.specs.Spans.{IsRequestAt, IsRequestOf, IsRequestWithin, RequestOverflows}
 use Rattle.httparse.specs.declared.spans.HeaderSpan.{HeaderSpan}
-use Rattle.desk_http.specs.Heads.{IsWithinLimits, IsNoHead}
+use Rattle.desk_http.specs.Heads.{IsWithinLimits, IsNoHead, most_headers}
 use Rattle.desk_http.specs.declared.heads.HeadEnd.{HeadEnd}
 use Rattle.desk_http.specs.declared.heads.HeadEnd.TheVariants.{Head, NoHead, Closed}
 use Rattle.desk_http.specs.declared.heads.Step.{Step}
@@ -20,4 +20,4 @@ EndsHead Closed octets headers rest = (octets ≡ []) × IsAtEnd rest
 abbrev pub IsHeadStep : Step → List ℕ → List HeaderSpan → Type 0
 IsHeadStep (Whole spans) octets headers = IsRequestOf octets headers spans × IsRequestWithin octets headers spans
 IsHeadStep More octets headers = HasNoRequest octets × MayBecomeRequest octets
-IsHeadStep Refused octets headers = (rest : Option (List ℕ)) → IsNoHead octets rest
+IsHeadStep Refused octets headers = RequestOverflows most_headers octets
