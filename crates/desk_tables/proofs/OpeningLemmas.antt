@@ -1,5 +1,5 @@
 -- What a desk's tables tell when they are opened.
-use Rattle.std.proofs.Common.{◌≡◌, ◌≢◌, ◌⊎◌, inl, inr, ℕ, ℤ, true, pos, [], ◌∷◌, Result, Ok, Err, IfErr, refl, sym, ap, subst, ◌∙◌}
+use Rattle.std.proofs.Common.{◌≡◌, ◌≢◌, ◌⊎◌, inl, inr, ℕ, ℤ, true, pos, [], ◌∷◌, Result, Ok, Err, IfErr, IsTrue, arith, refl, sym, ap, subst, ◌∙◌}
 use Rattle.std.specs.Result.{IsErrAnd}
 use Rattle.registry_core.specs.Settings.{Settings}
 use Rattle.sqlite_schema.specs.declared.schema.Schema.{Schema}
@@ -7,6 +7,7 @@ use Rattle.sqlite_value.specs.declared.value.Value.TheVariants.{Int, Text}
 use Rattle.sqlite_value.specs.Order.{column}
 use Rattle.sqlite_trees.specs.Tree.{Trees}
 use Rattle.sqlite.specs.Effect.{Database}
+use Rattle.sqlite.specs.State.{State, IsRolledBack, IsUnchanged, Survives}
 use Rattle.desk_store.specs.Calls.{IsUnavailability}
 use Rattle.desk_store.specs.declared.faults.StoreFault.{StoreFault}
 use Rattle.desk_store.specs.declared.faults.StoreFault.TheVariants.{Exists, NotADesk, SchemaVersion}
@@ -49,6 +50,30 @@ never_exists Disk is = cc
 never_exists Size is = cc
 never_exists Row is = cc
 never_exists Refused is = cc
+
+-- ---- what is returned tells its fault
+
+module _ {X : Type 0} where
+  pub failed_as : (a b : StoreFault) → a ≡ b → ◌≡◌ {A = Result X StoreFault} (Err a) (Err b)
+  failed_as a b is i = Err (is i)
+
+  pub told_fault : (a b : StoreFault) → ◌≡◌ {A = Result X StoreFault} (Err a) (Err b) → a ≡ b
+  told_fault a b is = cc
+
+  pub told_nothing : (x : X) (fault : StoreFault) → ◌≡◌ {A = Result X StoreFault} (Ok x) (Err fault) → ⊥
+  told_nothing x fault is = cc
+
+  pub stranger_not_version : ◌≡◌ {A = Result X StoreFault} (Err NotADesk) (Err SchemaVersion) → ⊥
+  stranger_not_version is = cc
+
+  pub stranger_not_taken : ◌≡◌ {A = Result X StoreFault} (Err NotADesk) (Err Exists) → ⊥
+  stranger_not_taken is = cc
+
+  pub version_not_stranger : ◌≡◌ {A = Result X StoreFault} (Err SchemaVersion) (Err NotADesk) → ⊥
+  version_not_stranger is = cc
+
+  pub version_not_taken : ◌≡◌ {A = Result X StoreFault} (Err SchemaVersion) (Err Exists) → ⊥
+  version_not_taken is = cc
 
 -- what the exit of a `?` returns is so of its fault
 pub failed_so : {X : Type 0} (P : StoreFault → Type 0) (fault : StoreFault) (result : Result X StoreFault) → IsErrAnd result (λ told. told ≡ fault)
@@ -106,3 +131,25 @@ pub trees_hold : (db : Database) (r : Rows) → Holds db r → TreesHold db.tree
 trees_hold db r has =
     let same : db ≡ record db { schema = _ } = λ i. record db { schema = has.ten.schema i } in
     subst (λ d. Holds d r) same has
+
+-- ---- a connection that was only read
+
+pub survives_itself : (Commits : Trees → Type 0) (s : State) → Survives s s Commits
+survives_itself Commits s = record {
+  clean = omega arith;
+  shield = λ shielded. shielded;
+  counts = omega arith;
+  limit = refl;
+  closes = λ clean up. inl up;
+  crash = λ clean trees may. inl may;
+}
+
+-- where all was committed, what was there stands, and is what is committed
+module _ (old new : State) (settled : IsTrue old.is_open → old.now ≡ old.committed) (up : IsTrue new.is_open) where
+  pub stands_read : IsUnchanged old new ⊎ IsRolledBack old new → (new.now ≡ old.now) × (new.committed ≡ old.committed)
+  stands_read (inl same) = (same.0.now_is, same.0.committed_is)
+  stands_read (inr back) = ((back.undone up).0 ∙ sym (settled (back.was_open up)), (back.undone up).1)
+
+  pub settled_read : IsUnchanged old new ⊎ IsRolledBack old new → new.now ≡ new.committed
+  settled_read (inl same) = same.0.now_is ∙ settled same.0.was_open ∙ sym same.0.committed_is
+  settled_read (inr back) = (back.undone up).0 ∙ sym (back.undone up).1

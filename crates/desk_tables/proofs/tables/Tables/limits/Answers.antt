@@ -1,7 +1,10 @@
 use Rattle.desk_rows.specs.order.RowsOf.{same_band}
 use Rattle.desk_tables.specs.Totals.{HaveIt, has_limit}
-use Rattle.desk_tables.proofs.LookUps.{kept_told}
+use Rattle.desk_tables.proofs.LookUps.{kept_told, read_told}
 use Rattle.desk_tables.proofs.tables.Tables.limits.Goals as goal
 
 pub returns-clause-told : goal.returns-clause-told
 returns-clause-told g c = kept_told _ _ _ _ _ _ (λ kept n. HaveIt same_band (has_limit kept) n) c.in_ok-up.ensures.up c.limits_in-answer.ensures c.tell.ensures
+
+pub returns-clause-read : goal.returns-clause-read
+returns-clause-read g c = read_told _ _ _ _ _ _ _ c.in_ok-up.ensures.up c.limits_in-answer.ensures c.tell.ensures
