@@ -4,10 +4,11 @@
     checks/strange_files.py [--program FILE]
 
 A text, a file of zeros, somebody's database, and a desk's file: of version 7, of schema 1, with the tables of the one
-schema and the version of the other, without its row of meta, with a bad name in it, and with a table more. `desk
-check`, `hear`, `import`, `report`, `bands` and `serve` get each of them. The port of `serve` is taken, so that it would
-tell of that if it bound the port before it has opened the file. An empty file is refused too, and is a database without
-tables then.
+schema and the version of the other, without its row of meta, with a bad name in it, with a table more, and of version
+7 with a table more. `desk check`, `hear`, `import`, `report`, `bands` and `serve` get each of them. The port of `serve`
+is taken, so that it would tell of that if it bound the port before it has opened the file. An empty file is refused
+too, and is a database without tables then. `desk init` makes no desk in somebody's database, whether or not an index or
+a view of it has a name of the desk's, in other letters.
 
 And a desk's file of which one value is out of its range, in the columns that messages and reports read: a message or a
 report that needs the row finds no desk, and leaves all rows as they are.
@@ -29,6 +30,7 @@ from common import ROOT, TABLES, TO_SCHEMA_1, add_program, copy_to, execute, rea
 
 # a status, and what is on standard error
 NOT_A_DESK = 1, "desk: not a desk\n"
+EXISTS = 1, "desk: exists\n"
 SCHEMA = 1, "desk: schema\n"
 FILE = 3, "desk: file\n"
 
@@ -41,6 +43,14 @@ CHANGED = [
     ("no row of meta", "DELETE FROM meta", NOT_A_DESK),
     ("a receiver that is no name", "UPDATE meta SET receiver = 'the desk'", NOT_A_DESK),
     ("a table more", "CREATE TABLE note (id INTEGER PRIMARY KEY) STRICT", NOT_A_DESK),
+    ("another version and a table more", "UPDATE meta SET version = 7; CREATE TABLE note (id INTEGER) STRICT", SCHEMA),
+]
+
+# what is in somebody's database beside its table, and what `init` tells of it
+UNMADE = [
+    ("nothing", "", NOT_A_DESK),
+    ("an index with a name of the desk's", "CREATE INDEX Booking_Start ON note (id)", EXISTS),
+    ("a view with a name of the desk's", "CREATE VIEW Owner AS SELECT id FROM note", EXISTS),
 ]
 
 # beside `serve`, whose words have a port
@@ -189,6 +199,10 @@ def main():
             removed(file)
         execute(file, "CREATE TABLE note (id INTEGER PRIMARY KEY, text TEXT)")
         refused(program, commands, "somebody's database", file, NOT_A_DESK)
+        for what, text, wanted in UNMADE:
+            removed(file)
+            execute(file, f"CREATE TABLE note (id INTEGER PRIMARY KEY); {text}")
+            refused(program, [["init", "town.db"]], f"init beside a table and {what}", file, wanted)
         for what, text, wanted in CHANGED:
             removed(file)
             subprocess.run([program, "init", file], check=True)

@@ -1,11 +1,13 @@
 -- What a desk's files hold is what a connection to them keeps, and what a stop leaves holds a desk.
-use Rattle.std.proofs.Common.{◌≡◌, inl, inr, List, Option, IsTrue, sym, subst, ◌∙◌}
+use Rattle.std.proofs.Common.{◌≡◌, inl, inr, List, Option, IsTrue, refl, sym, ap, ap₂, subst, ◌∙◌}
 use Rattle.std.proofs.Math.Logic.{∥∥₁_map}
 use Rattle.sqlite_disk.specs.declared.Disk.{Ghosts}
 use Rattle.sqlite_store.specs.declared.store.FileStore.{FileStore}
 use Rattle.sqlite_store.specs.FileStore as store
 use Rattle.sqlite_trees.specs.Tree.{Trees}
 use Rattle.sqlite_wal.specs.Recovery.{Image}
+use Rattle.sqlite_catalog.specs.Listing.{IsSound}
+use Rattle.sqlite.specs.Effect.{Database}
 use Rattle.sqlite.specs.Files.{HoldsDatabase, IsOpened, file_state, over_files}
 use Rattle.sqlite.specs.Held.{AreDatabases, Held}
 use Rattle.sqlite.specs.Start.{FindsIn}
@@ -13,12 +15,25 @@ use Rattle.sqlite.proofs.Theorems.{opens_again}
 use Rattle.registry_core.specs.declared.messages.Envelope.{Envelope}
 use Rattle.registry_core.specs.Heard.{IsHeard}
 use Rattle.registry_core.specs.Settings.{Settings}
+use Rattle.desk_store.specs.Kept.{Kept}
 use Rattle.desk_engine.specs.InOrder.{kept_after}
 use Rattle.desk_rows.specs.Schema.{desk_schema}
-use Rattle.desk_tables.specs.InOrder.{AreOfDesk}
-use Rattle.desk_tables.proofs.ReopeningLemmas.{opened_desk}
+use Rattle.desk_tables.specs.InOrder.{AreOfDesk, IsOfDesk}
+use Rattle.desk_tables.proofs.OneSchema.{one_schema}
 use Rattle.desk_cli.specs.InFiles.{HoldHeard, HoldLeft}
 use Rattle.desk_cli.specs.OnTables.{IsLeft, KeepsHeard}
+
+module _ {D : Type 0} {g : Ghosts D} (conn : Held (FileStore D g)) (c : Settings) (kept : Kept) where
+  -- the trees list the desk's schema, so they are listed in no other
+  pub opened_desk : IsOpened conn → (trees : Trees) → (file_state conn).committed.trees ≡ trees → AreOfDesk c kept trees → IsOfDesk c kept (file_state conn).now
+  opened_desk opened trees committed desk =
+      let now = (file_state conn).now in
+      let same_trees : now.trees ≡ trees = ap (λ (d : Database). d.trees) opened.0.clean ∙ committed in
+      let listed : IsSound desk_schema now.trees = subst (IsSound desk_schema) (sym same_trees) desk.in_order.held.ten.sound in
+      let live = opened.1 opened.0.is_open in
+      let schema : now.schema ≡ desk_schema = one_schema now.trees desk_schema now.schema refl listed live.0 in
+      let same : now ≡ record { schema = desk_schema; trees = trees } = ap₂ (λ s t. record { schema = s; trees = t }) schema same_trees in
+      subst (IsOfDesk c kept) (sym same) desk
 
 module _ {D : Type 0} {g : Ghosts D} (octets : Image) (conn : Held (FileStore D g)) where
   -- a desk that files held is found, all committed, and a crash leaves it

@@ -7,7 +7,7 @@ use crate::usage::Usage;
 use std::process::ExitCode;
 
 /// How the program ends. The exit statuses are this project's.
-#[derive(Clone, Copy, Debug, PartialEq, Eq)]
+#[derive(Clone, Copy, PartialEq, Eq)]
 pub enum Ending {
     /// It did what was asked. Status 0.
     Done,

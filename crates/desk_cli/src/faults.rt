@@ -10,7 +10,7 @@ use std::fmt::{self, Display, Formatter};
 use std::io::Write;
 
 /// Why a command isn't done. Its `Display` is what the fault line says after `desk: `.
-#[derive(Clone, Copy, Debug, PartialEq, Eq)]
+#[derive(Clone, Copy, PartialEq, Eq)]
 pub enum Fault {
     /// The file holds a table, index or view with a name of the desk's already.
     Exists,

@@ -10,14 +10,13 @@ ghost use Rattle.desk_cli.specs.OnTables.{IsFound, IsLeft};
 use crate::on_tables::run_on_tables;
 use desk_engine::Outcome;
 use desk_store::StoreFault;
-use desk_tables::Tables;
 use registry_core::Config;
 use sqlite::{Connection, FileStore, Files, Options};
 use sqlite_disk::{Crash, Memory};
 use std::alloc::Global;
 
-/// The machine stops at this moment and comes back, and what it left of the connection's files is opened as a desk. The connection to
-/// that; or why there is none.
+/// The machine stops at this moment and comes back, and what it left of the connection's files is opened. The connection to that; or
+/// why there is none.
 pub fn opened_after_stop<D: Crash + Drop>(
     alloc: Global,
     conn: Connection<FileStore<D>>,
@@ -29,9 +28,9 @@ pub fn opened_after_stop<D: Crash + Drop>(
     let mut files = conn.into_store().close();
     files.log.crash();
     files.db.crash();
-    match Tables::open_files(alloc, files, Options::new(2)) {
-        Ok(tables) => Ok(tables.close()),
-        Err((fault, _)) => Err(fault),
+    match Connection::open_files(alloc, files, Options::new(2)) {
+        Ok(again) => Ok(again),
+        Err(_) => Err(StoreFault::Disk),
     }
 }
 

@@ -6,12 +6,12 @@ mod data_frames;
 mod downlinks;
 mod failing;
 mod fsk;
+pub(crate) mod holding;
 mod importing;
 mod joins;
 mod limits;
 mod lines;
 mod migrating;
-mod other_databases;
 mod refused_memory;
 mod reports;
 pub(crate) mod requests;
@@ -26,6 +26,7 @@ mod texts;
 use desk_engine::{Outcome, deliver};
 use desk_store::{Keeper, Lists, Switched};
 use desk_tables::Tables;
+use holding::holds;
 use radio_core::Name;
 use registry_core::Config;
 use rows::{DEVICE_ADDED, Delivery, Row, SETUP, deliveries_of};
@@ -106,17 +107,14 @@ fn with_device<R: Abort + AllocGlobal, K: Opened>(rt: &R) -> Result<Box<K>, Fail
 
 /// The outcome has this number and this text.
 fn expect(rt: &impl Abort, outcome: &Outcome, number: u8, wanted: &str) {
-    match outcome {
-        Outcome::Answered(text) => {
-            assert_eq!(rt; number, 0, "{wanted}");
-            assert!(rt; text.as_slice() == wanted.as_bytes(), "{wanted}");
-        }
+    let is_so = match outcome {
+        Outcome::Answered(text) => number == 0 && text.as_slice() == wanted.as_bytes(),
         Outcome::Refused(refusal, text) => {
-            assert_eq!(rt; number, refusal.number(), "{wanted}");
-            assert!(rt; text.as_slice() == wanted.as_bytes(), "{wanted}");
+            number == refusal.number() && text.as_slice() == wanted.as_bytes()
         }
-        Outcome::Unavailable(_) => assert!(rt; false, "{wanted}"),
-    }
+        Outcome::Unavailable(_) => false,
+    };
+    holds(rt, is_so, wanted);
 }
 
 /// The outcome is what the delivery is told.

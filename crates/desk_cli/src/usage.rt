@@ -8,7 +8,7 @@ use clap::error::{Error, ErrorKind};
 use std::fmt::{self, Display, Formatter};
 
 /// A value that isn't in its form, or values that don't go together.
-#[derive(Clone, Copy, Debug, PartialEq, Eq)]
+#[derive(Clone, Copy, PartialEq, Eq)]
 pub enum BadValue {
     /// `--receiver` is no name.
     Receiver,
@@ -31,7 +31,7 @@ pub enum BadValue {
 }
 
 /// Why words name no command. Its `Display` is the text for the user.
-#[derive(Debug, Drop)]
+#[derive(Drop)]
 pub enum Usage {
     /// clap's error on the words, or the help that they ask for.
     Words(Error),

@@ -14,7 +14,6 @@ pub mod OneSchema
 pub mod OpeningLemmas
 pub mod Reading
 pub mod RefusedCommits
-pub mod ReopeningLemmas
 pub mod ShapeLemmas
 pub mod SpanLookUps
 pub mod Telling

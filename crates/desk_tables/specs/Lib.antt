@@ -2,7 +2,6 @@ pub mod Adopting
 pub mod InOrder
 pub mod Migrating
 pub mod Opening
-pub mod Reopening
 pub mod Store
 pub mod Totals
 pub mod steps

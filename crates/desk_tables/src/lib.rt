@@ -12,7 +12,6 @@ mod looks;
 mod making;
 mod migrating;
 mod opening;
-mod reopening;
 mod settle;
 mod shape;
 mod tables;

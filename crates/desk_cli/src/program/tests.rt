@@ -10,6 +10,7 @@ use crate::endings::Ending;
 use crate::faults::Fault;
 use crate::files::Files;
 use crate::listening::{Listening, Network};
+use crate::tests::holding::{holds, holds_at};
 use crate::tests::ready;
 use crate::words::tests::helps::LINES_HELP;
 use desk_http::ServeEnd;
@@ -178,7 +179,7 @@ static ROWS: [Row; 11] = [
 
 #[test]
 fn runs_of_words(rt: HostRuntime) -> Result<(), Fail> {
-    for (words, ending, answered, told) in &ROWS {
+    for (place, (words, ending, answered, told)) in ROWS.iter().enumerate() {
         let process = (Started { words: *words }, rt.alloc());
         let mut reader = INPUT.as_bytes();
         let mut answers = Vec::new(rt.alloc());
@@ -192,11 +193,11 @@ fn runs_of_words(rt: HostRuntime) -> Result<(), Fail> {
             &mut answers,
             &mut faults,
         );
-        assert!(rt; conn.is_none());
-        assert_eq!(rt; end, *ending, "at {words:?}");
-        assert!(rt; answers.as_slice() == answered.as_bytes(), "at {words:?}");
-        assert!(rt; faults.as_slice() == told.as_bytes(), "at {words:?}");
-        assert_eq!(rt; reader.is_empty(), *ending == Ending::Done, "at {words:?}");
+        holds_at(&rt, conn.is_none(), place);
+        holds_at(&rt, end == *ending, place);
+        holds_at(&rt, answers.as_slice() == answered.as_bytes(), place);
+        holds_at(&rt, faults.as_slice() == told.as_bytes(), place);
+        holds_at(&rt, reader.is_empty() == (*ending == Ending::Done), place);
     }
     Ok(())
 }
@@ -216,8 +217,12 @@ fn no_memory_for_the_words(rt: HostRuntime) -> Result<(), Fail> {
         &mut answers,
         &mut faults,
     );
-    assert_eq!(rt; end, Ending::Failed);
-    assert!(rt; answers.is_empty());
-    assert!(rt; faults.as_slice() == b"desk: unavailable\n".as_slice());
+    holds(&rt, end == Ending::Failed, "the ending");
+    holds(&rt, answers.is_empty(), "no answer");
+    holds(
+        &rt,
+        faults.as_slice() == b"desk: unavailable\n".as_slice(),
+        "the fault line",
+    );
     Ok(())
 }

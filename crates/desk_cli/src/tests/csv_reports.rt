@@ -1,4 +1,5 @@
 //! Gateway reports in CSV: each form of a field, and of a header.
+use super::holding::holds_at;
 use desk_wire::{CsvFault, read_report};
 use radio_core::Name;
 use std::alloc::{AllocError, Global};
@@ -120,25 +121,27 @@ fn text_of(alloc: Global, record: &[u8]) -> Result<Vec<u8>, AllocError> {
 
 fn expect<R: Abort + AllocGlobal>(
     rt: &R,
+    place: usize,
     text: &[u8],
     wanted: Result<usize, CsvFault>,
 ) -> Result<(), Fail> {
     let sender = Name::new(b"bridge").ok_or("no name")?;
     let told = read_report(rt.alloc(), text, &sender).map(|envelopes| envelopes.len());
-    assert!(rt; told == wanted, "{text:?}");
+    holds_at(rt, told == wanted, place);
     Ok(())
 }
 
 #[test]
 fn reports_are_taken_or_refused_by_the_first_fault(rt: HostRuntime) -> Result<(), Fail> {
-    for record in &TAKEN {
-        expect(&rt, &text_of(rt.alloc(), record)?, Ok(1))?;
+    for (place, record) in TAKEN.iter().enumerate() {
+        expect(&rt, place, &text_of(rt.alloc(), record)?, Ok(1))?;
     }
-    for record in &REFUSED {
-        expect(&rt, &text_of(rt.alloc(), record)?, Err(CsvFault::Record(2)))?;
+    for (place, record) in REFUSED.iter().enumerate() {
+        let text = text_of(rt.alloc(), record)?;
+        expect(&rt, place, &text, Err(CsvFault::Record(2)))?;
     }
-    for (text, wanted) in &TEXTS {
-        expect(&rt, text, *wanted)?;
+    for (place, (text, wanted)) in TEXTS.iter().enumerate() {
+        expect(&rt, place, text, *wanted)?;
     }
     Ok(())
 }

@@ -1,4 +1,5 @@
 //! A store that fails at one call: what is told until then and from then on, and what a crash leaves.
+use super::holding::holds;
 use super::rows::Delivery;
 use super::stops::all_deliveries;
 use super::{expect_told, hear_each, opening};
@@ -31,8 +32,8 @@ fn deliver_with_failure<R: Abort + AllocGlobal, K: Keeper>(
         let outcome = deliver(rt.alloc(), keeper, delivery.text.as_bytes());
         match outcome {
             Outcome::Unavailable(told) => {
-                assert_eq!(rt; told, fault);
-                assert!(rt; !failed || fault == StoreFault::Disk);
+                let may_fail = !failed || fault == StoreFault::Disk;
+                holds(rt, told == fault && may_fail, delivery.wanted.as_str());
                 failed = true;
                 if fault != StoreFault::Disk {
                     let again = deliver(rt.alloc(), keeper, delivery.text.as_bytes());
@@ -40,7 +41,8 @@ fn deliver_with_failure<R: Abort + AllocGlobal, K: Keeper>(
                 }
             }
             _ => {
-                assert!(rt; !failed || fault != StoreFault::Disk);
+                let may_be_told = !failed || fault != StoreFault::Disk;
+                holds(rt, may_be_told, delivery.wanted.as_str());
                 expect_told(rt, &outcome, delivery);
             }
         }
@@ -58,7 +60,7 @@ fn deliveries(rt: HostRuntime) -> Result<(), Fail> {
             let mut store = opening::<Switched>(rt.alloc(), 65_536)?;
             store.fail_after(calls, failure);
             if !deliver_with_failure(&rt, &mut *store, &all, fault) {
-                assert!(rt; calls > 0);
+                holds(&rt, calls > 0, "that a call failed");
                 break;
             }
             store.reopen();

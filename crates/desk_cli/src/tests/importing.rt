@@ -1,4 +1,5 @@
 //! Gateway reports: the worked one twice, one that goes on after refusals, and one of a sender that nobody added.
+use super::holding::holds;
 use super::{Opened, expect, with_device};
 use desk_engine::{Imported, import};
 use desk_store::Keeper;
@@ -88,8 +89,8 @@ fn expect_imported<R: Abort + AllocGlobal, K: Keeper>(
     wanted: &[Told],
 ) -> Result<(), Fail> {
     let imported = imported(rt.alloc(), keeper, text, sender)?;
-    assert!(rt; imported.stopped.is_none());
-    assert_eq!(rt; imported.answers.len(), wanted.len());
+    let is_whole = imported.stopped.is_none() && imported.answers.len() == wanted.len();
+    holds(rt, is_whole, "that all is imported");
     for (outcome, (number, text)) in imported.answers.iter().zip(wanted) {
         expect(rt, outcome, *number, text);
     }

@@ -3,6 +3,7 @@ use super::downlinks::{
     ACCEPT, DEVICE_EUI, DOWN, DOWN_0, DOWN_1, DOWN_2, DOWN_3, DOWN_4, DUTY, HOUR_BEGUN, HOURS,
     UP_0, UP_1, UP_2, UP_3,
 };
+use super::holding::holds;
 use super::joins::{FIRST, FIRST_ADDED, GATEWAY};
 use super::rows::Row::{Asks, Books, Frames, Joins};
 use super::rows::Told::{Booked, Framed};
@@ -96,7 +97,7 @@ fn expect_bands<R: Abort + AllocGlobal, K: Opened>(
         deliver_each(rt, &mut *keeper, rows)?;
     }
     let text = band_report(rt.alloc(), &mut *keeper, "gw-a").map_err(|_| "no report")?;
-    assert!(rt; text.as_slice() == wanted.as_bytes());
+    holds(rt, text.as_slice() == wanted.as_bytes(), wanted);
     Ok(())
 }
 

@@ -1,4 +1,5 @@
 //! Lines: whole outputs, and the limit of a line.
+use super::holding::holds;
 use super::opening;
 use super::rows::{ADDED, MALFORMED, OTHER_OWNER, REQUEST};
 use desk_engine::{LinesEnd, run_lines};
@@ -14,8 +15,8 @@ fn expect_answers<R: Abort + AllocGlobal>(rt: &R, input: &str, wanted: &str) -> 
     let mut lists = opening::<Lists>(rt.alloc(), 65_536)?;
     let mut written = Vec::new(rt.alloc());
     let end = run_lines(rt.alloc(), &mut *lists, &mut input.as_bytes(), &mut written);
-    assert_eq!(rt; end, LinesEnd::Done);
-    assert!(rt; written.as_slice() == wanted.as_bytes());
+    holds(rt, end == LinesEnd::Done, "the end of the lines");
+    holds(rt, written.as_slice() == wanted.as_bytes(), wanted);
     Ok(())
 }
 

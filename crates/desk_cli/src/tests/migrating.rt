@@ -1,4 +1,5 @@
 //! A desk of schema 1 is moved to schema 2 with all that it holds.
+use super::holding::holds;
 use super::stops::{deliveries, expect_rows, opened, rows_after_each};
 use super::{hear_each, opening, ready};
 use desk_store::StoreFault;
@@ -76,9 +77,10 @@ fn a_desk_is_moved_with_all_it_holds(rt: HostRuntime) -> Result<(), Fail> {
     let wanted = rows_after_each(&rt, &deliveries)?;
     let conn = first_in(&rt, Connection::open_in_memory(rt.alloc())?)?;
     let (fault, conn) = moved(rt.alloc(), conn)?;
-    assert!(rt; fault.is_none());
+    holds(&rt, fault.is_none(), "that it is moved");
     let (fault, conn) = moved(rt.alloc(), conn)?;
-    assert!(rt; fault == Some(StoreFault::SchemaVersion));
+    let is_moved = fault == Some(StoreFault::SchemaVersion);
+    holds(&rt, is_moved, "that it isn't moved again");
     let mut tables = expect_rows(&rt, opened(rt.alloc(), conn)?, wanted.last())?;
     hear_each(&rt, &mut *tables, &deliveries);
     Ok(())
@@ -111,7 +113,7 @@ fn other_tables_are_not_moved(rt: HostRuntime) -> Result<(), Fail> {
         let mut conn = first_in(&rt, Connection::open_in_memory(rt.alloc())?)?;
         conn.execute_batch(batch)?;
         let (fault, _) = moved(rt.alloc(), conn)?;
-        assert!(rt; fault == Some(*wanted), "{batch}");
+        holds(&rt, fault == Some(*wanted), batch);
     }
     Ok(())
 }

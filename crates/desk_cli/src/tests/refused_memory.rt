@@ -2,6 +2,7 @@
 //! `checks/refused_memory.py` runs each test once for each request, with that one refused.
 use super::data_frames::{FCNT_0_OTHER_MIC, HEARD, REPLAYED};
 use super::downlinks::{ANSWERED, DEVICE_EUI, DONE, DOWN, DOWN_1, DROPPED_1, SENT_1, WITHOUT_SENT};
+use super::holding::{holds, holds_at};
 use super::joins::{AT_B, FIRST, FIRST_ADDED, FIRST_COPIED, GATEWAY, NONCE, NONCE_0_OTHER_MIC};
 use super::limits::{ABOVE_B3, HALF_OF_B3, LIMIT_OF_NONE, NONE_OF_B3};
 use super::rows::Row::{Asks, Books, Frames, Joins};
@@ -60,17 +61,17 @@ fn deliver_or_again<R: Abort + AllocGlobal>(rt: &R, rows: &[Row]) -> Result<(), 
     for (place, delivery) in deliveries.iter().enumerate() {
         let mut outcome = deliver(rt.alloc(), &mut *lists, delivery.text.as_bytes());
         if let Outcome::Unavailable(StoreFault::Memory) = &outcome {
-            assert!(rt; !refused, "at {place}");
+            holds_at(rt, !refused, place);
             refused = true;
             let left = format!(in rt.alloc(); "{lists:?}")?;
             let before = kept_after(rt, &deliveries, place)?;
-            assert!(rt; left == before, "at {place}");
+            holds_at(rt, left == before, place);
             outcome = deliver(rt.alloc(), &mut *lists, delivery.text.as_bytes());
         }
         expect_told(rt, &outcome, delivery);
     }
     write!(kept, "{lists:?}")?;
-    assert!(rt; kept == wanted);
+    holds(rt, kept == wanted, "what is kept");
     Ok(())
 }
 

@@ -1,6 +1,7 @@
 //! Reports: the worked ones, months and their edges, a device that is moved, devices in order, and what is no report.
 use super::data_frames::HEARD;
 use super::downlinks::{ACCEPT, DEVICE_EUI, DOWN, DOWN_0, UP_0, UP_1, UP_2};
+use super::holding::holds;
 use super::joins::{FIRST, FIRST_ADDED, NONCE_1};
 use super::rows::Row::{Asks, Books, Frames, Joins};
 use super::rows::Told::{Booked, Framed, Joined};
@@ -170,11 +171,11 @@ fn expect_report<R: Abort + AllocGlobal, K: Keeper>(rt: &R, keeper: &mut K, aske
     match asked {
         Owner(owner, month, wanted) => {
             let report = owner_report(rt.alloc(), keeper, owner, month);
-            assert!(rt; is_wanted(&report, OWNER_HEADER, wanted), "{owner} {month}");
+            holds(rt, is_wanted(&report, OWNER_HEADER, wanted), month);
         }
         Bands(gateway, wanted) => {
             let report = band_report(rt.alloc(), keeper, gateway);
-            assert!(rt; is_wanted(&report, "", wanted), "{gateway}");
+            holds(rt, is_wanted(&report, "", wanted), gateway);
         }
     }
 }
@@ -204,9 +205,9 @@ fn uplinks_in_any_order<R: Abort + AllocGlobal, K: Opened>(rt: &R) -> Result<(),
     deliver_each(rt, &mut *keeper, &TWO_SESSIONS)?;
     let device = Eui::new(0x0004_a30b_001a_2b3c);
     let spans = keeper.uplinks_of(device, Band::B3, 0, i64::MAX)?;
-    assert_eq!(rt; spans.len(), 2);
-    assert_eq!(rt; spans[0].start(), 1_706_745_590_000_000);
-    assert_eq!(rt; spans[1].start(), 1_706_745_600_000_000);
+    let wanted = [1_706_745_590_000_000, 1_706_745_600_000_000];
+    let starts = spans.iter().map(|span| span.start());
+    holds(rt, starts.eq(wanted), "the starts");
     Ok(())
 }
 

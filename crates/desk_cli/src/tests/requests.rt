@@ -4,6 +4,7 @@ mod limits;
 mod reports;
 pub(crate) mod responses;
 
+use super::holding::holds;
 use super::opening;
 use super::rows::{OTHER_OWNER, REQUEST};
 use desk_http::{ServeEnd, serve_one};
@@ -51,9 +52,9 @@ fn expect<R: Abort + AllocGlobal, K: Keeper>(
     let mut reader = input;
     let mut written = Vec::new(rt.alloc());
     let end = serve_one(rt.alloc(), keeper, &mut reader, &mut written);
-    assert_eq!(rt; end, ServeEnd::Done(status));
-    assert!(rt; written.as_slice() == response.as_bytes(), "{response}");
-    assert_eq!(rt; reader.len(), unread);
+    holds(rt, end == ServeEnd::Done(status), response);
+    holds(rt, written.as_slice() == response.as_bytes(), response);
+    holds(rt, reader.len() == unread, response);
 }
 
 /// A request, how many octets of it are left unread, the status and the response.

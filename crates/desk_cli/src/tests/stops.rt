@@ -6,6 +6,7 @@
 //! message and the ones after it are then told what they are told without a stop, and leave the same rows.
 use super::data_frames::HEARD;
 use super::downlinks::{ACCEPT, DEVICE_EUI, DOWN, DROPPED_1};
+use super::holding::{holds, holds_at};
 use super::joins::{FIRST, FIRST_ADDED};
 use super::limits::HALF_OF_B3;
 use super::rows::Row::{Asks, Books, Frames, Joins};
@@ -63,7 +64,7 @@ static TABLES: [&str; 11] = [
     "SELECT * FROM band_limit ORDER BY rowid",
 ];
 
-pub(super) type Fused = Fuse<Memory>;
+type Fused = Fuse<Memory>;
 
 /// The ten messages, each once.
 pub(super) fn deliveries(alloc: Global) -> Result<Vec<Delivery>, Fail> {
@@ -125,7 +126,7 @@ pub(super) fn expect_rows<R: Abort + AllocGlobal, S: Alter + Drop>(
     wanted: Option<&String>,
 ) -> Result<Box<Tables<S>>, Fail> {
     let (rows, tables) = rows_of(rt.alloc(), tables)?;
-    assert!(rt; wanted == Some(&rows));
+    holds(rt, wanted == Some(&rows), "the rows");
     Ok(tables)
 }
 
@@ -148,7 +149,7 @@ pub(super) fn rows_after_each<R: Abort + AllocGlobal>(
 }
 
 /// A connection to the files, or, where they can't be opened, the files.
-pub(super) fn connected<D: Disk + Drop>(
+fn connected<D: Disk + Drop>(
     alloc: Global,
     files: Files<D>,
     seed: u64,
@@ -159,18 +160,6 @@ pub(super) fn connected<D: Disk + Drop>(
     match Connection::open_files(alloc, files, Options::new(seed)) {
         Ok(conn) => Ok(conn),
         Err((_, left)) => Err(left.into_files()),
-    }
-}
-
-/// A connection to files that can be opened.
-pub(super) fn opened_files<D: Disk + Drop>(
-    alloc: Global,
-    files: Files<D>,
-    seed: u64,
-) -> Result<Connection<FileStore<D>>, Fail> {
-    match connected(alloc, files, seed) {
-        Ok(conn) => Ok(conn),
-        Err(_) => Err("not opened".into()),
     }
 }
 
@@ -192,14 +181,6 @@ struct Ended {
     files: Files<Fused>,
 }
 
-fn stopped(answered: usize, files: Files<Fused>) -> Ended {
-    Ended {
-        answered,
-        stopped: true,
-        files,
-    }
-}
-
 /// Delivers until the disk fails. Then the desk tells that of every call.
 fn answered_by<R: Abort + AllocGlobal, S: Alter>(
     rt: &R,
@@ -209,17 +190,15 @@ fn answered_by<R: Abort + AllocGlobal, S: Alter>(
     for (place, delivery) in deliveries.iter().enumerate() {
         let outcome = deliver(rt.alloc(), tables, delivery.text.as_bytes());
         if let Outcome::Unavailable(fault) = outcome {
-            assert!(rt; fault == StoreFault::Disk, "at {place}");
+            holds_at(rt, fault == StoreFault::Disk, place);
             let again = deliver(rt.alloc(), tables, delivery.text.as_bytes());
-            assert!(rt;
+            holds_at(
+                rt,
                 matches!(again, Outcome::Unavailable(StoreFault::Disk)),
-                "at {place}"
+                place,
             );
             if let Some(name) = Name::new(b"town") {
-                assert!(rt;
-                    tables.has_owner(&name) == Err(StoreFault::Disk),
-                    "at {place}"
-                );
+                holds_at(rt, tables.has_owner(&name) == Err(StoreFault::Disk), place);
             }
             return place;
         }
@@ -228,76 +207,54 @@ fn answered_by<R: Abort + AllocGlobal, S: Alter>(
     deliveries.len()
 }
 
-/// The desk that is made in the connection's database, or, of a disk that failed, its store.
-fn created<R: Abort + AllocGlobal, S: Alter + Drop>(
-    rt: &R,
-    conn: Connection<S>,
-) -> Result<Result<Box<Tables<S>>, S>, Fail> {
-    let config = config(65_536).ok_or("no configuration")?;
-    match Tables::create(rt.alloc(), ready(conn)?, config) {
-        Ok(tables) => Ok(Ok(Box::new(rt.alloc(), tables)?)),
-        Err((fault, conn)) => {
-            assert!(rt; fault == StoreFault::Disk);
-            Ok(Err(conn.into_store()))
-        }
-    }
-}
-
-/// The desk is closed with all in its first file, or, of a disk that failed, as it is.
-fn closed<D: Disk + Drop>(tables: Box<Tables<FileStore<D>>>) -> Result<Files<D>, Files<D>> {
-    match Box::into_inner(tables).close().close_files() {
-        Ok(files) => Ok(files),
-        Err((_, store)) => Err(store.close()),
-    }
-}
-
-/// A desk that is made in the connection's database and hears the messages, with how many were answered; or, of a disk that
-/// failed while it was made, its store.
+/// A desk is made in the connection's database, hears the messages until the disk fails, and is closed. How many were answered, and
+/// the connection.
 fn heard_on<R: Abort + AllocGlobal, S: Alter + Drop>(
     rt: &R,
     conn: Connection<S>,
     deliveries: &[Delivery],
-) -> Result<Result<(usize, Box<Tables<S>>), S>, Fail> {
-    match created(rt, conn)? {
+) -> Result<(usize, Connection<S>), Fail> {
+    let config = config(65_536).ok_or("no configuration")?;
+    match Tables::create(rt.alloc(), ready(conn)?, config) {
         Ok(tables) => {
-            let mut tables = tables;
+            let mut tables = Box::new(rt.alloc(), tables)?;
             let answered = answered_by(rt, &mut *tables, deliveries);
-            Ok(Ok((answered, tables)))
+            Ok((answered, Box::into_inner(tables).close()))
         }
-        Err(store) => Ok(Err(store)),
+        Err((fault, conn)) => {
+            holds(rt, fault == StoreFault::Disk, "why no desk is made");
+            Ok((0, conn))
+        }
     }
 }
 
-/// The desk that answered so many of all is closed.
-fn closed_after(answered: usize, all: usize, tables: Box<Tables<FileStore<Fused>>>) -> Ended {
-    match closed(tables) {
-        Ok(files) => Ended {
-            answered,
-            stopped: answered < all,
-            files,
-        },
-        Err(files) => stopped(answered, files),
-    }
-}
-
+/// The connection is closed with all in its first file, or, of a disk that failed, as it is.
 fn run<R: Abort + AllocGlobal>(
     rt: &R,
     files: Files<Fused>,
     deliveries: &[Delivery],
 ) -> Result<Ended, Fail> {
-    match connected(rt.alloc(), files, 1) {
-        Ok(conn) => match heard_on(rt, conn, deliveries)? {
-            Ok((answered, tables)) => Ok(closed_after(answered, deliveries.len(), tables)),
-            Err(store) => Ok(stopped(0, store.close())),
-        },
-        Err(files) => Ok(stopped(0, files)),
-    }
+    let (answered, stopped, files) = match connected(rt.alloc(), files, 1) {
+        Ok(conn) => {
+            let (answered, conn) = heard_on(rt, conn, deliveries)?;
+            match conn.close_files() {
+                Ok(files) => (answered, answered < deliveries.len(), files),
+                Err((_, store)) => (answered, true, store.close()),
+            }
+        }
+        Err(files) => (0, true, files),
+    };
+    Ok(Ended {
+        answered,
+        stopped,
+        files,
+    })
 }
 
 // ---- and after it
 
 /// A file of these octets.
-pub(super) fn file_of(alloc: Global, octets: &[u8]) -> Result<Memory, Fail> {
+fn file_of(alloc: Global, octets: &[u8]) -> Result<Memory, Fail> {
     let mut file = Memory::new(alloc);
     file.write_at(0, octets)?;
     file.sync()?;
@@ -305,56 +262,45 @@ pub(super) fn file_of(alloc: Global, octets: &[u8]) -> Result<Memory, Fail> {
 }
 
 /// The octets of the files, in files that aren't fused.
-pub(super) fn copied(alloc: Global, files: &Files<Fused>) -> Result<Files<Memory>, Fail> {
+fn copied(alloc: Global, files: &Files<Fused>) -> Result<Files<Memory>, Fail> {
     Ok(Files {
         log: file_of(alloc, files.log.inner().bytes())?,
         db: file_of(alloc, files.db.inner().bytes())?,
     })
 }
 
-/// The desk that the files hold. Where it wasn't made it is made now.
-fn reopened<R: Abort + AllocGlobal, D: Disk + Drop>(
+/// The desk of the connection. Where it wasn't made it is made now.
+fn opened_or_made<R: Abort + AllocGlobal, S: Alter + Drop>(
     rt: &R,
-    files: Files<D>,
-) -> Result<Box<Tables<FileStore<D>>>, Fail> {
-    if !files.may_be_used() {
-        return Err("not usable".into());
-    }
-    match Tables::open_files(rt.alloc(), files, Options::new(2)) {
+    conn: Connection<S>,
+) -> Result<Box<Tables<S>>, Fail> {
+    match Tables::open(rt.alloc(), ready(conn)?) {
         Ok(tables) => Ok(Box::new(rt.alloc(), tables)?),
-        Err((fault, left)) => {
-            assert!(rt; fault == StoreFault::NotADesk);
-            made_in(rt.alloc(), left.into_files())
+        Err((fault, conn)) => {
+            holds(rt, fault == StoreFault::NotADesk, "why no desk is opened");
+            super::made(rt.alloc(), conn, config(65_536).ok_or("no configuration")?)
         }
     }
-}
-
-fn made_in<D: Disk + Drop>(
-    alloc: Global,
-    files: Files<D>,
-) -> Result<Box<Tables<FileStore<D>>>, Fail> {
-    let config = config(65_536).ok_or("no configuration")?;
-    super::made(alloc, opened_files(alloc, files, 3)?, config)
 }
 
 /// What is there is what stood before the message under way, or that with it; and the rest is heard as without a stop.
 fn goes_on<R: Abort + AllocGlobal, S: Alter + Drop>(
     rt: &R,
-    tables: Box<Tables<S>>,
+    conn: Connection<S>,
     answered: usize,
     deliveries: &[Delivery],
     wanted: &[String],
 ) -> Result<(), Fail> {
-    let (rows, mut tables) = rows_of(rt.alloc(), tables)?;
+    let (rows, mut tables) = rows_of(rt.alloc(), opened_or_made(rt, conn)?)?;
     let mut either = wanted.iter().skip(answered).take(2);
-    assert!(rt; either.any(|w| *w == rows), "{answered} answered");
+    holds_at(rt, either.any(|w| *w == rows), answered);
     let left = deliveries.get(answered..).ok_or("more answered")?;
     hear_each(rt, &mut *tables, left);
     expect_rows(rt, tables, wanted.last())?;
     Ok(())
 }
 
-/// One run, and both ways on from its stop. Whether it met one.
+/// One run, and both ways on from its stop: of a process that has ended, and of a machine. Whether it met one.
 fn stops_once<R: Abort + AllocGlobal>(
     rt: &R,
     files: Files<Fused>,
@@ -362,12 +308,15 @@ fn stops_once<R: Abort + AllocGlobal>(
     wanted: &[String],
 ) -> Result<bool, Fail> {
     let mut run = run(rt, files, deliveries)?;
-    let ended = reopened(rt, copied(rt.alloc(), &run.files)?)?;
-    goes_on(rt, ended, run.answered, deliveries, wanted)?;
-    run.files.log.crash();
-    run.files.db.crash();
-    let crashed = reopened(rt, copied(rt.alloc(), &run.files)?)?;
-    goes_on(rt, crashed, run.answered, deliveries, wanted)?;
+    for loses_unsynced in [false, true] {
+        if loses_unsynced {
+            run.files.log.crash();
+            run.files.db.crash();
+        }
+        let files = copied(rt.alloc(), &run.files)?;
+        let conn = connected(rt.alloc(), files, 2).map_err(|_| "not opened")?;
+        goes_on(rt, conn, run.answered, deliveries, wanted)?;
+    }
     Ok(run.stopped)
 }
 
@@ -412,7 +361,7 @@ fn found<R: Abort + AllocGlobal, S: Alter + Drop>(
     deliveries: &[Delivery],
     wanted: Option<&String>,
 ) -> Result<(), Fail> {
-    assert_eq!(rt; outcomes.len(), deliveries.len());
+    holds(rt, outcomes.len() == deliveries.len(), "how many outcomes");
     for (outcome, delivery) in outcomes.iter().zip(deliveries) {
         expect_told(rt, outcome, delivery);
     }

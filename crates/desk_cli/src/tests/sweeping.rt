@@ -1,4 +1,5 @@
 //! That a decision looks at hours by one sweep.
+use super::holding::holds;
 use duty_core::Span;
 use radio_core::{Band, DataRate, Name, Octets, Rate};
 use registry_core::{
@@ -87,6 +88,6 @@ fn a_million_downlinks_are_swept(rt: HostRuntime) -> Result<(), Fail> {
         booking: 1_000_001,
         start: END + 2_000_000,
     };
-    assert!(rt; answer == wanted);
+    holds(&rt, answer == wanted, "the answer");
     Ok(())
 }

@@ -3,7 +3,9 @@ mod files;
 pub(crate) mod helps;
 
 use super::read_words;
+use crate::commands::Command;
 use crate::endings::{Ending, ending_of};
+use crate::tests::holding::{holds, holds_at};
 use crate::usage::{BadValue, Usage};
 use clap::error::ErrorKind;
 use helps::{
@@ -40,28 +42,34 @@ static NAMELESS: [(&[&str], ErrorKind); 14] = [
     ),
 ];
 
+/// The words name this command.
+pub(crate) fn is_named<'a>(alloc: Global, words: &'a [&'a str], want: &Command<'_>) -> bool {
+    let Ok(command) = read_words(alloc, words) else {
+        return false;
+    };
+    command == *want
+}
+
 /// The words name nothing that clap takes, and its error is of this kind.
-pub(crate) fn refused<'a>(rt: &impl Abort, alloc: Global, words: &'a [&'a str], want: ErrorKind) {
+pub(crate) fn is_refused<'a>(alloc: Global, words: &'a [&'a str], want: ErrorKind) -> bool {
     match read_words(alloc, words) {
-        Err(Usage::Words(error)) => assert_eq!(rt; error.kind(), want, "at {words:?}"),
-        Err(usage) => assert!(rt; false, "{words:?}: {usage}"),
-        Ok(_) => assert!(rt; false, "{words:?}"),
+        Err(Usage::Words(error)) => error.kind() == want,
+        _ => false,
     }
 }
 
 /// This value of the words is bad.
-pub(crate) fn bad<'a>(rt: &impl Abort, alloc: Global, words: &'a [&'a str], want: BadValue) {
+pub(crate) fn is_bad<'a>(alloc: Global, words: &'a [&'a str], want: BadValue) -> bool {
     match read_words(alloc, words) {
-        Err(Usage::Value(value)) => assert_eq!(rt; value, want, "at {words:?}"),
-        Err(usage) => assert!(rt; false, "{words:?}: {usage}"),
-        Ok(_) => assert!(rt; false, "{words:?}"),
+        Err(Usage::Value(value)) => value == want,
+        _ => false,
     }
 }
 
 #[test]
 fn words_that_name_nothing(rt: HostRuntime) -> Result<(), Fail> {
-    for (words, want) in &NAMELESS {
-        refused(&rt, rt.alloc(), words, *want);
+    for (place, (words, want)) in NAMELESS.iter().enumerate() {
+        holds_at(&rt, is_refused(rt.alloc(), words, *want), place);
     }
     Ok(())
 }
@@ -107,26 +115,33 @@ static PRINTED: [(&[&str], &str); 17] = [
     ),
 ];
 
+/// Of the words this is printed, and the program ends so.
+fn expect_printed<R: Abort + AllocGlobal>(
+    rt: &R,
+    usage: &Usage,
+    want: &str,
+    ending: Ending,
+) -> Result<(), Fail> {
+    let printed = usage.to_string(rt.alloc())?;
+    holds(rt, printed.as_str() == want, want);
+    holds(rt, ending_of(usage) == ending, want);
+    Ok(())
+}
+
 #[test]
 fn usage_is_printed(rt: HostRuntime) -> Result<(), Fail> {
     for (words, want) in &PRINTED {
-        match read_words(rt.alloc(), words) {
-            Err(usage) => {
-                assert_eq!(rt;
-                    usage.to_string(rt.alloc())?.as_str(),
-                    *want,
-                    "at {words:?}"
-                );
-                assert_eq!(rt; ending_of(&usage), Ending::Misused);
-            }
-            Ok(_) => assert!(rt; false, "{words:?}"),
-        }
+        let Err(usage) = read_words(rt.alloc(), words) else {
+            return Err("words name a command".into());
+        };
+        expect_printed(&rt, &usage, want, Ending::Misused)?;
     }
-    assert_eq!(rt;
-        Usage::Memory.to_string(rt.alloc())?.as_str(),
-        "desk: unavailable\n"
+    let none = "desk: unavailable\n";
+    expect_printed(&rt, &Usage::Memory, none, Ending::Failed)?;
+    holds(
+        &rt,
+        ending_of(&Usage::NotText) == Ending::Misused,
+        "no text",
     );
-    assert_eq!(rt; ending_of(&Usage::Memory), Ending::Failed);
-    assert_eq!(rt; ending_of(&Usage::NotText), Ending::Misused);
     Ok(())
 }

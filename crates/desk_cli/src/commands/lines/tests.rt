@@ -5,10 +5,12 @@ use super::lines_command;
 use crate::endings::Ending;
 use crate::faults::end;
 use crate::tests::config;
+use crate::tests::holding::holds;
 use crate::tests::rows::{MALFORMED, REQUEST};
 use crate::tests::streams::{Failing, Pieces};
 use std::alloc::Global;
 use std::io::{self, ErrorKind, Read, Write};
+use std::process::Abort;
 use std::test::Fail;
 
 /// A new desk answers the lines of the reader; how it ended, and what is on its fault line.
@@ -38,14 +40,20 @@ impl Write for HoldingWriter {
     }
 }
 
+/// The run failed, by a stream.
+fn expect_failed(rt: &impl Abort, ending: Ending, faults: &[u8]) {
+    holds(rt, ending == Ending::Failed, "the ending");
+    holds(rt, faults == b"desk: file\n".as_slice(), "the fault line");
+}
+
 #[test]
 fn a_read_that_fails(rt: HostRuntime) -> Result<(), Fail> {
     let mut answers = Vec::new(rt.alloc());
     let (ending, faults) = ran(rt.alloc(), &mut Pieces::new(b"{\n{", 1), &mut answers)?;
-    assert!(rt; ending == Ending::Failed);
-    assert!(rt; answers.len() == MALFORMED.len() + 1);
-    assert!(rt; answers.starts_with(MALFORMED.as_bytes()));
-    assert!(rt; faults.as_slice() == b"desk: file\n".as_slice());
+    let is_answered = answers.len() == MALFORMED.len() + 1
+        && answers.starts_with(MALFORMED.as_bytes());
+    holds(&rt, is_answered, "the answers");
+    expect_failed(&rt, ending, &faults);
     Ok(())
 }
 
@@ -53,8 +61,7 @@ fn a_read_that_fails(rt: HostRuntime) -> Result<(), Fail> {
 fn a_write_that_fails(rt: HostRuntime) -> Result<(), Fail> {
     let mut reader = REQUEST.as_bytes();
     let (ending, faults) = ran(rt.alloc(), &mut reader, &mut Failing::new(0))?;
-    assert!(rt; ending == Ending::Failed);
-    assert!(rt; faults.as_slice() == b"desk: file\n".as_slice());
+    expect_failed(&rt, ending, &faults);
     Ok(())
 }
 
@@ -62,7 +69,6 @@ fn a_write_that_fails(rt: HostRuntime) -> Result<(), Fail> {
 fn a_flush_that_fails(rt: HostRuntime) -> Result<(), Fail> {
     let mut reader = REQUEST.as_bytes();
     let (ending, faults) = ran(rt.alloc(), &mut reader, &mut HoldingWriter)?;
-    assert!(rt; ending == Ending::Failed);
-    assert!(rt; faults.as_slice() == b"desk: file\n".as_slice());
+    expect_failed(&rt, ending, &faults);
     Ok(())
 }

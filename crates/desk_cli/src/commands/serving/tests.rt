@@ -5,6 +5,7 @@ mod loopback;
 
 use super::serve_connections;
 use crate::listening::Listening;
+use crate::tests::holding::holds;
 use crate::tests::opening;
 use crate::tests::requests::responses::{ADDED, DEVICE_ADDED, EMPTY_REPORT, REUSED};
 use crate::tests::requests::{DEVICE_ADD, posted};
@@ -129,10 +130,10 @@ fn serve_visits<R: AllocGlobal>(
 
 /// They were served so, in this order.
 fn expect(rt: &impl Abort, served: &[Served], wanted: &[(ServeEnd, &str)]) {
-    assert_eq!(rt; served.len(), wanted.len());
+    holds(rt, served.len() == wanted.len(), "how many were served");
     for (one, (end, response)) in served.iter().zip(wanted) {
-        assert_eq!(rt; one.end, *end);
-        assert!(rt; one.written.as_slice() == response.as_bytes(), "{response}");
+        holds(rt, one.end == *end, response);
+        holds(rt, one.written.as_slice() == response.as_bytes(), response);
     }
 }
 
@@ -159,7 +160,7 @@ fn peers_in_order(rt: HostRuntime) -> Result<(), Fail> {
     );
     // What the first sent after its request is let go with it.
     let first = served.first().ok_or("none was served")?;
-    assert_eq!(rt; first.left, 3);
+    holds(&rt, first.left == 3, "what is left unread");
     Ok(())
 }
 

@@ -2,6 +2,7 @@
 use super::{NETWORK, OneFile, Started};
 use crate::endings::Ending;
 use crate::program::run;
+use crate::tests::holding::holds_at;
 use sqlite::{Connection, MemStore};
 use std::process::Abort;
 use std::test::Fail;
@@ -159,9 +160,10 @@ static ROWS: [Row; 16] = [
     ),
 ];
 
-/// One row on the connection that the row before gave back.
+/// The row in this place, on the connection that the row before gave back.
 fn ends<R: Abort + AllocGlobal>(
     rt: &R,
+    place: usize,
     row: &Row,
     conn: Connection<MemStore>,
 ) -> Result<Connection<MemStore>, Fail> {
@@ -179,17 +181,17 @@ fn ends<R: Abort + AllocGlobal>(
         &mut answers,
         &mut faults,
     );
-    assert_eq!(rt; end, *ending, "at {words:?}");
-    assert!(rt; answers.as_slice() == answered.as_bytes(), "at {words:?}");
-    assert!(rt; faults.as_slice() == told.as_bytes(), "at {words:?}");
+    holds_at(rt, end == *ending, place);
+    holds_at(rt, answers.as_slice() == answered.as_bytes(), place);
+    holds_at(rt, faults.as_slice() == told.as_bytes(), place);
     Ok(conn.ok_or("no connection")?)
 }
 
 #[test]
 fn commands_on_one_file(rt: HostRuntime) -> Result<(), Fail> {
     let mut conn = Connection::open_in_memory(rt.alloc())?;
-    for row in &ROWS {
-        conn = ends(&rt, row, conn)?;
+    for (place, row) in ROWS.iter().enumerate() {
+        conn = ends(&rt, place, row, conn)?;
     }
     Ok(())
 }

@@ -1,6 +1,7 @@
 //! Heads and bodies: their forms, a head's limits, and every beginning of both.
 use super::responses::{ADDED, CUT_BODY, NO_HEAD};
 use super::{expect, posted};
+use crate::tests::holding::holds;
 use crate::tests::opening;
 use crate::tests::rows::{OTHER_OWNER, REQUEST};
 use desk_http::{ServeEnd, serve_one};
@@ -14,8 +15,8 @@ fn expect_no_head<R: Abort + AllocGlobal>(rt: &R, lists: &mut Lists, input: &[u8
     let mut reader = input;
     let mut written = Vec::new(rt.alloc());
     let end = serve_one(rt.alloc(), lists, &mut reader, &mut written);
-    assert_eq!(rt; end, ServeEnd::Done(400));
-    assert!(rt; written.as_slice() == NO_HEAD.as_bytes());
+    let is_refused = end == ServeEnd::Done(400) && written.as_slice() == NO_HEAD.as_bytes();
+    holds(rt, is_refused, "that a head is refused");
 }
 
 #[test]
@@ -82,7 +83,7 @@ fn limits_of_a_head(rt: HostRuntime) -> Result<(), Fail> {
     let input = headed(alloc, 33)?;
     expect_no_head(&rt, &mut *lists, input.as_bytes());
     // The head isn't ended.
-    assert_eq!(rt; input.len(), 366);
+    holds(&rt, input.len() == 366, "the length of the input");
     expect_no_head(&rt, &mut *lists, beginning(input.as_bytes(), 242));
     expect_no_head(
         &rt,
@@ -111,10 +112,10 @@ fn every_beginning(rt: HostRuntime) -> Result<(), Fail> {
     let mut nothing: &[u8] = b"";
     let mut written = Vec::new(alloc);
     let end = serve_one(alloc, &mut *lists, &mut nothing, &mut written);
-    assert_eq!(rt; end, ServeEnd::Closed);
-    assert!(rt; written.is_empty());
+    let is_closed = end == ServeEnd::Closed && written.is_empty();
+    holds(&rt, is_closed, "that nothing is answered");
     // The head has 51 octets.
-    assert_eq!(rt; input.len(), 174);
+    holds(&rt, input.len() == 174, "the length of the input");
     for length in 1..51 {
         expect(
             &rt,

@@ -3,6 +3,7 @@ use super::responses::{
     BAD_MONTH, BAND_REPORT, EMPTY_REPORT, NO_GATEWAY, NO_OWNER, OWNER_REPORT, UNUSED_BANDS,
 };
 use super::{expect, posted};
+use crate::tests::holding::holds;
 use crate::tests::opening;
 use desk_http::{ServeEnd, serve_one};
 use desk_store::{Keeper, Lists};
@@ -52,7 +53,7 @@ fn reports_are_given(rt: HostRuntime) -> Result<(), Fail> {
         let mut reader = input.as_bytes();
         let mut written = Vec::new(rt.alloc());
         let end = serve_one(rt.alloc(), &mut *lists, &mut reader, &mut written);
-        assert_eq!(rt; end, ServeEnd::Done(200));
+        holds(&rt, end == ServeEnd::Done(200), message);
     }
     for (target, status, response) in [
         ("/v1/reports/town/2024-02", 200, OWNER_REPORT),

@@ -1,8 +1,8 @@
 //! Words that name a command on a file, and those whose values are bad.
-use super::{bad, refused};
+use super::{is_bad, is_named, is_refused};
 use crate::commands::Command;
+use crate::tests::holding::holds;
 use crate::usage::BadValue;
-use crate::words::read_words;
 use Want::{Bands, Check, Hear, Import, Init, Migrate, Report, Serve};
 use clap::error::ErrorKind;
 use radio_core::Name;
@@ -124,12 +124,11 @@ fn words_of<'a>(alloc: Global, line: &'a str) -> Result<Vec<&'a str>, AllocError
 #[test]
 fn words_that_name_files(rt: HostRuntime) -> Result<(), Fail> {
     for (line, want) in &NAMED {
-        let want = command(*want);
-        assert!(rt; want.is_some());
-        match read_words(rt.alloc(), &words_of(rt.alloc(), line)?) {
-            Ok(command) => assert!(rt; want == Some(command), "at {line:?}"),
-            Err(usage) => assert!(rt; false, "{line:?}: {usage}"),
-        }
+        let Some(want) = command(*want) else {
+            return Err("no command".into());
+        };
+        let is_named = is_named(rt.alloc(), &words_of(rt.alloc(), line)?, &want);
+        holds(&rt, is_named, line);
     }
     Ok(())
 }
@@ -193,7 +192,8 @@ static BAD: [(&str, BadValue); 22] = [
 #[test]
 fn values_that_are_bad(rt: HostRuntime) -> Result<(), Fail> {
     for (line, want) in &BAD {
-        bad(&rt, rt.alloc(), &words_of(rt.alloc(), line)?, *want);
+        let is_bad = is_bad(rt.alloc(), &words_of(rt.alloc(), line)?, *want);
+        holds(&rt, is_bad, line);
     }
     Ok(())
 }
@@ -268,7 +268,8 @@ static REFUSED: [(&str, ErrorKind); 27] = [
 #[test]
 fn words_that_name_nothing(rt: HostRuntime) -> Result<(), Fail> {
     for (line, want) in &REFUSED {
-        refused(&rt, rt.alloc(), &words_of(rt.alloc(), line)?, *want);
+        let is_refused = is_refused(rt.alloc(), &words_of(rt.alloc(), line)?, *want);
+        holds(&rt, is_refused, line);
     }
     Ok(())
 }

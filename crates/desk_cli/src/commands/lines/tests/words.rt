@@ -1,8 +1,8 @@
 //! The words of `desk lines`.
 use crate::commands::Command;
+use crate::tests::holding::holds_at;
 use crate::usage::BadValue;
-use crate::words::read_words;
-use crate::words::tests::bad;
+use crate::words::tests::{is_bad, is_named};
 use radio_core::Name;
 use registry_core::Config;
 use std::test::Fail;
@@ -89,13 +89,11 @@ fn lines(
 
 #[test]
 fn words_that_name_lines(rt: HostRuntime) -> Result<(), Fail> {
-    for (words, want) in &NAMED {
-        let want = lines(*want);
-        assert!(rt; want.is_some());
-        match read_words(rt.alloc(), words) {
-            Ok(command) => assert!(rt; want == Some(command), "at {words:?}"),
-            Err(usage) => assert!(rt; false, "{words:?}: {usage}"),
-        }
+    for (place, (words, want)) in NAMED.iter().enumerate() {
+        let Some(want) = lines(*want) else {
+            return Err("no command".into());
+        };
+        holds_at(&rt, is_named(rt.alloc(), words, &want), place);
     }
     Ok(())
 }
@@ -154,8 +152,8 @@ static BAD: [(&[&str], BadValue); 24] = [
 
 #[test]
 fn values_that_are_bad(rt: HostRuntime) -> Result<(), Fail> {
-    for (words, want) in &BAD {
-        bad(&rt, rt.alloc(), words, *want);
+    for (place, (words, want)) in BAD.iter().enumerate() {
+        holds_at(&rt, is_bad(rt.alloc(), words, *want), place);
     }
     Ok(())
 }

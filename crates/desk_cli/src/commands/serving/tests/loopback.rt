@@ -2,6 +2,7 @@
 use super::serve_connections;
 use crate::listening::Network;
 use crate::sockets::Sockets;
+use crate::tests::holding::holds;
 use crate::tests::opening;
 use crate::tests::requests::posted;
 use crate::tests::requests::responses::{ADDED, TOO_LONG};
@@ -34,10 +35,10 @@ fn answered(rt: &HostRuntime, pieces: &[&[u8]]) -> Result<Vec<u8>, Fail> {
 fn a_head_in_pieces(rt: HostRuntime) -> Result<(), Fail> {
     let input = posted(rt.alloc(), REQUEST, "")?;
     let input = input.as_bytes();
-    assert!(rt; input.len() > 40);
+    holds(&rt, input.len() > 40, "the length of the input");
     let pieces = [&input[..1], &input[1..30], &input[30..31], &input[31..]];
     let response = answered(&rt, &pieces)?;
-    assert!(rt; response.as_slice() == ADDED.as_bytes());
+    holds(&rt, response.as_slice() == ADDED.as_bytes(), ADDED);
     Ok(())
 }
 
@@ -48,6 +49,6 @@ fn a_body_that_is_too_long(rt: HostRuntime) -> Result<(), Fail> {
     let mut input = head.to_vec(rt.alloc())?;
     input.resize(head.len() + 65_537, b'x')?;
     let response = answered(&rt, &[input.as_slice()])?;
-    assert!(rt; response.as_slice() == TOO_LONG.as_bytes());
+    holds(&rt, response.as_slice() == TOO_LONG.as_bytes(), TOO_LONG);
     Ok(())
 }
