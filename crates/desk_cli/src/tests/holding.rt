@@ -1,5 +1,5 @@
-//! What tests assert. Each assertion is a call of one of these: one that stands in a test, with what its message prints, costs
-//! the proof of that test several times as much.
+//! What tests assert. An assertion is a call of one of these, unless a proof needs it: one that stands in a test, with what its
+//! message prints, costs the proof of that test several times as much.
 use std::process::Abort;
 
 /// It is so. `what` names it where it isn't.

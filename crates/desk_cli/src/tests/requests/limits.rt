@@ -114,8 +114,8 @@ fn every_beginning(rt: HostRuntime) -> Result<(), Fail> {
     let end = serve_one(alloc, &mut *lists, &mut nothing, &mut written);
     let is_closed = end == ServeEnd::Closed && written.is_empty();
     holds(&rt, is_closed, "that nothing is answered");
-    // The head has 51 octets.
-    holds(&rt, input.len() == 174, "the length of the input");
+    // The head has 51 octets. The length bounds the beginnings.
+    assert!(rt; input.len() == 174);
     for length in 1..51 {
         expect(
             &rt,

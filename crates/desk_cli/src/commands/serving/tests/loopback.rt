@@ -35,7 +35,8 @@ fn answered(rt: &HostRuntime, pieces: &[&[u8]]) -> Result<Vec<u8>, Fail> {
 fn a_head_in_pieces(rt: HostRuntime) -> Result<(), Fail> {
     let input = posted(rt.alloc(), REQUEST, "")?;
     let input = input.as_bytes();
-    holds(&rt, input.len() > 40, "the length of the input");
+    // It bounds the pieces.
+    assert!(rt; input.len() > 40);
     let pieces = [&input[..1], &input[1..30], &input[30..31], &input[31..]];
     let response = answered(&rt, &pieces)?;
     holds(&rt, response.as_slice() == ADDED.as_bytes(), ADDED);
