@@ -16,7 +16,7 @@ use sqlite_disk::{Crash, Memory};
 use std::alloc::Global;
 
 /// The machine stops at this moment and comes back, and what it left of the connection's files is opened. The connection to that; or
-/// why there is none.
+/// `Disk`, where they can't be opened, whatever the reason.
 pub fn opened_after_stop<D: Crash + Drop>(
     alloc: Global,
     conn: Connection<FileStore<D>>,
