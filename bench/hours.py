@@ -1,25 +1,20 @@
 #!/usr/bin/env python3
-"""Measures what looks at hours: the sweep, and a downlink on a gateway with many bookings. Of reports files.py tells.
+"""Measures what looks at hours: a downlink on a gateway with many bookings. Of reports files.py tells.
 
-    bench/hours.py [--built]
+    bench/hours.py
 
-It prints the microseconds of `sweep_peak` on lists of several sizes, and of one DownBook on a gateway with so many bookings. The
-sweep is timed inside a test of duty_core, which asserts what it answers: `rt test` proves and builds it first, or with --built the
-one is run that it built last. A DownBook is timed through `desk lines`: of two streams the one ends with 50,000 of them more, each
-refused since it collides with a booking, so that the bookings stay as many. All times are the least of five runs.
+It prints the microseconds of one DownBook on a gateway with so many bookings. It is timed through `desk lines`: of two streams
+the one ends with 50,000 of them more, each refused since it collides with a booking, so that the bookings stay as many. All times
+are the least of five runs.
 """
 
 import argparse
 import os
-import re
 import subprocess
 import sys
 import tempfile
 
 from normal_operation import DEVICES, ROOT, SECOND, Stream
-
-SWEEPING = ROOT / "crates" / "duty_core"
-SWEEP = "tests::sweeps::sweeps_by_size"
 
 # between two uplinks, in microseconds: so far apart their downlinks keep every hour
 APART = 10_000_000
@@ -27,20 +22,6 @@ APART = 10_000_000
 MORE = 50_000
 
 RUNS = 5
-
-
-def time_sweeps():
-    """Prints what the test of the sweep measures."""
-    least = {}
-    for _ in range(RUNS):
-        ran = subprocess.run([SWEEPING / "out" / "duty_core_tests", SWEEP], capture_output=True, text=True)
-        told = re.findall(r"^(\w+: .*), (\d+) microseconds$", ran.stdout, re.M)
-        if ran.returncode != 0 or not told:
-            sys.exit(f"{SWEEP} ended with {ran.returncode}:\n{ran.stdout}{ran.stderr}")
-        for what, took in told:
-            least[what] = min(int(took), least.get(what, int(took)))
-    for what, took in least.items():
-        print(f"{what}: {took:,} microseconds", flush=True)
 
 
 class OneGateway(Stream):
@@ -100,11 +81,7 @@ def seconds(lines, refused):
 
 
 def main():
-    words = argparse.ArgumentParser(description=__doc__, formatter_class=argparse.RawDescriptionHelpFormatter)
-    words.add_argument("--built", action="store_true", help="take the test that rt test built last")
-    if not words.parse_args().built:
-        subprocess.run(["rt", "test"], cwd=SWEEPING, check=True)
-    time_sweeps()
+    argparse.ArgumentParser(description=__doc__, formatter_class=argparse.RawDescriptionHelpFormatter).parse_args()
     # the first call may prove and build the program
     subprocess.run([ROOT / "desk", "lines"], stdin=subprocess.DEVNULL, check=True)
     for count in (100, 10_000, 100_000):

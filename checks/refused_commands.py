@@ -1,19 +1,24 @@
 #!/usr/bin/env python3
-"""Refuses each request for memory of the commands on a file in turn.
+"""Refuses each request for memory of the commands on a file in turn, or stops the machine at each call of a desk's two files.
 
-    checks/refused_commands.py [--program FILE] [--jobs 2] [--only NAME,..] [--folder FOLDER]
+    checks/refused_commands.py [--what memory | log | file] [--program FILE] [--jobs 2] [--only NAME,..] [--folder FOLDER]
 
-Each case is a command on a file, and what it writes where there is memory. It is run for N = 1, 2, 3 .. on a copy of the file with
-its Nth request for memory refused (refusing_heap.py), until it makes fewer than N. Each run has to end as it does with memory, or
-with status 3: with `desk: file` where the file couldn't be opened for it, which then is as it was, and else with `desk: unavailable`,
-after the first lines of what it writes or none. The real SQLite then reads the file: its rows are those of before the message under
-way or those with it, and what was answered is in it. The command once more, with memory, writes what it writes where there always
-was, and leaves those rows.
+Each case is a command on a file, and what it writes where nothing is refused. It is run for N = 1, 2, 3 .. on a copy of the file with
+its Nth request for memory refused, or with the calls of its log, or of the file itself, refused from the Nth on (refusing.py), until
+it makes fewer than N. Each run has to end as it does where nothing is refused, or with status 3: with `desk: file` where the file
+couldn't be opened for it, whose rows are then as they were, and else with `desk: unavailable`, after the first lines of what it
+writes or none. The real SQLite then reads the file: its rows are those of before the message under way or those with it, and what was
+answered is in it. The command once more, with nothing refused, writes what it writes where nothing ever was, and leaves those rows.
 
-The cases are `init`, `hear` of no message, which is an opening, and then, of the requests after it, `hear` of each request of docs/MESSAGES.md
-on a file that has heard those before it, which are of all ten messages and told in all ways, `import`, `report`, `bands`, `check`,
-`migrate` of a file of schema 1, and `serve`: a message and both reports, each by two connections. A request by HTTP is answered, or
-told 503, or its connection ends, and the second connection is answered as with memory.
+After calls are refused the files are taken twice: as a process leaves them that has ended, and as a machine does that has lost all
+that wasn't synced.
+
+The cases are `init`, `hear` of no message, which is an opening, and then, of the requests for memory after it, `hear` of each request
+of docs/MESSAGES.md on a file that has heard those before it, which are of all ten messages and told in all ways, `import`, `report`,
+`bands`, `check`, `migrate` of a file of schema 1, and `serve`: a message and both reports, each by two connections. A request by HTTP
+is answered, or told 503, or its connection ends; for want of memory the second connection is then answered, and after a call that is
+refused it is told 503 too. After calls that are refused there is one case more, `hear` of a stream of mixed operation
+(mixed_operation.py: repeats, copies, changed and refused messages, downlinks, limits).
 
 The program is the one that `./desk` proves and builds, or with --program the built one in FILE.
 """
@@ -24,15 +29,18 @@ import tempfile
 from concurrent.futures import ThreadPoolExecutor
 from pathlib import Path
 
-from common import ROOT, TO_SCHEMA_1, copy_to, execute, reading, ready
+from common import ROOT, TO_SCHEMA_1, copy_to, execute, reading, ready, text_of
 from http_client import asked, body, free_port, get, post
 from messages import PAGE, read_page
-from refusing_heap import build_heap, refusing, requests_of
+from mixed_operation import mixed_operation
+from refusing import Calls, Memory, requests_of
 
 BUILT = ROOT / "crates" / "desk_cli" / "out" / "desk_cli"
 EXAMPLES = ROOT / "examples"
 # the cases of which each request is refused
 WHOLE = ["init", "opening"]
+# a stream of mixed operation, of so few devices that it is more than their joins
+SIZE, SEED, DEVICES = 120, 1, 8
 # by how many requests the words of two commands may differ
 OF_WORDS = 200
 UNAVAILABLE = "desk: unavailable\n"
@@ -60,15 +68,20 @@ def rows_of(file):
 
 
 class Program:
-    def __init__(self, path, heap):
-        self.path, self.heap = path, heap
+    """The program, and what of its requests is refused."""
+
+    def __init__(self, path, refusal):
+        self.path, self.refusal = path, refusal
 
     def run(self, words, given, refused=0):
         """Its status, what it wrote, what it told, and how many requests it made."""
+        command, file, *options = words
         words = [self.path, *map(str, words)]
-        ran = subprocess.run(words, input=given, capture_output=True, text=True, env=refusing(self.heap, refused), timeout=60)
+        environment = self.refusal.refusing(file, refused)
+        ran = subprocess.run(words, input=given, capture_output=True, text=True, env=environment, timeout=60)
+        self.refusal.ended(file, refused)
         requests, told = requests_of(ran.stderr)
-        wants(requests, f"{words} with request {refused} refused ends with {ran.returncode} {told!r}")
+        wants(requests is not None, f"{words} with request {refused} refused ends with {ran.returncode} {told!r}")
         return ran.returncode, ran.stdout, told, requests
 
     def ends(self, words, given, written, told="", status=0):
@@ -133,19 +146,36 @@ class Case:
         return left == states[-1] or outcome != "answered" and not written and left == states[0]
 
 
-class Import(Case):
+class Several(Case):
     """Its messages are heard one after another, so that the first of them may be there."""
+
+    # before the messages
+    header = ""
 
     def rows(self, program, folder):
         states, requests = super().rows(program, folder)
-        header, *records = self.given.splitlines(keepends=True)
-        for count in range(1, len(records)):
+        lines = self.given.removeprefix(self.header).splitlines(keepends=True)
+        for count in range(1, len(lines)):
             part = folder / f"part-{count}"
             part.mkdir()
             file, words = self.begins(part)
-            program.run(words, header + "".join(records[:count]))
+            program.run(words, self.header + "".join(lines[:count]))
             states.insert(-1, rows_of(file))
         return states, requests
+
+    def is_between(self, left, states, written, outcome):
+        if outcome == "unopened":
+            return left == states[0]
+        answered = written.count("\n")
+        return left in states[answered : answered + 2] and (outcome != "answered" or left == states[-1])
+
+
+class Import(Several):
+    """It answers once all is heard."""
+
+    def __init__(self, *given, **named):
+        super().__init__(*given, **named)
+        self.header = self.given.splitlines(keepends=True)[0]
 
     def is_between(self, left, states, written, outcome):
         if outcome == "unopened":
@@ -164,7 +194,8 @@ class Served(Case):
         """Its status, the two bodies or responses, what it told, and how many requests it made."""
         port = free_port()
         words = [program.path, "serve", str(file), "--port", str(port), "--count", "2"]
-        with subprocess.Popen(words, stdout=subprocess.PIPE, stderr=subprocess.PIPE, text=True, env=refusing(program.heap, refused)) as served:
+        environment = program.refusal.refusing(file, refused)
+        with subprocess.Popen(words, stdout=subprocess.PIPE, stderr=subprocess.PIPE, text=True, env=environment) as served:
             responses = []
             if served.stdout.readline():
                 try:
@@ -172,8 +203,9 @@ class Served(Case):
                 except OSError:
                     served.kill()
             _, told = served.communicate(timeout=60)
+        program.refusal.ended(file, refused)
         requests, told = requests_of(told)
-        wants(requests, f"{self.name} with request {refused} refused ends with {served.returncode} {told!r}")
+        wants(requests is not None, f"{self.name} with request {refused} refused ends with {served.returncode} {told!r}")
         return served.returncode, responses, told, requests
 
     def response(self, port):
@@ -182,26 +214,40 @@ class Served(Case):
         except ConnectionResetError:
             return UNANSWERED
 
+    def answers(self, program, file):
+        """Both requests are answered where nothing is refused. How many requests it made."""
+        status, responses, told, requests = self.serve(program, file, 0)
+        wants((status, told, [body(it) for it in responses]) == (0, "", [self.wanted] * 2), f"{self.name}: {status} {told!r} {responses}")
+        return requests
+
     def rows(self, program, folder):
         file, _ = self.begins(folder)
         before = rows_of(file)
-        status, responses, told, requests = self.serve(program, file, 0)
-        wants((status, told, [body(it) for it in responses]) == (0, "", [self.wanted] * 2), f"{self.name}: {status} {told!r} {responses}")
+        requests = self.answers(program, file)
         return [before, rows_of(file)], requests
 
     def refuse(self, program, states, place, folder):
         file, _ = self.begins(folder)
         status, responses, told, _ = self.serve(program, file, place)
         what = f"{self.name}, request {place} refused: {status} {responses} {told!r}"
+        left = rows_of(file)
         if not responses:
             wants(status == 3 and told in (UNAVAILABLE, UNOPENED), what)
-            wants(rows_of(file) == states[0], f"{what}: the rows are others")
-            return "unopened" if told == UNOPENED else "unavailable"
-        wants((status, told) == (0, ""), what)
-        good = [body(it) == self.wanted for it in responses]
-        wants(all(is_good or it == UNANSWERED or it.startswith(REFUSED) for it, is_good in zip(responses, good)), what)
-        wants(any(good) and rows_of(file) == states[-1], f"{what}: what isn't answered is, at the second connection")
-        return "answered" if all(good) else "unavailable"
+            wants(left == states[0], f"{what}: the rows are {left}")
+            outcome = "unopened" if told == UNOPENED else "unavailable"
+        else:
+            wants((status, told) == (0, ""), what)
+            good = [body(it) == self.wanted for it in responses]
+            wants(all(is_good or it == UNANSWERED or it.startswith(REFUSED) for it, is_good in zip(responses, good)), what)
+            if program.refusal.lasts:
+                wants(good != [False, True], f"{what}: the second connection is answered")
+                wants(left == states[-1] or left == states[0] and not good[0], f"{what}: the rows are {left}")
+            else:
+                wants(any(good) and left == states[-1], f"{what}: what isn't answered is, at the second connection")
+            outcome = "answered" if all(good) else "unavailable"
+        self.answers(program, file)
+        wants(rows_of(file) == states[-1], f"{what}; once more it leaves other rows")
+        return outcome
 
 
 # ---- the cases
@@ -249,14 +295,19 @@ def cases_in(program, folder):
     yield Served("serve, a message", empty, post(line), answer)
     yield Served("serve, a report", day, get("/v1/reports/town/2024-02"), (EXAMPLES / "owner-report.csv").read_text())
     yield Served("serve, bands", day, get("/v1/bands/gw-a"), (EXAMPLES / "band-report.csv").read_text())
+    if program.refusal.lasts:
+        stream = text_of(mixed_operation(SIZE, SEED, devices=DEVICES))
+        heard = folder / "heard.db"
+        copy_to(empty, heard)
+        _, written, _, _ = program.run(["hear", heard], stream)
+        yield Several("a stream", empty, "hear", given=stream, written=written)
 
 
 def past_opening(case, program, folder):
-    """The case, of the requests after an opening of its file alone."""
+    """Of the case the requests after an opening of its file alone are refused."""
     with tempfile.TemporaryDirectory(dir=folder) as room:
         file, _ = case.begins(Path(room))
         case.first = program.run(["hear", file], "")[3] - OF_WORDS
-    return case
 
 
 def refuse_each(case, program, folder, jobs):
@@ -272,12 +323,19 @@ def refuse_each(case, program, folder, jobs):
     with ThreadPoolExecutor(jobs) as pool:
         for outcome in pool.map(refuse, range(case.first, requests + 1)):
             came[outcome] += 1
-    print(f"{case.name}: {requests + 1 - case.first} requests refused in turn:", ", ".join(f"{count} {outcome}" for outcome, count in came.items() if count), flush=True)
-    return came
+    ends = ", ".join(f"{count} {outcome}" for outcome, count in came.items() if count)
+    print(f"{case.name}: {requests + 1 - case.first} {program.refusal.name} refused in turn: {ends}", flush=True)
+
+
+def refusals_in(what, folder):
+    if what == "memory":
+        return [Memory(folder)]
+    return [Calls(folder, what == "log", loses) for loses in (False, True)]
 
 
 def main():
     words = argparse.ArgumentParser(description=__doc__, formatter_class=argparse.RawDescriptionHelpFormatter)
+    words.add_argument("--what", choices=["memory", "log", "file"], default="memory", help="what is refused")
     words.add_argument("--program", type=Path, metavar="FILE", help="the built program, in place of ./desk's")
     words.add_argument("--jobs", type=int, default=2)
     words.add_argument("--only", default="", metavar="NAME,..", help="the cases whose names begin so")
@@ -288,10 +346,15 @@ def main():
     wanted = tuple(given.only.split(","))
     with tempfile.TemporaryDirectory(dir=given.folder) as folder:
         folder = Path(folder)
-        program = Program((given.program or BUILT).resolve(), build_heap(folder))
-        for case in cases_in(program, folder):
-            if case.name.startswith(wanted):
-                refuse_each(case if case.name in WHOLE else past_opening(case, program, folder), program, folder, given.jobs)
+        path = (given.program or BUILT).resolve()
+        programs = [Program(path, refusal) for refusal in refusals_in(given.what, folder)]
+        for case in cases_in(programs[0], folder):
+            if not case.name.startswith(wanted):
+                continue
+            if given.what == "memory" and case.name not in WHOLE:
+                past_opening(case, programs[0], folder)
+            for program in programs:
+                refuse_each(case, program, folder, given.jobs)
 
 
 if __name__ == "__main__":

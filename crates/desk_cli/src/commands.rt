@@ -1,11 +1,11 @@
 //! The commands of the program. Each has a module with its words, what it does, and its tests; here they are listed.
 ghost use Rattle.std.specs.Prelude.{◌≡◌, IfOk};
 ghost use Rattle.clap.specs.Matches.{found_of};
-ghost use Rattle.clap.specs.Simple.{app_of, subcommand_rows_of};
+ghost use Rattle.clap.specs.Simple.{App, app_of, subcommand_rows_of};
 ghost use Rattle.clap.specs.Walk.{rows_of};
 ghost use Rattle.desk_cli.specs.CommandLine.{command_named, desk_app, named_with, with_readers};
 ghost use Rattle.desk_cli.specs.Named.{TellsNamed};
-ghost use Rattle.desk_cli.specs.steps.CommandLine.{Adds};
+ghost use Rattle.desk_cli.specs.steps.CommandLine.{AddsCommand};
 
 mod checking;
 mod hear;
@@ -40,7 +40,7 @@ use serving::{serve_app, serve_of};
 use std::alloc::{AllocError, Global};
 
 /// A command with its values.
-#[derive(Clone, Copy, PartialEq, Eq)]
+#[derive(Clone, Copy)]
 pub enum Command<'a> {
     /// Answers the messages of standard input, one a line, for a new desk that is kept in memory.
     Lines {
@@ -97,32 +97,32 @@ pub(crate) fn desk_app<'a>(alloc: Global) -> Result<clap::Command<'a>, AllocErro
     ensures { IfOk result (λ c. app_of c ≡ desk_app) }
 {
     let about = "A LoRaWAN device registry and airtime desk";
-    let desk = with_readers(alloc, command(alloc, "desk", about, EXAMPLE))?;
-    let desk = added(desk, serve_app(alloc))?;
-    let desk = added(desk, report_app(alloc))?;
-    let desk = added(desk, bands_app(alloc))?;
+    let desk = with_readers(alloc, command(alloc, "desk", about, EXAMPLE));
+    let desk = added(desk, serve_app(alloc));
+    let desk = added(desk, report_app(alloc));
+    let desk = added(desk, bands_app(alloc));
     added(desk, check_app(alloc))
 }
 
 /// A command line with the commands that read messages or records, and those that make a file for them and move it.
 fn with_readers<'a>(alloc: Global, desk: clap::Command<'a>) -> Result<clap::Command<'a>, AllocError>
-    ensures { IfOk result (λ c. app_of c ≡ with_readers (app_of desk.entry)) }
+    ensures { (app : App) → app_of desk.entry ≡ app → IfOk result (λ c. app_of c ≡ with_readers app) }
 {
-    let desk = added(desk, lines_app(alloc))?;
-    let desk = added(desk, init_app(alloc))?;
-    let desk = added(desk, migrate_app(alloc))?;
-    let desk = added(desk, hear_app(alloc))?;
+    let desk = added(Ok(desk), lines_app(alloc));
+    let desk = added(desk, init_app(alloc));
+    let desk = added(desk, migrate_app(alloc));
+    let desk = added(desk, hear_app(alloc));
     added(desk, import_app(alloc))
 }
 
-/// A command line with one command more, if there was memory for its words.
+/// A command line with one command more, if there was memory for both.
 fn added<'a>(
-    desk: clap::Command<'a>,
+    desk: Result<clap::Command<'a>, AllocError>,
     command: Result<clap::Command<'a>, AllocError>,
 ) -> Result<clap::Command<'a>, AllocError>
-    ensures { IfOk result (Adds desk.entry command.entry) }
+    ensures { AddsCommand desk.entry command.entry result }
 {
-    desk.subcommand(command?)
+    desk?.subcommand(command?)
 }
 
 /// The command that words were matched with, by its name and options.

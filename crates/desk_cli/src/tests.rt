@@ -12,7 +12,6 @@ mod joins;
 mod limits;
 mod lines;
 mod migrating;
-mod refused_memory;
 mod reports;
 pub(crate) mod requests;
 pub(crate) mod rows;

@@ -11,7 +11,7 @@ use jiff::civil::{Date, date};
 const DAY: i64 = 86_400_000_000;
 
 /// When a month begins and when the next one does, in microseconds since 1970 UTC.
-#[derive(Clone, Copy, Debug)]
+#[derive(Clone, Copy)]
 pub(crate) struct Month {
     pub from: i64,
     pub to: i64,

@@ -3,7 +3,7 @@ use desk_store::StoreFault;
 use registry_core::Refusal;
 
 /// What a delivery is answered.
-#[derive(Debug, Drop)]
+#[derive(Drop)]
 pub enum Outcome {
     /// What is heard, or was heard before: the text of its answer, of a kept refusal (6, 9 to 31) too.
     Answered(Vec<u8>),

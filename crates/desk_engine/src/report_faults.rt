@@ -5,7 +5,7 @@ ghost use Rattle.desk_engine.specs.declared.report_faults.ReportFault.TheVariant
 use desk_store::StoreFault;
 
 /// Why there is no report.
-#[derive(Clone, Copy, Debug, PartialEq, Eq)]
+#[derive(Clone, Copy, PartialEq, Eq)]
 pub enum ReportFault {
     /// The text is no month's: refusal 31.
     Time,

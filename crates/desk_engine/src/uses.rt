@@ -14,7 +14,7 @@ pub(crate) const BANDS: [Band; 6] = [Band::B1, Band::B2, Band::B3, Band::B4, Ban
 
 /// How much the air was used: how many times, for how long in all, and the greatest use of any sliding hour, in
 /// microseconds.
-#[derive(Clone, Copy, Debug)]
+#[derive(Clone, Copy)]
 pub(crate) struct Use {
     pub count: u64,
     pub airtime: u128,

@@ -16,7 +16,7 @@ use radio_core::Name;
 use sqlite::{Alter, Connection, Row, Transaction};
 
 /// The texts of a message that was heard and of its answer.
-#[derive(Debug, Drop)]
+#[derive(Drop)]
 pub struct Texts {
     pub message: Vec<u8>,
     pub answer: Vec<u8>,

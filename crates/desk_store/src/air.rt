@@ -14,7 +14,7 @@ use registry_core::{Message, UplinkView, Window, receive};
 
 /// What the facts hold of a gateway's time on air, for a message that books a downlink or sets a limit. What the message
 /// doesn't ask for is 0 or empty.
-#[derive(Debug, Drop)]
+#[derive(Drop)]
 pub(crate) struct AirView {
     pub(crate) limit: u64,
     pub(crate) near: Vec<Span>,

@@ -12,7 +12,7 @@ use registry_core::{Booking, Standing};
 use std::alloc::{AllocError, Global};
 
 /// By the number of an uplink, how many bookings name it, and how many of these aren't dropped.
-#[derive(Debug, Drop)]
+#[derive(Drop)]
 pub(crate) struct Answers {
     pub(crate) named: Tally,
     pub(crate) standing: Tally,

@@ -19,7 +19,7 @@ use std::marker::Model;
 use std::ops::Bound;
 
 /// A device with its owner.
-#[derive(Clone, Copy, Debug, PartialEq, Eq)]
+#[derive(Clone, Copy, PartialEq, Eq)]
 pub(crate) struct Owned {
     pub(crate) owner: Name,
     pub(crate) dev_eui: Eui,
@@ -54,7 +54,7 @@ impl Ord for Owned {
 }
 
 /// The devices by their DevEUIs, and each one's owner with it in order. Contracts see the devices.
-#[derive(Debug, Drop)]
+#[derive(Drop)]
 pub(crate) struct Devices {
     devices: IndexMap<Eui, Device>,
     owned: BTreeSet<Owned>,

@@ -13,7 +13,7 @@ use registry_core::{BandLimit, Config, Effect, Reception, Role, Session, Uplink}
 use std::alloc::{AllocError, Global};
 
 /// The registry's facts. Contracts see what they are by `facts_of`.
-#[derive(Debug, Drop)]
+#[derive(Drop)]
 pub(crate) struct Facts {
     pub(crate) senders: IndexMap<Name, Role>,
     pub(crate) owners: IndexSet<Name>,

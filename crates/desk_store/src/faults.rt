@@ -7,7 +7,7 @@ use std::alloc::{AllocError, AllocFailed};
 /// Why a store doesn't answer. A store that holds something and is sound tells the first three alone; a call may tell the fourth
 /// of what turns out to be no desk's; the last two are told where a desk is made, opened or moved. `Lists` tells `Memory` and
 /// `Size` alone.
-#[derive(Clone, Copy, Debug, PartialEq, Eq)]
+#[derive(Clone, Copy, PartialEq, Eq)]
 pub enum StoreFault {
     /// A request for memory was refused: refusal 32.
     Memory,

@@ -23,7 +23,7 @@ impl Facts {
 }
 
 /// From the one time on and before the other, in microseconds since 1970 UTC.
-#[derive(Clone, Copy, Debug, PartialEq, Eq)]
+#[derive(Clone, Copy)]
 pub(crate) struct Period {
     pub(crate) from: i64,
     pub(crate) to: i64,

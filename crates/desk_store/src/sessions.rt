@@ -12,7 +12,7 @@ use std::alloc::{AllocError, Global};
 use std::marker::Model;
 
 /// A session, and the number of its device's session before it: 0 where there is none.
-#[derive(Clone, Copy, Debug, PartialEq, Eq)]
+#[derive(Clone, Copy)]
 pub(crate) struct Link {
     pub(crate) session: Session,
     pub(crate) before: u64,
@@ -20,7 +20,7 @@ pub(crate) struct Link {
 
 /// The sessions in order, and of each device, by its DevEUI's number, its latest session and its last nonce. Contracts see
 /// the list, and how many more go in without more memory.
-#[derive(Debug, Drop)]
+#[derive(Drop)]
 pub(crate) struct Sessions {
     links: Vec<Link>,
     latest: IndexMap<u64, u64>,

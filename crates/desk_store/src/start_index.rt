@@ -9,14 +9,14 @@ use std::alloc::{AllocError, Global};
 use std::hash::Hash;
 
 /// When an item begins, in microseconds, and its number, from 1.
-#[derive(Clone, Copy, Debug, PartialEq, Eq, PartialOrd, Ord)]
+#[derive(Clone, Copy, PartialEq, Eq, PartialOrd, Ord)]
 pub(crate) struct Place {
     pub(crate) start: i64,
     pub(crate) number: u64,
 }
 
 /// Of each key that has items, where they stand: in order of start, and those that start together in order of number.
-#[derive(Debug, Drop)]
+#[derive(Drop)]
 pub(crate) struct StartIndex<K: Eq + Hash> {
     pub(crate) keys: IndexMap<K, Vec<Place>>,
 }

@@ -17,7 +17,7 @@ use registry_core::{Booking, Config, Device, Effect, Envelope, Reception, Role, 
 use std::alloc::{AllocError, Global};
 
 /// How a store fails.
-#[derive(Clone, Copy, Debug, PartialEq, Eq)]
+#[derive(Clone, Copy, PartialEq, Eq)]
 pub enum Failure {
     /// A request for memory is refused, once.
     Memory,
@@ -30,7 +30,7 @@ pub enum Failure {
 }
 
 /// Plain lists behind a switch that makes one call fail.
-#[derive(Debug, Drop)]
+#[derive(Drop)]
 pub struct Switched {
     lists: Lists,
     failure: Failure,

@@ -7,7 +7,7 @@ use indexmap::IndexMap;
 use std::alloc::{AllocError, Global};
 
 /// Of each number a count: 0 of one that has none.
-#[derive(Debug, Drop)]
+#[derive(Drop)]
 pub(crate) struct Tally {
     pub(crate) counts: IndexMap<u64, u64>,
 }

@@ -17,7 +17,7 @@ use std::marker::Model;
 
 /// The uplinks, the bookings, and by a session how many bookings answer its data uplinks, dropped ones too. Contracts
 /// see the lists.
-#[derive(Debug, Drop)]
+#[derive(Drop)]
 pub(crate) struct Traffic {
     uplinks: Uplinks,
     bookings: Bookings,

@@ -11,7 +11,7 @@ use std::alloc::{AllocError, Global};
 
 /// The number of the first join uplink and of the first data uplink with a session and a counter, and the last counter of a
 /// session's data uplinks.
-#[derive(Debug, Drop)]
+#[derive(Drop)]
 pub(crate) struct UplinkIndex {
     pub(crate) joins: IndexMap<(u64, u32), u64>,
     pub(crate) frames: IndexMap<(u64, u32), u64>,

@@ -19,7 +19,7 @@ use std::alloc::{AllocError, Global};
 use std::marker::Model;
 
 /// The uplinks in order, with their indexes. Contracts see the list.
-#[derive(Debug, Drop)]
+#[derive(Drop)]
 pub(crate) struct Uplinks {
     items: Vec<Uplink>,
     index: UplinkIndex,

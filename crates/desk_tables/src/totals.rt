@@ -14,7 +14,7 @@ use desk_store::{Counts, StoreFault};
 use sqlite::{Alter, Connection};
 
 /// How many there are of each thing.
-#[derive(Clone, Copy, Debug, PartialEq, Eq)]
+#[derive(Clone, Copy)]
 pub struct Totals {
     pub senders: u64,
     pub owners: u64,

@@ -1,7 +1,7 @@
 //! Why a text is no gateway report.
 
 /// Why a text is no gateway report, looked for in this order, or that memory ran out.
-#[derive(Clone, Copy, Debug, PartialEq, Eq)]
+#[derive(Clone, Copy, PartialEq, Eq)]
 pub enum CsvFault {
     /// More than 16,777,216 octets, or more than 100,000 records behind the header.
     Size,

@@ -4,7 +4,7 @@ use registry_core::Refusal;
 
 /// Why a text is no envelope for the receiver, looked for in this order, or that memory ran out. Each but `Malformed`
 /// and `Memory` has the head of the request.
-#[derive(Clone, Copy, Debug, PartialEq, Eq)]
+#[derive(Clone, Copy)]
 pub enum WireFault {
     /// No JSON, or a member that every message has is missing or not in its form: refusal 1.
     Malformed,

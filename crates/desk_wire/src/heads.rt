@@ -7,7 +7,7 @@ use radio_core::Name;
 use registry_core::Envelope;
 
 /// Of a request the sender, its transaction number, and the MessageType, which need not be one that the desk knows.
-#[derive(Clone, Copy, Debug, PartialEq, Eq)]
+#[derive(Clone, Copy)]
 pub struct Head {
     pub sender: Name,
     pub transaction: u32,

@@ -23,7 +23,7 @@ pub fn is_near(span: &Span, start: i128) -> bool
 }
 
 /// Two starts, between which a span is near a third. One that begins at either isn't.
-#[derive(Clone, Copy, Debug, PartialEq, Eq)]
+#[derive(Clone, Copy)]
 pub struct NearRange {
     /// What is near begins after this.
     pub after: i64,

@@ -1,15 +1,28 @@
+//! Worked rows, as asserted by two functions: an assertion that stands in a test costs its proof several times as much as a call. It
+//! stands where the sweep asks for order.
 use crate::hours::{clear, fits, peak, use_at};
 use crate::interval::Span;
-use crate::near::{NearRange, is_near, near_range};
+use crate::near::{is_near, near_range};
+use crate::sweep::{in_order, sweep_fits, sweep_peak};
+use std::alloc::{AllocError, Global};
 use std::process::Abort;
-
-mod sweeps;
+use std::test::Fail;
 
 /// An hour, in microseconds.
 const HOUR: i64 = 3_600_000_000;
 
 /// The first microsecond of February 2024.
 const MONTH: i64 = 1_706_745_600_000_000;
+
+/// It is so. `what` names it where it isn't.
+fn holds(rt: &impl Abort, is_so: bool, what: &str) {
+    assert!(rt; is_so, "{what}");
+}
+
+/// It is so, of the row in this place.
+fn holds_at(rt: &impl Abort, is_so: bool, place: usize) {
+    assert!(rt; is_so, "at {place}");
+}
 
 fn span(rt: &impl Abort, start: i64, len: u32) -> Span {
     Span::new(start, len).expect(rt, "the start is in range")
@@ -24,121 +37,141 @@ fn worked(rt: &impl Abort) -> [Span; 3] {
     ]
 }
 
+/// A start, a length, and whether there is such a span.
+static SPANS: [(i64, u32, bool); 5] = [
+    (-4_611_686_018_427_387_904, 0, true),
+    (-4_611_686_018_427_387_905, 1, false),
+    (4_611_686_018_427_387_903, 4_294_967_295, true),
+    (4_611_686_018_427_387_904, 1, false),
+    (-1, 7, true),
+];
+
 #[test]
 fn makes_spans(rt: HostRuntime) {
-    for (start, len, is_span) in [
-        (-4_611_686_018_427_387_904, 0, true),
-        (-4_611_686_018_427_387_905, 1, false),
-        (4_611_686_018_427_387_903, 4_294_967_295, true),
-        (4_611_686_018_427_387_904, 1, false),
-        (-1, 7, true),
-    ] {
-        let made = Span::new(start, len);
-        assert_eq!(rt; made.is_some(), is_span, "at {start}");
+    for (place, (start, len, is_span)) in SPANS.iter().enumerate() {
+        let made = Span::new(*start, *len);
+        holds_at(&rt, made.is_some() == *is_span, place);
         if let Some(made) = made {
-            assert_eq!(rt; made.start(), start);
-            assert_eq!(rt; made.len(), len);
+            holds_at(&rt, made.start() == *start && made.len() == *len, place);
         }
     }
 }
 
+/// When an hour begins, and how much of it the worked spans use.
+static HOURS: [(i64, u128); 8] = [
+    // The hours that begin at a start.
+    (MONTH, 20),
+    (MONTH + HOUR + 3, 20),
+    (MONTH + HOUR + 5, 18),
+    // The hours that end at an end.
+    (MONTH + 20 - HOUR, 20),
+    (MONTH + 13, 25),
+    (MONTH + 15, 25),
+    (i64::MIN, 0),
+    (i64::MAX, 0),
+];
+
 #[test]
 fn adds_up_the_hour(rt: HostRuntime) {
     let spans = worked(&rt);
-    for (t, used) in [
-        // The hours that begin at a start.
-        (MONTH, 20),
-        (MONTH + HOUR + 3, 20),
-        (MONTH + HOUR + 5, 18),
-        // The hours that end at an end.
-        (MONTH + 20 - HOUR, 20),
-        (MONTH + 13, 25),
-        (MONTH + 15, 25),
-        (i64::MIN, 0),
-        (i64::MAX, 0),
-    ] {
-        assert_eq!(rt; use_at(&spans, t), used, "from {t}");
+    for (place, (from, used)) in HOURS.iter().enumerate() {
+        holds_at(&rt, use_at(&spans, *from) == *used, place);
     }
     let last = span(&rt, 4_611_686_018_427_387_903, 4_294_967_295);
-    assert_eq!(rt;
-        use_at(&[last, last], 4_611_686_018_427_387_904),
-        7_200_000_000
-    );
+    let used = use_at(&[last, last], 4_611_686_018_427_387_904);
+    holds(&rt, used == 7_200_000_000, "two last spans");
+}
+
+/// Spans that are in order have this peak.
+fn has_peak(rt: &impl Abort, spans: &[Span], wanted: u128) {
+    assert!(rt; in_order(spans));
+    holds(rt, peak(spans) == wanted, "the peak");
+    holds(rt, sweep_peak(spans) == wanted, "the peak by the sweep");
 }
 
 #[test]
 fn finds_the_peak(rt: HostRuntime) {
-    assert_eq!(rt; peak(&[]), 0);
-    assert_eq!(rt; peak(&[span(&rt, 0, 5_000_000)]), 5_000_000);
-    assert_eq!(rt; peak(&[span(&rt, 0, 4_000_000_000)]), 3_600_000_000);
-    assert_eq!(rt;
-        peak(&[span(&rt, 0, 100), span(&rt, 10, 10), span(&rt, 15, 75)]),
-        185
-    );
-    assert_eq!(rt; peak(&worked(&rt)), 25);
+    has_peak(&rt, &[], 0);
+    has_peak(&rt, &[span(&rt, 0, 5_000_000)], 5_000_000);
+    has_peak(&rt, &[span(&rt, 0, 4_000_000_000)], 3_600_000_000);
+    // The second ends before the first does.
+    let within = [span(&rt, 0, 100), span(&rt, 10, 10), span(&rt, 15, 75)];
+    has_peak(&rt, &within, 185);
+    has_peak(&rt, &worked(&rt), 25);
 }
 
 #[test]
 fn fits_up_to_the_limit(rt: HostRuntime) {
     let [first, second, third] = worked(&rt);
-    assert!(rt; !fits(&[first, second], third, 24));
-    assert!(rt; fits(&[first, second], third, 25));
-    assert!(rt; fits(&[], span(&rt, 0, 0), 0));
-    assert!(rt; !fits(&[], first, 19));
+    let both = [first, second];
+    holds(&rt, !fits(&both, third, 24), "one above");
+    holds(&rt, fits(&both, third, 25), "just within");
+    holds(&rt, fits(&[], span(&rt, 0, 0), 0), "nothing within nothing");
+    holds(&rt, !fits(&[], first, 19), "too long alone");
 }
 
 #[test]
-fn is_clear_of_neighbours(rt: HostRuntime) {
+fn tells_order_and_what_is_clear(rt: HostRuntime) {
+    let [first, second, third] = worked(&rt);
+    holds(&rt, in_order(&[first, second, second]), "the same twice");
+    holds(&rt, !in_order(&[first, third, second]), "the last two");
+    holds(&rt, !in_order(&[second, first, third]), "the first two");
     let new = span(&rt, 10, 5);
-    assert!(rt; clear(&[], new));
-    assert!(rt; clear(&[span(&rt, 5, 5), span(&rt, 15, 5), span(&rt, 12, 0)], new));
-    assert!(rt; !clear(&[span(&rt, 5, 6), span(&rt, 15, 5)], new));
-    assert!(rt; !clear(&[span(&rt, 14, 1)], new));
-    assert!(rt; !clear(&[span(&rt, 0, 4_294_967_295)], new));
+    let beside = [span(&rt, 5, 5), span(&rt, 15, 5), span(&rt, 12, 0)];
+    holds(&rt, clear(&[], new) && clear(&beside, new), "beside it");
+    holds(&rt, !clear(&[span(&rt, 5, 6)], new), "its first");
+    holds(&rt, !clear(&[span(&rt, 14, 1)], new), "its last");
+    let all = span(&rt, 0, 4_294_967_295);
+    holds(&rt, !clear(&[all], new), "all of it");
 }
+
+/// How far apart two starts are, and whether that is near.
+static APART: [(i64, bool); 5] = [
+    (-3_603_000_000, false),
+    (-3_602_999_999, true),
+    (0, true),
+    (3_602_999_999, true),
+    (3_603_000_000, false),
+];
+
+/// The first start that a span has, one in use, and the last.
+static STARTS: [i64; 3] = [-4_611_686_018_427_387_904, MONTH, 4_611_686_018_427_387_903];
 
 #[test]
 fn tells_what_is_near(rt: HostRuntime) {
-    let first = -4_611_686_018_427_387_904;
-    let last = 4_611_686_018_427_387_903;
-    for start in [0, MONTH, first, last] {
-        for (apart, near) in [
-            (-3_603_000_000, false),
-            (-3_602_999_999, true),
-            (0, true),
-            (3_602_999_999, true),
-            (3_603_000_000, false),
-        ] {
-            if let Some(beside) = Span::new(start + apart, 1) {
-                assert_eq!(rt;
-                    is_near(&beside, i128::from(start)),
-                    near,
-                    "{apart} from {start}"
-                );
+    for start in STARTS {
+        for (place, (apart, near)) in APART.iter().enumerate() {
+            if let Some(beside) = Span::new(start + *apart, 1) {
+                holds_at(&rt, is_near(&beside, i128::from(start)) == *near, place);
             }
         }
-        assert!(rt;
-            near_range(i128::from(start))
-                == NearRange {
-                    after: start - 3_603_000_000,
-                    before: start + 3_603_000_000,
-                },
-            "around {start}"
-        );
+        let range = near_range(i128::from(start));
+        holds(&rt, range.after == start - 3_603_000_000, "after");
+        holds(&rt, range.before == start + 3_603_000_000, "before");
+        let one = span(&rt, start, 1);
+        let is_far = !is_near(&one, i128::MIN) && !is_near(&one, i128::MAX);
+        holds(&rt, is_far, "far from what no span is near");
     }
-    for start in [
-        i128::MIN,
-        i128::from(i64::MIN),
-        i128::from(u64::MAX),
-        i128::MAX,
-    ] {
-        assert!(rt;
-            !is_near(&span(&rt, first, 1), start),
-            "the first, at {start}"
-        );
-        assert!(rt;
-            !is_near(&span(&rt, last, 1), start),
-            "the last, at {start}"
-        );
+}
+
+/// Spans of half a second, one for each second.
+fn in_seconds(rt: &impl Abort, alloc: Global, count: u32) -> Result<Vec<Span>, AllocError> {
+    let mut spans = Vec::new(alloc);
+    for i in 0..count {
+        spans.push(span(rt, i64::from(i) * 1_000_000, 500_000))?;
     }
+    Ok(spans)
+}
+
+/// No contract speaks of time. The plain form would add up 2,000,000,000,000 uses here, and meets every clause of the
+/// sweep; a test may take a minute, so that this one shows that the sweep is what runs.
+#[test]
+fn sweeps_a_million(rt: HostRuntime) -> Result<(), Fail> {
+    let spans = in_seconds(&rt, rt.alloc(), 1_000_000)?;
+    assert!(rt; in_order(&spans));
+    holds(&rt, sweep_peak(&spans) == 1_800_000_000, "the peak");
+    let new = span(&rt, 7_000_500_000, 500_000);
+    holds(&rt, sweep_fits(&spans, new, 1_800_500_000), "just within");
+    holds(&rt, !sweep_fits(&spans, new, 1_800_499_999), "one above");
+    Ok(())
 }

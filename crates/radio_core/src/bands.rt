@@ -7,7 +7,7 @@ ghost use Rattle.radio_core.specs.DataRates.{half_width};
 use crate::data_rates::DataRate;
 
 /// A sub-band of EU863-870 (this project's table).
-#[derive(Clone, Copy, Debug, PartialEq, Eq)]
+#[derive(Clone, Copy, PartialEq, Eq)]
 pub enum Band {
     B1,
     B2,
@@ -111,6 +111,7 @@ pub fn limit(band: Band) -> u64
 #[cfg(test)]
 mod tests {
     use super::*;
+    use crate::holding::holds_at;
 
     #[test]
     fn bands_have_numbers_and_limits(rt: HostRuntime) {
@@ -124,11 +125,11 @@ mod tests {
             (6, Some(Band::B6), 36_000_000),
             (7, None, 0),
         ];
-        for (number, found, most) in &rows {
-            assert_eq!(rt; Band::new(*number), *found, "at {number}");
+        for (place, (number, found, most)) in rows.iter().enumerate() {
+            holds_at(&rt, Band::new(*number) == *found, place);
             if let Some(band) = found {
-                assert_eq!(rt; band.get(), *number);
-                assert_eq!(rt; limit(*band), *most, "at {number}");
+                holds_at(&rt, band.get() == *number, place);
+                holds_at(&rt, limit(*band) == *most, place);
             }
         }
     }
@@ -160,8 +161,8 @@ mod tests {
             (0, DataRate::Dr0, None),
             (u32::MAX, DataRate::Dr6, None),
         ];
-        for (freq, dr, found) in &rows {
-            assert_eq!(rt; band_of(*freq, *dr), *found, "at {freq}");
+        for (place, (freq, dr, found)) in rows.iter().enumerate() {
+            holds_at(&rt, band_of(*freq, *dr) == *found, place);
         }
     }
 }

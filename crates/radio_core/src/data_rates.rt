@@ -4,7 +4,7 @@ ghost use Rattle.radio_core.specs.DataRates.{max_length};
 
 /// A data rate of EU863-870 (RP002-1.0.4): DR0 to DR5 are LoRa of SF12 to SF7 at 125 kHz, DR6 is LoRa of SF7 at 250 kHz,
 /// DR7 is FSK at 50 kbit/s.
-#[derive(Clone, Copy, Debug, PartialEq, Eq)]
+#[derive(Clone, Copy, PartialEq, Eq)]
 pub enum DataRate {
     Dr0,
     Dr1,
@@ -17,7 +17,7 @@ pub enum DataRate {
 }
 
 /// How a frame is sent: its frequency in hertz and its data rate.
-#[derive(Clone, Copy, Debug, PartialEq, Eq)]
+#[derive(Clone, Copy, PartialEq, Eq)]
 pub struct Rate {
     pub freq: u32,
     pub dr: DataRate,
@@ -78,6 +78,7 @@ pub fn max_phy(dr: DataRate) -> usize
 #[cfg(test)]
 mod tests {
     use super::*;
+    use crate::holding::holds_at;
 
     #[test]
     fn data_rates_have_numbers_and_lengths(rt: HostRuntime) {
@@ -93,11 +94,11 @@ mod tests {
             (8, None, 0),
             (255, None, 0),
         ];
-        for (number, found, most) in &rows {
-            assert_eq!(rt; DataRate::new(*number), *found, "at {number}");
+        for (place, (number, found, most)) in rows.iter().enumerate() {
+            holds_at(&rt, DataRate::new(*number) == *found, place);
             if let Some(dr) = found {
-                assert_eq!(rt; dr.get(), *number);
-                assert_eq!(rt; max_phy(*dr), *most, "at {number}");
+                holds_at(&rt, dr.get() == *number, place);
+                holds_at(&rt, max_phy(*dr) == *most, place);
             }
         }
     }

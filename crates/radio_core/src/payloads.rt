@@ -7,7 +7,7 @@ use crate::padding::spread;
 use std::marker::Model;
 
 /// 0 to 255 octets. Contracts see their list.
-#[derive(Clone, Copy, Debug)]
+#[derive(Clone, Copy)]
 pub struct Octets {
     octets: [u8; 255],
     size: u8,
@@ -73,6 +73,7 @@ impl Eq for Octets {
 #[cfg(test)]
 mod tests {
     use super::*;
+    use crate::holding::holds_at;
 
     #[test]
     fn at_most_255_octets_are_kept(rt: HostRuntime) {
@@ -84,16 +85,15 @@ mod tests {
             (&longest, true),
             (&longer, false),
         ];
-        for (text, is_kept) in &texts {
-            match Octets::new(text) {
-                Some(octets) => {
-                    assert!(rt; *is_kept);
-                    assert!(rt; octets.get() == *text);
-                }
-                None => assert!(rt; !*is_kept),
-            }
+        for (place, (text, is_one)) in texts.iter().enumerate() {
+            let is_kept = match Octets::new(text) {
+                Some(octets) => octets.get() == *text,
+                None => false,
+            };
+            holds_at(&rt, is_kept == *is_one, place);
         }
-        assert!(rt; Octets::new(b"\x40") == Octets::new(b"\x40"));
-        assert!(rt; Octets::new(b"\x40") != Octets::new(b"\x40\x00"));
+        let one = Octets::new(b"\x40");
+        holds_at(&rt, one == Octets::new(b"\x40"), 1);
+        holds_at(&rt, one != Octets::new(b"\x40\x00"), 2);
     }
 }

@@ -101,6 +101,7 @@ pub fn airtime(dr: DataRate, octets: usize, crc: bool) -> u64
 #[cfg(test)]
 mod tests {
     use super::*;
+    use crate::holding::holds_at;
 
     /// Uplinks have the payload's CRC, downlinks don't.
     const UP: bool = true;
@@ -137,9 +138,9 @@ mod tests {
             (23, DOWN, DataRate::Dr7, 5_440),
             (255, DOWN, DataRate::Dr7, 42_560),
         ];
-        for (octets, crc, dr, time) in &rows {
+        for (place, (octets, crc, dr, time)) in rows.iter().enumerate() {
             assert!(rt; *octets <= 255);
-            assert_eq!(rt; airtime(*dr, *octets, *crc), *time, "{octets} octets");
+            holds_at(&rt, airtime(*dr, *octets, *crc) == *time, place);
         }
     }
 }

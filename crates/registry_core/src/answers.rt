@@ -3,7 +3,7 @@ use radio_core::{Band, DevAddr, Eui};
 
 /// Why something isn't done. The first has number 1, and the last 34 (this project's numbers). 1 to 5, 7 and 8 are told of texts,
 /// before a message is decided; 6 and 9 to 31 are answers of a step, which are kept; 32 to 34 have no text.
-#[derive(Clone, Copy, Debug, PartialEq, Eq)]
+#[derive(Clone, Copy, PartialEq, Eq)]
 pub enum Refusal {
     /// The text isn't JSON in UTF-8, isn't an object, or lacks an outer member in its form.
     Malformed = 1,
@@ -88,7 +88,7 @@ impl Refusal {
 }
 
 /// What a message that was decided is answered: success, or why not.
-#[derive(Clone, Copy, Debug, PartialEq, Eq)]
+#[derive(Clone, Copy)]
 pub enum Answer {
     /// Done, with nothing more to tell.
     Success,

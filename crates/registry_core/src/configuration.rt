@@ -3,7 +3,7 @@ use radio_core::Name;
 use std::marker::Model;
 
 /// The desk's own name, its first operator, and its block of device addresses. Contracts see `Settings`.
-#[derive(Clone, Copy, Debug, PartialEq, Eq)]
+#[derive(Clone, Copy)]
 pub struct Config {
     receiver: Name,
     operator: Name,

@@ -5,7 +5,7 @@ use crate::messages::Role;
 use radio_core::{Eui, Name};
 
 /// The one change that a message makes. What is numbered goes to the end of its list.
-#[derive(Clone, Copy, Debug, PartialEq, Eq)]
+#[derive(Clone, Copy)]
 pub enum Effect {
     /// All stays as it is.
     Nothing,

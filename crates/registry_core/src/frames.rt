@@ -7,7 +7,7 @@ use crate::facts::Kind;
 use radio_core::{DataRate, DevAddr, Eui, Octets, Phy, max_phy, read_phy};
 
 /// What a join request says (LoRaWAN L2 1.0.4, section 6.2).
-#[derive(Clone, Copy, Debug, PartialEq, Eq)]
+#[derive(Clone, Copy)]
 pub struct JoinRequest {
     pub join_eui: Eui,
     pub dev_eui: Eui,
@@ -15,14 +15,14 @@ pub struct JoinRequest {
 }
 
 /// What a data frame says (LoRaWAN L2 1.0.4, section 4.3).
-#[derive(Clone, Copy, Debug, PartialEq, Eq)]
+#[derive(Clone, Copy)]
 pub struct DataFrame {
     pub addr: DevAddr,
     pub fcnt: u16,
 }
 
 /// A frame for a device: what answers a join request, and what answers a data frame.
-#[derive(Clone, Copy, Debug, PartialEq, Eq)]
+#[derive(Clone, Copy)]
 pub(crate) enum Downlink {
     Accept,
     Data(DataFrame),

@@ -4,7 +4,7 @@ use std::marker::Model;
 
 /// A band, and the most time on air within any hour in it, in microseconds: at most the band's own limit. Contracts see
 /// `Limit`.
-#[derive(Clone, Copy, Debug, PartialEq, Eq)]
+#[derive(Clone, Copy, PartialEq, Eq)]
 pub struct BandLimit {
     band: Band,
     most: u64,

@@ -5,7 +5,7 @@ use crate::windows::Window;
 use radio_core::{Eui, Name, Octets, Rate};
 
 /// What a sender may send.
-#[derive(Clone, Copy, Debug, PartialEq, Eq)]
+#[derive(Clone, Copy, PartialEq, Eq)]
 pub enum Role {
     /// Every message.
     Operator,
@@ -14,7 +14,7 @@ pub enum Role {
 }
 
 /// What the security module found of a join request's integrity code.
-#[derive(Clone, Copy, Debug, PartialEq, Eq)]
+#[derive(Clone, Copy, PartialEq, Eq)]
 pub enum JoinVerdict {
     /// The code is right.
     Good,
@@ -24,7 +24,7 @@ pub enum JoinVerdict {
 
 /// What a gateway reports of a frame: when its last symbol ended, in microseconds since 1970 UTC, how it was sent, and
 /// its octets.
-#[derive(Clone, Copy, Debug, PartialEq, Eq)]
+#[derive(Clone, Copy, PartialEq, Eq)]
 pub struct Report {
     pub gateway: Name,
     pub time: Whole,
@@ -33,7 +33,7 @@ pub struct Report {
 }
 
 /// What a sender asks.
-#[derive(Clone, Copy, Debug, PartialEq, Eq)]
+#[derive(Clone, Copy, PartialEq, Eq)]
 pub enum Message {
     /// A sender with this name and role is added.
     SenderAdd {
@@ -93,7 +93,7 @@ pub enum Message {
 pub const MOST_HEARD: usize = 9_007_199_254_740_991;
 
 /// A message with its sender and the sender's transaction number.
-#[derive(Clone, Copy, Debug, PartialEq, Eq)]
+#[derive(Clone, Copy, PartialEq, Eq)]
 pub struct Envelope {
     pub sender: Name,
     pub transaction: u32,

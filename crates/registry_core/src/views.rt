@@ -6,7 +6,7 @@ use radio_core::Eui;
 
 /// What the registry holds for one message. The sender's role, the block and the three counts are there for each message; of the
 /// rest what it doesn't ask for is false, 0, absent or empty.
-#[derive(Debug, Drop)]
+#[derive(Drop)]
 pub struct View {
     /// The sender's.
     pub role: Role,
@@ -50,7 +50,7 @@ pub struct View {
 }
 
 /// What the registry holds of a session for one message.
-#[derive(Clone, Copy, Debug, PartialEq, Eq)]
+#[derive(Clone, Copy)]
 pub struct SessionView {
     /// Its number, from 1.
     pub number: u64,
@@ -62,7 +62,7 @@ pub struct SessionView {
 }
 
 /// What the registry holds of an uplink for one message.
-#[derive(Clone, Copy, Debug, PartialEq, Eq)]
+#[derive(Clone, Copy)]
 pub struct UplinkView {
     /// Its number, from 1.
     pub number: u64,

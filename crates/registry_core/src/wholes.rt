@@ -5,7 +5,7 @@ use std::marker::Model;
 pub const GREATEST_WHOLE: u64 = 9_007_199_254_740_991;
 
 /// A whole number from 0 to `GREATEST_WHOLE`. Contracts see the number.
-#[derive(Clone, Copy, Debug, PartialEq, Eq)]
+#[derive(Clone, Copy, PartialEq, Eq)]
 pub struct Whole {
     number: u64,
 }

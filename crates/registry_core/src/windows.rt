@@ -7,7 +7,7 @@ use crate::wholes::Whole;
 use radio_core::{DataRate, Rate};
 
 /// One of the two receive windows that a device opens after it has sent.
-#[derive(Clone, Copy, Debug, PartialEq, Eq)]
+#[derive(Clone, Copy, PartialEq, Eq)]
 pub enum Window {
     /// RX1, at the uplink's own frequency and data rate.
     First,

@@ -15,6 +15,10 @@ abbrev pub AddsWord : {E : Type 0} → Result Command E → Arg → Result Comma
 AddsWord command word new = (app : App) (rule : Rule) → IsCommand app command → rule_of word ≡ rule → word.global ≡ false
     → IsCommand (with_rule app rule) new
 
+-- where there was memory for it, this command line
+abbrev pub IsLine : {E : Type 0} → App → Result Command E → Type 0
+IsLine app line = IfOk line (λ it. app_of it ≡ app)
+
 -- a command line with one command more, where it is known what both were
-abbrev pub Adds : {E : Type 0} → Command → Result Command E → Command → Type 0
-Adds line command new = (app words : App) → app_of line ≡ app → IsCommand words command → app_of new ≡ with_subcommand app words.top
+abbrev pub AddsCommand : {E : Type 0} → Result Command E → Result Command E → Result Command E → Type 0
+AddsCommand line command new = (app words : App) → IsLine app line → IsCommand words command → IsLine (with_subcommand app words.top) new

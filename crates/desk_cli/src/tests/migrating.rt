@@ -1,6 +1,6 @@
 //! A desk of schema 1 is moved to schema 2 with all that it holds.
 use super::holding::holds;
-use super::stops::{deliveries, expect_rows, opened, rows_after_each};
+use super::stops::{deliveries, expect_found, rows_after};
 use super::{hear_each, opening, ready};
 use desk_store::StoreFault;
 use desk_tables::Tables;
@@ -74,16 +74,13 @@ fn moved<S: Alter + Drop>(
 #[test]
 fn a_desk_is_moved_with_all_it_holds(rt: HostRuntime) -> Result<(), Fail> {
     let deliveries = deliveries(rt.alloc())?;
-    let wanted = rows_after_each(&rt, &deliveries)?;
     let conn = first_in(&rt, Connection::open_in_memory(rt.alloc())?)?;
     let (fault, conn) = moved(rt.alloc(), conn)?;
     holds(&rt, fault.is_none(), "that it is moved");
     let (fault, conn) = moved(rt.alloc(), conn)?;
     let is_moved = fault == Some(StoreFault::SchemaVersion);
     holds(&rt, is_moved, "that it isn't moved again");
-    let mut tables = expect_rows(&rt, opened(rt.alloc(), conn)?, wanted.last())?;
-    hear_each(&rt, &mut *tables, &deliveries);
-    Ok(())
+    expect_found(&rt, conn, &deliveries, &rows_after(&rt, &deliveries)?)
 }
 
 /// What is done to a database of schema 1, and why it isn't moved then.

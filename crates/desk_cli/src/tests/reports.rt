@@ -204,7 +204,9 @@ fn uplinks_in_any_order<R: Abort + AllocGlobal, K: Opened>(rt: &R) -> Result<(),
     let mut keeper = with_device::<R, K>(rt)?;
     deliver_each(rt, &mut *keeper, &TWO_SESSIONS)?;
     let device = Eui::new(0x0004_a30b_001a_2b3c);
-    let spans = keeper.uplinks_of(device, Band::B3, 0, i64::MAX)?;
+    let Ok(spans) = keeper.uplinks_of(device, Band::B3, 0, i64::MAX) else {
+        return Err("no uplinks".into());
+    };
     let wanted = [1_706_745_590_000_000, 1_706_745_600_000_000];
     let starts = spans.iter().map(|span| span.start());
     holds(rt, starts.eq(wanted), "the starts");

@@ -12,7 +12,8 @@ use helps::{
     BANDS_HELP, CHECK_HELP, HEAR_HELP, HELP, IMPORT_HELP, INIT_HELP, LINES_HELP, MIGRATE_HELP,
     REPORT_HELP, SERVE_HELP,
 };
-use std::alloc::Global;
+use registry_core::Config;
+use std::alloc::{AllocError, Global};
 use std::process::Abort;
 use std::test::Fail;
 
@@ -42,12 +43,53 @@ static NAMELESS: [(&[&str], ErrorKind); 14] = [
     ),
 ];
 
-/// The words name this command.
-pub(crate) fn is_named<'a>(alloc: Global, words: &'a [&'a str], want: &Command<'_>) -> bool {
+/// The values of a configuration, one after another.
+fn settings_text(alloc: Global, config: &Config) -> Result<String, AllocError> {
+    let (receiver, operator) = (config.receiver().as_str(), config.operator().as_str());
+    let (base, addresses) = (config.base(), config.addresses());
+    format!(in alloc; "{receiver} {operator} {base:08x} {addresses}")
+}
+
+/// The command's name and its values, one after another.
+fn command_text(alloc: Global, command: &Command<'_>) -> Result<String, AllocError> {
+    match *command {
+        Command::Lines { config } => {
+            let settings = settings_text(alloc, &config)?;
+            format!(in alloc; "lines {settings}")
+        }
+        Command::Init { file, config } => {
+            let settings = settings_text(alloc, &config)?;
+            format!(in alloc; "init {file} {settings}")
+        }
+        Command::Migrate { file } => format!(in alloc; "migrate {file}"),
+        Command::Hear { file } => format!(in alloc; "hear {file}"),
+        Command::Import { file, sender } => {
+            let sender = sender.as_str();
+            format!(in alloc; "import {file} {sender}")
+        }
+        Command::Serve {
+            file,
+            port,
+            connections,
+        } => format!(in alloc; "serve {file} {port} {connections}"),
+        Command::Report { file, owner, month } => {
+            format!(in alloc; "report {file} {owner} {month}")
+        }
+        Command::Bands { file, gateway } => format!(in alloc; "bands {file} {gateway}"),
+        Command::Check { file } => format!(in alloc; "check {file}"),
+    }
+}
+
+/// The words name this command, with these values.
+pub(crate) fn is_named<'a>(
+    alloc: Global,
+    words: &'a [&'a str],
+    want: &str,
+) -> Result<bool, AllocError> {
     let Ok(command) = read_words(alloc, words) else {
-        return false;
+        return Ok(false);
     };
-    command == *want
+    Ok(command_text(alloc, &command)?.as_str() == want)
 }
 
 /// The words name nothing that clap takes, and its error is of this kind.

@@ -16,7 +16,7 @@ use registry_core::{BandLimit, Booking, Effect, Kind, Session, Uplink, Whole};
 use sqlite::{Alter, Connection};
 
 /// What an effect is written by, beside itself.
-#[derive(Clone, Copy, Debug)]
+#[derive(Clone, Copy)]
 pub(crate) enum Basis {
     Nothing,
     /// The number of the session's join uplink.

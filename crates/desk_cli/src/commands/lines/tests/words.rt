@@ -1,24 +1,14 @@
 //! The words of `desk lines`.
-use crate::commands::Command;
 use crate::tests::holding::holds_at;
 use crate::usage::BadValue;
 use crate::words::tests::{is_bad, is_named};
-use radio_core::Name;
-use registry_core::Config;
 use std::test::Fail;
-
-const LONGEST: &str = "abcdefghijklmnopqrstuvwxyz-_.012";
 
 const LONGER: &str = "abcdefghijklmnopqrstuvwxyz-_.0123";
 
-/// A command line, and the receiver, the operator, the first address and the number of addresses that it names.
-type Named = (
-    &'static [&'static str],
-    (&'static str, &'static str, u32, u32),
-);
-
-static NAMED: [Named; 9] = [
-    (&["desk", "lines"], ("desk", "office", 0x01a0_0000, 65_536)),
+/// Words, and the command that they name, with its values one after another.
+static NAMED: [(&[&str], &str); 9] = [
+    (&["desk", "lines"], "lines desk office 01a00000 65536"),
     (
         &[
             "desk",
@@ -32,7 +22,7 @@ static NAMED: [Named; 9] = [
             "--addresses",
             "7",
         ],
-        ("town", "op.1", 1, 7),
+        "lines town op.1 00000001 7",
     ),
     (
         &[
@@ -43,15 +33,15 @@ static NAMED: [Named; 9] = [
             "--operator=-._A",
             "--receiver=Z",
         ],
-        ("Z", "-._A", 0xffab_09cd, 8),
+        "lines Z -._A ffab09cd 8",
     ),
     (
         &["desk", "lines", "--base", "01A00000"],
-        ("desk", "office", 0x01a0_0000, 65_536),
+        "lines desk office 01a00000 65536",
     ),
     (
         &["desk", "lines", "--base", "ffffffff", "--addresses", "1"],
-        ("desk", "office", u32::MAX, 1),
+        "lines desk office ffffffff 1",
     ),
     (
         &[
@@ -62,38 +52,28 @@ static NAMED: [Named; 9] = [
             "--addresses",
             "4294967295",
         ],
-        ("desk", "office", 1, u32::MAX),
+        "lines desk office 00000001 4294967295",
     ),
     (
-        &["desk", "lines", "--receiver", LONGEST],
-        (LONGEST, "office", 0x01a0_0000, 65_536),
+        &[
+            "desk",
+            "lines",
+            "--receiver",
+            "abcdefghijklmnopqrstuvwxyz-_.012",
+        ],
+        "lines abcdefghijklmnopqrstuvwxyz-_.012 office 01a00000 65536",
     ),
     (
         &["desk", "lines", "--operator", "desk"],
-        ("desk", "desk", 0x01a0_0000, 65_536),
+        "lines desk desk 01a00000 65536",
     ),
-    (
-        &["another", "lines"],
-        ("desk", "office", 0x01a0_0000, 65_536),
-    ),
+    (&["another", "lines"], "lines desk office 01a00000 65536"),
 ];
-
-fn lines(
-    (receiver, operator, base, addresses): (&str, &str, u32, u32),
-) -> Option<Command<'static>> {
-    let receiver = Name::new(receiver.as_bytes())?;
-    let operator = Name::new(operator.as_bytes())?;
-    let config = Config::new(receiver, operator, base, addresses)?;
-    Some(Command::Lines { config })
-}
 
 #[test]
 fn words_that_name_lines(rt: HostRuntime) -> Result<(), Fail> {
     for (place, (words, want)) in NAMED.iter().enumerate() {
-        let Some(want) = lines(*want) else {
-            return Err("no command".into());
-        };
-        holds_at(&rt, is_named(rt.alloc(), words, &want), place);
+        holds_at(&rt, is_named(rt.alloc(), words, want)?, place);
     }
     Ok(())
 }
