@@ -1,7 +1,7 @@
 #!/usr/bin/env python3
 """Refuses each request for memory of the commands on a file in turn, or stops the machine at each call of a desk's two files.
 
-    checks/refused_commands.py [--what memory | log | file] [--program FILE] [--jobs 2] [--only NAME,..] [--folder FOLDER]
+    checks/refused_commands.py [--what memory | log | file] [--program FILE] [--jobs 2] [--seed 1] [--only NAME,..] [--folder FOLDER]
 
 Each case is a command on a file, and what it writes where nothing is refused. It is run for N = 1, 2, 3 .. on a copy of the file with
 its Nth request for memory refused, or with the calls of its log, or of the file itself, refused from the Nth on (refusing.py), until
@@ -13,12 +13,13 @@ answered is in it. The command once more, with nothing refused, writes what it w
 After calls are refused the files are taken twice: as a process leaves them that has ended, and as a machine does that has lost all
 that wasn't synced.
 
-The cases are `init`, `hear` of no message, which is an opening, and then, of the requests for memory after it, `hear` of each request
-of docs/MESSAGES.md on a file that has heard those before it, which are of all ten messages and told in all ways, `import`, `report`,
+The cases are `init`, `hear` of no message, which is an opening, and then, of the requests or calls after it, `hear` of each request of
+docs/MESSAGES.md on a file that has heard those before it, which are of all ten messages and told in all ways, `import`, `report`,
 `bands`, `check`, `migrate` of a file of schema 1, and `serve`: a message and both reports, each by two connections. A request by HTTP
 is answered, or told 503, or its connection ends; for want of memory the second connection is then answered, and after a call that is
-refused it is told 503 too. After calls that are refused there is one case more, `hear` of a stream of mixed operation
-(mixed_operation.py: repeats, copies, changed and refused messages, downlinks, limits).
+refused it is told 503 too. For want of memory there is one case more, `lines` of all of the page's requests, where no file is left to
+be read; after calls that are refused it is `hear` of a stream of mixed operation (mixed_operation.py: repeats, copies, changed and
+refused messages, downlinks, limits), at every third call.
 
 The program is the one that `./desk` proves and builds, or with --program the built one in FILE.
 """
@@ -38,11 +39,13 @@ from refusing import Calls, Memory, requests_of
 BUILT = ROOT / "crates" / "desk_cli" / "out" / "desk_cli"
 EXAMPLES = ROOT / "examples"
 # the cases of which each request is refused
-WHOLE = ["init", "opening"]
+WHOLE = ["init", "opening", "lines"]
 # a stream of mixed operation, of so few devices that it is more than their joins
-SIZE, SEED, DEVICES = 120, 1, 8
-# by how many requests the words of two commands may differ
-OF_WORDS = 200
+SIZE, DEVICES = 60, 3
+# of its calls one of so many is refused, since each run hears it
+STREAM_STEP = 3
+# of a database's first page, which the program writes with its first octet last
+FIRST_OCTETS = b"SQLite format 3\0"
 UNAVAILABLE = "desk: unavailable\n"
 UNOPENED = "desk: file\n"
 HELD = "desk: exists\n"
@@ -56,8 +59,8 @@ def wants(holds, what):
 
 
 def rows_of(file):
-    """Each table's rows as the real SQLite reads them; none where there is no file, or one that has no table."""
-    if not file.exists():
+    """Each table's rows as the real SQLite reads them; none where there is no file, or one that has no table, or no whole first page."""
+    if not file.exists() or not file.read_bytes().startswith(FIRST_OCTETS):
         return {}
     with reading(file) as conn:
         tables = conn.execute("SELECT name FROM sqlite_schema WHERE type = 'table' ORDER BY rowid").fetchall()
@@ -98,7 +101,7 @@ class Case:
         # how it ends once more where it has done all
         self.again = again or (0, "", written)
         # those before this request are of an opening, which has its own case
-        self.first = 1
+        self.first, self.step = 1, 1
 
     def begins(self, folder):
         file = folder / "town.db"
@@ -183,6 +186,28 @@ class Import(Several):
         return left in states[written.count("\n") :] and (outcome != "answered" or left == states[-1])
 
 
+class InMemory(Case):
+    """`lines`, whose desk is in memory."""
+
+    def __init__(self, name, *options, given, written):
+        super().__init__(name, None, "lines", *options, given=given, written=written)
+        self.words = [self.command, *self.options]
+
+    def rows(self, program, folder):
+        status, written, told, requests = program.run(self.words, self.given)
+        wants((status, written, told) == (0, self.written, ""), f"{self.words}: {status} {written!r} {told!r}")
+        return [], requests
+
+    def refuse(self, program, states, place, folder):
+        status, written, told, _ = program.run(self.words, self.given, place)
+        what = f"{self.name}, request {place} refused: {status} {written!r} {told!r}"
+        if (status, told) == (0, ""):
+            wants(written == self.written, what)
+            return "answered"
+        wants((status, told) == (3, UNAVAILABLE) and self.written.startswith(written), what)
+        return "unavailable"
+
+
 class Served(Case):
     """A request by two connections, one after the other, of a program that serves two."""
 
@@ -259,7 +284,7 @@ def answers_to(requests, answers):
     return [(line, next(left) + "\n" if line else "") for line in requests]
 
 
-def cases_in(program, folder):
+def cases_in(program, folder, seed):
     words, requests, answers, _ = read_page(PAGE.read_text().splitlines())
     messages = answers_to(requests, [line for _, line in answers])
     yield Case("init", None, "init", again=(1, HELD, ""))
@@ -295,19 +320,24 @@ def cases_in(program, folder):
     yield Served("serve, a message", empty, post(line), answer)
     yield Served("serve, a report", day, get("/v1/reports/town/2024-02"), (EXAMPLES / "owner-report.csv").read_text())
     yield Served("serve, bands", day, get("/v1/bands/gw-a"), (EXAMPLES / "band-report.csv").read_text())
-    if program.refusal.lasts:
-        stream = text_of(mixed_operation(SIZE, SEED, devices=DEVICES))
+    if not program.refusal.lasts:
+        told = "".join(answer for _, answer in messages)
+        yield InMemory("lines", *words[1:], given=text_of(requests), written=told)
+    else:
+        stream = text_of(mixed_operation(SIZE, seed, devices=DEVICES))
         heard = folder / "heard.db"
         copy_to(empty, heard)
         _, written, _, _ = program.run(["hear", heard], stream)
-        yield Several("a stream", empty, "hear", given=stream, written=written)
+        case = Several("a stream", empty, "hear", given=stream, written=written)
+        case.step = STREAM_STEP
+        yield case
 
 
 def past_opening(case, program, folder):
     """Of the case the requests after an opening of its file alone are refused."""
     with tempfile.TemporaryDirectory(dir=folder) as room:
         file, _ = case.begins(Path(room))
-        case.first = program.run(["hear", file], "")[3] - OF_WORDS
+        case.first = max(1, program.run(["hear", file], "")[3] - program.refusal.apart)
 
 
 def refuse_each(case, program, folder, jobs):
@@ -321,10 +351,10 @@ def refuse_each(case, program, folder, jobs):
             return case.refuse(program, states, place, Path(room))
 
     with ThreadPoolExecutor(jobs) as pool:
-        for outcome in pool.map(refuse, range(case.first, requests + 1)):
+        for outcome in pool.map(refuse, range(case.first, requests + 1, case.step)):
             came[outcome] += 1
     ends = ", ".join(f"{count} {outcome}" for outcome, count in came.items() if count)
-    print(f"{case.name}: {requests + 1 - case.first} {program.refusal.name} refused in turn: {ends}", flush=True)
+    print(f"{case.name}: {sum(came.values())} {program.refusal.name} refused in turn: {ends}", flush=True)
 
 
 def refusals_in(what, folder):
@@ -338,6 +368,7 @@ def main():
     words.add_argument("--what", choices=["memory", "log", "file"], default="memory", help="what is refused")
     words.add_argument("--program", type=Path, metavar="FILE", help="the built program, in place of ./desk's")
     words.add_argument("--jobs", type=int, default=2)
+    words.add_argument("--seed", type=int, default=1, help="of the stream")
     words.add_argument("--only", default="", metavar="NAME,..", help="the cases whose names begin so")
     words.add_argument("--folder", type=Path, help="where the files stand while it runs")
     given = words.parse_args()
@@ -348,10 +379,10 @@ def main():
         folder = Path(folder)
         path = (given.program or BUILT).resolve()
         programs = [Program(path, refusal) for refusal in refusals_in(given.what, folder)]
-        for case in cases_in(programs[0], folder):
+        for case in cases_in(programs[0], folder, given.seed):
             if not case.name.startswith(wanted):
                 continue
-            if given.what == "memory" and case.name not in WHOLE:
+            if case.name not in WHOLE:
                 past_opening(case, programs[0], folder)
             for program in programs:
                 refuse_each(case, program, folder, given.jobs)

@@ -146,6 +146,8 @@ class Memory:
     name = "requests"
     # what is asked for after it isn't refused
     lasts = False
+    # by how many requests what two commands do before their own may differ, for their words
+    apart = 200
 
     def __init__(self, folder):
         self.library = build(folder, "heap", HEAP)
@@ -162,6 +164,8 @@ class Calls:
     """The calls of one of a desk's two files are refused from one on. `loses` says whether the machine stops too, and what wasn't synced is lost."""
 
     lasts = True
+    # how many calls of an opening a command's own case has too, at most
+    apart = 10
 
     def __init__(self, folder, of_log, loses):
         self.library = build(folder, "files", FILES)
