@@ -9,7 +9,7 @@ use std::process::Abort;
 use std::test::Fail;
 
 /// Each way to fail, with what it is told as.
-const FAILURES: [(Failure, StoreFault); 4] = [
+static FAILURES: [(Failure, StoreFault); 4] = [
     (Failure::Memory, StoreFault::Memory),
     (Failure::Disk, StoreFault::Disk),
     (Failure::DiskAfter, StoreFault::Disk),
@@ -55,11 +55,11 @@ fn deliver_with_failure<R: Abort + AllocGlobal, K: Keeper>(
 #[test]
 fn deliveries(rt: HostRuntime) -> Result<(), Fail> {
     let all = all_deliveries(rt.alloc())?;
-    for (failure, fault) in FAILURES {
+    for (failure, fault) in &FAILURES {
         for calls in 0..MANY {
             let mut store = opening::<Switched>(rt.alloc(), 65_536)?;
-            store.fail_after(calls, failure);
-            if !deliver_with_failure(&rt, &mut *store, &all, fault) {
+            store.fail_after(calls, *failure);
+            if !deliver_with_failure(&rt, &mut *store, &all, *fault) {
                 holds(&rt, calls > 0, "that a call failed");
                 break;
             }

@@ -4,67 +4,28 @@ use super::stops::{deliveries, expect_found, rows_after};
 use super::{hear_each, opening, ready};
 use desk_store::StoreFault;
 use desk_tables::Tables;
-use sqlite::{Alter, Connection, MemStore};
+use sqlite::{Connection, MemStore};
 use std::alloc::Global;
 use std::process::Abort;
 use std::test::Fail;
 
-/// What made the tables of schema 1.
-const FIRST_SCHEMA: &str =
-    "CREATE TABLE meta (id INTEGER PRIMARY KEY, version INTEGER NOT NULL, receiver TEXT NOT NULL, operator TEXT NOT NULL, base INTEGER NOT NULL, addresses INTEGER NOT NULL) STRICT; CREATE TABLE sender (name TEXT PRIMARY KEY, role INTEGER NOT NULL) STRICT; CREATE TABLE reply (seq INTEGER PRIMARY KEY, sender TEXT NOT NULL, number INTEGER NOT NULL, message BLOB NOT NULL, answer BLOB NOT NULL, UNIQUE (sender, number)) STRICT; CREATE TABLE owner (name TEXT PRIMARY KEY) STRICT; CREATE TABLE gateway (name TEXT PRIMARY KEY) STRICT; CREATE TABLE device (eui BLOB PRIMARY KEY, join_eui BLOB NOT NULL, owner TEXT NOT NULL, floor INTEGER) STRICT; CREATE TABLE session (number INTEGER PRIMARY KEY, device BLOB NOT NULL, nonce INTEGER NOT NULL, next_down INTEGER NOT NULL, UNIQUE (device, nonce)) STRICT; CREATE TABLE uplink (number INTEGER PRIMARY KEY, session INTEGER NOT NULL, kind INTEGER NOT NULL, counter INTEGER NOT NULL, octets BLOB NOT NULL, start INTEGER NOT NULL, airtime INTEGER NOT NULL, band INTEGER NOT NULL, UNIQUE (session, kind, counter)) STRICT; CREATE TABLE copy (uplink INTEGER NOT NULL, gateway TEXT NOT NULL, ended INTEGER NOT NULL, freq INTEGER NOT NULL, dr INTEGER NOT NULL, PRIMARY KEY (uplink, gateway)) STRICT; CREATE TABLE booking (number INTEGER PRIMARY KEY, uplink INTEGER NOT NULL, gateway TEXT NOT NULL, session INTEGER NOT NULL, kind INTEGER NOT NULL, band INTEGER NOT NULL, start INTEGER NOT NULL, airtime INTEGER NOT NULL, state INTEGER NOT NULL) STRICT; CREATE INDEX device_owner ON device (owner, eui); CREATE INDEX uplink_start ON uplink (session, start); CREATE INDEX booking_start ON booking (gateway, start); CREATE INDEX booking_uplink ON booking (uplink)";
+/// Schema 2 has one table more.
+const TO_SCHEMA_1: &str = "DROP TABLE band_limit; UPDATE meta SET version = 1";
 
-/// How each table is read, and how a row is put into it.
-#[rattlefmt::skip]
-static COPIES: [(&str, &str); 10] = [
-    ("SELECT * FROM meta ORDER BY rowid", "INSERT INTO meta VALUES (?1, ?2, ?3, ?4, ?5, ?6)"),
-    ("SELECT * FROM sender ORDER BY rowid", "INSERT INTO sender VALUES (?1, ?2)"),
-    ("SELECT * FROM reply ORDER BY rowid", "INSERT INTO reply VALUES (?1, ?2, ?3, ?4, ?5)"),
-    ("SELECT * FROM owner ORDER BY rowid", "INSERT INTO owner VALUES (?1)"),
-    ("SELECT * FROM gateway ORDER BY rowid", "INSERT INTO gateway VALUES (?1)"),
-    ("SELECT * FROM device ORDER BY rowid", "INSERT INTO device VALUES (?1, ?2, ?3, ?4)"),
-    ("SELECT * FROM session ORDER BY rowid", "INSERT INTO session VALUES (?1, ?2, ?3, ?4)"),
-    ("SELECT * FROM uplink ORDER BY rowid", "INSERT INTO uplink VALUES (?1, ?2, ?3, ?4, ?5, ?6, ?7, ?8)"),
-    ("SELECT * FROM copy ORDER BY rowid", "INSERT INTO copy VALUES (?1, ?2, ?3, ?4, ?5)"),
-    ("SELECT * FROM booking ORDER BY rowid", "INSERT INTO booking VALUES (?1, ?2, ?3, ?4, ?5, ?6, ?7, ?8, ?9)"),
-];
-
-fn copy_rows<S: Alter, T: Alter>(
-    alloc: Global,
-    from: &mut Connection<S>,
-    to: &mut Connection<T>,
-) -> Result<(), Fail> {
-    for (query, insert) in &COPIES {
-        for row in &from.query_all(query, &[])? {
-            let mut values = Vec::new(alloc);
-            for at in 0..row.column_count() {
-                values.push(row.get_ref(at)?)?;
-            }
-            to.execute(insert, &values)?;
-        }
-    }
-    Ok(())
-}
-
-/// The database, which is empty, gets the tables of schema 1 with the rows of a desk that has heard the ten messages.
-fn first_in<R: Abort + AllocGlobal, S: Alter + Drop>(
-    rt: &R,
-    conn: Connection<S>,
-) -> Result<Connection<S>, Fail> {
+/// A database of schema 1, with the rows of a desk that has heard the ten messages.
+fn first<R: Abort + AllocGlobal>(rt: &R) -> Result<Connection<MemStore>, Fail> {
     let mut tables = opening::<Tables<MemStore>>(rt.alloc(), 65_536)?;
     hear_each(rt, &mut *tables, &deliveries(rt.alloc())?);
-    let mut from = Box::into_inner(tables).close();
-    let mut conn = conn;
-    conn.execute_batch(FIRST_SCHEMA)?;
-    copy_rows(rt.alloc(), &mut from, &mut conn)?;
-    conn.execute_batch("UPDATE meta SET version = 1")?;
+    let mut conn = Box::into_inner(tables).close();
+    conn.execute_batch(TO_SCHEMA_1)?;
     Ok(conn)
 }
 
 /// Why the desk of the connection isn't moved, if it isn't.
-fn moved<S: Alter + Drop>(
+fn moved(
     alloc: Global,
-    conn: Connection<S>,
-) -> Result<(Option<StoreFault>, Connection<S>), Fail> {
+    conn: Connection<MemStore>,
+) -> Result<(Option<StoreFault>, Connection<MemStore>), Fail> {
     Ok(match Tables::migrate(alloc, ready(conn)?) {
         Ok(tables) => (None, tables.close()),
         Err((fault, conn)) => (Some(fault), conn),
@@ -74,8 +35,7 @@ fn moved<S: Alter + Drop>(
 #[test]
 fn a_desk_is_moved_with_all_it_holds(rt: HostRuntime) -> Result<(), Fail> {
     let deliveries = deliveries(rt.alloc())?;
-    let conn = first_in(&rt, Connection::open_in_memory(rt.alloc())?)?;
-    let (fault, conn) = moved(rt.alloc(), conn)?;
+    let (fault, conn) = moved(rt.alloc(), first(&rt)?)?;
     holds(&rt, fault.is_none(), "that it is moved");
     let (fault, conn) = moved(rt.alloc(), conn)?;
     let is_moved = fault == Some(StoreFault::SchemaVersion);
@@ -107,7 +67,7 @@ static UNMOVED: [(&str, StoreFault); 5] = [
 #[test]
 fn other_tables_are_not_moved(rt: HostRuntime) -> Result<(), Fail> {
     for (batch, wanted) in &UNMOVED {
-        let mut conn = first_in(&rt, Connection::open_in_memory(rt.alloc())?)?;
+        let mut conn = first(&rt)?;
         conn.execute_batch(batch)?;
         let (fault, _) = moved(rt.alloc(), conn)?;
         holds(&rt, fault == Some(*wanted), batch);

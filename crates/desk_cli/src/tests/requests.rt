@@ -164,24 +164,27 @@ fn requests_are_refused(rt: HostRuntime) -> Result<(), Fail> {
     Ok(())
 }
 
+/// A message, the status and the response of a POST of it.
+static DELIVERED: [(&str, u16, &str); 11] = [
+    (REQUEST, 200, ADDED),
+    (REQUEST, 200, ADDED),
+    (OTHER_OWNER, 409, REUSED),
+    (DEVICE_ADD, 200, DEVICE_ADDED),
+    (OTHER_DEVICE, 409, DEVICE_REUSED),
+    (SAME_DEVICE, 200, DEVICE_ADDED),
+    (DEVICE_AGAIN, 200, DEVICE_EXISTS),
+    (DEVICE_AGAIN, 200, DEVICE_EXISTS),
+    (STRANGER, 400, UNKNOWN_SENDER),
+    ("{", 400, MALFORMED),
+    ("", 400, MALFORMED),
+];
+
 #[test]
 fn messages_are_delivered(rt: HostRuntime) -> Result<(), Fail> {
     let mut lists = opening::<Lists>(rt.alloc(), 65_536)?;
-    for (message, status, response) in [
-        (REQUEST, 200, ADDED),
-        (REQUEST, 200, ADDED),
-        (OTHER_OWNER, 409, REUSED),
-        (DEVICE_ADD, 200, DEVICE_ADDED),
-        (OTHER_DEVICE, 409, DEVICE_REUSED),
-        (SAME_DEVICE, 200, DEVICE_ADDED),
-        (DEVICE_AGAIN, 200, DEVICE_EXISTS),
-        (DEVICE_AGAIN, 200, DEVICE_EXISTS),
-        (STRANGER, 400, UNKNOWN_SENDER),
-        ("{", 400, MALFORMED),
-        ("", 400, MALFORMED),
-    ] {
+    for (message, status, response) in &DELIVERED {
         let input = posted(rt.alloc(), message, "GET / HTTP/1.1\r\n")?;
-        expect(&rt, &mut *lists, input.as_bytes(), 16, status, response);
+        expect(&rt, &mut *lists, input.as_bytes(), 16, *status, response);
     }
     Ok(())
 }

@@ -8,12 +8,30 @@ use super::fsk::FSK;
 use super::holding::holds;
 use super::joins::{JOINS, ONE_ADDRESS};
 use super::limits::{FIRST_LIMITS, LIMITS, LOWERED};
-use super::rows::{OWNERS, REGISTRY, Row, SETUP, deliveries_of};
+use super::rows::{Delivery, OWNERS, REGISTRY, Row, SETUP, deliveries_of};
 use super::{Opened, deliver_each, expect_told, opening};
-use desk_engine::run;
+use desk_engine::{Outcome, run};
 use desk_store::Keeper;
+use std::alloc::{AllocError, Global};
 use std::process::Abort;
 use std::test::Fail;
+
+/// The texts of the deliveries.
+pub(super) fn texts_of(alloc: Global, deliveries: &[Delivery]) -> Result<Vec<&[u8]>, AllocError> {
+    let mut texts = Vec::new(alloc);
+    for delivery in deliveries {
+        texts.push(delivery.text.as_bytes())?;
+    }
+    Ok(texts)
+}
+
+/// Each delivery has its outcome.
+pub(super) fn expect_outcomes(rt: &impl Abort, outcomes: &[Outcome], deliveries: &[Delivery]) {
+    holds(rt, outcomes.len() == deliveries.len(), "how many outcomes");
+    for (outcome, delivery) in outcomes.iter().zip(deliveries) {
+        expect_told(rt, outcome, delivery);
+    }
+}
 
 fn run_all<R: Abort + AllocGlobal, K: Keeper>(
     rt: &R,
@@ -21,15 +39,8 @@ fn run_all<R: Abort + AllocGlobal, K: Keeper>(
     rows: &[Row],
 ) -> Result<(), Fail> {
     let deliveries = deliveries_of(rt.alloc(), rows)?;
-    let mut texts: Vec<&[u8]> = Vec::new(rt.alloc());
-    for delivery in &deliveries {
-        texts.push(delivery.text.as_bytes())?;
-    }
-    let outcomes = run(rt.alloc(), keeper, &texts)?;
-    holds(rt, outcomes.len() == deliveries.len(), "how many outcomes");
-    for (outcome, delivery) in outcomes.iter().zip(&deliveries) {
-        expect_told(rt, outcome, delivery);
-    }
+    let outcomes = run(rt.alloc(), keeper, &texts_of(rt.alloc(), &deliveries)?)?;
+    expect_outcomes(rt, &outcomes, &deliveries);
     Ok(())
 }
 

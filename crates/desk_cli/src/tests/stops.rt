@@ -10,7 +10,8 @@ use super::rows::{
     BRIDGE, CITY, DEVICE, DEVICE_TO_CITY, Delivery, Down, GATEWAY_A, GATEWAY_B, Heard, Row,
     SUCCESS, TOWN, delivery_of,
 };
-use super::{config, expect_told, hear_each, opening, ready};
+use super::runs::{expect_outcomes, texts_of};
+use super::{config, hear_each, opening, ready};
 use crate::stopping::run_through_stop;
 use desk_tables::Tables;
 use sqlite::{Alter, Connection, MemStore};
@@ -79,7 +80,7 @@ fn with_each_of(
 
 fn rows_in<S: Alter>(alloc: Global, conn: &mut Connection<S>) -> Result<String, Fail> {
     let mut text = String::new(alloc);
-    for query in TABLES {
+    for query in &TABLES {
         let rows = conn.query_all(query, &[])?;
         write!(text, "{rows:?}")?;
     }
@@ -105,7 +106,9 @@ pub(super) fn expect_found<R: Abort + AllocGlobal, S: Alter + Drop>(
 ) -> Result<(), Fail> {
     let mut conn = conn;
     holds(rt, rows_in(rt.alloc(), &mut conn)? == *rows, "the rows");
-    let tables = Tables::open(rt.alloc(), ready(conn)?).map_err(|_| "not opened")?;
+    let Ok(tables) = Tables::open(rt.alloc(), ready(conn)?) else {
+        return Err("not opened".into());
+    };
     let mut tables = Box::new(rt.alloc(), tables)?;
     hear_each(rt, &mut *tables, deliveries);
     Ok(())
@@ -116,15 +119,11 @@ pub(super) fn expect_found<R: Abort + AllocGlobal, S: Alter + Drop>(
 #[test]
 fn a_run_is_found_after_a_stop(rt: HostRuntime) -> Result<(), Fail> {
     let deliveries = all_deliveries(rt.alloc())?;
-    let texts: Vec<&[u8]> = deliveries
-        .iter()
-        .map(|delivery| delivery.text.as_bytes())
-        .collect(rt.alloc())?;
+    let texts = texts_of(rt.alloc(), &deliveries)?;
     let config = config(65_536).ok_or("no configuration")?;
-    let (outcomes, conn) = run_through_stop(rt.alloc(), config, &texts).map_err(|_| "no desk")?;
-    holds(&rt, outcomes.len() == deliveries.len(), "how many outcomes");
-    for (outcome, delivery) in outcomes.iter().zip(&deliveries) {
-        expect_told(&rt, outcome, delivery);
-    }
+    let Ok((outcomes, conn)) = run_through_stop(rt.alloc(), config, &texts) else {
+        return Err("no desk".into());
+    };
+    expect_outcomes(&rt, &outcomes, &deliveries);
     expect_found(&rt, conn, &deliveries, &rows_after(&rt, &deliveries)?)
 }

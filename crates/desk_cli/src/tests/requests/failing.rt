@@ -1,5 +1,5 @@
 //! A store that fails. Peers that do stand with the tests of `serve`.
-use super::reports::expect_report;
+use super::reports::{Row, expect_reports};
 use super::responses::{ADDED, BAD_MONTH, MALFORMED, UNAVAILABLE};
 use super::{expect, posted};
 use crate::tests::opening;
@@ -15,21 +15,19 @@ fn a_failing_store(alloc: Global, failure: Failure, calls: u64) -> Result<Box<Sw
     Ok(store)
 }
 
+/// What needs no store is answered as ever.
+static DOWN: [Row; 3] = [
+    ("/v1/reports/town/2024-02", 503, UNAVAILABLE),
+    ("/v1/bands/gw-a", 503, UNAVAILABLE),
+    ("/v1/reports/town/2024-13", 400, BAD_MONTH),
+];
+
 #[test]
 fn a_store_is_down(rt: HostRuntime) -> Result<(), Fail> {
     let mut shut = a_failing_store(rt.alloc(), Failure::Disk, 0)?;
     let input = posted(rt.alloc(), REQUEST, "abc")?;
     expect(&rt, &mut *shut, input.as_bytes(), 3, 503, UNAVAILABLE);
-    expect_report(
-        &rt,
-        &mut *shut,
-        "/v1/reports/town/2024-02",
-        503,
-        UNAVAILABLE,
-    )?;
-    expect_report(&rt, &mut *shut, "/v1/bands/gw-a", 503, UNAVAILABLE)?;
-    // What needs no store is answered as ever.
-    expect_report(&rt, &mut *shut, "/v1/reports/town/2024-13", 400, BAD_MONTH)?;
+    expect_reports(&rt, &mut *shut, &DOWN)?;
     let input = posted(rt.alloc(), "{", "")?;
     expect(&rt, &mut *shut, input.as_bytes(), 0, 400, MALFORMED);
     Ok(())

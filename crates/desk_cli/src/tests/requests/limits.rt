@@ -19,14 +19,16 @@ fn expect_no_head<R: Abort + AllocGlobal>(rt: &R, lists: &mut Lists, input: &[u8
     holds(rt, is_refused, "that a head is refused");
 }
 
+static HEADS: [&str; 3] = [
+    "POST /v1/messages?x=1 HTTP/1.1\r\nContent-Length: 123\r\n\r\n",
+    "POST /v1/messages?? HTTP/1.0\nCONTENT-LENGTH:000000000000000000000000123\n\n",
+    "\r\n\r\nPOST /v1/messages HTTP/1.1\r\nHost: desk\r\ncontent-length: \t123 \t\r\n\r\n",
+];
+
 #[test]
 fn forms_of_a_head(rt: HostRuntime) -> Result<(), Fail> {
     let mut lists = opening::<Lists>(rt.alloc(), 65_536)?;
-    for start in [
-        "POST /v1/messages?x=1 HTTP/1.1\r\nContent-Length: 123\r\n\r\n",
-        "POST /v1/messages?? HTTP/1.0\nCONTENT-LENGTH:000000000000000000000000123\n\n",
-        "\r\n\r\nPOST /v1/messages HTTP/1.1\r\nHost: desk\r\ncontent-length: \t123 \t\r\n\r\n",
-    ] {
+    for start in &HEADS {
         let input = format!(in rt.alloc(); "{start}{REQUEST}")?;
         expect(&rt, &mut *lists, input.as_bytes(), 0, 200, ADDED);
     }
@@ -57,22 +59,32 @@ fn beginning(input: &[u8], octets: usize) -> &[u8] {
 }
 
 /// A line that no head has is refused at its end, and a control octet at once: what comes after isn't waited for.
+static NO_HEADS: [&str; 7] = [
+    "GET /v1/messages\nabc",
+    "\r\n\nGET /v1/messages HTTP/2.0\r\nabc",
+    "GET /v1/messages HTTP/1.1\r\nA\r\nabc",
+    "GET /v1/messages HTTP/1.1\r\n A: b\nabc",
+    "\u{16}abc",
+    "\n\nGET /v1/messages\0abc",
+    "GET /v1/messages HTTP/1.1\r\nA: \u{7f}abc",
+];
+
 #[test]
 fn what_no_head_has(rt: HostRuntime) -> Result<(), Fail> {
     let mut lists = opening::<Lists>(rt.alloc(), 65_536)?;
-    for input in [
-        "GET /v1/messages\nabc",
-        "\r\n\nGET /v1/messages HTTP/2.0\r\nabc",
-        "GET /v1/messages HTTP/1.1\r\nA\r\nabc",
-        "GET /v1/messages HTTP/1.1\r\n A: b\nabc",
-        "\u{16}abc",
-        "\n\nGET /v1/messages\0abc",
-        "GET /v1/messages HTTP/1.1\r\nA: \u{7f}abc",
-    ] {
+    for input in &NO_HEADS {
         expect(&rt, &mut *lists, input.as_bytes(), 3, 400, NO_HEAD);
     }
     Ok(())
 }
+
+/// A control octet, another version, and a target that isn't UTF-8, in its query too.
+static NO_WHOLE_HEADS: [&[u8]; 4] = [
+    b"POST /v1/messages HTTP/1.1\r\nA: \0\r\n\r\n",
+    b"POST /v1/messages HTTP/2.0\r\n\r\n",
+    b"GET /v1/\xff HTTP/1.1\r\n\r\n",
+    b"GET /v1/messages?\xff HTTP/1.1\r\n\r\n",
+];
 
 #[test]
 fn limits_of_a_head(rt: HostRuntime) -> Result<(), Fail> {
@@ -85,15 +97,9 @@ fn limits_of_a_head(rt: HostRuntime) -> Result<(), Fail> {
     // The head isn't ended.
     holds(&rt, input.len() == 366, "the length of the input");
     expect_no_head(&rt, &mut *lists, beginning(input.as_bytes(), 242));
-    expect_no_head(
-        &rt,
-        &mut *lists,
-        b"POST /v1/messages HTTP/1.1\r\nA: \0\r\n\r\n",
-    );
-    expect_no_head(&rt, &mut *lists, b"POST /v1/messages HTTP/2.0\r\n\r\n");
-    // A target that isn't UTF-8, in its query too.
-    expect_no_head(&rt, &mut *lists, b"GET /v1/\xff HTTP/1.1\r\n\r\n");
-    expect_no_head(&rt, &mut *lists, b"GET /v1/messages?\xff HTTP/1.1\r\n\r\n");
+    for input in &NO_WHOLE_HEADS {
+        expect_no_head(&rt, &mut *lists, input);
+    }
     let input = posted(alloc, OTHER_OWNER, "")?;
     expect(&rt, &mut *lists, input.as_bytes(), 0, 200, ADDED);
     let mut lists = opening::<Lists>(alloc, 65_536)?;
@@ -116,25 +122,10 @@ fn every_beginning(rt: HostRuntime) -> Result<(), Fail> {
     holds(&rt, is_closed, "that nothing is answered");
     // The head has 51 octets. The length bounds the beginnings.
     assert!(rt; input.len() == 174);
-    for length in 1..51 {
-        expect(
-            &rt,
-            &mut *lists,
-            &input.as_bytes()[..length],
-            0,
-            400,
-            NO_HEAD,
-        );
-    }
-    for length in 51..174 {
-        expect(
-            &rt,
-            &mut *lists,
-            &input.as_bytes()[..length],
-            0,
-            400,
-            CUT_BODY,
-        );
+    for length in 1..174 {
+        let response = if length < 51 { NO_HEAD } else { CUT_BODY };
+        let cut = &input.as_bytes()[..length];
+        expect(&rt, &mut *lists, cut, 0, 400, response);
     }
     // None of them was heard.
     let other = posted(alloc, OTHER_OWNER, "")?;

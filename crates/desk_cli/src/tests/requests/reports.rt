@@ -7,6 +7,7 @@ use crate::tests::holding::holds;
 use crate::tests::opening;
 use desk_http::{ServeEnd, serve_one};
 use desk_store::{Keeper, Lists};
+use std::alloc::Global;
 use std::process::Abort;
 use std::test::Fail;
 
@@ -24,7 +25,7 @@ static TRAFFIC: [&str; 9] = [
 ];
 
 /// What a GET of the target is answered. Its length and what comes after the head aren't looked at.
-pub(super) fn expect_report<R: Abort + AllocGlobal, K: Keeper>(
+fn expect_report<R: Abort + AllocGlobal, K: Keeper>(
     rt: &R,
     keeper: &mut K,
     target: &str,
@@ -36,35 +37,53 @@ pub(super) fn expect_report<R: Abort + AllocGlobal, K: Keeper>(
     Ok(())
 }
 
+/// A target, the status and the response of a GET of it.
+pub(super) type Row = (&'static str, u16, &'static str);
+
+static BEFORE: [Row; 5] = [
+    ("/v1/reports/town/2024-13", 400, BAD_MONTH),
+    ("/v1/reports/town/2024-02", 404, NO_OWNER),
+    ("/v1/reports/to%20wn/2024-02", 404, NO_OWNER),
+    ("/v1/bands/gw-z", 404, NO_GATEWAY),
+    ("/v1/bands/gw-z?gw-a", 404, NO_GATEWAY),
+];
+
+static AFTER: [Row; 7] = [
+    ("/v1/reports/town/2024-02", 200, OWNER_REPORT),
+    ("/v1/reports/town/2024-02?x=/y", 200, OWNER_REPORT),
+    ("/v1/reports/port/2024-02", 200, EMPTY_REPORT),
+    ("/v1/reports/2024-02/town", 400, BAD_MONTH),
+    ("/v1/bands/gw-a", 200, BAND_REPORT),
+    ("/v1/bands/gw-b", 200, UNUSED_BANDS),
+    ("/v1/bands/town", 404, NO_GATEWAY),
+];
+
+pub(super) fn expect_reports<R: Abort + AllocGlobal, K: Keeper>(
+    rt: &R,
+    keeper: &mut K,
+    rows: &[Row],
+) -> Result<(), Fail> {
+    for (target, status, response) in rows {
+        expect_report(rt, keeper, target, *status, response)?;
+    }
+    Ok(())
+}
+
+/// How the desk ends a POST of the message.
+fn ended(alloc: Global, lists: &mut Lists, message: &str) -> Result<ServeEnd, Fail> {
+    let input = posted(alloc, message, "")?;
+    let mut reader = input.as_bytes();
+    let mut written = Vec::new(alloc);
+    Ok(serve_one(alloc, lists, &mut reader, &mut written))
+}
+
 #[test]
 fn reports_are_given(rt: HostRuntime) -> Result<(), Fail> {
     let mut lists = opening::<Lists>(rt.alloc(), 65_536)?;
-    for (target, status, response) in [
-        ("/v1/reports/town/2024-13", 400, BAD_MONTH),
-        ("/v1/reports/town/2024-02", 404, NO_OWNER),
-        ("/v1/reports/to%20wn/2024-02", 404, NO_OWNER),
-        ("/v1/bands/gw-z", 404, NO_GATEWAY),
-        ("/v1/bands/gw-z?gw-a", 404, NO_GATEWAY),
-    ] {
-        expect_report(&rt, &mut *lists, target, status, response)?;
-    }
+    expect_reports(&rt, &mut *lists, &BEFORE)?;
     for message in &TRAFFIC {
-        let input = posted(rt.alloc(), message, "")?;
-        let mut reader = input.as_bytes();
-        let mut written = Vec::new(rt.alloc());
-        let end = serve_one(rt.alloc(), &mut *lists, &mut reader, &mut written);
+        let end = ended(rt.alloc(), &mut *lists, message)?;
         holds(&rt, end == ServeEnd::Done(200), message);
     }
-    for (target, status, response) in [
-        ("/v1/reports/town/2024-02", 200, OWNER_REPORT),
-        ("/v1/reports/town/2024-02?x=/y", 200, OWNER_REPORT),
-        ("/v1/reports/port/2024-02", 200, EMPTY_REPORT),
-        ("/v1/reports/2024-02/town", 400, BAD_MONTH),
-        ("/v1/bands/gw-a", 200, BAND_REPORT),
-        ("/v1/bands/gw-b", 200, UNUSED_BANDS),
-        ("/v1/bands/town", 404, NO_GATEWAY),
-    ] {
-        expect_report(&rt, &mut *lists, target, status, response)?;
-    }
-    Ok(())
+    expect_reports(&rt, &mut *lists, &AFTER)
 }

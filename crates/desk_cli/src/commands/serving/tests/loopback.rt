@@ -8,15 +8,14 @@ use crate::tests::requests::posted;
 use crate::tests::requests::responses::{ADDED, TOO_LONG};
 use crate::tests::rows::REQUEST;
 use desk_store::Lists;
-use std::io::{Read, Write};
-use std::net::{Shutdown, TcpStream};
+use std::io::{self, Read, Write};
+use std::net::{Shutdown, SocketAddr, TcpStream};
 use std::test::Fail;
 use std::time::Duration;
 
-/// What a client gets that sends these pieces and then nothing more. It is served once all of them are sent.
-fn answered(rt: &HostRuntime, pieces: &[&[u8]]) -> Result<Vec<u8>, Fail> {
-    let mut port = Sockets::new(rt).listen(0)?;
-    let mut client = TcpStream::connect(rt, port.address()?)?;
+/// A client that has sent these pieces, and sends nothing more.
+fn client(rt: &HostRuntime, address: SocketAddr, pieces: &[&[u8]]) -> io::Result<TcpStream> {
+    let mut client = TcpStream::connect(rt, address)?;
     client.set_nodelay(true)?;
     client.set_read_timeout(Some(Duration::from_secs(5)))?;
     client.set_write_timeout(Some(Duration::from_secs(5)))?;
@@ -24,6 +23,13 @@ fn answered(rt: &HostRuntime, pieces: &[&[u8]]) -> Result<Vec<u8>, Fail> {
         client.write_all(piece)?;
     }
     client.shutdown(Shutdown::Write)?;
+    Ok(client)
+}
+
+/// What a client gets that sends these pieces. It is served once all of them are sent.
+fn answered(rt: &HostRuntime, pieces: &[&[u8]]) -> Result<Vec<u8>, Fail> {
+    let mut port = Sockets::new(rt).listen(0)?;
+    let mut client = client(rt, port.address()?, pieces)?;
     let mut lists = opening::<Lists>(rt.alloc(), 65_536)?;
     serve_connections(rt.alloc(), &mut *lists, &mut port, 1);
     let mut response = Vec::new(rt.alloc());
