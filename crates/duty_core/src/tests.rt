@@ -1,5 +1,5 @@
-//! Worked rows, as asserted by two functions: an assertion that stands in a test costs its proof several times as much as a call. It
-//! stands where the sweep asks for order.
+//! Worked rows. What they assert is a call of one of two functions, since an assertion that stands in a test costs its proof several
+//! times as much; one does only where the sweep asks for order.
 use crate::hours::{clear, fits, peak, use_at};
 use crate::interval::Span;
 use crate::near::{is_near, near_range};
@@ -114,6 +114,8 @@ fn fits_up_to_the_limit(rt: HostRuntime) {
 fn tells_order_and_what_is_clear(rt: HostRuntime) {
     let [first, second, third] = worked(&rt);
     holds(&rt, in_order(&[first, second, second]), "the same twice");
+    let by_start = [span(&rt, 0, 100), span(&rt, 0, 10)];
+    holds(&rt, in_order(&by_start), "equal starts");
     holds(&rt, !in_order(&[first, third, second]), "the last two");
     holds(&rt, !in_order(&[second, first, third]), "the first two");
     let new = span(&rt, 10, 5);
@@ -134,12 +136,26 @@ static APART: [(i64, bool); 5] = [
     (3_603_000_000, false),
 ];
 
-/// The first start that a span has, one in use, and the last.
-static STARTS: [i64; 3] = [-4_611_686_018_427_387_904, MONTH, 4_611_686_018_427_387_903];
+/// The first start that a span has, 0, one in use, and the last.
+static STARTS: [i64; 4] = [
+    -4_611_686_018_427_387_904,
+    0,
+    MONTH,
+    4_611_686_018_427_387_903,
+];
+
+/// No span is near these.
+static FAR: [i128; 4] = [
+    i128::MIN,
+    -9_223_372_036_854_775_808,
+    18_446_744_073_709_551_615,
+    i128::MAX,
+];
 
 #[test]
 fn tells_what_is_near(rt: HostRuntime) {
-    for start in STARTS {
+    for start in &STARTS {
+        let start = *start;
         for (place, (apart, near)) in APART.iter().enumerate() {
             if let Some(beside) = Span::new(start + *apart, 1) {
                 holds_at(&rt, is_near(&beside, i128::from(start)) == *near, place);
@@ -149,8 +165,9 @@ fn tells_what_is_near(rt: HostRuntime) {
         holds(&rt, range.after == start - 3_603_000_000, "after");
         holds(&rt, range.before == start + 3_603_000_000, "before");
         let one = span(&rt, start, 1);
-        let is_far = !is_near(&one, i128::MIN) && !is_near(&one, i128::MAX);
-        holds(&rt, is_far, "far from what no span is near");
+        for (place, far) in FAR.iter().enumerate() {
+            holds_at(&rt, !is_near(&one, *far), place);
+        }
     }
 }
 

@@ -9,15 +9,74 @@ use std::alloc::Global;
 use std::process::Abort;
 use std::test::Fail;
 
-/// Schema 2 has one table more.
-const TO_SCHEMA_1: &str = "DROP TABLE band_limit; UPDATE meta SET version = 1";
+/// What made the tables and indexes of schema 1, letter for letter: files of that time have it.
+#[rattlefmt::skip]
+static FIRST_SCHEMA: [&str; 14] = [
+    "CREATE TABLE meta (id INTEGER PRIMARY KEY, version INTEGER NOT NULL, receiver TEXT NOT NULL, operator TEXT NOT NULL, base INTEGER NOT NULL, addresses INTEGER NOT NULL) STRICT",
+    "CREATE TABLE sender (name TEXT PRIMARY KEY, role INTEGER NOT NULL) STRICT",
+    "CREATE TABLE reply (seq INTEGER PRIMARY KEY, sender TEXT NOT NULL, number INTEGER NOT NULL, message BLOB NOT NULL, answer BLOB NOT NULL, UNIQUE (sender, number)) STRICT",
+    "CREATE TABLE owner (name TEXT PRIMARY KEY) STRICT",
+    "CREATE TABLE gateway (name TEXT PRIMARY KEY) STRICT",
+    "CREATE TABLE device (eui BLOB PRIMARY KEY, join_eui BLOB NOT NULL, owner TEXT NOT NULL, floor INTEGER) STRICT",
+    "CREATE TABLE session (number INTEGER PRIMARY KEY, device BLOB NOT NULL, nonce INTEGER NOT NULL, next_down INTEGER NOT NULL, UNIQUE (device, nonce)) STRICT",
+    "CREATE TABLE uplink (number INTEGER PRIMARY KEY, session INTEGER NOT NULL, kind INTEGER NOT NULL, counter INTEGER NOT NULL, octets BLOB NOT NULL, start INTEGER NOT NULL, airtime INTEGER NOT NULL, band INTEGER NOT NULL, UNIQUE (session, kind, counter)) STRICT",
+    "CREATE TABLE copy (uplink INTEGER NOT NULL, gateway TEXT NOT NULL, ended INTEGER NOT NULL, freq INTEGER NOT NULL, dr INTEGER NOT NULL, PRIMARY KEY (uplink, gateway)) STRICT",
+    "CREATE TABLE booking (number INTEGER PRIMARY KEY, uplink INTEGER NOT NULL, gateway TEXT NOT NULL, session INTEGER NOT NULL, kind INTEGER NOT NULL, band INTEGER NOT NULL, start INTEGER NOT NULL, airtime INTEGER NOT NULL, state INTEGER NOT NULL) STRICT",
+    "CREATE INDEX device_owner ON device (owner, eui)",
+    "CREATE INDEX uplink_start ON uplink (session, start)",
+    "CREATE INDEX booking_start ON booking (gateway, start)",
+    "CREATE INDEX booking_uplink ON booking (uplink)",
+];
+
+/// How each table is read, and how a row is put into it.
+#[rattlefmt::skip]
+static COPIES: [(&str, &str); 10] = [
+    ("SELECT * FROM meta ORDER BY rowid", "INSERT INTO meta VALUES (?1, ?2, ?3, ?4, ?5, ?6)"),
+    ("SELECT * FROM sender ORDER BY rowid", "INSERT INTO sender VALUES (?1, ?2)"),
+    ("SELECT * FROM reply ORDER BY rowid", "INSERT INTO reply VALUES (?1, ?2, ?3, ?4, ?5)"),
+    ("SELECT * FROM owner ORDER BY rowid", "INSERT INTO owner VALUES (?1)"),
+    ("SELECT * FROM gateway ORDER BY rowid", "INSERT INTO gateway VALUES (?1)"),
+    ("SELECT * FROM device ORDER BY rowid", "INSERT INTO device VALUES (?1, ?2, ?3, ?4)"),
+    ("SELECT * FROM session ORDER BY rowid", "INSERT INTO session VALUES (?1, ?2, ?3, ?4)"),
+    ("SELECT * FROM uplink ORDER BY rowid", "INSERT INTO uplink VALUES (?1, ?2, ?3, ?4, ?5, ?6, ?7, ?8)"),
+    ("SELECT * FROM copy ORDER BY rowid", "INSERT INTO copy VALUES (?1, ?2, ?3, ?4, ?5)"),
+    ("SELECT * FROM booking ORDER BY rowid", "INSERT INTO booking VALUES (?1, ?2, ?3, ?4, ?5, ?6, ?7, ?8, ?9)"),
+];
+
+fn copy_rows(
+    alloc: Global,
+    from: &mut Connection<MemStore>,
+    to: &mut Connection<MemStore>,
+) -> Result<(), Fail> {
+    for (query, insert) in &COPIES {
+        for row in &from.query_all(query, &[])? {
+            let mut values = Vec::new(alloc);
+            for at in 0..row.column_count() {
+                values.push(row.get_ref(at)?)?;
+            }
+            to.execute(insert, &values)?;
+        }
+    }
+    Ok(())
+}
+
+/// The tables of schema 1, with no row.
+fn first_tables(alloc: Global) -> Result<Connection<MemStore>, Fail> {
+    let mut conn = Connection::open_in_memory(alloc)?;
+    for statement in &FIRST_SCHEMA {
+        conn.execute_batch(statement)?;
+    }
+    Ok(conn)
+}
 
 /// A database of schema 1, with the rows of a desk that has heard the ten messages.
 fn first<R: Abort + AllocGlobal>(rt: &R) -> Result<Connection<MemStore>, Fail> {
     let mut tables = opening::<Tables<MemStore>>(rt.alloc(), 65_536)?;
     hear_each(rt, &mut *tables, &deliveries(rt.alloc())?);
-    let mut conn = Box::into_inner(tables).close();
-    conn.execute_batch(TO_SCHEMA_1)?;
+    let mut from = Box::into_inner(tables).close();
+    let mut conn = first_tables(rt.alloc())?;
+    copy_rows(rt.alloc(), &mut from, &mut conn)?;
+    conn.execute_batch("UPDATE meta SET version = 1")?;
     Ok(conn)
 }
 

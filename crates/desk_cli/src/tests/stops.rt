@@ -21,7 +21,7 @@ use std::process::Abort;
 use std::test::Fail;
 
 #[rattlefmt::skip]
-pub(super) static MESSAGES: [Row; 10] = [
+static MESSAGES: [Row; 10] = [
     Asks("office", 1, "OwnerAdd", TOWN, SUCCESS),
     Asks("office", 2, "SenderAdd", BRIDGE, SUCCESS),
     Asks("office", 3, "GatewayAdd", GATEWAY_A, SUCCESS),
