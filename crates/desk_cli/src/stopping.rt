@@ -34,6 +34,31 @@ pub fn opened_after_stop<D: Crash + Drop>(
     }
 }
 
+/// A desk is made on files that have nothing, and answers texts in order; then the machine stops, and the files are opened again. An
+/// outcome for each text, and the connection to what was found then; or why there is none.
+fn run_and_stop<D: Crash + Drop>(
+    alloc: Global,
+    conn: Connection<FileStore<D>>,
+    config: Config,
+    texts: &[&[u8]],
+) -> Result<(Vec<Outcome>, Connection<FileStore<D>>), StoreFault>
+    requires idle { conn.in_transaction ≡ false }
+    requires unlimited { conn.step_limit ≡ None }
+    ensures outcomes { ((disk : D) → IsTrue (D.Disk.is_clean disk)) → IfOk result (λ ran. AreOutcomes config [] (map (λ t. t.now) texts.now) ran.0.items) }
+    ensures found { ((disk : D) → IsTrue (D.Disk.is_clean disk)) → IfOk result (λ ran.
+        IsFound config (heard_all config [] (deliveries_of (map (λ t. t.now) texts.now) ran.0.items))
+        (first_doubt config (map (λ t. t.now) texts.now) ran.0.items) (file_state ran.1).now) }
+{
+    let (outcomes, conn) = run_on_tables(alloc, conn, config, texts);
+    match outcomes {
+        Ok(outcomes) => match opened_after_stop(alloc, conn) {
+            Ok(conn) => Ok((outcomes, conn)),
+            Err(fault) => Err(fault),
+        },
+        Err(fault) => Err(fault),
+    }
+}
+
 /// A desk is made in files in memory that have nothing, and answers texts in order; then the machine stops, which loses whatever a disk
 /// may lose, and the files are opened again. An outcome for each text, and the connection to what was found then; or why there is
 /// none. Nothing is asked of the caller.
@@ -48,16 +73,8 @@ pub fn run_through_stop(
     ensures found { IfOk result (λ ran. IsFound config (heard_all config [] (deliveries_of (map (λ t. t.now) texts.now) ran.0.items))
         (first_doubt config (map (λ t. t.now) texts.now) ran.0.items) (file_state ran.1).now) }
 {
-    let conn = match new_files(alloc) {
-        Ok(conn) => conn,
-        Err(fault) => return Err(fault),
-    };
-    let (outcomes, conn) = run_on_tables(alloc, conn, config, texts);
-    match outcomes {
-        Ok(outcomes) => match opened_after_stop(alloc, conn) {
-            Ok(conn) => Ok((outcomes, conn)),
-            Err(fault) => Err(fault),
-        },
+    match new_files(alloc) {
+        Ok(conn) => run_and_stop(alloc, conn, config, texts),
         Err(fault) => Err(fault),
     }
 }

@@ -82,6 +82,12 @@ fn made<S: Alter + Drop>(
     Ok(Box::new(alloc, tables)?)
 }
 
+/// The desk on tables that the database has.
+fn found<S: Alter + Drop>(alloc: Global, conn: Connection<S>) -> Result<Box<Tables<S>>, Fail> {
+    let tables = Tables::open(alloc, ready(conn)?).map_err(|_| "not opened")?;
+    Ok(Box::new(alloc, tables)?)
+}
+
 pub(crate) fn config(addresses: u32) -> Option<Config> {
     Config::new(
         Name::new(b"desk")?,

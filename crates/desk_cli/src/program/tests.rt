@@ -5,16 +5,16 @@ ghost use Rattle.desk_cli.specs.Served.{unknown};
 
 mod one_file;
 
-use super::{run, run_given};
+use super::run;
 use crate::endings::Ending;
 use crate::faults::Fault;
 use crate::files::Files;
 use crate::listening::{Listening, Network};
-use crate::tests::holding::{holds, holds_at};
+use crate::tests::holding::holds_at;
 use crate::tests::ready;
 use crate::words::tests::helps::LINES_HELP;
 use desk_http::ServeEnd;
-use sqlite::{Connection, MemStore};
+use sqlite::{Alter, Connection, MemStore};
 use std::alloc::Global;
 use std::env::FillError;
 use std::io::{self, ErrorKind};
@@ -48,14 +48,14 @@ impl Env for Started<'_> {
     }
 }
 
-/// One file that is a database in memory, whatever its path; or none that can be opened.
+/// One file that is this database, whatever its path; or none that can be opened.
 #[derive(Drop)]
-struct OneFile {
-    conn: Option<Connection<MemStore>>,
+struct OneFile<S: Alter> {
+    conn: Option<Connection<S>>,
 }
 
-impl OneFile {
-    fn opened(self) -> Result<Connection<MemStore>, &'static str>
+impl<S: Alter + Drop> OneFile<S> {
+    fn opened(self) -> Result<Connection<S>, &'static str>
         ensures idle { IfOk result (λ conn. conn.in_transaction ≡ false) }
         ensures unlimited { IfOk result (λ conn. conn.step_limit ≡ None) }
     {
@@ -66,14 +66,14 @@ impl OneFile {
     }
 }
 
-impl Files<MemStore> for OneFile {
+impl<S: Alter + Drop> Files<S> for OneFile<S> {
     ghost paths = { λ files. known_alike (λ conn. Unit {0}) };
 
-    fn open(self, _path: &str) -> Result<Connection<MemStore>, Fault> {
+    fn open(self, _path: &str) -> Result<Connection<S>, Fault> {
         self.opened().map_err(|_| Fault::File)
     }
 
-    fn make(self, _path: &str) -> Result<Connection<MemStore>, Fault> {
+    fn make(self, _path: &str) -> Result<Connection<S>, Fault> {
         self.opened().map_err(|_| Fault::File)
     }
 }
@@ -184,7 +184,7 @@ fn runs_of_words(rt: HostRuntime) -> Result<(), Fail> {
         let mut reader = INPUT.as_bytes();
         let mut answers = Vec::new(rt.alloc());
         let mut faults = Vec::new(rt.alloc());
-        let none = OneFile { conn: None };
+        let none = OneFile::<MemStore> { conn: None };
         let (end, conn) = run(
             &process,
             none,
@@ -199,30 +199,5 @@ fn runs_of_words(rt: HostRuntime) -> Result<(), Fail> {
         holds_at(&rt, faults.as_slice() == told.as_bytes(), place);
         holds_at(&rt, reader.is_empty() == (*ending == Ending::Done), place);
     }
-    Ok(())
-}
-
-#[test]
-fn no_memory_for_the_words(rt: HostRuntime) -> Result<(), Fail> {
-    let mut reader = INPUT.as_bytes();
-    let mut answers = Vec::new(rt.alloc());
-    let mut faults = Vec::new(rt.alloc());
-    let arguments = Err(ErrorKind::OutOfMemory.into());
-    let (end, _) = run_given(
-        rt.alloc(),
-        arguments,
-        OneFile { conn: None },
-        &NETWORK,
-        &mut reader,
-        &mut answers,
-        &mut faults,
-    );
-    holds(&rt, end == Ending::Failed, "the ending");
-    holds(&rt, answers.is_empty(), "no answer");
-    holds(
-        &rt,
-        faults.as_slice() == b"desk: unavailable\n".as_slice(),
-        "the fault line",
-    );
     Ok(())
 }

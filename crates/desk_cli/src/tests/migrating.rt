@@ -1,7 +1,7 @@
 //! A desk of schema 1 is moved to schema 2 with all that it holds.
 use super::holding::holds;
-use super::stops::{deliveries, expect_found, rows_after};
-use super::{hear_each, opening, ready};
+use super::ready;
+use super::stops::{deliveries, expect_found, heard, rows_after};
 use desk_store::StoreFault;
 use desk_tables::Tables;
 use sqlite::{Connection, MemStore};
@@ -71,9 +71,7 @@ fn first_tables(alloc: Global) -> Result<Connection<MemStore>, Fail> {
 
 /// A database of schema 1, with the rows of a desk that has heard the ten messages.
 fn first<R: Abort + AllocGlobal>(rt: &R) -> Result<Connection<MemStore>, Fail> {
-    let mut tables = opening::<Tables<MemStore>>(rt.alloc(), 65_536)?;
-    hear_each(rt, &mut *tables, &deliveries(rt.alloc())?);
-    let mut from = Box::into_inner(tables).close();
+    let mut from = heard(rt, &deliveries(rt.alloc())?)?;
     let mut conn = first_tables(rt.alloc())?;
     copy_rows(rt.alloc(), &mut from, &mut conn)?;
     conn.execute_batch("UPDATE meta SET version = 1")?;

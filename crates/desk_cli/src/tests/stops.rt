@@ -11,8 +11,10 @@ use super::rows::{
     SUCCESS, TOWN, delivery_of,
 };
 use super::runs::{expect_outcomes, texts_of};
-use super::{config, hear_each, opening, ready};
+use super::{config, found, hear_each, opening};
 use crate::stopping::run_through_stop;
+use desk_engine::Outcome;
+use desk_store::StoreFault;
 use desk_tables::Tables;
 use sqlite::{Alter, Connection, MemStore};
 use std::alloc::Global;
@@ -87,14 +89,22 @@ fn rows_in<S: Alter>(alloc: Global, conn: &mut Connection<S>) -> Result<String, 
     Ok(text)
 }
 
+/// The database of a desk that has heard the deliveries.
+pub(super) fn heard<R: Abort + AllocGlobal>(
+    rt: &R,
+    deliveries: &[Delivery],
+) -> Result<Connection<MemStore>, Fail> {
+    let mut tables = opening::<Tables<MemStore>>(rt.alloc(), 65_536)?;
+    hear_each(rt, &mut *tables, deliveries);
+    Ok(Box::into_inner(tables).close())
+}
+
 /// The rows of a desk that has heard the deliveries, as a text.
 pub(super) fn rows_after<R: Abort + AllocGlobal>(
     rt: &R,
     deliveries: &[Delivery],
 ) -> Result<String, Fail> {
-    let mut tables = opening::<Tables<MemStore>>(rt.alloc(), 65_536)?;
-    hear_each(rt, &mut *tables, deliveries);
-    rows_in(rt.alloc(), &mut Box::into_inner(tables).close())
+    rows_in(rt.alloc(), &mut heard(rt, deliveries)?)
 }
 
 /// The desk of the connection has these rows, and each delivery is told once more what it was told.
@@ -106,12 +116,22 @@ pub(super) fn expect_found<R: Abort + AllocGlobal, S: Alter + Drop>(
 ) -> Result<(), Fail> {
     let mut conn = conn;
     holds(rt, rows_in(rt.alloc(), &mut conn)? == *rows, "the rows");
-    let Ok(tables) = Tables::open(rt.alloc(), ready(conn)?) else {
-        return Err("not opened".into());
-    };
-    let mut tables = Box::new(rt.alloc(), tables)?;
+    let mut tables = found(rt.alloc(), conn)?;
     hear_each(rt, &mut *tables, deliveries);
     Ok(())
+}
+
+/// Each delivery was told what it is to be told, and what was found then is the desk that heard them.
+fn expect_run<R: Abort + AllocGlobal, S: Alter + Drop>(
+    rt: &R,
+    ran: Result<(Vec<Outcome>, Connection<S>), StoreFault>,
+    deliveries: &[Delivery],
+) -> Result<(), Fail> {
+    let Ok((outcomes, conn)) = ran else {
+        return Err("no desk".into());
+    };
+    expect_outcomes(rt, &outcomes, deliveries);
+    expect_found(rt, conn, deliveries, &rows_after(rt, deliveries)?)
 }
 
 /// The whole at once: a desk is made, hears the messages, and is found again after the machine has stopped. `checks/refused_commands.py`
@@ -121,9 +141,6 @@ fn a_run_is_found_after_a_stop(rt: HostRuntime) -> Result<(), Fail> {
     let deliveries = all_deliveries(rt.alloc())?;
     let texts = texts_of(rt.alloc(), &deliveries)?;
     let config = config(65_536).ok_or("no configuration")?;
-    let Ok((outcomes, conn)) = run_through_stop(rt.alloc(), config, &texts) else {
-        return Err("no desk".into());
-    };
-    expect_outcomes(&rt, &outcomes, &deliveries);
-    expect_found(&rt, conn, &deliveries, &rows_after(&rt, &deliveries)?)
+    let ran = run_through_stop(rt.alloc(), config, &texts);
+    expect_run(&rt, ran, &deliveries)
 }

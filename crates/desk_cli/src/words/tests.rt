@@ -43,40 +43,34 @@ static NAMELESS: [(&[&str], ErrorKind); 14] = [
     ),
 ];
 
-/// The values of a configuration, one after another.
-fn settings_text(alloc: Global, config: &Config) -> Result<String, AllocError> {
+/// The command's name, and the values of a configuration, one after another.
+fn settings_text(alloc: Global, name: &str, config: &Config) -> Result<String, AllocError> {
     let (receiver, operator) = (config.receiver().as_str(), config.operator().as_str());
     let (base, addresses) = (config.base(), config.addresses());
-    format!(in alloc; "{receiver} {operator} {base:08x} {addresses}")
+    format!(in alloc; "{name} {receiver} {operator} {base:08x} {addresses}")
 }
 
 /// The command's name and its values, one after another.
 fn command_text(alloc: Global, command: &Command<'_>) -> Result<String, AllocError> {
     match *command {
-        Command::Lines { config } => {
-            let settings = settings_text(alloc, &config)?;
-            format!(in alloc; "lines {settings}")
-        }
+        Command::Lines { config } => settings_text(alloc, "lines", &config),
         Command::Init { file, config } => {
-            let settings = settings_text(alloc, &config)?;
-            format!(in alloc; "init {file} {settings}")
+            let name = ["init", file].join(alloc, " ")?;
+            settings_text(alloc, name.as_str(), &config)
         }
-        Command::Migrate { file } => format!(in alloc; "migrate {file}"),
-        Command::Hear { file } => format!(in alloc; "hear {file}"),
-        Command::Import { file, sender } => {
-            let sender = sender.as_str();
-            format!(in alloc; "import {file} {sender}")
-        }
+        Command::Migrate { file } => ["migrate", file].join(alloc, " "),
+        Command::Hear { file } => ["hear", file].join(alloc, " "),
+        Command::Import { file, sender } => ["import", file, sender.as_str()].join(alloc, " "),
         Command::Serve {
             file,
             port,
             connections,
         } => format!(in alloc; "serve {file} {port} {connections}"),
         Command::Report { file, owner, month } => {
-            format!(in alloc; "report {file} {owner} {month}")
+            ["report", file, owner, month].join(alloc, " ")
         }
-        Command::Bands { file, gateway } => format!(in alloc; "bands {file} {gateway}"),
-        Command::Check { file } => format!(in alloc; "check {file}"),
+        Command::Bands { file, gateway } => ["bands", file, gateway].join(alloc, " "),
+        Command::Check { file } => ["check", file].join(alloc, " "),
     }
 }
 

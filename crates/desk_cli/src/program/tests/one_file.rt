@@ -3,7 +3,7 @@ use super::{NETWORK, OneFile, Started};
 use crate::endings::Ending;
 use crate::program::run;
 use crate::tests::holding::holds_at;
-use sqlite::{Connection, MemStore};
+use sqlite::{Alter, Connection};
 use std::process::Abort;
 use std::test::Fail;
 
@@ -161,12 +161,12 @@ static ROWS: [Row; 16] = [
 ];
 
 /// The row in this place, on the connection that the row before gave back.
-fn ends<R: Abort + AllocGlobal>(
+fn ends<R: Abort + AllocGlobal, S: Alter + Drop>(
     rt: &R,
     place: usize,
     row: &Row,
-    conn: Connection<MemStore>,
-) -> Result<Connection<MemStore>, Fail> {
+    conn: Connection<S>,
+) -> Result<Connection<S>, Fail> {
     let (words, input, ending, answered, told) = row;
     let process = (Started { words: *words }, rt.alloc());
     let file = OneFile { conn: Some(conn) };
@@ -187,11 +187,18 @@ fn ends<R: Abort + AllocGlobal>(
     Ok(conn.ok_or("no connection")?)
 }
 
-#[test]
-fn commands_on_one_file(rt: HostRuntime) -> Result<(), Fail> {
-    let mut conn = Connection::open_in_memory(rt.alloc())?;
+fn all_end<R: Abort + AllocGlobal, S: Alter + Drop>(
+    rt: &R,
+    conn: Connection<S>,
+) -> Result<(), Fail> {
+    let mut conn = conn;
     for (place, row) in ROWS.iter().enumerate() {
-        conn = ends(&rt, place, row, conn)?;
+        conn = ends(rt, place, row, conn)?;
     }
     Ok(())
+}
+
+#[test]
+fn commands_on_one_file(rt: HostRuntime) -> Result<(), Fail> {
+    all_end(&rt, Connection::open_in_memory(rt.alloc())?)
 }

@@ -1,0 +1,11 @@
+use Rattle.desk_cli.proofs.FoundAgain.{is_clean}
+use Rattle.desk_cli.proofs.stopping.run_and_stop.Goals as goal
+
+pub returns-in-Ok-opened_after_stop-clause-outcomes : goal.returns-in-Ok-opened_after_stop-clause-outcomes
+returns-in-Ok-opened_after_stop-clause-outcomes g c = λ always.
+    rw c.in-Ok.is at (c.run_on_tables-outcomes.ensures.outcomes (is_clean always c.run_on_tables-outcomes.result.1.store))
+
+pub returns-in-Ok-opened_after_stop-clause-found : goal.returns-in-Ok-opened_after_stop-clause-found
+returns-in-Ok-opened_after_stop-clause-found g c = λ always.
+    let crash = rw c.in-Ok.is at (c.run_on_tables-outcomes.ensures.crash (is_clean always c.run_on_tables-outcomes.result.1.store)) in
+    c.in-Ok-opened_after_stop.ensures always c.args.config _ _ crash
