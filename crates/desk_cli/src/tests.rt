@@ -6,6 +6,7 @@ mod data_frames;
 mod downlinks;
 mod failing;
 mod fsk;
+mod fuses;
 pub(crate) mod holding;
 mod importing;
 mod joins;

@@ -4,7 +4,7 @@ use super::ready;
 use super::stops::{deliveries, expect_found, heard, rows_after};
 use desk_store::StoreFault;
 use desk_tables::Tables;
-use sqlite::{Connection, MemStore};
+use sqlite::{Alter, Connection, MemStore};
 use std::alloc::Global;
 use std::process::Abort;
 use std::test::Fail;
@@ -43,10 +43,10 @@ static COPIES: [(&str, &str); 10] = [
     ("SELECT * FROM booking ORDER BY rowid", "INSERT INTO booking VALUES (?1, ?2, ?3, ?4, ?5, ?6, ?7, ?8, ?9)"),
 ];
 
-fn copy_rows(
+fn copy_rows<S: Alter>(
     alloc: Global,
     from: &mut Connection<MemStore>,
-    to: &mut Connection<MemStore>,
+    to: &mut Connection<S>,
 ) -> Result<(), Fail> {
     for (query, insert) in &COPIES {
         for row in &from.query_all(query, &[])? {
@@ -60,29 +60,32 @@ fn copy_rows(
     Ok(())
 }
 
-/// The tables of schema 1, with no row.
-fn first_tables(alloc: Global) -> Result<Connection<MemStore>, Fail> {
-    let mut conn = Connection::open_in_memory(alloc)?;
+/// The tables of schema 1 go into a database that has nothing, with the rows of a desk that has heard the ten messages.
+pub(super) fn make_first<R: Abort + AllocGlobal, S: Alter>(
+    rt: &R,
+    conn: &mut Connection<S>,
+) -> Result<(), Fail> {
     for statement in &FIRST_SCHEMA {
         conn.execute_batch(statement)?;
     }
-    Ok(conn)
-}
-
-/// A database of schema 1, with the rows of a desk that has heard the ten messages.
-fn first<R: Abort + AllocGlobal>(rt: &R) -> Result<Connection<MemStore>, Fail> {
     let mut from = heard(rt, &deliveries(rt.alloc())?)?;
-    let mut conn = first_tables(rt.alloc())?;
-    copy_rows(rt.alloc(), &mut from, &mut conn)?;
+    copy_rows(rt.alloc(), &mut from, conn)?;
     conn.execute_batch("UPDATE meta SET version = 1")?;
+    Ok(())
+}
+
+/// Such a database in memory.
+fn first<R: Abort + AllocGlobal>(rt: &R) -> Result<Connection<MemStore>, Fail> {
+    let mut conn = Connection::open_in_memory(rt.alloc())?;
+    make_first(rt, &mut conn)?;
     Ok(conn)
 }
 
-/// Why the desk of the connection isn't moved, if it isn't.
-fn moved(
+/// Why it isn't moved to schema 2, if it isn't, and the connection.
+pub(super) fn moved<S: Alter + Drop>(
     alloc: Global,
-    conn: Connection<MemStore>,
-) -> Result<(Option<StoreFault>, Connection<MemStore>), Fail> {
+    conn: Connection<S>,
+) -> Result<(Option<StoreFault>, Connection<S>), Fail> {
     Ok(match Tables::migrate(alloc, ready(conn)?) {
         Ok(tables) => (None, tables.close()),
         Err((fault, conn)) => (Some(fault), conn),

@@ -80,7 +80,7 @@ fn with_each_of(
     Ok(deliveries)
 }
 
-fn rows_in<S: Alter>(alloc: Global, conn: &mut Connection<S>) -> Result<String, Fail> {
+pub(super) fn rows_in<S: Alter>(alloc: Global, conn: &mut Connection<S>) -> Result<String, Fail> {
     let mut text = String::new(alloc);
     for query in &TABLES {
         let rows = conn.query_all(query, &[])?;
@@ -134,8 +134,8 @@ fn expect_run<R: Abort + AllocGlobal, S: Alter + Drop>(
     expect_found(rt, conn, deliveries, &rows_after(rt, deliveries)?)
 }
 
-/// The whole at once: a desk is made, hears the messages, and is found again after the machine has stopped. `checks/refused_commands.py`
-/// stops it at each call of its files.
+/// The whole at once: a desk is made, hears the messages, and is found again after the machine has stopped. `fuses.rt` stops it at
+/// each call of its files.
 #[test]
 fn a_run_is_found_after_a_stop(rt: HostRuntime) -> Result<(), Fail> {
     let deliveries = all_deliveries(rt.alloc())?;
