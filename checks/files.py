@@ -162,21 +162,8 @@ def strangers(desk):
         desk.ends(status, told, "migrate", name)
         desk.ends(status, told, "serve", name, "--port", str(free_port()), "--count", "1")
         desk.wants(Path(name).read_bytes() == before, f"{name} is left as it was")
-        opened_first(desk, name, status, told)
     desk.ends(1, "desk: not a desk\n", "init", "other.db")
     desk.ends(3, "desk: file\n", "init", "text.db")
-
-
-def opened_first(desk, name, status, told):
-    """The file is looked at before a port is asked for, which another program has here, and before any input is read."""
-    with socket.create_server(("127.0.0.1", 0)) as other:
-        desk.ends(status, told, "serve", name, "--port", str(other.getsockname()[1]), "--count", "1")
-    Path("input").write_text(REGISTRY)
-    for words in (["hear", name], ["import", name, "--sender", "bridge"]):
-        with open("input", "rb") as given:
-            ran = subprocess.run([desk.program, *words], stdin=given, capture_output=True, text=True)
-            read = os.lseek(given.fileno(), 0, os.SEEK_CUR)
-        desk.wants((ran.returncode, ran.stderr, read) == (status, told, 0), f"{words}: {ran.returncode} {ran.stderr!r}, and {read} octets are read")
 
 
 def schema_1(desk, name):
