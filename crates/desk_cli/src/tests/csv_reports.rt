@@ -1,5 +1,6 @@
 //! Gateway reports in CSV: each form of a field, and of a header.
 use super::holding::holds_at;
+use super::importing::WORKED;
 use desk_wire::{CsvFault, read_report};
 use radio_core::Name;
 use std::alloc::{AllocError, Global};
@@ -142,6 +143,23 @@ fn reports_are_taken_or_refused_by_the_first_fault(rt: HostRuntime) -> Result<()
     }
     for (place, (text, wanted)) in TEXTS.iter().enumerate() {
         expect(&rt, place, text, *wanted)?;
+    }
+    Ok(())
+}
+
+/// The worked report up to each octet: it has its records so far where it ends with LF, and else isn't ended.
+#[test]
+fn every_beginning(rt: HostRuntime) -> Result<(), Fail> {
+    let mut text = Vec::new(rt.alloc());
+    for octet in WORKED.as_bytes() {
+        text.push(*octet)?;
+        let lines = text.iter().filter(|octet| **octet == b'\n').count();
+        let wanted = if *octet == b'\n' {
+            Ok(lines.saturating_sub(1))
+        } else {
+            Err(CsvFault::Unended)
+        };
+        expect(&rt, text.len(), text.as_slice(), wanted)?;
     }
     Ok(())
 }

@@ -9,8 +9,9 @@ use std::alloc::Global;
 use std::process::Abort;
 use std::test::Fail;
 
-const WORKED: &[u8] =
-    b"transaction,type,gateway,time_us,freq_hz,dr,phy,verdict\n10,JoinHeard,gw-a,1706745600061696,868100000,5,00010000d07ed5b3703c2b1a000ba304000000a1b2c3d4,Good\n11,FrameHeard,gw-a,1706745700041216,868300000,5,400000a00100000011223344,0\n12,FrameHeard,gw-b,1706745700041220,868300000,5,400000a00100000011223344,0\n";
+/// A join, a data frame and a copy of it.
+pub(crate) const WORKED: &str =
+    "transaction,type,gateway,time_us,freq_hz,dr,phy,verdict\n10,JoinHeard,gw-a,1706745600061696,868100000,5,00010000d07ed5b3703c2b1a000ba304000000a1b2c3d4,Good\n11,FrameHeard,gw-a,1706745700041216,868300000,5,400000a00100000011223344,0\n12,FrameHeard,gw-b,1706745700041220,868300000,5,400000a00100000011223344,0\n";
 
 /// A used number with another message, a frame of an unknown gateway, a repeat, and a new frame.
 const MIXED: &[u8] =
@@ -101,9 +102,27 @@ pub(super) fn reports_are_heard_in_order<R: Abort + AllocGlobal, K: Opened>(
     rt: &R,
 ) -> Result<(), Fail> {
     let mut keeper = with_device::<R, K>(rt)?;
-    expect_imported(rt, &mut *keeper, WORKED, b"bridge", &WORKED_ANSWERS)?;
-    expect_imported(rt, &mut *keeper, WORKED, b"bridge", &WORKED_ANSWERS)?;
+    expect_imported(
+        rt,
+        &mut *keeper,
+        WORKED.as_bytes(),
+        b"bridge",
+        &WORKED_ANSWERS,
+    )?;
+    expect_imported(
+        rt,
+        &mut *keeper,
+        WORKED.as_bytes(),
+        b"bridge",
+        &WORKED_ANSWERS,
+    )?;
     expect_imported(rt, &mut *keeper, MIXED, b"bridge", &MIXED_ANSWERS)?;
     expect_imported(rt, &mut *keeper, MIXED, b"bridge", &MIXED_ANSWERS)?;
-    expect_imported(rt, &mut *keeper, WORKED, b"stranger", &STRANGERS_ANSWERS)
+    expect_imported(
+        rt,
+        &mut *keeper,
+        WORKED.as_bytes(),
+        b"stranger",
+        &STRANGERS_ANSWERS,
+    )
 }

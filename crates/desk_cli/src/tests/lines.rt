@@ -3,20 +3,30 @@ use super::holding::holds;
 use super::opening;
 use super::rows::{ADDED, MALFORMED, OTHER_OWNER, REQUEST};
 use desk_engine::{LinesEnd, run_lines};
-use desk_store::Lists;
+use desk_store::{Keeper, Lists};
 use std::process::Abort;
 use std::test::Fail;
 
-const REUSED: &str =
+pub(super) const REUSED: &str =
     r#"{"MessageType":"OwnerAddAns","ProtocolVersion":"1.0","ReceiverID":"office","Result":{"Description":"transaction","ResultCode":"Other"},"SenderID":"desk","TransactionID":1}"#;
 
-/// A new desk writes this for the input.
-fn expect_answers<R: Abort + AllocGlobal>(rt: &R, input: &str, wanted: &str) -> Result<(), Fail> {
-    let mut lists = opening::<Lists>(rt.alloc(), 65_536)?;
+/// The desk writes this for the input.
+pub(super) fn expect_written<R: Abort + AllocGlobal, K: Keeper>(
+    rt: &R,
+    keeper: &mut K,
+    input: &str,
+    wanted: &str,
+) {
     let mut written = Vec::new(rt.alloc());
-    let end = run_lines(rt.alloc(), &mut *lists, &mut input.as_bytes(), &mut written);
+    let end = run_lines(rt.alloc(), keeper, &mut input.as_bytes(), &mut written);
     holds(rt, end == LinesEnd::Done, "the end of the lines");
     holds(rt, written.as_slice() == wanted.as_bytes(), wanted);
+}
+
+/// A new desk does.
+fn expect_answers<R: Abort + AllocGlobal>(rt: &R, input: &str, wanted: &str) -> Result<(), Fail> {
+    let mut lists = opening::<Lists>(rt.alloc(), 65_536)?;
+    expect_written(rt, &mut *lists, input, wanted);
     Ok(())
 }
 

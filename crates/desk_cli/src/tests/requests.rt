@@ -41,7 +41,7 @@ pub(crate) fn posted(alloc: Global, message: &str, after: &str) -> Result<String
 }
 
 /// The desk serves the input, leaves so many octets of it unread, and writes this response.
-fn expect<R: Abort + AllocGlobal, K: Keeper>(
+pub(super) fn expect<R: Abort + AllocGlobal, K: Keeper>(
     rt: &R,
     keeper: &mut K,
     input: &[u8],

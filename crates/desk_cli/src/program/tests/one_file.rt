@@ -3,14 +3,12 @@ use super::{NETWORK, OneFile, Started};
 use crate::endings::Ending;
 use crate::program::run;
 use crate::tests::holding::holds_at;
+use crate::tests::importing::WORKED;
 use sqlite::{Alter, Connection};
 use std::process::Abort;
 use std::test::Fail;
 
-/// The worked gateway report, whose gateways nobody has added.
-const REPORT: &str =
-    "transaction,type,gateway,time_us,freq_hz,dr,phy,verdict\n10,JoinHeard,gw-a,1706745600061696,868100000,5,00010000d07ed5b3703c2b1a000ba304000000a1b2c3d4,Good\n11,FrameHeard,gw-a,1706745700041216,868300000,5,400000a00100000011223344,0\n12,FrameHeard,gw-b,1706745700041220,868300000,5,400000a00100000011223344,0\n";
-
+/// The worked report's, of whose gateways nobody has added any.
 const REPORT_ANSWERS: &str = "\
 {\"MessageType\":\"JoinHeardAns\",\"ProtocolVersion\":\"1.0\",\"ReceiverID\":\"office\",\"Result\":{\"Description\":\"gateway\",\"ResultCode\":\"Other\"},\"SenderID\":\"desk\",\"TransactionID\":10}
 {\"MessageType\":\"FrameHeardAns\",\"ProtocolVersion\":\"1.0\",\"ReceiverID\":\"office\",\"Result\":{\"Description\":\"gateway\",\"ResultCode\":\"Other\"},\"SenderID\":\"desk\",\"TransactionID\":11}
@@ -56,7 +54,7 @@ type Row = (
 static ROWS: [Row; 16] = [
     (
         &[b"desk", b"import", b"f.db", b"--sender", b"office"],
-        REPORT,
+        WORKED,
         Ending::Refused,
         "",
         "desk: not a desk\n",
@@ -78,14 +76,14 @@ static ROWS: [Row; 16] = [
     ),
     (
         &[b"desk", b"import", b"f.db", b"--sender", b"office"],
-        REPORT,
+        WORKED,
         Ending::Done,
         REPORT_ANSWERS,
         "",
     ),
     (
         &[b"desk", b"import", b"f.db", b"--sender", b"office"],
-        REPORT,
+        WORKED,
         Ending::Done,
         REPORT_ANSWERS,
         "",
