@@ -30,27 +30,30 @@ fn lines_end<K: Keeper>(
     run_lines(alloc, keeper, &mut reader, &mut Failing::new(writes))
 }
 
-fn lines_fail<R: Abort + AllocGlobal, K: Opened>(rt: &R) -> Result<(), Fail> {
+/// The lines' reads, or their writes, fail after each number, until none does.
+fn lines_fail<R: Abort + AllocGlobal, K: Opened>(
+    rt: &R,
+    is_read: bool,
+    end: LinesEnd,
+) -> Result<(), Fail> {
     let input = format!(in rt.alloc(); "{REQUEST}\n{OTHER_OWNER}\n")?;
     let wanted = format!(in rt.alloc(); "{OWNER_ADDED}\n{REUSED}\n")?;
-    for (end, is_read) in [(LinesEnd::Read, true), (LinesEnd::Write, false)] {
-        for calls in 0..MANY {
-            let (reads, writes) = if is_read {
-                (calls, MANY)
-            } else {
-                (MANY, calls)
-            };
-            let mut keeper = opening::<K>(rt.alloc(), 65_536)?;
-            let found = lines_end(rt.alloc(), &mut *keeper, input.as_str(), reads, writes);
-            expect_written(rt, &mut *keeper, input.as_str(), wanted.as_str());
-            if found == LinesEnd::Done {
-                holds_at(rt, calls > 1, calls);
-                break;
-            }
-            holds_at(rt, found == end, calls);
+    for calls in 0..MANY {
+        let (reads, writes) = if is_read {
+            (calls, MANY)
+        } else {
+            (MANY, calls)
+        };
+        let mut keeper = opening::<K>(rt.alloc(), 65_536)?;
+        let found = lines_end(rt.alloc(), &mut *keeper, input.as_str(), reads, writes);
+        expect_written(rt, &mut *keeper, input.as_str(), wanted.as_str());
+        if found == LinesEnd::Done {
+            holds_at(rt, calls > 1, calls);
+            return Ok(());
         }
+        holds_at(rt, found == end, calls);
     }
-    Ok(())
+    Err("they fail always".into())
 }
 
 /// How a request ends whose reads fail after so many, or whose writes do.
@@ -65,7 +68,8 @@ fn request_ends<K: Keeper>(
     serve_one(alloc, keeper, &mut reader, &mut Failing::new(writes))
 }
 
-/// Where a read failed nothing was heard, so that another message may have its number.
+/// The request's reads fail after each number, until none does. Where one failed nothing was heard, so that another message may have
+/// its number.
 fn reads_of_a_request_fail<R: Abort + AllocGlobal, K: Opened>(rt: &R) -> Result<(), Fail> {
     let input = posted(rt.alloc(), REQUEST, "")?;
     let other = posted(rt.alloc(), OTHER_OWNER, "")?;
@@ -74,15 +78,15 @@ fn reads_of_a_request_fail<R: Abort + AllocGlobal, K: Opened>(rt: &R) -> Result<
         let found = request_ends(rt.alloc(), &mut *keeper, input.as_str(), calls, MANY);
         if found == ServeEnd::Done(200) {
             holds_at(rt, calls > 1, calls);
-            break;
+            return Ok(());
         }
         holds_at(rt, found == ServeEnd::Read, calls);
         expect(rt, &mut *keeper, other.as_bytes(), 0, 200, ADDED);
     }
-    Ok(())
+    Err("they fail always".into())
 }
 
-/// Where a write failed the message was heard, and has its number.
+/// The response's writes fail after each number, until none does. Where one failed the message was heard, and has its number.
 fn writes_of_a_request_fail<R: Abort + AllocGlobal, K: Opened>(rt: &R) -> Result<(), Fail> {
     let input = posted(rt.alloc(), REQUEST, "")?;
     let other = posted(rt.alloc(), OTHER_OWNER, "")?;
@@ -100,15 +104,16 @@ fn writes_of_a_request_fail<R: Abort + AllocGlobal, K: Opened>(rt: &R) -> Result
         expect(rt, &mut *keeper, input.as_bytes(), 0, 200, ADDED);
         if found == ServeEnd::Done(200) {
             holds_at(rt, calls > 1, calls);
-            break;
+            return Ok(());
         }
         holds_at(rt, found == ServeEnd::Write, calls);
     }
-    Ok(())
+    Err("they fail always".into())
 }
 
 fn ends_fail<R: Abort + AllocGlobal, K: Opened>(rt: &R) -> Result<(), Fail> {
-    lines_fail::<R, K>(rt)?;
+    lines_fail::<R, K>(rt, true, LinesEnd::Read)?;
+    lines_fail::<R, K>(rt, false, LinesEnd::Write)?;
     reads_of_a_request_fail::<R, K>(rt)?;
     writes_of_a_request_fail::<R, K>(rt)
 }

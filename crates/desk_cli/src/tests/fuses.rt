@@ -42,7 +42,7 @@ fn file_of(alloc: Global, octets: &[u8]) -> Result<Memory, Fail> {
     Ok(file)
 }
 
-/// Copies of the files, of which the first passes so many calls on, or the other does.
+/// Copies of the files, of which the log passes so many calls on, or the first file does.
 fn fused(
     alloc: Global,
     files: &Files<Memory>,
@@ -171,6 +171,7 @@ fn desk_stops<R: Abort + AllocGlobal>(rt: &R, is_log: bool) -> Result<(), Fail> 
             goes_on(rt, files, answered, &deliveries, &wanted)?;
         }
         if answered == deliveries.len() {
+            holds(rt, calls > 1, "that it stops");
             return Ok(());
         }
     }
@@ -238,6 +239,7 @@ fn is_whole<R: Abort + AllocGlobal, D: Disk + Drop>(
     expect_found(rt, conn, deliveries, rows)
 }
 
+/// A file stops after each number of calls, until a desk is moved without a stop.
 fn moving_stops<R: Abort + AllocGlobal>(rt: &R, is_log: bool) -> Result<(), Fail> {
     let deliveries = deliveries(rt.alloc())?;
     let rows = rows_after(rt, &deliveries)?;
@@ -253,6 +255,7 @@ fn moving_stops<R: Abort + AllocGlobal>(rt: &R, is_log: bool) -> Result<(), Fail
             is_whole(rt, files, is_moved, &deliveries, &rows)?;
         }
         if is_moved {
+            holds(rt, calls > 1, "that it stops");
             return Ok(());
         }
     }

@@ -185,6 +185,7 @@ fn ends<R: Abort + AllocGlobal, S: Alter + Drop>(
     Ok(conn.ok_or("no connection")?)
 }
 
+/// The rows in order.
 fn all_end<R: Abort + AllocGlobal, S: Alter + Drop>(
     rt: &R,
     conn: Connection<S>,
