@@ -7,7 +7,7 @@ use Rattle.registry_core.specs.declared.messages.Envelope.{Envelope}
 use Rattle.registry_core.specs.Rules.{RulesAreKept}
 use Rattle.registry_core.specs.Settings.{Settings}
 use Rattle.desk_engine.specs.declared.report_faults.ReportFault.{ReportFault}
-use Rattle.desk_cli.specs.Answered.{AtPorts}
+use Rattle.desk_cli.specs.Ports.{AtPorts}
 use Rattle.desk_cli.specs.Answering.{AnswersBy}
 use Rattle.desk_cli.specs.Doing.{AtPaths, OnDeskByRules, OnDeskFile}
 use Rattle.desk_cli.specs.OnTables.{IsLeft, KeepsHeard, LeavesRules}

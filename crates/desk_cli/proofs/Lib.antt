@@ -1,5 +1,6 @@
 pub mod Asked
 pub mod ByRules
+pub mod ByStore
 pub mod Checked
 pub mod FoundAgain
 pub mod Imported
@@ -12,7 +13,6 @@ pub mod OnTables
 pub mod Opened
 pub mod Printed
 pub mod Reported
-pub mod Served
 pub mod Serving
 pub mod Stays
 pub mod Tellings

@@ -46,6 +46,10 @@ module _ (law : RulesAreKept) (c : Settings) where
     | inr more ↦ keeps_rules (heard ++ more.0 ∷ []) _ more.3
   ]
 
+-- what is called on a store that was opened is called on one in order
+pub opened_in_order : {K : Type 0} (m : Meaning K) (c : Settings) (heard : List Envelope) (old new : K) → WasOpened m old c heard → m.sound new → WasInOrder m c heard old new
+opened_in_order m c heard old new was sound = record { its = sym was.store.configuration; sound = sound; order = record { list = was.list; kept = was.store.holds } }
+
 -- it isn't shut but by a fault of the disk
 pub unshut_by : {K : Type 0} (m : Meaning K) (old new : K) {disk foreign : Bool} → IsCall m old new disk foreign → disk ≡ false → m.down new ≡ m.down old
 unshut_by m old new call is = call.shut ∙ ap (λ disk. disk || m.down old) is
@@ -53,7 +57,7 @@ unshut_by m old new call is = call.shut ∙ ap (λ disk. disk || m.down old) is
 module _ {S : Type 0} (g : Ghosts S) (c : Settings) (before : List Envelope) (old new : Tables S) (was : WasOpened (meaning_of g) old c before) where
   -- what is called on it then is called on a store in order
   pub was_in_order : (meaning_of g).sound new → WasInOrder (meaning_of g) c before old new
-  was_in_order sound = record { its = sym was.store.configuration; sound = sound; order = record { list = was.list; kept = was.store.holds } }
+  was_in_order sound = opened_in_order (meaning_of g) c before old new was sound
 
   module _ (same : (meaning_of g).configuration new ≡ (meaning_of g).configuration old) (conn : Held S) where
     its : (meaning_of g).configuration new ≡ c

@@ -13,7 +13,7 @@ use Rattle.desk_engine.specs.Reports.{IsBandReport, IsOwnerReport, is_gateway, i
 use Rattle.desk_http.specs.Reports.{IsBandAnswer}
 use Rattle.desk_cli.proofs.Opened.{err}
 use Rattle.desk_cli.specs.Faults.{fault_of_report}
-use Rattle.desk_cli.specs.Printing.{IsOwnersMonth, PrintsBy, RefusesMonth}
+use Rattle.desk_cli.specs.Printing.{IsOwnersMonth, PrintsAnswer, PrintsBy, RefusesMonth}
 use Rattle.desk_cli.specs.steps.Printing.{IsPrinted}
 use Rattle.desk_cli.specs.declared.faults.Fault.{Fault}
 use Rattle.desk_cli.specs.declared.faults.Fault.TheVariants as told
@@ -74,6 +74,17 @@ module _ (Kept Left : Type 0) (before after : Option (List ℕ)) (IsAnswer : Res
   prints octets (Ok text) (Err fault) is kept left printed = record { answer = Ok (octets text); answer_is = is; prints = (printed, kept refl) }
   prints octets (Err why) (Ok x) is kept left printed = absurd printed
   prints {X = X} octets (Err why) (Err fault) is kept left printed = record { answer = Err why; answer_is = is; prints = (printed.0, printed.1, either X Kept fault why kept printed.0, left) }
+
+-- what is said of a store is said of the file that it is in
+module _ {Kept Stands Left Stays : Type 0} (kept : Kept → Stands) (left : Left → Stays) (before after : Option (List ℕ)) (IsAnswer : Result (List ℕ) ReportFault → Type 0) {T : Type 0} where
+  prints_so : (answer : Result (List ℕ) ReportFault) (r : Result T Fault) → PrintsAnswer Kept Left before after answer r → PrintsAnswer Stands Stays before after answer r
+  prints_so (Ok text) (Ok x) by = (by.0, kept by.1)
+  prints_so (Ok text) (Err fault) by = (by.0, kept by.1)
+  prints_so (Err why) (Ok x) by = absurd by
+  prints_so (Err why) (Err fault) by = (by.0, by.1, elim by.2 [ inl is ↦ inl is | inr stands ↦ inr (kept stands) ], left by.3)
+
+  pub printed_by : (r : Result T Fault) → PrintsBy Kept Left before after IsAnswer r → PrintsBy Stands Stays before after IsAnswer r
+  printed_by r by = record { answer = by.answer; answer_is = by.answer_is; prints = prints_so by.answer r by.prints }
 
 -- where the desk couldn't be opened, nothing is printed
 pub prints_unopened : (Kept Left : Type 0) (before : Option (List ℕ)) (IsAnswer : Result (List ℕ) ReportFault → Type 0) {T : Type 0} (fault : Fault)

@@ -8,8 +8,8 @@ use Rattle.desk_engine.specs.InOrder.{WasInOrder}
 use Rattle.desk_cli.proofs.OnTables.{unshut_by}
 use Rattle.desk_cli.proofs.Opened.{err}
 use Rattle.desk_cli.specs.Answering.{StoreKeeps, StoreLeaves}
-use Rattle.desk_cli.specs.Answered.{AtPorts}
-use Rattle.desk_cli.specs.Served.{Connections, HearsEach, Ports, at_ports, delivered_by}
+use Rattle.desk_http.specs.Served.{Connections, HearsEach, delivered_by}
+use Rattle.desk_cli.specs.Ports.{AtPorts, Ports, at_ports}
 use Rattle.desk_cli.specs.commands.Serving.{HearsServed, ServesBy}
 use Rattle.desk_cli.specs.declared.faults.Fault.{Fault}
 use Rattle.desk_cli.specs.declared.faults.Fault.TheVariants.{Exists, NotADesk, Schema, Owner, Gateway, Month, CsvSize, CsvEnd, CsvHeader, CsvRecord, Unavailable, File, Network}

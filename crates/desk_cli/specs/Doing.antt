@@ -9,7 +9,7 @@ use Rattle.registry_core.specs.declared.messages.Envelope.{Envelope}
 use Rattle.registry_core.specs.Heard.{state_of}
 use Rattle.registry_core.specs.Settings.{Settings}
 use Rattle.desk_http.specs.Reports.{IsBandAnswer}
-use Rattle.desk_cli.specs.Answered.{AtPorts}
+use Rattle.desk_cli.specs.Ports.{AtPorts}
 use Rattle.desk_cli.specs.Named.{Asked, lines, init, migrate, hear, import, serve, report, bands, check}
 use Rattle.desk_cli.specs.NoDesk.{HoldsNoDesk, RefusesFile}
 use Rattle.desk_cli.specs.OnTables.{IsLeft, KeepsHeard, LeavesRules}

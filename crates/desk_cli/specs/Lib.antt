@@ -1,4 +1,3 @@
-pub mod Answered
 pub mod Answering
 pub mod CommandLine
 pub mod Doing
@@ -10,8 +9,8 @@ pub mod NoDesk
 pub mod Numbers
 pub mod OnTables
 pub mod Options
+pub mod Ports
 pub mod Printing
 pub mod Runs
-pub mod Served
 pub mod commands
 pub mod steps

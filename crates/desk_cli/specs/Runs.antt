@@ -10,7 +10,7 @@ use Rattle.std.specs.declared.vec.IntoIter.{IntoIter}
 use Rattle.clap.specs.Walk.{Text}
 use Rattle.sqlite.specs.Held.{Held}
 use Rattle.sqlite_trees.specs.declared.store.Store.{Ghosts}
-use Rattle.desk_cli.specs.Answered.{AtPorts}
+use Rattle.desk_cli.specs.Ports.{AtPorts}
 use Rattle.desk_cli.specs.CommandLine.{named_by}
 use Rattle.desk_cli.specs.Doing.{AtPaths, DoesAsked}
 use Rattle.desk_cli.specs.Faults.{ending_of_result}

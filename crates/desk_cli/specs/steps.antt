@@ -2,4 +2,5 @@
 pub mod Checking
 pub mod CommandLine
 pub mod Importing
+pub mod Jobs
 pub mod Printing

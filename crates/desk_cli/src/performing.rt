@@ -6,7 +6,7 @@ ghost use Rattle.desk_cli.specs.Doing.{DoesAsked, OnDeskFile, OnFile};
 ghost use Rattle.desk_cli.specs.Named.{asked_of};
 ghost use Rattle.desk_cli.specs.OnTables.{IsLeft, KeepsHeard};
 ghost use Rattle.desk_cli.specs.Printing.{IsOwnersMonth, PrintsBy};
-ghost use Rattle.desk_cli.specs.Served.{at_ports};
+ghost use Rattle.desk_cli.specs.Ports.{at_ports};
 ghost use Rattle.desk_cli.specs.commands.Checking.{IsCheck};
 ghost use Rattle.desk_cli.specs.commands.Hear.{HearsBy};
 ghost use Rattle.desk_cli.specs.commands.Importing.{ImportsBy};
@@ -21,7 +21,7 @@ use crate::commands::{
 };
 use crate::faults::Fault;
 use crate::files::Files;
-use crate::listening::Network;
+use crate::network::Network;
 use radio_core::Name;
 use registry_core::Config;
 use registry_core::laws::rules_are_kept;

@@ -7,12 +7,12 @@ ghost use Rattle.desk_cli.specs.Doing.{DoesAsked};
 ghost use Rattle.desk_cli.specs.Endings.{ending_of};
 ghost use Rattle.desk_cli.specs.Named.{Asked};
 ghost use Rattle.desk_cli.specs.Runs.{EndsUnread, Given, IsNamed, IsUnread, Runs, given};
-ghost use Rattle.desk_cli.specs.Served.{at_ports};
+ghost use Rattle.desk_cli.specs.Ports.{at_ports};
 
 use crate::endings::{Ending, ending_of};
 use crate::faults::end;
 use crate::files::Files;
-use crate::listening::Network;
+use crate::network::Network;
 use crate::performing::perform;
 use crate::usage::Usage;
 use crate::words::read_words;

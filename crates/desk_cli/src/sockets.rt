@@ -1,9 +1,10 @@
 //! The ports of 127.0.0.1 as this system gives them.
-ghost use Rattle.desk_cli.specs.Served.{unknown, unknown_ports};
+ghost use Rattle.desk_http.specs.Served.{unknown};
+ghost use Rattle.desk_cli.specs.Ports.{unknown_ports};
 
-use crate::listening::{Listening, Network};
+use crate::network::Network;
 use desk_engine::read_some;
-use desk_http::ServeEnd;
+use desk_http::{Listening, ServeEnd};
 use std::alloc::Global;
 use std::io::{self, BufReader, BufWriter, ErrorKind, Read, Write};
 use std::net::{Ipv4Addr, Net, OpenListener, OpenStream, Shutdown, SocketAddr, SocketAddrV4};

@@ -137,6 +137,17 @@ fn hear_each<R: Abort + AllocGlobal, K: Keeper>(rt: &R, keeper: &mut K, deliveri
     }
 }
 
+/// The same by a desk on tables. The connection to what it then holds.
+fn told_each<R: Abort + AllocGlobal, S: Alter + Drop>(
+    rt: &R,
+    tables: Box<Tables<S>>,
+    deliveries: &[Delivery],
+) -> Connection<S> {
+    let mut tables = tables;
+    hear_each(rt, &mut *tables, deliveries);
+    Box::into_inner(tables).close()
+}
+
 fn deliver_each<R: Abort + AllocGlobal, K: Keeper>(
     rt: &R,
     keeper: &mut K,

@@ -8,4 +8,5 @@ pub mod OneHead
 pub mod OneRequest
 pub mod Reported
 pub mod Routes
+pub mod Served
 pub mod Written

@@ -1,3 +1,4 @@
+pub mod Answered
 pub mod Fields
 pub mod HeadLaws
 pub mod Heads
@@ -5,6 +6,7 @@ pub mod Reports
 pub mod RequestLaws
 pub mod Requests
 pub mod Responses
+pub mod Served
 pub mod Serving
 pub mod Targets
 pub mod steps

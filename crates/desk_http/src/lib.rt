@@ -1,13 +1,17 @@
-//! One HTTP request in, one response out, over any store, reader and writer.
+//! One HTTP request in, one response out, over any store, reader and writer; and connections one after another.
 #![tactic(auto)]
 
 mod asking;
 mod bodies;
+mod connections;
 mod fields;
 mod heads;
 pub mod laws;
+mod listening;
 mod responses;
 mod serving;
 mod targets;
 
+pub use connections::serve_connections;
+pub use listening::Listening;
 pub use serving::{ServeEnd, serve_one};

@@ -11,7 +11,8 @@ use Rattle.registry_core.specs.declared.messages.Envelope.{Envelope}
 use Rattle.registry_core.specs.Settings.{Settings}
 use Rattle.desk_engine.specs.Deliveries.{heard_all}
 use Rattle.desk_engine.specs.Lines.{line_feed}
-use Rattle.desk_cli.specs.Answered.{AtPorts, Delivered}
+use Rattle.desk_http.specs.Answered.{Delivered}
+use Rattle.desk_cli.specs.Ports.{AtPorts}
 use Rattle.desk_cli.specs.declared.faults.Fault.{Fault}
 use Rattle.desk_cli.specs.declared.faults.Fault.TheVariants.{File, Network, Unavailable}
 use Rattle.desk_cli.specs.declared.usage.BadValue.TheVariants.{Connections, Port}

@@ -12,14 +12,16 @@ ghost use Rattle.registry_core.specs.declared.messages.Envelope.{Envelope};
 ghost use Rattle.registry_core.specs.Settings.{Settings};
 ghost use Rattle.desk_cli.specs.NoDesk.{HoldsNoDesk, RefusesFile};
 ghost use Rattle.desk_cli.specs.OnTables.{KeepsHeard};
+ghost use Rattle.desk_cli.specs.steps.Jobs.{answers};
 
 use super::Command;
 use crate::answering::answer_lines;
 use crate::faults::Fault;
-use crate::opening::opened;
+use crate::jobs::{Job, by_store};
 use crate::options::{command_on_file, placed};
 use crate::usage::Usage;
 use clap::ArgMatches;
+use desk_store::Keeper;
 use sqlite::{Alter, Connection};
 use std::alloc::{AllocError, Global};
 use std::io::{Read, Write};
@@ -62,12 +64,22 @@ pub fn hear_command<S: Alter, R: Read, W: Write>(
         → RefusesFile S.Store conn result.1 (Keeps (R.remaining reader.old) (R.remaining reader.new) × Keeps (W.contents answers.old) (W.contents answers.new)) result.0 }
     ensures clean { HasCleanDisk (state S.Store result.1) → HasCleanDisk (state S.Store conn) }
 {
-    match opened(alloc, conn) {
-        Ok(tables) => {
-            let mut tables = tables;
-            let done = answer_lines(alloc, &mut tables, reader, answers);
-            (done, tables.close())
-        }
-        Err((fault, conn)) => (Err(fault), conn),
+    by_store(alloc, conn, &Hear, reader, answers)
+}
+
+/// The messages of the reader are answered, one a line.
+struct Hear;
+
+impl Job for Hear {
+    ghost does = { λ job. answers };
+
+    fn run<K: Keeper, R: Read, W: Write>(
+        &self,
+        alloc: Global,
+        keeper: &mut K,
+        reader: &mut R,
+        answers: &mut W,
+    ) -> Result<(), Fault> {
+        answer_lines(alloc, keeper, reader, answers)
     }
 }

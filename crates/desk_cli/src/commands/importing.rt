@@ -18,10 +18,11 @@ ghost use Rattle.desk_cli.specs.Answering.{StoreKeeps, StoreLeaves};
 ghost use Rattle.desk_cli.specs.NoDesk.{HoldsNoDesk, RefusesFile};
 ghost use Rattle.desk_cli.specs.OnTables.{IsLeft, KeepsHeard};
 ghost use Rattle.desk_cli.specs.steps.Importing.{line_of, HearsEnvelopes};
+ghost use Rattle.desk_cli.specs.steps.Jobs.{imports};
 
 use super::Command;
 use crate::faults::Fault;
-use crate::opening::opened;
+use crate::jobs::{Job, by_store};
 use crate::options::{command_on_file, name_at, needed, placed, with_word};
 use crate::usage::{BadValue, Usage};
 use clap::ArgMatches;
@@ -76,37 +77,33 @@ pub fn import_command<S: Alter, R: Read, W: Write>(
         → RefusesFile S.Store conn result.1 (Keeps (R.remaining reader.old) (R.remaining reader.new) × Keeps (W.contents answers.old) (W.contents answers.new)) result.0 }
     ensures clean { HasCleanDisk (state S.Store result.1) → HasCleanDisk (state S.Store conn) }
 {
-    match opened(alloc, conn) {
-        Ok(tables) => {
-            let mut tables = tables;
-            let done = import_report(alloc, &mut tables, sender, reader, answers);
-            (done, tables.close())
-        }
-        Err((fault, conn)) => (Err(fault), conn),
-    }
+    by_store(alloc, conn, &Import { sender }, reader, answers)
 }
 
-/// The same by a store.
-fn import_report<K: Keeper, R: Read, W: Write>(
-    alloc: Global,
-    keeper: &mut K,
-    sender: &Name,
-    reader: &mut R,
-    answers: &mut W,
-) -> Result<(), Fault>
-    ensures same { K.meaning.configuration keeper.new ≡ K.meaning.configuration keeper.old }
-    ensures was_sound { K.meaning.sound keeper.new → K.meaning.sound keeper.old }
-    ensures imports { (c : Settings) (heard : List Envelope) → WasInOrder K.meaning c heard keeper.old keeper.new
-        → ImportsBy c heard sender.now (StoreKeeps K.meaning c heard keeper.old keeper.new) (StoreLeaves K.meaning c heard keeper.old keeper.new)
-        (R.remaining reader.old) (R.remaining reader.new) (W.contents answers.old) (W.contents answers.new) result }
-{
-    let text = match report_text(alloc, reader) {
-        Ok(text) => text,
-        Err(fault) => return Err(fault),
-    };
-    match read_report(alloc, &text, sender) {
-        Ok(envelopes) => hear_envelopes(alloc, keeper, &envelopes, answers),
-        Err(fault) => Err(fault.into()),
+/// The reader's report is heard as this sender's.
+#[derive(Drop)]
+struct Import<'a> {
+    sender: &'a Name,
+}
+
+impl Job for Import<'_> {
+    ghost does = { λ job. imports job.sender.now };
+
+    fn run<K: Keeper, R: Read, W: Write>(
+        &self,
+        alloc: Global,
+        keeper: &mut K,
+        reader: &mut R,
+        answers: &mut W,
+    ) -> Result<(), Fault> {
+        let text = match report_text(alloc, reader) {
+            Ok(text) => text,
+            Err(fault) => return Err(fault),
+        };
+        match read_report(alloc, &text, self.sender) {
+            Ok(envelopes) => hear_envelopes(alloc, keeper, &envelopes, answers),
+            Err(fault) => Err(fault.into()),
+        }
     }
 }
 

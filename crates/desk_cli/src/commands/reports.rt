@@ -15,18 +15,20 @@ ghost use Rattle.desk_http.specs.Reports.{IsBandAnswer};
 ghost use Rattle.desk_cli.specs.NoDesk.{HoldsNoDesk, RefusesFile};
 ghost use Rattle.desk_cli.specs.OnTables.{IsLeft, KeepsHeard};
 ghost use Rattle.desk_cli.specs.Printing.{IsOwnersMonth, PrintsBy};
+ghost use Rattle.desk_cli.specs.steps.Jobs.{prints};
 
 use super::Command;
 use crate::faults::Fault;
-use crate::opening::opened;
+use crate::jobs::{Job, by_store};
 use crate::options::{command_on_file, place, placed, with_word};
 use crate::printing::print;
 use crate::usage::Usage;
 use clap::ArgMatches;
 use desk_engine::{band_report, owner_report};
+use desk_store::Keeper;
 use sqlite::{Alter, Connection};
 use std::alloc::{AllocError, Global};
-use std::io::Write;
+use std::io::{self, Read, Write};
 
 /// The words of `desk report`: its name, the file, the owner and the month.
 pub(crate) fn report_app<'a>(alloc: Global) -> Result<clap::Command<'a>, AllocError>
@@ -90,13 +92,34 @@ pub fn report_command<S: Alter, W: Write>(
         → RefusesFile S.Store conn result.1 (Keeps (W.contents answers.old) (W.contents answers.new)) result.0 }
     ensures clean { HasCleanDisk (state S.Store result.1) → HasCleanDisk (state S.Store conn) }
 {
-    match opened(alloc, conn) {
-        Ok(tables) => {
-            let mut tables = tables;
-            let report = owner_report(alloc, &mut tables, owner, month);
-            (print(answers, &report), tables.close())
-        }
-        Err((fault, conn)) => (Err(fault), conn),
+    by_store(
+        alloc,
+        conn,
+        &OwnersMonth { owner, month },
+        &mut io::empty(),
+        answers,
+    )
+}
+
+/// The report of this owner's month is printed.
+#[derive(Drop)]
+struct OwnersMonth<'a> {
+    owner: &'a str,
+    month: &'a str,
+}
+
+impl Job for OwnersMonth<'_> {
+    ghost does = { λ job. prints (λ s. IsOwnersMonth s job.owner.now job.month.now) };
+
+    fn run<K: Keeper, R: Read, W: Write>(
+        &self,
+        alloc: Global,
+        keeper: &mut K,
+        _reader: &mut R,
+        answers: &mut W,
+    ) -> Result<(), Fault> {
+        let report = owner_report(alloc, keeper, self.owner, self.month);
+        print(answers, &report)
     }
 }
 
@@ -116,12 +139,32 @@ pub fn bands_command<S: Alter, W: Write>(
         → RefusesFile S.Store conn result.1 (Keeps (W.contents answers.old) (W.contents answers.new)) result.0 }
     ensures clean { HasCleanDisk (state S.Store result.1) → HasCleanDisk (state S.Store conn) }
 {
-    match opened(alloc, conn) {
-        Ok(tables) => {
-            let mut tables = tables;
-            let report = band_report(alloc, &mut tables, gateway);
-            (print(answers, &report), tables.close())
-        }
-        Err((fault, conn)) => (Err(fault), conn),
+    by_store(
+        alloc,
+        conn,
+        &GatewaysBands { gateway },
+        &mut io::empty(),
+        answers,
+    )
+}
+
+/// The report of this gateway's bands is printed.
+#[derive(Drop)]
+struct GatewaysBands<'a> {
+    gateway: &'a str,
+}
+
+impl Job for GatewaysBands<'_> {
+    ghost does = { λ job. prints (λ s. IsBandAnswer s job.gateway.now) };
+
+    fn run<K: Keeper, R: Read, W: Write>(
+        &self,
+        alloc: Global,
+        keeper: &mut K,
+        _reader: &mut R,
+        answers: &mut W,
+    ) -> Result<(), Fault> {
+        let report = band_report(alloc, keeper, self.gateway);
+        print(answers, &report)
     }
 }

@@ -12,26 +12,25 @@ ghost use Rattle.desk_engine.specs.InOrder.{WasInOrder};
 ghost use Rattle.desk_cli.specs.Answering.{StoreKeeps, StoreLeaves};
 ghost use Rattle.desk_cli.specs.Named.{TellsNamed};
 ghost use Rattle.desk_cli.specs.steps.CommandLine.{IsCommand};
+ghost use Rattle.desk_cli.specs.steps.Jobs.{serves};
 ghost use Rattle.desk_cli.specs.NoDesk.{HoldsNoDesk, RefusesFile};
 ghost use Rattle.desk_cli.specs.OnTables.{IsLeft, KeepsHeard};
-ghost use Rattle.desk_http.specs.Serving.{ServesRequest};
-ghost use Rattle.desk_cli.specs.Served.{HearsEach, ServesEach, ServesNext, at_ports};
+ghost use Rattle.desk_cli.specs.Ports.{at_ports};
 ghost use Rattle.desk_cli.specs.commands.Serving.{ServesBy, listening_line, serve_app, serve_named};
 
 use super::Command;
 use crate::faults::Fault;
-use crate::listening::{Listening, Network};
-use crate::opening::opened;
+use crate::jobs::{Job, by_store};
+use crate::network::Network;
 use crate::options::{command_on_file, connections_at, needed, placed, port_at, with_word};
 use crate::printing::write_whole;
 use crate::usage::{BadValue, Usage};
 use clap::ArgMatches;
-use desk_engine::laws::calls_hear_in_order;
-use desk_http::serve_one;
+use desk_http::serve_connections;
 use desk_store::Keeper;
 use sqlite::{Alter, Connection};
 use std::alloc::{AllocError, Global};
-use std::io::Write;
+use std::io::{self, Read, Write};
 
 const EXAMPLE: &str = "\
 Each read and each write of a connection has ten seconds, and a connection thirty as a whole.
@@ -89,44 +88,45 @@ pub fn serve_command<S: Alter, B: Network, W: Write>(
         → RefusesFile S.Store conn result.1 (Keeps (W.contents answers.old) (W.contents answers.new)) result.0 }
     ensures clean { HasCleanDisk (state S.Store result.1) → HasCleanDisk (state S.Store conn) }
 {
-    match opened(alloc, conn) {
-        Ok(tables) => {
-            let mut tables = tables;
-            let done = serve_port(alloc, &mut tables, network, port, connections, answers);
-            (done, tables.close())
-        }
-        Err((fault, conn)) => (Err(fault), conn),
-    }
+    let job = Serve {
+        network,
+        port,
+        connections,
+    };
+    by_store(alloc, conn, &job, &mut io::empty(), answers)
 }
 
-/// The same by a store.
-fn serve_port<K: Keeper, B: Network, W: Write>(
-    alloc: Global,
-    keeper: &mut K,
-    network: &B,
+/// So many connections at a port of the network are served.
+#[derive(Drop)]
+struct Serve<'a, B> {
+    network: &'a B,
     port: u16,
     connections: u32,
-    answers: &mut W,
-) -> Result<(), Fault>
-    ensures same { K.meaning.configuration keeper.new ≡ K.meaning.configuration keeper.old }
-    ensures was_sound { K.meaning.sound keeper.new → K.meaning.sound keeper.old }
-    ensures serves { (c : Settings) (heard : List Envelope) → WasInOrder K.meaning c heard keeper.old keeper.new
-        → ServesBy c heard (StoreKeeps K.meaning c heard keeper.old keeper.new) (StoreLeaves K.meaning c heard keeper.old keeper.new)
-        (at_ports B.ports network.now B.Port.meaning B.Port.Reader.remaining B.Port.Writer.contents)
-        port connections (W.contents answers.old) (W.contents answers.new) result }
-{
-    let Ok(mut listening) = network.listen(port) else {
-        return Err(Fault::Network);
-    };
-    let Ok(line) = listening_line(alloc, port) else {
-        return Err(Fault::Unavailable);
-    };
-    match write_whole(answers, line.as_bytes()) {
-        Ok(()) => {}
-        Err(_) => return Err(Fault::File),
+}
+
+impl<B: Network> Job for Serve<'_, B> {
+    ghost does = { λ job. serves (at_ports B.ports job.network.now B.Port.meaning B.Port.Reader.remaining B.Port.Writer.contents) job.port job.connections };
+
+    fn run<K: Keeper, R: Read, W: Write>(
+        &self,
+        alloc: Global,
+        keeper: &mut K,
+        _reader: &mut R,
+        answers: &mut W,
+    ) -> Result<(), Fault> {
+        let Ok(mut listening) = self.network.listen(self.port) else {
+            return Err(Fault::Network);
+        };
+        let Ok(line) = listening_line(alloc, self.port) else {
+            return Err(Fault::Unavailable);
+        };
+        match write_whole(answers, line.as_bytes()) {
+            Ok(()) => {}
+            Err(_) => return Err(Fault::File),
+        }
+        serve_connections(alloc, keeper, &mut listening, self.connections);
+        Ok(())
     }
-    serve_connections(alloc, keeper, &mut listening, connections);
-    Ok(())
 }
 
 /// What is written before the first connection.
@@ -134,43 +134,6 @@ fn listening_line(alloc: Global, port: u16) -> Result<String, AllocError>
     ensures { IfOk result (λ line. string_bytes line ≡ listening_line port) }
 {
     format!(in alloc; "listening 127.0.0.1:{port}\n")
-}
-
-/// Serves so many connections, one after another: each by one request. One that fails counts.
-pub fn serve_connections<K: Keeper, L: Listening>(
-    alloc: Global,
-    keeper: &mut K,
-    listening: &mut L,
-    connections: u32,
-)
-    ensures same { K.meaning.configuration keeper.new ≡ K.meaning.configuration keeper.old }
-    ensures was_sound { K.meaning.sound keeper.new → K.meaning.sound keeper.old }
-    ensures served { ServesEach L.meaning L.Reader.remaining L.Writer.contents (ServesRequest K.meaning) connections
-        keeper.old keeper.new listening.old listening.new }
-
-    // What the messages among them do to a store that was in order, and what each connection is answered.
-    ensures hears { HearsEach K.meaning L.meaning L.Reader.remaining L.Writer.contents connections
-        keeper.old keeper.new listening.old listening.new }
-{
-    calls_hear_in_order::<K>();
-    for _ in 0..connections {
-        serve_next(alloc, keeper, listening);
-    }
-}
-
-/// Serves the connection that comes next.
-fn serve_next<K: Keeper, L: Listening>(alloc: Global, keeper: &mut K, listening: &mut L)
-    ensures { ServesNext L.meaning L.Reader.remaining L.Writer.contents (ServesRequest K.meaning)
-        keeper.old keeper.new listening.old listening.new }
-{
-    let Ok((reader, writer)) = listening.accept(alloc) else {
-        return;
-    };
-    let mut reader = reader;
-    let mut writer = writer;
-    let end = serve_one(alloc, keeper, &mut reader, &mut writer);
-    // Of a response that doesn't go out nothing more can be told.
-    let _ = listening.finish(reader, writer, end);
 }
 
 #[cfg(test)]

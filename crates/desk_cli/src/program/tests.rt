@@ -1,7 +1,7 @@
 //! Whole runs of the program, over words, a file and a network of the tests.
 ghost use Rattle.std.specs.Prelude.{◌≡◌, ◌≢◌, false, None, IfOk};
 ghost use Rattle.desk_cli.specs.Doing.{known_alike};
-ghost use Rattle.desk_cli.specs.Served.{unknown};
+ghost use Rattle.desk_http.specs.Served.{unknown};
 
 mod one_file;
 
@@ -9,11 +9,11 @@ use super::run;
 use crate::endings::Ending;
 use crate::faults::Fault;
 use crate::files::Files;
-use crate::listening::{Listening, Network};
+use crate::network::Network;
 use crate::tests::holding::holds_at;
 use crate::tests::ready;
 use crate::words::tests::helps::LINES_HELP;
-use desk_http::ServeEnd;
+use desk_http::{Listening, ServeEnd};
 use sqlite::{Alter, Connection, MemStore};
 use std::alloc::Global;
 use std::env::FillError;

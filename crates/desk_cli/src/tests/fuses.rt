@@ -8,7 +8,7 @@ use super::holding::{holds, holds_at};
 use super::migrating::{make_first, moved};
 use super::rows::Delivery;
 use super::stops::{all_deliveries, deliveries, expect_found, rows_after, rows_in};
-use super::{config, found, hear_each, made, ready};
+use super::{config, found, made, ready, told_each};
 use desk_store::StoreFault;
 use desk_tables::Tables;
 use sqlite::{Alter, Connection, FileStore, Files, Options};
@@ -120,23 +120,35 @@ fn opened_or_made<R: Abort + AllocGlobal, S: Alter + Drop>(
     }
 }
 
-/// What the files hold is what stood after so many messages, or with the next one too; and all are told as without a stop.
-fn goes_on<R: Abort + AllocGlobal, D: Disk + Drop>(
+/// What the database holds is what stood after so many messages, or with the next one too; and all are told as without a stop.
+fn goes_on<R: Abort + AllocGlobal, S: Alter + Drop>(
+    rt: &R,
+    conn: Connection<S>,
+    answered: usize,
+    deliveries: &[Delivery],
+    wanted: &[String],
+) -> Result<(), Fail> {
+    let mut conn = opened_or_made(rt, conn)?;
+    let rows = rows_in(rt.alloc(), &mut conn)?;
+    let mut either = wanted.iter().skip(answered).take(2);
+    holds_at(rt, either.any(|one| *one == rows), answered);
+    let conn = told_each(rt, found(rt.alloc(), conn)?, deliveries);
+    let whole = wanted.last().ok_or("no rows")?;
+    expect_found(rt, conn, deliveries, whole)
+}
+
+/// What the files hold is.
+fn goes_on_in<R: Abort + AllocGlobal, D: Disk + Drop>(
     rt: &R,
     files: Files<D>,
     answered: usize,
     deliveries: &[Delivery],
     wanted: &[String],
 ) -> Result<(), Fail> {
-    let conn = connected(rt.alloc(), files).map_err(|_| "not opened")?;
-    let mut conn = opened_or_made(rt, conn)?;
-    let rows = rows_in(rt.alloc(), &mut conn)?;
-    let mut either = wanted.iter().skip(answered).take(2);
-    holds_at(rt, either.any(|one| *one == rows), answered);
-    let mut tables = found(rt.alloc(), conn)?;
-    hear_each(rt, &mut *tables, deliveries);
-    let whole = wanted.last().ok_or("no rows")?;
-    expect_found(rt, Box::into_inner(tables).close(), deliveries, whole)
+    match connected(rt.alloc(), files) {
+        Ok(conn) => goes_on(rt, conn, answered, deliveries, wanted),
+        Err(_) => Err("not opened".into()),
+    }
 }
 
 /// The rows of a desk that isn't stopped: of one that has heard nothing, and after each message.
@@ -168,7 +180,7 @@ fn desk_stops<R: Abort + AllocGlobal>(rt: &R, is_log: bool) -> Result<(), Fail> 
                 left.db.crash();
             }
             let files = unfused(rt.alloc(), &left)?;
-            goes_on(rt, files, answered, &deliveries, &wanted)?;
+            goes_on_in(rt, files, answered, &deliveries, &wanted)?;
         }
         if answered == deliveries.len() {
             holds(rt, calls > 1, "that it stops");
@@ -190,45 +202,61 @@ fn a_desk_whose_first_file_stops(rt: HostRuntime) -> Result<(), Fail> {
 
 // ---- a desk that is moved
 
+/// A desk of schema 1 is made in the database.
+fn first_on<R: Abort + AllocGlobal, S: Alter + Drop>(
+    rt: &R,
+    conn: Connection<S>,
+) -> Result<Connection<S>, Fail> {
+    let mut conn = conn;
+    make_first(rt, &mut conn)?;
+    Ok(conn)
+}
+
 /// Files with a desk of schema 1.
 fn first_files<R: Abort + AllocGlobal>(rt: &R) -> Result<Files<Memory>, Fail> {
     let empty = Files {
         log: Memory::new(rt.alloc()),
         db: Memory::new(rt.alloc()),
     };
-    let mut conn = connected(rt.alloc(), empty).map_err(|_| "not opened")?;
-    make_first(rt, &mut conn)?;
-    Ok(conn.into_store().close())
+    match connected(rt.alloc(), empty) {
+        Ok(conn) => Ok(first_on(rt, conn)?.into_store().close()),
+        Err(_) => Err("not opened".into()),
+    }
 }
 
-/// Whether the desk is moved, and what is left of the files.
+/// Whether the desk is moved, and the connection.
+fn moved_on<R: Abort + AllocGlobal, S: Alter + Drop>(
+    rt: &R,
+    conn: Connection<S>,
+) -> Result<(bool, Connection<S>), Fail> {
+    let (fault, conn) = moved(rt.alloc(), conn)?;
+    let is_told = fault.is_none() || fault == Some(StoreFault::Disk);
+    holds(rt, is_told, "why it isn't moved");
+    Ok((fault.is_none(), conn))
+}
+
+/// The same in files. Whether the desk is moved, and what is left of the files.
 fn moved_in<R: Abort + AllocGlobal, D: Disk + Drop>(
     rt: &R,
     files: Files<D>,
 ) -> Result<(bool, Files<D>), Fail> {
     match connected(rt.alloc(), files) {
         Ok(conn) => {
-            let (fault, conn) = moved(rt.alloc(), conn)?;
-            holds(
-                rt,
-                fault.is_none() || fault == Some(StoreFault::Disk),
-                "why it isn't moved",
-            );
-            Ok((fault.is_none(), conn.into_store().close()))
+            let (is_moved, conn) = moved_on(rt, conn)?;
+            Ok((is_moved, conn.into_store().close()))
         }
         Err(files) => Ok((false, files)),
     }
 }
 
-/// The files hold the desk, of schema 1 or, where it was told to be moved, of schema 2, with all its rows.
-fn is_whole<R: Abort + AllocGlobal, D: Disk + Drop>(
+/// The database holds the desk, of schema 1 or, where it was told to be moved, of schema 2, with all its rows.
+fn is_whole<R: Abort + AllocGlobal, S: Alter + Drop>(
     rt: &R,
-    files: Files<D>,
+    conn: Connection<S>,
     is_moved: bool,
     deliveries: &[Delivery],
     rows: &String,
 ) -> Result<(), Fail> {
-    let conn = connected(rt.alloc(), files).map_err(|_| "not opened")?;
     let (fault, conn) = moved(rt.alloc(), conn)?;
     let is_first = fault.is_none() && !is_moved;
     holds(
@@ -237,6 +265,20 @@ fn is_whole<R: Abort + AllocGlobal, D: Disk + Drop>(
         "its schema",
     );
     expect_found(rt, conn, deliveries, rows)
+}
+
+/// The files hold it so.
+fn is_whole_in<R: Abort + AllocGlobal, D: Disk + Drop>(
+    rt: &R,
+    files: Files<D>,
+    is_moved: bool,
+    deliveries: &[Delivery],
+    rows: &String,
+) -> Result<(), Fail> {
+    match connected(rt.alloc(), files) {
+        Ok(conn) => is_whole(rt, conn, is_moved, deliveries, rows),
+        Err(_) => Err("not opened".into()),
+    }
 }
 
 /// A file stops after each number of calls, until a desk is moved without a stop.
@@ -252,7 +294,7 @@ fn moving_stops<R: Abort + AllocGlobal>(rt: &R, is_log: bool) -> Result<(), Fail
                 left.db.crash();
             }
             let files = unfused(rt.alloc(), &left)?;
-            is_whole(rt, files, is_moved, &deliveries, &rows)?;
+            is_whole_in(rt, files, is_moved, &deliveries, &rows)?;
         }
         if is_moved {
             holds(rt, calls > 1, "that it stops");

@@ -60,7 +60,7 @@ pub(super) fn expect<R: Abort + AllocGlobal, K: Keeper>(
 /// A request, how many octets of it are left unread, the status and the response.
 type Row = (&'static str, usize, u16, &'static str);
 
-static REFUSED: [Row; 22] = [
+static REFUSED: [Row; 29] = [
     ("GET /v1/messages HTTP/1.1\r\n\r\nabc", 3, 405, NOT_BY_GET),
     ("HEAD /v1/messages HTTP/1.1\r\n\r\n", 0, 405, NOT_BY_GET),
     (
@@ -143,6 +143,14 @@ static REFUSED: [Row; 22] = [
         NO_ROUTE,
     ),
     ("OPTIONS * HTTP/1.1\r\n\r\n", 0, 404, NO_ROUTE),
+    // A line that no head has is refused at its end, and a control octet at once: what comes after isn't waited for.
+    ("GET /v1/messages\nabc", 3, 400, NO_HEAD),
+    ("\r\n\nGET /v1/messages HTTP/2.0\r\nabc", 3, 400, NO_HEAD),
+    ("GET /v1/messages HTTP/1.1\r\nA\r\nabc", 3, 400, NO_HEAD),
+    ("GET /v1/messages HTTP/1.1\r\n A: b\nabc", 3, 400, NO_HEAD),
+    ("\u{16}abc", 3, 400, NO_HEAD),
+    ("\n\nGET /v1/messages\0abc", 3, 400, NO_HEAD),
+    ("GET /v1/messages HTTP/1.1\r\nA: \u{7f}abc", 3, 400, NO_HEAD),
 ];
 
 #[test]

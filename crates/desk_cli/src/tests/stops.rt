@@ -11,11 +11,10 @@ use super::rows::{
     SUCCESS, TOWN, delivery_of,
 };
 use super::runs::{expect_outcomes, texts_of};
-use super::{config, found, hear_each, opening};
+use super::{config, found, made, told_each};
 use crate::stopping::run_through_stop;
 use desk_engine::Outcome;
 use desk_store::StoreFault;
-use desk_tables::Tables;
 use sqlite::{Alter, Connection, MemStore};
 use std::alloc::Global;
 use std::fmt::Write;
@@ -94,9 +93,9 @@ pub(super) fn heard<R: Abort + AllocGlobal>(
     rt: &R,
     deliveries: &[Delivery],
 ) -> Result<Connection<MemStore>, Fail> {
-    let mut tables = opening::<Tables<MemStore>>(rt.alloc(), 65_536)?;
-    hear_each(rt, &mut *tables, deliveries);
-    Ok(Box::into_inner(tables).close())
+    let config = config(65_536).ok_or("no configuration")?;
+    let conn = Connection::open_in_memory(rt.alloc())?;
+    Ok(told_each(rt, made(rt.alloc(), conn, config)?, deliveries))
 }
 
 /// The rows of a desk that has heard the deliveries, as a text.
@@ -116,8 +115,7 @@ pub(super) fn expect_found<R: Abort + AllocGlobal, S: Alter + Drop>(
 ) -> Result<(), Fail> {
     let mut conn = conn;
     holds(rt, rows_in(rt.alloc(), &mut conn)? == *rows, "the rows");
-    let mut tables = found(rt.alloc(), conn)?;
-    hear_each(rt, &mut *tables, deliveries);
+    drop(told_each(rt, found(rt.alloc(), conn)?, deliveries));
     Ok(())
 }
 

@@ -1,17 +1,15 @@
 //! Connections one after another: of peers that the tests play, and over sockets.
-ghost use Rattle.desk_cli.specs.Served.{unknown};
+ghost use Rattle.desk_http.specs.Served.{unknown};
 
 mod loopback;
 
-use super::serve_connections;
-use crate::listening::Listening;
 use crate::tests::holding::holds;
 use crate::tests::opening;
 use crate::tests::requests::responses::{ADDED, DEVICE_ADDED, EMPTY_REPORT, REUSED};
 use crate::tests::requests::{DEVICE_ADD, posted};
 use crate::tests::rows::{OTHER_OWNER, REQUEST};
 use crate::tests::streams::Pieces;
-use desk_http::ServeEnd;
+use desk_http::{Listening, ServeEnd, serve_connections};
 use desk_store::Lists;
 use std::alloc::Global;
 use std::io::{self, ErrorKind, Write};

@@ -58,26 +58,6 @@ fn beginning(input: &[u8], octets: usize) -> &[u8] {
     &input[..octets.min(input.len())]
 }
 
-/// A line that no head has is refused at its end, and a control octet at once: what comes after isn't waited for.
-static NO_HEADS: [&str; 7] = [
-    "GET /v1/messages\nabc",
-    "\r\n\nGET /v1/messages HTTP/2.0\r\nabc",
-    "GET /v1/messages HTTP/1.1\r\nA\r\nabc",
-    "GET /v1/messages HTTP/1.1\r\n A: b\nabc",
-    "\u{16}abc",
-    "\n\nGET /v1/messages\0abc",
-    "GET /v1/messages HTTP/1.1\r\nA: \u{7f}abc",
-];
-
-#[test]
-fn what_no_head_has(rt: HostRuntime) -> Result<(), Fail> {
-    let mut lists = opening::<Lists>(rt.alloc(), 65_536)?;
-    for input in &NO_HEADS {
-        expect(&rt, &mut *lists, input.as_bytes(), 3, 400, NO_HEAD);
-    }
-    Ok(())
-}
-
 /// A control octet, another version, and a target that isn't UTF-8, in its query too.
 static NO_WHOLE_HEADS: [&[u8]; 4] = [
     b"POST /v1/messages HTTP/1.1\r\nA: \0\r\n\r\n",

@@ -1,30 +1,18 @@
-use Rattle.std.proofs.Common.{arith}
-use Rattle.std.proofs.KnownBytes.{Keeps-refl}
+use Rattle.std.proofs.Common.{refl}
 use Rattle.desk_cli.proofs.Imported.{carried, imports_unopened}
-use Rattle.desk_cli.proofs.OnTables.{is_left, keeps, was_in_order}
+use Rattle.desk_cli.proofs.ByStore.{either, kept_by, left_by}
 use Rattle.desk_cli.specs.OnTables.{IsLeft, KeepsHeard}
+use Rattle.desk_cli.specs.commands.Importing.{ImportsBy}
+use Rattle.desk_cli.specs.declared.faults.Fault.TheVariants.{Unavailable}
+use Rattle.desk_cli.specs.steps.Jobs.{imports}
 use Rattle.desk_cli.proofs.commands.importing.import_command.Goals as goal
 
-pub returns-in-Ok : goal.returns-in-Ok
-returns-in-Ok g c = record {
-  imports = λ clean config heard kept.
-      let sound = c.close.ensures.sound clean in
-      let done = c.import_report-done.ensures in
-      let was_sound = done.was_sound sound in
-      let was = c.in-Ok.ensures.desk was_sound config heard kept in
-      carried config heard _ _ _ _ _
-      (keeps _ _ _ _ _ was done.same c.close.result g.met.S.Store.settled was_sound sound c.close.ensures.left c.close.ensures.in_order)
-      (is_left _ _ _ _ _ was done.same c.close.result g.met.S.Store.settled was_sound sound c.close.ensures.left)
-      _ _ _ _ c.import_report-done.result (done.imports config heard (was_in_order _ _ _ _ _ was sound));
-  no_desk = λ clean none. absurd (c.in-Ok.ensures.never (c.import_report-done.ensures.was_sound (c.close.ensures.sound clean)) none);
-  clean = λ clean. c.in-Ok.ensures.clean (c.import_report-done.ensures.was_sound (c.close.ensures.sound clean));
-}
-
-pub returns-in-Err : goal.returns-in-Err
-returns-in-Err g c = record {
-  imports = λ clean config heard kept.
-      let back = c.in-Err.ensures.unavailable clean config heard kept in
-      imports_unopened config heard c.args.sender.now (KeepsHeard g.S.Store c.in-Err.conn config) (IsLeft g.S.Store c.in-Err.conn config) (g.R.Read.remaining c.args.reader.now) (g.W.Write.contents c.args.answers.now) (Unit {0}) c.in-Err.fault back.0 back.1;
-  no_desk = λ clean none. (c.in-Err.ensures.refused clean, (Keeps-refl _, Keeps-refl _));
-  clean = λ clean. let given = (c.in-Err.ensures.refused clean).given_back in omega (arith, given.clean, clean);
-}
+pub returns-clause-imports : goal.returns-clause-imports
+returns-clause-imports g c = λ clean config heard kept.
+    let back = c.by_store.result.1 in
+    let sender = c.args.sender.now in
+    either g.S.Store g.met.S.Store.settled config heard back (imports sender)
+    (λ left rest before after r. ImportsBy config heard sender (KeepsHeard g.S.Store back config) (IsLeft g.S.Store back config) left rest before after r) _ _ _ _ c.by_store.result.0
+    (λ by. carried config heard sender _ _ _ _ (kept_by _ g.met.S.Store.settled _ _ _ by) (left_by _ g.met.S.Store.settled _ _ _ by) _ _ _ _ c.by_store.result.0 by.did)
+    (λ left. imports_unopened config heard sender (KeepsHeard g.S.Store back config) (IsLeft g.S.Store back config) _ _ (Unit {0}) Unavailable refl left)
+    (c.by_store.ensures.does clean config heard kept)

@@ -1,36 +1,20 @@
-use Rattle.std.proofs.Common.{None, arith}
+use Rattle.std.proofs.Common.{None, refl}
 use Rattle.std.proofs.KnownBytes.{Keeps-refl}
 use Rattle.registry_core.specs.Heard.{state_of}
-use Rattle.desk_engine.specs.InOrder.{kept_after}
-use Rattle.desk_cli.proofs.OnTables.{is_left, keeps}
-use Rattle.desk_cli.proofs.Printed.{gateways_bands, prints, prints_unopened}
-use Rattle.desk_cli.proofs.Reported.{is_kept_as_it_was, is_left_as_it_was}
+use Rattle.desk_http.specs.Reports.{IsBandAnswer}
+use Rattle.desk_cli.proofs.ByStore.{either, kept_by, left_by}
+use Rattle.desk_cli.proofs.Printed.{printed_by, prints_unopened}
+use Rattle.desk_cli.specs.OnTables.{IsLeft, KeepsHeard}
+use Rattle.desk_cli.specs.Printing.{PrintsBy}
+use Rattle.desk_cli.specs.declared.faults.Fault.TheVariants.{Unavailable}
+use Rattle.desk_cli.specs.steps.Jobs.{prints}
 use Rattle.desk_cli.proofs.commands.reports.bands_command.Goals as goal
 
-pub returns-in-Ok : goal.returns-in-Ok
-unfolding kept_after
-returns-in-Ok g c = record {
-  prints = λ clean config heard kept.
-      let sound = c.close.ensures.sound clean in
-      let read = c.band_report-report.ensures.read in
-      let was_sound = read.was_sound sound in
-      let was = c.in-Ok.ensures.desk was_sound config heard kept in
-      prints _ _ _ _ _ (λ text. text.items) c.band_report-report.result c.print.result
-      (gateways_bands (λ text. text.items) (state_of config heard) c.args.gateway.now c.band_report-report.result
-      (c.band_report-report.ensures.known (kept_after config heard) sound was.store.holds) (c.band_report-report.ensures.report (kept_after config heard) sound was.store.holds)
-      (c.band_report-report.ensures.fault (kept_after config heard) sound was.store.holds))
-      (λ still. keeps _ _ _ _ _ was read.same c.close.result g.met.S.Store.settled was_sound sound c.close.ensures.left c.close.ensures.in_order heard (is_kept_as_it_was _ _ _ _ _ was _ read sound still))
-      (is_left _ _ _ _ _ was read.same c.close.result g.met.S.Store.settled was_sound sound c.close.ensures.left heard None (is_left_as_it_was _ _ _ _ _ was _ read sound))
-      c.print.ensures;
-  no_desk = λ clean none. absurd (c.in-Ok.ensures.never (c.band_report-report.ensures.read.was_sound (c.close.ensures.sound clean)) none);
-  clean = λ clean. c.in-Ok.ensures.clean (c.band_report-report.ensures.read.was_sound (c.close.ensures.sound clean));
-}
-
-pub returns-in-Err : goal.returns-in-Err
-returns-in-Err g c = record {
-  prints = λ clean config heard kept.
-      let back = c.in-Err.ensures.unavailable clean config heard kept in
-      prints_unopened _ _ _ _ c.in-Err.fault back.0 back.1 (Keeps-refl _) (record { known = tt; report = tt; fault = tt });
-  no_desk = λ clean none. (c.in-Err.ensures.refused clean, Keeps-refl _);
-  clean = λ clean. let given = (c.in-Err.ensures.refused clean).given_back in omega (arith, given.clean, clean);
-}
+pub returns-clause-prints : goal.returns-clause-prints
+returns-clause-prints g c = λ clean config heard kept.
+    let back = c.by_store.result.1 in
+    either g.S.Store g.met.S.Store.settled config heard back (prints (λ s. IsBandAnswer s c.args.gateway.now))
+    (λ left rest before after r. PrintsBy (KeepsHeard g.S.Store back config heard) (IsLeft g.S.Store back config heard None) before after (IsBandAnswer (state_of config heard) c.args.gateway.now) r) _ _ _ _ c.by_store.result.0
+    (λ by. printed_by (kept_by _ g.met.S.Store.settled _ _ _ by heard) (left_by _ g.met.S.Store.settled _ _ _ by heard None) _ _ _ c.by_store.result.0 by.did)
+    (λ left. prints_unopened _ _ _ _ Unavailable refl left (Keeps-refl _) (record { known = tt; report = tt; fault = tt }))
+    (c.by_store.ensures.does clean config heard kept)

@@ -1,12 +1,12 @@
 //! Connections to a port of 127.0.0.1.
-use super::serve_connections;
-use crate::listening::Network;
+use crate::network::Network;
 use crate::sockets::Sockets;
 use crate::tests::holding::holds;
 use crate::tests::opening;
 use crate::tests::requests::posted;
 use crate::tests::requests::responses::{ADDED, TOO_LONG};
 use crate::tests::rows::REQUEST;
+use desk_http::{Listening, serve_connections};
 use desk_store::Lists;
 use std::io::{self, Read, Write};
 use std::net::{Shutdown, SocketAddr, TcpStream};

@@ -1,5 +1,5 @@
 -- What connections that are served one after another do to a store, and what they are answered.
-use Rattle.std.proofs.Common.{◌≡◌, ◌+◌, ℕ, zero, suc, Bool, true, false, cond, List, [], ◌∷◌, ◌++◌, Option, Some, None, Result, Ok, Err, inl, inr, refl, ap, sym, subst, arith, ◌∙◌}
+use Rattle.std.proofs.Common.{◌≡◌, ◌+◌, ℕ, zero, suc, Bool, true, false, cond, List, [], ◌∷◌, ◌++◌, Option, Some, None, Ok, Err, inl, inr, refl, ap, sym, subst, arith, ◌∙◌}
 use Rattle.std.proofs.lemmas.List.{append-nil}
 use Rattle.std.specs.Io.KnownBytes.{Consumes}
 use Rattle.std.specs.Prelude.{◌||◌}
@@ -8,7 +8,6 @@ use Rattle.registry_core.specs.Settings.{Settings}
 use Rattle.desk_store.specs.declared.faults.StoreFault.{StoreFault}
 use Rattle.desk_store.specs.Calls.{IsRead, is_disk, is_foreign}
 use Rattle.desk_store.specs.Meaning.{Meaning}
-use Rattle.desk_wire.specs.declared.faults.WireFault.{WireFault}
 use Rattle.desk_engine.specs.declared.outcomes.Outcome.{Outcome}
 use Rattle.desk_engine.specs.Deliveries.{Delivery, heard_after, heard_all}
 use Rattle.desk_engine.specs.Hearing.{Hears}
@@ -22,17 +21,19 @@ use Rattle.desk_http.specs.declared.serving.ServeEnd.TheVariants.{Done, Closed, 
 use Rattle.desk_http.specs.Requests.{IsReadAs, Request, refused, message, owner_report, band_report}
 use Rattle.desk_http.specs.Responses.{Response}
 use Rattle.desk_http.specs.Serving.{IsDelivered, ServesRequest, ServingEndsBy}
-use Rattle.desk_cli.specs.Answered.{Answers, Delivered, and_then, none_delivered}
-use Rattle.desk_cli.specs.Served.{Connections, HearsDeliveries, HearsEach, ServesEach, ServesNext, delivered_by}
+use Rattle.desk_http.specs.Answered.{Answers, Delivered, and_then, none_delivered}
+use Rattle.desk_http.specs.Served.{Connections, HearsDeliveries, HearsEach, ServesEach, ServesNext, delivered_by}
 
 heard_all-append : (c : Settings) (heard : List Envelope) (ds more : List Delivery) → heard_all c heard (ds ++ more) ≡ heard_all c (heard_all c heard ds) more
 heard_all-append c heard [] more = refl
 heard_all-append c heard (d ∷ ds) more = heard_all-append c (heard_after c heard d) ds more
 
 -- without a fault of the disk no message is in doubt
-no_doubt : (wanted : Result Envelope WireFault) (outcome : Outcome) → is_disk (fault_of outcome) ≡ false → doubt_read wanted outcome ≡ None
-no_doubt (Ok e) outcome is = ap (λ b. cond b (Some e) None) is
-no_doubt (Err fault) outcome is = refl
+no_doubt : (c : Settings) (text : List ℕ) (outcome : Outcome) → is_disk (fault_of outcome) ≡ false → doubt_of_text c text outcome ≡ None
+no_doubt c text outcome is = elim (envelope_of_text c text) as (λ wanted. doubt_read wanted outcome ≡ None) [
+  | Ok e ↦ ap (λ b. cond b (Some e) None) is
+  | Err fault ↦ refl
+]
 
 no_doubts : (first second : Bool) (a b : Option Envelope) → (first ≡ false → a ≡ None) → (second ≡ false → b ≡ None) → (first || second) ≡ false → cond first a b ≡ None
 no_doubts true second a b p q is = absurd (let k : true ≡ false = is in cc)
@@ -89,7 +90,7 @@ module _ {K : Type 0} (m : Meaning K) (in_order : CallsHearInOrder m) (reads : R
     disk = is_disk (fault_of outcome);
     foreign = is_foreign (fault_of outcome);
     doubtful = λ c. doubt_of_text c body outcome;
-    undoubted = λ up c. no_doubt (envelope_of_text c body) outcome up;
+    undoubted = λ up c. no_doubt c body outcome up;
     hears = delivered.store;
   }
 

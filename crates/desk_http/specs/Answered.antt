@@ -68,10 +68,3 @@ module _ (c : Settings) (heard : List Envelope) where
   Answers old new (owner_report owner month) body response =
       Reports (λ answer. IsOwnerAnswer (state_of c (heard_all c heard old.deliveries)) owner month answer × ((answer ≡ Err Time) ↔ ((from to : ℤ) → ¬ (IsMonth month from to)))) old new response
   Answers old new (band_report gateway) body response = Reports (IsBandAnswer (state_of c (heard_all c heard old.deliveries)) gateway) old new response
-
--- ---- what is answered at the ports of a network
-
--- which ports can't be had; and how so many connections at a port were answered, after what had been heard, to which this was delivered
-pub record AtPorts : Type 1 where
-  pub refused : ℕ → Type 0
-  pub answered : ℕ → Settings → List Envelope → ℕ → Delivered → Type 0

@@ -1,8 +1,8 @@
 use Rattle.std.proofs.Common.{◌≡◌, subst, arith}
 use Rattle.desk_http.specs.Serving.{ServesRequest}
-use Rattle.desk_cli.specs.Served.{ServesEach}
-use Rattle.desk_cli.proofs.Served.{hears_each, one_more}
-use Rattle.desk_cli.proofs.commands.serving.serve_connections.Goals as goal
+use Rattle.desk_http.specs.Served.{ServesEach}
+use Rattle.desk_http.proofs.Served.{hears_each, one_more}
+use Rattle.desk_http.proofs.connections.serve_connections.Goals as goal
 
 pub loop-preserved : goal.loop-preserved
 loop-preserved g c = one_more _ _ _ _ c.loop.counter _ _ _ _ _ _ c.loop.invariant c.serve_next.ensures

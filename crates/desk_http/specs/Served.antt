@@ -1,4 +1,4 @@
--- Connections that are served one after another, the ports that they come to, and what they do to a store.
+-- Connections that are served one after another, and what they do to a store.
 use Rattle.std.specs.Prelude.{◌≡◌, ◌⊎◌, ℕ, zero, suc, Bool, false, List, [], Option, None}
 use Rattle.std.specs.Io.KnownBytes.{Consumes, IsAtEnd}
 use Rattle.registry_core.specs.declared.messages.Envelope.{Envelope}
@@ -11,7 +11,7 @@ use Rattle.desk_http.specs.declared.serving.ServeEnd.{ServeEnd}
 use Rattle.desk_http.specs.Requests.{IsReadAs, Request}
 use Rattle.desk_http.specs.Responses.{Response}
 use Rattle.desk_http.specs.Serving.{ServingEndsBy}
-use Rattle.desk_cli.specs.Answered.{Answers, AtPorts, Delivered, none_delivered}
+use Rattle.desk_http.specs.Answered.{Answers, Delivered, none_delivered}
 
 -- ---- what a listening means
 
@@ -31,19 +31,6 @@ unknown = record {
   fails = λ before after. Unit {0};
   goes = λ before after reader writer end. Unit {0};
 }
-
--- ---- what the ports of a network mean
-
--- In one record: the ghost member of the trait.
-pub record Ports (N L : Type 0) : Type 1 where
-  -- the network listens at this port so
-  pub listens : N → ℕ → L → Type 0
-  -- it doesn't give this port
-  pub refuses : N → ℕ → Type 0
-
--- of which nothing is said, as of this system's
-abbrev pub unknown_ports : {N L : Type 0} → Ports N L
-unknown_ports = record { listens = λ network port listening. Unit {0}; refuses = λ network port. Unit {0} }
 
 -- ---- one after another
 
@@ -103,12 +90,3 @@ pub record HearsEach {L R W K : Type 0} (m : Meaning K) (l : Connections L R W) 
   pub hears : HearsDeliveries m old new
   pub answers : (c : Settings) (heard : List Envelope) → WasInOrder m c heard old new
       → ServesEach l remaining contents (Answers c heard) n none_delivered (delivered_by hears c) before after
-
--- At a port of a network so many connections were answered so, from when it is listened at.
-abbrev pub AnswersEach : {N L R W : Type 0} → Ports N L → N → Connections L R W → (R → Option (List ℕ)) → (W → Option (List ℕ)) → ℕ → Settings → List Envelope → ℕ → Delivered → Type 0
-AnswersEach {N} {L} ports network l remaining contents port c heard n delivered =
-    (before after : L) × ports.listens network port before × ServesEach l remaining contents (Answers c heard) n none_delivered delivered before after
-
--- what a network says of its ports, in one
-abbrev pub at_ports : {N L R W : Type 0} → Ports N L → N → Connections L R W → (R → Option (List ℕ)) → (W → Option (List ℕ)) → AtPorts
-at_ports ports network l remaining contents = record { refused = ports.refuses network; answered = AnswersEach ports network l remaining contents }

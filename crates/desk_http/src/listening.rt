@@ -1,8 +1,8 @@
 //! Connections that come one after another, as what serves them sees them.
-ghost use Rattle.std.specs.Prelude.{IfErr, IfOk, OnErr};
-ghost use Rattle.desk_cli.specs.Served.{Connections, Ports};
+ghost use Rattle.std.specs.Prelude.{IfOk, OnErr};
+ghost use Rattle.desk_http.specs.Served.{Connections};
 
-use desk_http::ServeEnd;
+use crate::serving::ServeEnd;
 use std::alloc::Global;
 use std::io::{self, Read, Write};
 
@@ -30,18 +30,4 @@ pub trait Listening {
         end: ServeEnd,
     ) -> io::Result<()>
         ensures goes { meaning.goes self.old self.new reader writer end };
-}
-
-/// What connections come over.
-pub trait Network {
-    /// A port that is listened at.
-    type Port: Listening + Drop;
-
-    /// Which port that is, and which can't be had.
-    ghost ports: { Ports Self Self.Port };
-
-    /// Listens at a port of 127.0.0.1. An error is a port that can't be had.
-    fn listen(&self, port: u16) -> io::Result<Self::Port>
-        ensures listens { IfOk result (λ listening. ports.listens self.now port listening) }
-        ensures refuses { IfErr result (λ error. ports.refuses self.now port) };
 }

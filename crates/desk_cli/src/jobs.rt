@@ -1,0 +1,65 @@
+//! What a command does by the desk in a file, whatever store it is opened as.
+ghost use Rattle.std.specs.Prelude.{◌≡◌, false, List, None};
+ghost use Rattle.std.specs.Io.KnownBytes.{Keeps};
+ghost use Rattle.sqlite.specs.Held.{state};
+ghost use Rattle.sqlite.specs.State.{HasCleanDisk};
+ghost use Rattle.registry_core.specs.declared.messages.Envelope.{Envelope};
+ghost use Rattle.registry_core.specs.Settings.{Settings};
+ghost use Rattle.desk_cli.specs.NoDesk.{HoldsNoDesk, RefusesFile};
+ghost use Rattle.desk_cli.specs.OnTables.{KeepsHeard, WasOpened};
+ghost use Rattle.desk_cli.specs.steps.Jobs.{Done, DoesByStore};
+
+use crate::faults::Fault;
+use crate::opening::opened;
+use desk_store::Keeper;
+use sqlite::{Alter, Connection};
+use std::alloc::Global;
+use std::io::{Read, Write};
+
+/// What a command does by a store: it may read and write, and tells why it isn't done.
+pub(crate) trait Job {
+    /// What it has done, by how it ended.
+    ghost does: { Self → Done };
+
+    /// Does it.
+    fn run<K: Keeper, R: Read, W: Write>(
+        &self,
+        alloc: Global,
+        keeper: &mut K,
+        reader: &mut R,
+        answers: &mut W,
+    ) -> Result<(), Fault>
+        ensures same { K.meaning.configuration keeper.new ≡ K.meaning.configuration keeper.old }
+        ensures was_sound { K.meaning.sound keeper.new → K.meaning.sound keeper.old }
+        ensures does { (c : Settings) (heard : List Envelope) → WasOpened K.meaning keeper.old c heard → K.meaning.sound keeper.new
+            → does self.now K K.meaning c heard keeper.old keeper.new (R.remaining reader.old) (R.remaining reader.new)
+            (W.contents answers.old) (W.contents answers.new) result };
+}
+
+/// Does it by the desk of the connection's database, and gives the connection back. Nothing is read or written before the desk
+/// is open. What is no desk's of schema 2 is refused, and stays as it is.
+pub(crate) fn by_store<S: Alter, J: Job, R: Read, W: Write>(
+    alloc: Global,
+    conn: Connection<S>,
+    job: &J,
+    reader: &mut R,
+    answers: &mut W,
+) -> (Result<(), Fault>, Connection<S>)
+    requires idle { conn.in_transaction ≡ false }
+    requires unlimited { conn.step_limit ≡ None }
+    ensures does { HasCleanDisk (state S.Store result.1) → (c : Settings) (heard : List Envelope) → KeepsHeard S.Store conn c heard
+        → DoesByStore S.Store c heard result.1 (J.does job.now) (R.remaining reader.old) (R.remaining reader.new)
+        (W.contents answers.old) (W.contents answers.new) result.0 }
+    ensures no_desk { HasCleanDisk (state S.Store result.1) → HoldsNoDesk S.Store conn
+        → RefusesFile S.Store conn result.1 (Keeps (R.remaining reader.old) (R.remaining reader.new) × Keeps (W.contents answers.old) (W.contents answers.new)) result.0 }
+    ensures clean { HasCleanDisk (state S.Store result.1) → HasCleanDisk (state S.Store conn) }
+{
+    match opened(alloc, conn) {
+        Ok(tables) => {
+            let mut tables = tables;
+            let done = job.run(alloc, &mut tables, reader, answers);
+            (done, tables.close())
+        }
+        Err((fault, conn)) => (Err(fault), conn),
+    }
+}
