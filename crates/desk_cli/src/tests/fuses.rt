@@ -34,6 +34,11 @@ fn connected<D: Disk + Drop>(
     }
 }
 
+/// The connection's files.
+fn files_of<D: Disk + Drop>(conn: Connection<FileStore<D>>) -> Files<D> {
+    conn.into_store().close()
+}
+
 /// The octets in a file that isn't fused.
 fn file_of(alloc: Global, octets: &[u8]) -> Result<Memory, Fail> {
     let mut file = Memory::new(alloc);
@@ -99,7 +104,7 @@ fn heard_in<R: Abort + AllocGlobal, D: Disk + Drop>(
     match connected(rt.alloc(), files) {
         Ok(conn) => {
             let (answered, conn) = heard_on(rt, conn, deliveries)?;
-            Ok((answered, conn.into_store().close()))
+            Ok((answered, files_of(conn)))
         }
         Err(files) => Ok((0, files)),
     }
@@ -219,7 +224,7 @@ fn first_files<R: Abort + AllocGlobal>(rt: &R) -> Result<Files<Memory>, Fail> {
         db: Memory::new(rt.alloc()),
     };
     match connected(rt.alloc(), empty) {
-        Ok(conn) => Ok(first_on(rt, conn)?.into_store().close()),
+        Ok(conn) => Ok(files_of(first_on(rt, conn)?)),
         Err(_) => Err("not opened".into()),
     }
 }
@@ -243,7 +248,7 @@ fn moved_in<R: Abort + AllocGlobal, D: Disk + Drop>(
     match connected(rt.alloc(), files) {
         Ok(conn) => {
             let (is_moved, conn) = moved_on(rt, conn)?;
-            Ok((is_moved, conn.into_store().close()))
+            Ok((is_moved, files_of(conn)))
         }
         Err(files) => Ok((false, files)),
     }
