@@ -76,8 +76,8 @@ fn air_after<K: Looks>(
             in_band: Vec::new(alloc),
         });
     };
-    let in_band = keeper.near(gateway, Some(band), start)?;
     let limit = keeper.limit_of(gateway, band)?;
+    let in_band = keeper.near(gateway, Some(band), start)?;
     Ok(AirView {
         limit,
         near,

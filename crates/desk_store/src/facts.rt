@@ -52,39 +52,41 @@ impl Facts {
         ensures err { OnErr result (facts_of self.new ≡ facts_of self.old) }
     {
         match *effect {
-            Effect::Nothing => {}
+            Effect::Nothing => Ok(()),
             Effect::AddsSender { name, role } => {
                 self.senders.insert(name, role)?;
+                Ok(())
             }
             Effect::AddsOwner { name } => {
                 self.owners.insert(name)?;
+                Ok(())
             }
             Effect::AddsGateway { name } => {
                 self.gateways.insert(name)?;
+                Ok(())
             }
-            Effect::AddsDevice { dev_eui, device } => self.devices.put(dev_eui, device)?,
-            Effect::MovesDevice { dev_eui, owner } => self.devices.move_to(dev_eui, owner)?,
+            Effect::AddsDevice { dev_eui, device } => self.devices.put(dev_eui, device),
+            Effect::MovesDevice { dev_eui, owner } => self.devices.move_to(dev_eui, owner),
             Effect::AddsSession {
                 session,
                 uplink,
                 gateway,
                 reception,
-            } => self.add_session(session, uplink, gateway, reception)?,
+            } => self.add_session(session, uplink, gateway, reception),
             Effect::AddsUplink {
                 uplink,
                 gateway,
                 reception,
-            } => self.add_uplink(uplink, gateway, reception)?,
+            } => self.add_uplink(uplink, gateway, reception),
             Effect::AddsCopy {
                 uplink,
                 gateway,
                 reception,
-            } => self.add_copy(uplink, gateway, reception)?,
-            Effect::AddsBooking { booking } => self.traffic.push_booking(booking)?,
-            Effect::EndsBooking { booking, sent } => self.traffic.end_booking(booking, sent)?,
-            Effect::SetsLimit { gateway, limit } => self.set_limit(gateway, limit)?,
+            } => self.add_copy(uplink, gateway, reception),
+            Effect::AddsBooking { booking } => self.traffic.push_booking(booking),
+            Effect::EndsBooking { booking, sent } => self.traffic.end_booking(booking, sent),
+            Effect::SetsLimit { gateway, limit } => self.set_limit(gateway, limit),
         }
-        Ok(())
     }
 
     /// Adds the session, its join uplink and that one's copy, or nothing.

@@ -88,9 +88,9 @@ impl Sessions {
         ensures succeeds { 1 ≤ self.old.room → IsOk result }
     {
         self.make_room()?;
+        let before = self.latest(session.device);
+        let nonce = greater_of(session.nonce, self.last_nonce(session.device));
         let device = session.device.get();
-        let before = self.latest.get(&device).copied().unwrap_or(0);
-        let nonce = greater_of(session.nonce, self.nonces.get(&device).copied());
         self.latest.insert(device, self.links.len() as u64 + 1)?;
         self.nonces.insert(device, nonce)?;
         self.links.push(Link { session, before })?;

@@ -1,5 +1,5 @@
 //! A store that fails when it is told to: for tests of what stands on a store.
-ghost use Rattle.std.specs.Prelude.{◌≡◌, ◌||◌, false, List, [], Option, Some, IfOk, OnOk};
+ghost use Rattle.std.specs.Prelude.{◌≡◌, ◌||◌, true, false, List, [], Option, Some, IfOk, OnOk};
 ghost use Rattle.std.proofs.Common.{inl, sym, ◌∙◌};
 ghost use Rattle.desk_store.specs.Calls.{IsOfReading, IsRead, IsUnavailability, TellsDown, fault_in, is_disk, is_foreign};
 ghost use Rattle.registry_core.specs.State.{opening};
@@ -104,6 +104,13 @@ impl Switched {
                 StoreFault::NotADesk
             }
         }
+    }
+
+    /// The disk is to fail once this call has done all.
+    fn fails_after(&self) -> bool
+        ensures up { result ≡ true → self.now.is_down ≡ false }
+    {
+        self.failure == Failure::DiskAfter && self.calls == Some(0) && !self.is_down
     }
 
     /// Counts a call that only reads, which fails where it is its turn, or where the store is down.
@@ -283,7 +290,7 @@ impl Keeper for Switched {
         effect: &Effect,
         answer: &[u8],
     ) -> Result<(), StoreFault> {
-        if self.failure == Failure::DiskAfter && self.calls == Some(0) && !self.is_down {
+        if self.fails_after() {
             self.lists.commit(envelope, message, effect, answer)?;
             self.calls = None;
             self.is_down = true;

@@ -1,14 +1,26 @@
-use Rattle.std.proofs.Common.{◌≡◌, sym, rules}
+use Rattle.std.proofs.Common.{◌≡◌, ◌∙◌, Err, Result, sym, refl}
+use Rattle.std.proofs.lemmas.Result.{err_from_is_err_and}
+use Rattle.std.specs.Result.{IsErrAnd}
+use Rattle.desk_store.specs.declared.faults.StoreFault.{StoreFault}
+use Rattle.desk_store.specs.declared.faults.StoreFault.TheVariants.{Memory}
 use Rattle.desk_store.specs.Kept.{CanAdd}
 use Rattle.desk_store.specs.Lists.{kept_of}
-use Rattle.desk_store.proofs.Entries.{entry_added}
 use Rattle.desk_store.proofs.lists.ListsKeeper.commit.Goals as goal
+
+is_memory : (result : Result (Unit {0}) StoreFault) → IsErrAnd result (λ told. told ≡ Memory) → result ≡ Err Memory
+is_memory result failed = let told = err_from_is_err_and result failed in rw (← told.2) told.1
+
+pub returns-in_err-add_with_entry-clause-call : goal.returns-in_err-add_with_entry-clause-call
+returns-in_err-add_with_entry-clause-call c = rw (is_memory c.from_residual.result c.from_residual.ensures.1)
+    (record { same = c.add_with_entry.ensures.config; was_sound = λ sound. tt; shut = refl; strange = refl })
+
+pub returns-in_err-add_with_entry-clause-added : goal.returns-in_err-add_with_entry-clause-added
+returns-in_err-add_with_entry-clause-added c = λ kept sound held can. rw (is_memory c.from_residual.result c.from_residual.ensures.1) tt
+
+pub returns-in_err-add_with_entry-clause-fault : goal.returns-in_err-add_with_entry-clause-fault
+returns-in_err-add_with_entry-clause-fault c = λ kept sound held can. rw (is_memory c.from_residual.result c.from_residual.ensures.1) tt
 
 pub returns-clause-added : goal.returns-clause-added
 returns-clause-added c = λ kept sound held can.
     let can_add : CanAdd (kept_of c.args.self.now) c.args.envelope.now c.args.effect.now = rw held at can in
-    let message_is : c.in_ok-to_vec.field-0.items ≡ c.args.message.now = search rules in
-    let answer_is : c.in_ok-to_vec-2.field-0.items ≡ c.args.answer.now = search rules in
-    let entries = entry_added c.args.envelope.now c.args.self.now.entries.entries c.reserve.new.self c.insert.new.self.entries _ _ _
-    c.in_ok-reserve.ensures.entries c.in_ok-insert.ensures.entries can_add.new message_is answer_is in
-    rw held (λ i. record { facts = sym c.in_ok-add.ensures.ok i; entries = entries i })
+    rw held (sym (c.in_ok-add_with_entry.ensures.added can_add))

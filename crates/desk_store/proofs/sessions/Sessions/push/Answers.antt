@@ -1,22 +1,55 @@
-use Rattle.std.proofs.Common.{◌≡◌, ◌+◌, ◌∙◌, Some, ap, cond, length, nat_eq}
+use Rattle.std.proofs.Common.{◌≡◌, ◌+◌, ◌-◌, ◌<◌, ◌≤◌, ◌∙◌, ℕ, Some, ap, cond, length, min, nat_eq, subst, sym, true≢false, arith}
 use Rattle.std.specs.Prelude.{max}
 use Rattle.std.specs.Option.{option_map_or, unwrap_or}
 use Rattle.indexmap.specs.IndexMap.{get}
+use Rattle.registry_core.specs.Derived.{last_nonce}
+use Rattle.desk_store.specs.Sessions.{sessions_of}
 use Rattle.desk_store.specs.declared.sessions.Link.{Link}
+use Rattle.desk_store.specs.steps.Sessions.{latest_of}
 use Rattle.desk_store.proofs.Linked.{linked_more}
 use Rattle.desk_store.proofs.sessions.Sessions.push.Goals as goal
 
+has_room : (len capacity latest nonces : ℕ) → 1 ≤ min (capacity - len) (min latest nonces) → (len < capacity) × (0 < latest) × (0 < nonces)
+has_room len capacity latest nonces room = (omega arith, omega arith, omega arith)
+
 pub invariant_of-self-2 : goal.invariant_of-self-2
 invariant_of-self-2 c =
-    let link : Link = record { session = c.args.session; before = c.unwrap_or-before.result } in
+    let link : Link = record { session = c.args.session; before = c.latest-before.result } in
     let device : c.get-device.result ≡ c.args.session.device = c.get-device.ensures in
     let number : c.len.result + 1 ≡ length c.self.inside.links.items + 1 = ap (λ n. n + 1) (c.len.ensures ∙ c.self.inside.links.ok.0) in
-    let before : c.unwrap_or-before.result ≡ unwrap_or (get nat_eq c.self.inside.latest c.args.session.device) 0 =
-    c.unwrap_or-before.ensures ∙ ap (λ found. unwrap_or found 0) (c.copied.ensures ∙ c.get.ensures.value ∙ ap (get nat_eq c.self.inside.latest) device) in
+    let sessions : c.make_room.new.self.items ≡ sessions_of c.self.inside.links.items = sym (ap (λ s. s.items) c.self.view_is) in
+    let before : c.latest-before.result ≡ unwrap_or (get nat_eq c.self.inside.latest c.args.session.device) 0 =
+    c.latest-before.ensures ∙ ap (λ items. latest_of items c.args.session.device) sessions ∙ sym (c.self.invariant.last c.args.session.device) in
     let nonce : c.greater_of-nonce.result ≡ option_map_or (max c.args.session.nonce) (get nat_eq c.self.inside.nonces c.args.session.device) c.args.session.nonce =
     c.greater_of-nonce.ensures
-    ∙ ap (λ found. option_map_or (max c.args.session.nonce) found c.args.session.nonce) (c.copied-2.ensures ∙ c.get-2.ensures.value ∙ ap (get nat_eq c.self.inside.nonces) device) in
+    ∙ ap (λ found. option_map_or (max c.args.session.nonce) found c.args.session.nonce)
+    (c.last_nonce.ensures ∙ ap (λ items. last_nonce items c.args.session.device) sessions ∙ sym (c.self.invariant.nonce c.args.session.device)) in
     rw c.in_ok-push.ensures.items
     (linked_more c.self.inside.links.items link (get nat_eq c.self.inside.latest) (get nat_eq c.self.inside.nonces) c.self.invariant before _ _
     (λ dev_eui. c.in_ok-insert.ensures.updates.0 dev_eui ∙ (λ i. cond (nat_eq (device i) dev_eui) (Some (number i)) (get nat_eq c.self.inside.latest dev_eui)))
     (λ dev_eui. c.in_ok-insert-2.ensures.updates.0 dev_eui ∙ (λ i. cond (nat_eq (device i) dev_eui) (Some (nonce i)) (get nat_eq c.self.inside.nonces dev_eui))))
+
+-- room was made for it
+pub invariant_of-self : goal.invariant_of-self
+invariant_of-self c = absurd (true≢false (sym (c.in_err-insert.ensures.succeeds (has_room _ _ _ _ (subst (λ s. 1 ≤ s.room) (sym c.self.view_is) c.in_ok-make_room.ensures.room)).1)))
+
+pub returns-in_err-insert-clause-ok : goal.returns-in_err-insert-clause-ok
+returns-in_err-insert-clause-ok c = absurd (true≢false (sym (c.in_err-insert.ensures.succeeds (has_room _ _ _ _ (subst (λ s. 1 ≤ s.room) (sym c.self.view_is) c.in_ok-make_room.ensures.room)).1)))
+
+pub returns-in_err-insert-clause-err : goal.returns-in_err-insert-clause-err
+returns-in_err-insert-clause-err c = absurd (true≢false (sym (c.in_err-insert.ensures.succeeds (has_room _ _ _ _ (subst (λ s. 1 ≤ s.room) (sym c.self.view_is) c.in_ok-make_room.ensures.room)).1)))
+
+pub returns-in_err-insert-clause-succeeds : goal.returns-in_err-insert-clause-succeeds
+returns-in_err-insert-clause-succeeds c = absurd (true≢false (sym (c.in_err-insert.ensures.succeeds (has_room _ _ _ _ (subst (λ s. 1 ≤ s.room) (sym c.self.view_is) c.in_ok-make_room.ensures.room)).1)))
+
+pub invariant_of-self-in_err-insert-2 : goal.invariant_of-self-in_err-insert-2
+invariant_of-self-in_err-insert-2 c = absurd (true≢false (sym (c.in_err-insert-2.ensures.succeeds (has_room _ _ _ _ (subst (λ s. 1 ≤ s.room) (sym c.self.view_is) c.in_ok-make_room.ensures.room)).2)))
+
+pub returns-in_err-insert-2-clause-ok : goal.returns-in_err-insert-2-clause-ok
+returns-in_err-insert-2-clause-ok c = absurd (true≢false (sym (c.in_err-insert-2.ensures.succeeds (has_room _ _ _ _ (subst (λ s. 1 ≤ s.room) (sym c.self.view_is) c.in_ok-make_room.ensures.room)).2)))
+
+pub returns-in_err-insert-2-clause-err : goal.returns-in_err-insert-2-clause-err
+returns-in_err-insert-2-clause-err c = absurd (true≢false (sym (c.in_err-insert-2.ensures.succeeds (has_room _ _ _ _ (subst (λ s. 1 ≤ s.room) (sym c.self.view_is) c.in_ok-make_room.ensures.room)).2)))
+
+pub returns-in_err-insert-2-clause-succeeds : goal.returns-in_err-insert-2-clause-succeeds
+returns-in_err-insert-2-clause-succeeds c = absurd (true≢false (sym (c.in_err-insert-2.ensures.succeeds (has_room _ _ _ _ (subst (λ s. 1 ≤ s.room) (sym c.self.view_is) c.in_ok-make_room.ensures.room)).2)))

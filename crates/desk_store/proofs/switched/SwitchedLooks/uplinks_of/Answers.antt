@@ -1,5 +1,6 @@
 use Rattle.std.proofs.Common.{rules, FitsSigned, w64}
 use Rattle.std.proofs.lemmas.Int.{to_z-of_z}
+use Rattle.desk_store.proofs.InTurn.{no_value, read_fails}
 use Rattle.desk_store.proofs.switched.SwitchedLooks.uplinks_of.Goals as goal
 
 pub returns-clause-read : goal.returns-clause-read
@@ -10,3 +11,9 @@ returns-clause-told c = λ kept sound held.
     let from : FitsSigned w64 c.args.from = search rules in
     let to : FitsSigned w64 c.args.to = search rules in
     simp to_z-of_z at (c.uplinks_of.ensures.told kept tt (c.in_ok-turn.ensures.held kept held))
+
+pub returns-in_err-turn-clause-read : goal.returns-in_err-turn-clause-read
+returns-in_err-turn-clause-read c = read_fails _ _ _ _ c.from_residual.result c.from_residual.ensures.1 c.in_err-turn.ensures.read
+
+pub returns-in_err-turn-clause-told : goal.returns-in_err-turn-clause-told
+returns-in_err-turn-clause-told c = λ kept sound held. no_value _ _ c.from_residual.result c.from_residual.ensures.1

@@ -1,0 +1,30 @@
+-- Look-ups one after another, the last of which may fail.
+use Rattle.std.proofs.Common.{◌≡◌, ◌∙◌, Option, None, Some, Result, Ok, Err, sym, ap, subst}
+use Rattle.std.specs.Prelude.{◌||◌, IfOk}
+use Rattle.std.specs.Result.{IsErrAnd}
+use Rattle.desk_store.specs.declared.faults.StoreFault.{StoreFault}
+use Rattle.desk_store.specs.Calls.{IsRead, fault_in, is_disk, is_foreign}
+use Rattle.desk_store.specs.Meaning.{Meaning}
+
+pub read_then : {K : Type 0} (m : Meaning K) (a b c : K) (fault : Option StoreFault) → IsRead m a b None → IsRead m b c fault → IsRead m a c fault
+read_then m a b c fault one two = record {
+  same = two.same ∙ one.same;
+  was_sound = λ sound. one.was_sound (two.was_sound sound);
+  shut = two.shut ∙ ap (λ down. is_disk fault || down) one.shut;
+  strange = two.strange ∙ ap (λ foreign. is_foreign fault || foreign) one.strange;
+  reading = two.reading;
+  held = λ kept sound holds. two.held kept sound (one.held kept (two.was_sound sound) holds);
+  left = λ kept all sound holds left. two.left kept all sound (one.held kept (two.was_sound sound) holds) (one.left kept all (two.was_sound sound) holds left);
+  unavailable = λ kept sound holds. two.unavailable kept sound (one.held kept (two.was_sound sound) holds);
+}
+
+-- the fault of the last is told on
+pub read_fails : {K T : Type 0} (m : Meaning K) (a b : K) (fault : StoreFault) (result : Result T StoreFault) → IsErrAnd result (λ told. told ≡ fault)
+    → IsRead m a b (Some fault) → IsRead m a b (fault_in result)
+read_fails m a b fault (Ok x) failed read = absurd failed
+read_fails m a b fault (Err told) failed read = subst (λ f. IsRead m a b (Some f)) (sym failed) read
+
+-- and then nothing is said of a value
+pub no_value : {T : Type 0} (P : T → Type 0) (fault : StoreFault) (result : Result T StoreFault) → IsErrAnd result (λ told. told ≡ fault) → IfOk result P
+no_value P fault (Ok x) failed = absurd failed
+no_value P fault (Err told) failed = tt
