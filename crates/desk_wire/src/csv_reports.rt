@@ -4,13 +4,13 @@ ghost use Rattle.std.specs.Char.{is_ascii_digit};
 ghost use Rattle.std.specs.List.{list_all};
 ghost use Rattle.csv.specs.Records.{fields_of};
 ghost use Rattle.desk_wire.specs.CsvReports.{counter_or_none, decimal_below, decimal_in, envelope_in, envelopes_from, has_field, heard_in, is_decimal, is_header, reads_report, report_in, report_of_records, IsReportUnlessMemory};
-ghost use Rattle.desk_wire.specs.steps.CsvReports.{rows_left, IsReading};
+ghost use Rattle.desk_wire.specs.steps.CsvReports.{data_rate_at, name_at, octets_at, rows_left, u32_at, whole_at, IsReading};
 
 use crate::csv_faults::CsvFault;
 use crate::hexadecimal::octets_of;
 use crate::verdicts::join_verdict_named;
 use csv::{ByteRecord, Reader, ReaderBuilder};
-use radio_core::{DataRate, Name, Rate};
+use radio_core::{DataRate, Name, Octets, Rate};
 use registry_core::{Envelope, Message, Report, Whole};
 use std::alloc::Global;
 use std::str;
@@ -60,15 +60,45 @@ fn counter_or_none_of(text: &[u8]) -> Option<Option<u32>>
     }
 }
 
+fn name_at(row: &ByteRecord, place: usize) -> Option<Name>
+    ensures { result ≡ name_at place (fields_of row.now) }
+{
+    Name::new(row.get(place)?)
+}
+
+fn whole_at(row: &ByteRecord, place: usize) -> Option<Whole>
+    ensures { result ≡ whole_at place (fields_of row.now) }
+{
+    Whole::new(decimal_of(row.get(place)?)?)
+}
+
+fn u32_at(row: &ByteRecord, place: usize) -> Option<u32>
+    ensures { result ≡ u32_at place (fields_of row.now) }
+{
+    u32_of(row.get(place)?)
+}
+
+fn data_rate_at(row: &ByteRecord, place: usize) -> Option<DataRate>
+    ensures { result ≡ data_rate_at place (fields_of row.now) }
+{
+    DataRate::new(u8::try_from(decimal_of(row.get(place)?)?).ok()?)
+}
+
+fn octets_at(row: &ByteRecord, place: usize) -> Option<Octets>
+    ensures { result ≡ octets_at place (fields_of row.now) }
+{
+    octets_of(row.get(place)?)
+}
+
 #[tactic(auto, unfolding(crate::specs::CsvReports::report_in))]
 fn report_of(row: &ByteRecord) -> Option<Report>
     ensures { result ≡ report_in (fields_of row.now) }
 {
-    let gateway = Name::new(row.get(2)?)?;
-    let time = Whole::new(decimal_of(row.get(3)?)?)?;
-    let freq = u32_of(row.get(4)?)?;
-    let dr = DataRate::new(u8::try_from(decimal_of(row.get(5)?)?).ok()?)?;
-    let octets = octets_of(row.get(6)?)?;
+    let gateway = name_at(row, 2)?;
+    let time = whole_at(row, 3)?;
+    let freq = u32_at(row, 4)?;
+    let dr = data_rate_at(row, 5)?;
+    let octets = octets_at(row, 6)?;
     Some(Report {
         gateway,
         time,
@@ -99,7 +129,7 @@ fn envelope_of(sender: &Name, row: &ByteRecord) -> Option<Envelope>
     if row.len() != 8 {
         return None;
     }
-    let transaction = u32_of(row.get(0)?)?;
+    let transaction = u32_at(row, 0)?;
     let type_name = row.get(1)?;
     let report = report_of(row)?;
     let message = heard_of(type_name, report, row.get(7)?)?;

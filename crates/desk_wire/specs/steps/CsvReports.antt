@@ -1,10 +1,36 @@
--- How far the records of a report are read.
-use Rattle.std.specs.Prelude.{◌≡◌, ℕ, List, [], Option, Some, None}
+-- How a record's fields are read, and how far the records of a report are.
+use Rattle.std.specs.Prelude.{◌≡◌, ℕ, ◌^◌, List, [], Option, Some, None}
 use Rattle.std.proofs.Common.{Bor}
 use Rattle.csv.specs.Reading.{Ready, default_config, reader_config, reader_state, reader_trim, records_from, source_of}
+use Rattle.csv.specs.Records.{field_at}
 use Rattle.csv.specs.declared.parser.State.{State}
 use Rattle.csv.specs.declared.reader.Reader.{Reader}
 use Rattle.csv.specs.declared.reader.Trim.TheVariants as trim
+use Rattle.radio_core.specs.declared.data_rates.DataRate.{DataRate}
+use Rattle.radio_core.specs.Names.{is_name}
+use Rattle.desk_wire.specs.CsvReports.{decimal_below, decimal_in}
+use Rattle.desk_wire.specs.DataRates.{data_rate_numbered}
+use Rattle.desk_wire.specs.Hexadecimal.{octets_in}
+use Rattle.desk_wire.specs.Optional.{◌>>=◌, only_if}
+
+-- ---- the field at this place, from 0, in its form
+
+abbrev pub name_at : ℕ → List (List ℕ) → Option (List ℕ)
+name_at place fields = field_at fields place >>= only_if is_name
+
+abbrev pub whole_at : ℕ → List (List ℕ) → Option ℕ
+whole_at place fields = field_at fields place >>= decimal_below (2 ^ 53)
+
+abbrev pub u32_at : ℕ → List (List ℕ) → Option ℕ
+u32_at place fields = field_at fields place >>= decimal_below (2 ^ 32)
+
+abbrev pub data_rate_at : ℕ → List (List ℕ) → Option DataRate
+data_rate_at place fields = field_at fields place >>= decimal_in >>= data_rate_numbered
+
+abbrev pub octets_at : ℕ → List (List ℕ) → Option (List ℕ)
+octets_at place fields = field_at fields place >>= octets_in
+
+-- ---- the records
 
 -- the octets of a slice are known
 abbrev pub octets_known : Bor (List ℕ) → Option (List ℕ)
