@@ -1,15 +1,18 @@
 -- What was read, as the rows tell it, and what is written by it.
-use Rattle.std.proofs.Common.{◌≡◌, ℕ, Bool, true, false, List, [], ◌∷◌, filter, find, Option, Some, None, Ok, option_map, refl, sym, ap, subst, ◌∙◌}
+use Rattle.std.proofs.Common.{◌≡◌, ℕ, Bool, true, false, List, [], ◌∷◌, filter, find, Option, Some, None, Result, Ok, option_map, refl, sym, ap, subst, ◌∙◌}
+use Rattle.registry_core.specs.declared.effects.Effect.{Effect}
 use Rattle.registry_core.specs.declared.facts.Session.{Session}
 use Rattle.registry_core.specs.declared.facts.Uplink.{Uplink}
 use Rattle.registry_core.specs.Derived.{is_above}
 use Rattle.registry_core.specs.Numbered.{item_at}
 use Rattle.desk_rows.specs.Rows.{Rows, DeviceRow, SessionRow, is_device}
-use Rattle.desk_rows.specs.order.Keys.{HasOnly, RaisesOne, floor_set}
+use Rattle.desk_rows.specs.declared.faults.RowFault.{RowFault}
+use Rattle.desk_rows.specs.order.Keys.{HasOnly, IsThereFor, RaisesOne, floor_set}
 use Rattle.registry_core.specs.Wholes.{IsWhole}
 use Rattle.sqlite.specs.State.{State}
 use Rattle.desk_tables.specs.steps.Calls.{Asks}
-use Rattle.desk_tables.specs.steps.Effects.{HasSession, IsRaised}
+use Rattle.desk_tables.specs.declared.effects.basis.Basis.{Basis}
+use Rattle.desk_tables.specs.steps.Effects.{AreWhole, HasSession, IsBasis, IsRaised, WritesEffect}
 use Rattle.desk_tables.proofs.CallLemmas.{asks_then}
 
 -- the only row that passes is the first one
@@ -20,6 +23,23 @@ find_only p (x ∷ xs) row only = go (p x) refl only (find_only p xs row)
     go : (b : Bool) → p x ≡ b → filter p (x ∷ xs) ≡ row ∷ [] → (filter p xs ≡ row ∷ [] → find p xs ≡ Some row) → find p (x ∷ xs) ≡ Some row
     go true is h rest = let e = rw is at h in rw is (cc)
     go false is h rest = let e = rw is at h in rw is (rest e)
+
+-- what is looked for and isn't found is not there
+pub absent : {X Y : Type 0} (f : X → Y) {found : Option Y} {o : Option X} {x : X} → found ≡ None → found ≡ option_map f o → o ≡ Some x → ⊥
+absent f {x = x} none told there = let no : None ≡ Some (f x) = sym none ∙ told ∙ ap (option_map f) there in cc
+
+-- what is written of an effect is written of the one that it is
+pub writes_as : {old new : State} {result : Result (Unit {0}) RowFault} (basis : Basis) {effect other : Effect} → effect ≡ other
+    → WritesEffect old new result other basis → WritesEffect old new result effect basis
+writes_as {old = old} {new = new} {result = result} basis is h = subst (λ e. WritesEffect old new result e basis) (sym is) h
+
+-- and so is what it is written by
+abbrev pub AsksBasis : State → State → Result Basis RowFault → Effect → Type 0
+AsksBasis old new result effect = Asks old new result (IsThereFor effect) (AreWhole effect) (IsBasis effect)
+
+pub asks_basis : {old new : State} {result : Result Basis RowFault} {effect other : Effect} → effect ≡ other → AsksBasis old new result other
+    → AsksBasis old new result effect
+asks_basis {old = old} {new = new} {result = result} is h = subst (AsksBasis old new result) (sym is) h
 
 -- ---- floors
 
@@ -52,6 +72,10 @@ module _ (uplink : Uplink) (r : Rows) (one : RaisesOne uplink r) where
   device_of : (session : Session) → one.session.session ≡ session → HasOnly (is_device session.device) r.devices
   device_of session same = subst (λ (s : Session). HasOnly (is_device s.device) r.devices) same one.device
 
+pub device_there : (uplink : Uplink) (r : Rows) (one : RaisesOne uplink r) {session : Session}
+    → option_map (λ (row : SessionRow). row.session) (item_at r.sessions uplink.session) ≡ Some session → HasOnly (is_device session.device) r.devices
+device_there uplink r one {session = session} there = device_of uplink r one session (session_is uplink r one session there)
+
 -- the session of the uplink was asked for, and then its device's floor
 pub raised_asked : {a b c : State} {session : Session} {floor : Option ℕ} (uplink : Uplink)
     → Asks a b (Ok session) (λ r. Unit {0}) (λ r. IsWhole uplink.session × HasSession uplink.session r)
@@ -60,5 +84,5 @@ pub raised_asked : {a b c : State} {session : Session} {floor : Option ℕ} (upl
     (λ r found. option_map (λ (row : DeviceRow). row.floor) (find (is_device session.device) r.devices) ≡ Some found)
     → Asks a c (Ok floor) (RaisesOne uplink) (λ r. IsWhole uplink.session) (RaisesIf uplink.session session.device)
 raised_asked {session = session} uplink one two = asks_then one two (λ r of. tt) (λ r of there. tt)
-    (λ r of may there. device_of uplink r of session (session_is uplink r of session there))
+    (λ r of may there. device_there uplink r of there)
     (λ r of there floor told. raised uplink r of session (session_is uplink r of session there) floor told)

@@ -16,6 +16,9 @@ many_rows : {X : Type 0} (xs : List X) → unwrap_or (last_number xs) 0 ≡ leng
 many_rows [] = refl
 many_rows (x ∷ xs) = omega arith
 
+pub many_told : {X : Type 0} (xs : List X) {last : Option ℕ} {n : ℕ} → last ≡ last_number xs → n ≡ unwrap_or last 0 → n ≡ length xs
+many_told xs is shown = shown ∙ ap (λ o. unwrap_or o 0) is ∙ many_rows xs
+
 -- a row with the key is there
 module _ {X Y V : Type 0} (key : X → Y) (show : X → V) (is : Y → Bool) where
   found_any : (xs : List X) → is_some (option_map show (find (λ x. is (key x)) xs)) ≡ list_any is (map key xs)
@@ -34,7 +37,7 @@ senders_many r c kept last n tell is shown = record {
   each_once = tell.are.keyed.senders;
   are_all = λ name. ap (λ (s : State). is_some (s.senders name)) tell.are.is
       ∙ found_any (λ (s : SenderRow). s.name) (λ (s : SenderRow). s.role) (λ other. bytes_eq other name) r.senders;
-  many = shown ∙ ap (λ o. unwrap_or o 0) is ∙ many_rows r.senders ∙ sym (length-map r.senders (λ (s : SenderRow). s.name));
+  many = many_told r.senders is shown ∙ sym (length-map r.senders (λ (s : SenderRow). s.name));
 }
 
 pub owners_many : (r : Rows) (c : Settings) (kept : Kept) (last : Option ℕ) (n : ℕ) → RowsTell c kept r → last ≡ last_number r.owners → n ≡ unwrap_or last 0
@@ -43,7 +46,7 @@ owners_many r c kept last n tell is shown = record {
   all = r.owners;
   each_once = tell.are.keyed.owners;
   are_all = λ name. ap (λ (s : State). s.owners name) tell.are.is;
-  many = shown ∙ ap (λ o. unwrap_or o 0) is ∙ many_rows r.owners;
+  many = many_told r.owners is shown;
 }
 
 pub gateways_many : (r : Rows) (c : Settings) (kept : Kept) (last : Option ℕ) (n : ℕ) → RowsTell c kept r → last ≡ last_number r.gateways → n ≡ unwrap_or last 0
@@ -52,7 +55,7 @@ gateways_many r c kept last n tell is shown = record {
   all = r.gateways;
   each_once = tell.are.keyed.gateways;
   are_all = λ name. ap (λ (s : State). s.gateways name) tell.are.is;
-  many = shown ∙ ap (λ o. unwrap_or o 0) is ∙ many_rows r.gateways;
+  many = many_told r.gateways is shown;
 }
 
 pub devices_many : (r : Rows) (c : Settings) (kept : Kept) (last : Option ℕ) (n : ℕ) → RowsTell c kept r → last ≡ last_number r.devices → n ≡ unwrap_or last 0
@@ -62,7 +65,7 @@ devices_many r c kept last n tell is shown = record {
   each_once = tell.are.keyed.devices;
   are_all = λ dev_eui. ap (λ (s : State). is_some (s.devices dev_eui)) tell.are.is
       ∙ found_any (λ (d : DeviceRow). d.dev_eui) (λ (d : DeviceRow). d.device) (λ other. nat_eq other dev_eui) r.devices;
-  many = shown ∙ ap (λ o. unwrap_or o 0) is ∙ many_rows r.devices ∙ sym (length-map r.devices (λ (d : DeviceRow). d.dev_eui));
+  many = many_told r.devices is shown ∙ sym (length-map r.devices (λ (d : DeviceRow). d.dev_eui));
 }
 
 pub limits_many : (r : Rows) (c : Settings) (kept : Kept) (last : Option ℕ) (n : ℕ) → RowsTell c kept r → last ≡ last_number r.limits → n ≡ unwrap_or last 0
@@ -72,5 +75,5 @@ limits_many r c kept last n tell is shown = record {
   each_once = tell.are.keyed.limits;
   are_all = λ band. ap (λ (s : State). is_some (s.limits band.0 band.1)) tell.are.is
       ∙ found_any limit_key (λ (l : LimitRow). l.limit.most) (λ other. same_band other band) r.limits;
-  many = shown ∙ ap (λ o. unwrap_or o 0) is ∙ many_rows r.limits ∙ sym (length-map r.limits limit_key);
+  many = many_told r.limits is shown ∙ sym (length-map r.limits limit_key);
 }

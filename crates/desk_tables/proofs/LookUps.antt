@@ -201,6 +201,30 @@ module _ {S T : Type 0} (g : Ghosts S) (old : Tables S) (mid : Held S) (new : Ta
       (says old.config kept (record { are = stands.desk.in_order.are; entries = stands.desk.in_order.entries; in_range = stands.desk.in_order.held.ten.in_range; few = stands.desk.few }))
   kept_told (Err fault) result P up reads (t, is, fails) = λ kept clean holds. subst (λ r. IfOk r (P kept)) (sym is) tt
 
+-- ---- a store that is down is asked nothing
+
+pub disk_told : {T : Type 0} {fault : StoreFault} (result : Result T StoreFault) → IsErrAnd result (λ told. told ≡ fault) → fault ≡ told_as.Disk
+    → result ≡ Err told_as.Disk
+disk_told {T = T} result with_fault is =
+    let told = err_from_is_err_and result with_fault in
+    told.1 ∙ ap (λ (f : StoreFault). let r : Result T StoreFault = Err f in r) (told.2 ∙ is)
+
+pub none_told : {T : Type 0} {fault : StoreFault} {result : Result T StoreFault} → result ≡ Err fault → (P : T → Type 0) → IfOk result P
+none_told is P = subst (λ r. IfOk r P) (sym is) tt
+
+pub down_read : {S T : Type 0} (g : Ghosts S) (s : Tables S) {fault : StoreFault} (result : Result T StoreFault) → IsErrAnd result (λ told. told ≡ fault)
+    → (fault ≡ told_as.Disk) × (s.down ≡ true) → calls.IsRead (meaning_of g) s s (fault_in result)
+down_read g s result with_fault down = subst (λ r. calls.IsRead (meaning_of g) s s (fault_in r)) (sym (disk_told result with_fault down.0)) (record {
+  same = refl;
+  was_sound = λ sound. sound;
+  shut = down.1;
+  strange = refl;
+  reading = tt;
+  held = λ kept sound holds. holds;
+  left = λ kept all sound holds left. left;
+  unavailable = λ kept sound holds. tt;
+})
+
 -- ---- look-ups in a row
 
 pub read_then : {K : Type 0} (m : Meaning K) (a b c : K) (fault : Option StoreFault) → calls.IsRead m a b None → calls.IsRead m b c fault → calls.IsRead m a c fault

@@ -29,6 +29,10 @@ pub or_zero : {X : Type 0} (f : X → ℕ) (o : Option X) → unwrap_or (option_
 or_zero f None = refl
 or_zero f (Some x) = refl
 
+pub or_else : (o : Option ℕ) (other : ℕ) → unwrap_or o other ≡ option_map_or (λ n. n) o other
+or_else None other = refl
+or_else (Some n) other = refl
+
 -- what is told beside its number
 pub beside : {X : Type 0} (n : ℕ) (o : Option X) → option_map (λ (found : ℕ × X). found.1) (option_map (λ x. (n, x)) o) ≡ o
 beside n None = refl

@@ -1,5 +1,5 @@
 //! How many of each the tables hold: the last number of each table.
-ghost use Rattle.std.specs.Prelude.{◌≡◌, length};
+ghost use Rattle.std.specs.Prelude.{◌≡◌, unwrap_or};
 ghost use Rattle.sqlite.specs.Held.{state};
 ghost use Rattle.desk_tables.specs.steps.Calls.{Asks};
 ghost use Rattle.desk_tables.specs.steps.Counting.{AreCounted, AreCountsIn};
@@ -8,52 +8,23 @@ use desk_rows::{RowFault, last_booking, last_reply, last_session, last_uplink};
 use desk_store::Counts;
 use sqlite::{Alter, Connection};
 
-fn heard_in<S: Alter>(conn: &mut Connection<S>) -> Result<u64, RowFault>
-    ensures { Asks (state S.Store conn.old) (state S.Store conn.new) result (λ r. Unit {0}) (λ r. Unit {0}) (λ r n. n ≡ length r.replies) }
+/// A row's number is how many rows there are up to it, since none is ever removed.
+pub(crate) fn or_none(last: Option<u64>) -> u64
+    ensures { result ≡ unwrap_or last 0 }
 {
-    match last_reply(conn)? {
-        Some(last) => Ok(last),
-        None => Ok(0),
-    }
-}
-
-fn sessions_in<S: Alter>(conn: &mut Connection<S>) -> Result<u64, RowFault>
-    ensures { Asks (state S.Store conn.old) (state S.Store conn.new) result (λ r. Unit {0}) (λ r. Unit {0}) (λ r n. n ≡ length r.sessions) }
-{
-    match last_session(conn)? {
-        Some(last) => Ok(last),
-        None => Ok(0),
-    }
-}
-
-fn uplinks_in<S: Alter>(conn: &mut Connection<S>) -> Result<u64, RowFault>
-    ensures { Asks (state S.Store conn.old) (state S.Store conn.new) result (λ r. Unit {0}) (λ r. Unit {0}) (λ r n. n ≡ length r.uplinks) }
-{
-    match last_uplink(conn)? {
-        Some(last) => Ok(last),
-        None => Ok(0),
-    }
-}
-
-fn bookings_in<S: Alter>(conn: &mut Connection<S>) -> Result<u64, RowFault>
-    ensures { Asks (state S.Store conn.old) (state S.Store conn.new) result (λ r. Unit {0}) (λ r. Unit {0}) (λ r n. n ≡ length r.bookings) }
-{
-    match last_booking(conn)? {
-        Some(last) => Ok(last),
-        None => Ok(0),
-    }
+    last.unwrap_or(0)
 }
 
 fn counts_in<S: Alter>(conn: &mut Connection<S>) -> Result<Counts, RowFault>
     ensures { Asks (state S.Store conn.old) (state S.Store conn.new) result (λ r. Unit {0}) (λ r. Unit {0}) AreCountsIn }
 {
-    let sessions = sessions_in(conn)?;
-    let uplinks = uplinks_in(conn)?;
-    let bookings = bookings_in(conn)?;
+    let sessions = last_session(conn)?;
+    let uplinks = last_uplink(conn)?;
+    let bookings = last_booking(conn)?;
     Ok(Counts {
-        sessions,
-        uplinks,
-        bookings,
+        sessions: or_none(sessions),
+        uplinks: or_none(uplinks),
+        bookings: or_none(bookings),
     })
 }
 
@@ -61,7 +32,7 @@ fn counts_in<S: Alter>(conn: &mut Connection<S>) -> Result<Counts, RowFault>
 pub(crate) fn counted<S: Alter>(conn: &mut Connection<S>) -> Result<(u64, Counts), RowFault>
     ensures { Asks (state S.Store conn.old) (state S.Store conn.new) result (λ r. Unit {0}) (λ r. Unit {0}) AreCounted }
 {
-    let heard = heard_in(conn)?;
+    let last = last_reply(conn)?;
     let counts = counts_in(conn)?;
-    Ok((heard, counts))
+    Ok((or_none(last), counts))
 }

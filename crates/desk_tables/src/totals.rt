@@ -1,5 +1,5 @@
 //! How many there are of each thing that a desk holds.
-ghost use Rattle.std.specs.Prelude.{◌≡◌, Option, bytes_eq, is_some, nat_eq, unwrap_or};
+ghost use Rattle.std.specs.Prelude.{◌≡◌, Option, bytes_eq, is_some, nat_eq};
 ghost use Rattle.sqlite.specs.Held.{state};
 ghost use Rattle.desk_store.specs.Calls.{IsRead, Tells, TellsDown, fault_in};
 ghost use Rattle.desk_rows.specs.Calls.{Reads};
@@ -8,6 +8,7 @@ ghost use Rattle.desk_tables.specs.Store.{meaning_of};
 ghost use Rattle.desk_tables.specs.Totals.{AreTotals, HaveIt, has_limit};
 ghost use Rattle.desk_tables.specs.steps.LookUps.{OfKept};
 
+use crate::counting::or_none;
 use crate::tables::Tables;
 use desk_rows::{RowFault, last_device, last_gateway, last_limit, last_owner, last_sender};
 use desk_store::{Counts, StoreFault};
@@ -25,13 +26,6 @@ pub struct Totals {
     pub numbered: Counts,
     /// Messages that were heard, each with its answer.
     pub replies: u64,
-}
-
-/// A row's number is how many rows there are up to it, since none is ever removed.
-fn or_none(last: Option<u64>) -> u64
-    ensures { result ≡ unwrap_or last 0 }
-{
-    last.unwrap_or(0)
 }
 
 fn senders_in<S: Alter>(conn: &mut Connection<S>) -> Result<u64, RowFault>
