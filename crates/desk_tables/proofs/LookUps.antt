@@ -21,9 +21,11 @@ use Rattle.desk_rows.specs.Rows.{Holds, Rows}
 use Rattle.desk_tables.specs.InOrder.{IsOfDesk}
 use Rattle.desk_tables.specs.Store.{IsSettled, Leaves, Stands, meaning_of}
 use Rattle.desk_tables.specs.declared.tables.Tables.{Tables}
+use Rattle.desk_tables.specs.steps.Calls.{Asks}
 use Rattle.desk_tables.specs.steps.LookUps.{OfKept}
 use Rattle.desk_tables.specs.steps.Faults.{store_fault}
 use Rattle.desk_tables.specs.steps.Settling.{IsTold, Settles, reading_fault}
+use Rattle.desk_tables.proofs.CallLemmas.{asks_one}
 
 -- ---- a connection after a look-up
 
@@ -139,7 +141,8 @@ module _ {S : Type 0} (g : Ghosts S) (old : Tables S) (mid : Held S) (up : old.d
 
   module _ (new : Held S) (fault : RowFault) (told : StoreFault) (read : IsReadingCall (state g old.conn) (state g mid) false)
       (settles : Settles (state g mid) (state g new) (reading_fault fault) told)
-      (in_order : HasCleanDisk (state g mid) → (state g old.conn).step_limit ≡ None → (r : Rows) → Holds (state g old.conn).now r → IsEven fault) where
+      (in_order : HasCleanDisk (state g mid) → IsTrue (state g old.conn).is_open → (state g old.conn).step_limit ≡ None
+      → (r : Rows) → Holds (state g old.conn).now r → IsEven fault) where
     abbrev after : Tables S
     after = record old { conn = new; down = is_disk (Some told) || old.down; foreign = is_foreign (Some told) || old.foreign }
 
@@ -174,32 +177,42 @@ module _ {S : Type 0} (g : Ghosts S) (old : Tables S) (mid : Held S) (up : old.d
           (survives_then (state g old.conn) (state g mid) (state g new) (λ _. ⊥) (λ _. ⊥) (λ _. ⊥) (λ _ db none. none) (λ _ db none. none) first settles.survives) left;
       unavailable = λ kept clean holds.
           let stands = holds up in
-          let even = in_order (early clean) stands.settled.unlimited stands.desk.in_order.rows stands.desk.in_order.held in
+          let even = in_order (early clean) stands.settled.open_still stands.settled.unlimited stands.desk.in_order.rows stands.desk.in_order.held in
           disk_or_as told (store_fault (reading_fault fault)) IsUnavailability tt (even_told fault even) settles.same;
     }
 
--- ---- what a look-up of a store tells
+-- ---- what a look-up of a store tells, and what several in a row do
 
 module _ {S T : Type 0} (g : Ghosts S) (old : Tables S) (mid : Held S) (new : Tables S) where
+  pub read_asked : (answer : Result T RowFault) (result : Result T StoreFault) (Says : Rows → T → Type 0) → old.down ≡ false
+      → Asks (state g old.conn) (state g mid) answer (λ _. Unit {0}) (λ _. Unit {0}) Says → IsTold g (record old { conn = mid }) new answer result
+      → calls.IsRead (meaning_of g) old new (fault_in result)
+  read_asked (Ok x) result Says up asks told = subst (λ r. calls.IsRead (meaning_of g) old new (fault_in r)) (sym told.0)
+      (subst (λ k. calls.IsRead (meaning_of g) old k None) (sym told.1) (answered g old mid up asks.read))
+  read_asked (Err fault) result Says up asks (t, is, fails) = subst (λ r. calls.IsRead (meaning_of g) old new (fault_in r)) (sym is)
+      (subst (λ k. calls.IsRead (meaning_of g) old k (Some t)) (sym fails.same)
+      (failed g old mid up new.conn fault t asks.read fails.settles (λ clean open_was unlimited r has. asks.in_order clean open_was unlimited r has tt tt)))
+
+  pub kept_asked : (answer : Result T RowFault) (result : Result T StoreFault) (P : Kept → T → Type 0) → old.down ≡ false
+      → Asks (state g old.conn) (state g mid) answer (λ _. Unit {0}) (λ _. Unit {0}) (OfKept P) → IsTold g (record old { conn = mid }) new answer result
+      → Tells (meaning_of g) old new result P
+  kept_asked (Ok x) result P up asks told = λ kept clean holds.
+      let stands = holds up in
+      let clean_mid : HasCleanDisk (state g mid) = subst (λ (k : Tables S). HasCleanDisk (state g k.conn)) told.1 clean in
+      let says = asks.told clean_mid stands.settled.open_still stands.desk.in_order.rows stands.desk.in_order.held tt in
+      subst (λ r. IfOk r (P kept)) (sym told.0)
+      (says old.config kept (record { are = stands.desk.in_order.are; entries = stands.desk.in_order.entries; in_range = stands.desk.in_order.held.ten.in_range; few = stands.desk.few }))
+  kept_asked (Err fault) result P up asks (t, is, fails) = λ kept clean holds. subst (λ r. IfOk r (P kept)) (sym is) tt
+
   pub read_told : (answer : Result T RowFault) (result : Result T StoreFault) (Says : Rows → T → Type 0) → old.down ≡ false
       → Reads (state g old.conn) (state g mid) answer Says → IsTold g (record old { conn = mid }) new answer result
       → calls.IsRead (meaning_of g) old new (fault_in result)
-  read_told (Ok x) result Says up reads told = subst (λ r. calls.IsRead (meaning_of g) old new (fault_in r)) (sym told.0)
-      (subst (λ k. calls.IsRead (meaning_of g) old k None) (sym told.1) (answered g old mid up reads.read))
-  read_told (Err fault) result Says up reads (t, is, fails) = subst (λ r. calls.IsRead (meaning_of g) old new (fault_in r)) (sym is)
-      (subst (λ k. calls.IsRead (meaning_of g) old k (Some t)) (sym fails.same)
-      (failed g old mid up new.conn fault t reads.read fails.settles reads.in_order))
+  read_told answer result Says up reads told = read_asked answer result Says up (asks_one reads) told
 
   pub kept_told : (answer : Result T RowFault) (result : Result T StoreFault) (P : Kept → T → Type 0) → old.down ≡ false
       → Reads (state g old.conn) (state g mid) answer (OfKept P) → IsTold g (record old { conn = mid }) new answer result
       → Tells (meaning_of g) old new result P
-  kept_told (Ok x) result P up reads told = λ kept clean holds.
-      let stands = holds up in
-      let clean_mid : HasCleanDisk (state g mid) = subst (λ (k : Tables S). HasCleanDisk (state g k.conn)) told.1 clean in
-      let says = reads.told clean_mid stands.desk.in_order.rows stands.desk.in_order.held in
-      subst (λ r. IfOk r (P kept)) (sym told.0)
-      (says old.config kept (record { are = stands.desk.in_order.are; entries = stands.desk.in_order.entries; in_range = stands.desk.in_order.held.ten.in_range; few = stands.desk.few }))
-  kept_told (Err fault) result P up reads (t, is, fails) = λ kept clean holds. subst (λ r. IfOk r (P kept)) (sym is) tt
+  kept_told answer result P up reads told = kept_asked answer result P up (asks_one reads) told
 
 -- ---- a store that is down is asked nothing
 
@@ -238,10 +251,3 @@ read_then m a b c fault one two = record {
   left = λ kept all sound holds left. two.left kept all sound (one.held kept (two.was_sound sound) holds) (one.left kept all (two.was_sound sound) holds left);
   unavailable = λ kept sound holds. two.unavailable kept sound (one.held kept (two.was_sound sound) holds);
 }
-
--- and the last of them failed
-pub read_fails : {K T : Type 0} (m : Meaning K) (a b c : K) (fault : StoreFault) (result : Result T StoreFault) → IsErrAnd result (λ told. told ≡ fault)
-    → calls.IsRead m a b None → calls.IsRead m b c (Some fault) → calls.IsRead m a c (fault_in result)
-read_fails {T = T} m a b c fault result failed one two =
-    let told = err_from_is_err_and result failed in
-    subst (λ r. calls.IsRead m a c (fault_in r)) (sym (told.1 ∙ ap (λ (f : StoreFault). let r : Result T StoreFault = Err f in r) told.2)) (read_then m a b c (Some fault) one two)

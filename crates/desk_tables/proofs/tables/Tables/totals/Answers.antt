@@ -1,24 +1,29 @@
-use Rattle.desk_tables.proofs.LookUps.{read_fails, read_then}
+use Rattle.std.proofs.Common.{◌∙◌, ◌≡◌, length, sym, true≢false}
+use Rattle.desk_store.specs.Parts.{AreCounts}
+use Rattle.desk_tables.specs.Totals.{AreTotals}
+use Rattle.desk_tables.proofs.HaveItLemmas.{totals_told}
+use Rattle.desk_tables.proofs.LookUps.{disk_told, down_read, kept_asked, none_told, read_asked}
 use Rattle.desk_tables.proofs.tables.Tables.totals.Goals as goal
 
-pub returns-in_err-owners-clause-read : goal.returns-in_err-owners-clause-read
-returns-in_err-owners-clause-read g c = read_fails _ _ _ _ _ c.from_residual-in_err-owners.result c.from_residual-in_err-owners.ensures.1
-    c.in_ok-senders.ensures.read c.in_err-owners.ensures.read
+pub returns-in_err-up-clause-read : goal.returns-in_err-up-clause-read
+returns-in_err-up-clause-read g c = down_read _ _ c.from_residual.result c.from_residual.ensures.1 c.in_err-up.ensures.down
 
-pub returns-in_err-gateways-clause-read : goal.returns-in_err-gateways-clause-read
-returns-in_err-gateways-clause-read g c = read_fails _ _ _ _ _ c.from_residual-in_err-gateways.result c.from_residual-in_err-gateways.ensures.1
-    (read_then _ _ _ _ _ c.in_ok-senders.ensures.read c.in_ok-owners.ensures.read) c.in_err-gateways.ensures.read
+pub returns-in_err-up-clause-down : goal.returns-in_err-up-clause-down
+returns-in_err-up-clause-down g c down = disk_told c.from_residual.result c.from_residual.ensures.1 c.in_err-up.ensures.down.0
 
-pub returns-in_err-devices-clause-read : goal.returns-in_err-devices-clause-read
-returns-in_err-devices-clause-read g c = read_fails _ _ _ _ _ c.from_residual-in_err-devices.result c.from_residual-in_err-devices.ensures.1
-    (read_then _ _ _ _ _ (read_then _ _ _ _ _ c.in_ok-senders.ensures.read c.in_ok-owners.ensures.read) c.in_ok-gateways.ensures.read) c.in_err-devices.ensures.read
-
-pub returns-in_err-limits-clause-read : goal.returns-in_err-limits-clause-read
-returns-in_err-limits-clause-read g c = read_fails _ _ _ _ _ c.from_residual-in_err-limits.result c.from_residual-in_err-limits.ensures.1
-    (read_then _ _ _ _ _ (read_then _ _ _ _ _ (read_then _ _ _ _ _ c.in_ok-senders.ensures.read c.in_ok-owners.ensures.read) c.in_ok-gateways.ensures.read) c.in_ok-devices.ensures.read)
-    c.in_err-limits.ensures.read
+pub returns-in_err-up-clause-told : goal.returns-in_err-up-clause-told
+returns-in_err-up-clause-told g c kept sound holds = none_told (disk_told c.from_residual.result c.from_residual.ensures.1 c.in_err-up.ensures.down.0) _
 
 pub returns-clause-read : goal.returns-clause-read
-returns-clause-read g c = read_then _ _ _ _ _
-    (read_then _ _ _ _ _ (read_then _ _ _ _ _ (read_then _ _ _ _ _ c.in_ok-senders.ensures.read c.in_ok-owners.ensures.read) c.in_ok-gateways.ensures.read) c.in_ok-devices.ensures.read)
-    c.in_ok-limits.ensures.read
+returns-clause-read g c = read_asked _ _ _ _ _ _ _ c.in_ok-up.ensures.up c.totals_in-answer.ensures c.tell.ensures
+
+pub returns-clause-down : goal.returns-clause-down
+returns-clause-down g c down = absurd (true≢false (sym down ∙ c.in_ok-up.ensures.up))
+
+pub returns-clause-told : goal.returns-clause-told
+returns-clause-told g c kept sound holds =
+    let stands = holds c.in_ok-up.ensures.up in
+    let counted = c.args.self.now in
+    totals_told kept c.tell.result stands.counts stands.heard
+    (kept_asked _ _ _ _ _ _ (λ kept totals. AreCounts kept.facts counted.counts → counted.heard ≡ length kept.entries → AreTotals kept totals)
+    c.in_ok-up.ensures.up c.totals_in-answer.ensures c.tell.ensures kept sound holds)
