@@ -237,17 +237,3 @@ down_read g s result with_fault down = subst (λ r. calls.IsRead (meaning_of g) 
   left = λ kept all sound holds left. left;
   unavailable = λ kept sound holds. tt;
 })
-
--- ---- look-ups in a row
-
-pub read_then : {K : Type 0} (m : Meaning K) (a b c : K) (fault : Option StoreFault) → calls.IsRead m a b None → calls.IsRead m b c fault → calls.IsRead m a c fault
-read_then m a b c fault one two = record {
-  same = two.same ∙ one.same;
-  was_sound = λ sound. one.was_sound (two.was_sound sound);
-  shut = two.shut ∙ ap (λ down. is_disk fault || down) one.shut;
-  strange = two.strange ∙ ap (λ foreign. is_foreign fault || foreign) one.strange;
-  reading = two.reading;
-  held = λ kept sound holds. two.held kept sound (one.held kept (two.was_sound sound) holds);
-  left = λ kept all sound holds left. two.left kept all sound (one.held kept (two.was_sound sound) holds) (one.left kept all (two.was_sound sound) holds left);
-  unavailable = λ kept sound holds. two.unavailable kept sound (one.held kept (two.was_sound sound) holds);
-}

@@ -7,6 +7,7 @@ ghost use Rattle.registry_core.specs.Derived.{join_with};
 ghost use Rattle.registry_core.specs.Numbered.{first_that, item_at};
 ghost use Rattle.desk_rows.specs.Calls.{Reads};
 ghost use Rattle.desk_rows.specs.Rows.{is_uplink};
+ghost use Rattle.desk_tables.specs.steps.Calls.{Asks};
 ghost use Rattle.desk_tables.specs.steps.LookUps.{OfKept};
 
 use desk_rows::order::look_ups_tell;
@@ -16,7 +17,7 @@ use registry_core::{Booking, Kind, Reception, Uplink, Whole};
 use sqlite::{Alter, Connection};
 
 /// The number of the session that has the join uplink of the device with this nonce.
-pub(crate) fn session_joined<S: Alter>(
+fn session_joined<S: Alter>(
     conn: &mut Connection<S>,
     device: Eui,
     nonce: u16,
@@ -30,7 +31,7 @@ pub(crate) fn session_joined<S: Alter>(
 }
 
 /// The join uplink of the session with this nonce.
-pub(crate) fn join_of<S: Alter>(
+fn join_of<S: Alter>(
     conn: &mut Connection<S>,
     session: u64,
     nonce: u16,
@@ -40,6 +41,20 @@ pub(crate) fn join_of<S: Alter>(
 {
     match Whole::new(session) {
         Some(session) => uplink_with(conn, session, Kind::Join, u32::from(nonce)),
+        None => Ok(None),
+    }
+}
+
+pub(crate) fn join_with<S: Alter>(
+    conn: &mut Connection<S>,
+    device: Eui,
+    nonce: u16,
+) -> Result<Option<(u64, Uplink)>, RowFault>
+    ensures { Asks (state S.Store conn.old) (state S.Store conn.new) result (λ r. Unit {0}) (λ r. Unit {0})
+        (OfKept (λ kept found. found ≡ join_with kept.facts.uplinks kept.facts.sessions device nonce)) }
+{
+    match session_joined(conn, device, nonce)? {
+        Some(session) => join_of(conn, session, nonce),
         None => Ok(None),
     }
 }
