@@ -2,7 +2,7 @@
 ghost use Rattle.std.specs.Prelude.{◌≡◌, unwrap_or};
 ghost use Rattle.sqlite.specs.Held.{state};
 ghost use Rattle.desk_tables.specs.steps.Calls.{Asks};
-ghost use Rattle.desk_tables.specs.steps.Counting.{AreCounted, AreCountsIn};
+ghost use Rattle.desk_tables.specs.steps.Counting.{AreCounted};
 
 use desk_rows::{RowFault, last_booking, last_reply, last_session, last_uplink};
 use desk_store::Counts;
@@ -15,24 +15,18 @@ pub(crate) fn or_none(last: Option<u64>) -> u64
     last.unwrap_or(0)
 }
 
-fn counts_in<S: Alter>(conn: &mut Connection<S>) -> Result<Counts, RowFault>
-    ensures { Asks (state S.Store conn.old) (state S.Store conn.new) result (λ r. Unit {0}) (λ r. Unit {0}) AreCountsIn }
-{
-    let sessions = last_session(conn)?;
-    let uplinks = last_uplink(conn)?;
-    let bookings = last_booking(conn)?;
-    Ok(Counts {
-        sessions: or_none(sessions),
-        uplinks: or_none(uplinks),
-        bookings: or_none(bookings),
-    })
-}
-
 /// How many messages were heard, and how many there are of what is numbered.
 pub(crate) fn counted<S: Alter>(conn: &mut Connection<S>) -> Result<(u64, Counts), RowFault>
     ensures { Asks (state S.Store conn.old) (state S.Store conn.new) result (λ r. Unit {0}) (λ r. Unit {0}) AreCounted }
 {
-    let last = last_reply(conn)?;
-    let counts = counts_in(conn)?;
-    Ok((or_none(last), counts))
+    let replies = last_reply(conn)?;
+    let sessions = last_session(conn)?;
+    let uplinks = last_uplink(conn)?;
+    let bookings = last_booking(conn)?;
+    let counts = Counts {
+        sessions: or_none(sessions),
+        uplinks: or_none(uplinks),
+        bookings: or_none(bookings),
+    };
+    Ok((or_none(replies), counts))
 }

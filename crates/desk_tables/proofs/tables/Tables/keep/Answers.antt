@@ -16,6 +16,9 @@ returns-then-not-is_autocommit g c =
 pub returns-then-self : goal.returns-then-self
 returns-then-self g c = commit_full g.S.Store c.args.self.now _ _ _ _ c.in_ok-up.ensures.up g.met.S.Store.settled c.if-self.true
 
+pub note-requires : goal.note-requires
+note-requires g c = omega (arith, c.if-self.false)
+
 pub returns : goal.returns
 returns g c = commit_noted g.S.Store c.args.self.now _ _ _ _ c.in_ok-up.ensures.up (omega (arith, c.if-self.false)) c.rows_follow_facts.ensures c.keys_are_free.ensures
     c.changed_rows_are_there.ensures g.met.S.Store.settled c.commit_rows-done.new.conn c.note.new.self c.commit_rows-done.result c.note.result
