@@ -1,5 +1,5 @@
 -- What stands after a look-up, and what it tells.
-use Rattle.std.proofs.Common.{◌≡◌, ◌⊎◌, inl, inr, Bool, true, false, true≢false, IsTrue, Option, None, Some, List, Result, Ok, Err, refl, sym, ap, subst, ◌∙◌, arith}
+use Rattle.std.proofs.Common.{◌≡◌, ◌⊎◌, inl, inr, Bool, true, false, true≢false, IsTrue, None, Some, List, Result, Ok, Err, refl, sym, ap, subst, ◌∙◌, arith}
 use Rattle.std.specs.Prelude.{◌||◌, IfOk}
 use Rattle.std.specs.Result.{IsErrAnd}
 use Rattle.std.proofs.lemmas.Result.{err_from_is_err_and}
@@ -12,7 +12,6 @@ use Rattle.desk_store.specs.declared.faults.StoreFault.TheVariants as told_as
 use Rattle.desk_store.specs.Calls.{IsOfReading, IsUnavailability, Tells, fault_in, is_disk, is_foreign}
 use Rattle.desk_store.specs.Calls as calls
 use Rattle.desk_store.specs.Kept.{Kept}
-use Rattle.desk_store.specs.Meaning.{Meaning}
 use Rattle.desk_rows.specs.declared.faults.RowFault.{RowFault}
 use Rattle.desk_rows.specs.declared.faults.RowFault.TheVariants.{Memory, Disk, Size, Row as OutOfRange, Refused}
 use Rattle.desk_rows.specs.Calls.{IsReadingCall, Reads}
