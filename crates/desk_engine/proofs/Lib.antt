@@ -12,8 +12,11 @@ pub mod LineRuns
 pub mod NewLists
 pub mod OwnerLines
 pub mod Places
+pub mod Readings
 pub mod Replies
+pub mod ReportFaults
 pub mod ReportLaw
 pub mod RisingLists
 pub mod Runs
+pub mod StoreFaults
 pub mod Unread
