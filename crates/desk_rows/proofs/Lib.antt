@@ -41,3 +41,4 @@ pub mod UpdateLemmas
 pub mod UpdateRefusals
 pub mod Updating
 pub mod UplinkQueries
+pub mod RowPlaces
