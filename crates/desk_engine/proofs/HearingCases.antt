@@ -5,6 +5,7 @@ use Rattle.std.proofs.lemmas.Bool.{cases_Bool, cases_lt}
 use Rattle.registry_core.specs.declared.answers.Answer.{Answer}
 use Rattle.registry_core.specs.declared.answers.Refusal.{Refusal}
 use Rattle.registry_core.specs.declared.answers.Refusal.TheVariants.{UnknownSender}
+use Rattle.registry_core.specs.declared.effects.Effect.{Effect}
 use Rattle.registry_core.specs.declared.messages.Envelope.{Envelope}
 use Rattle.registry_core.specs.declared.views.View.{View}
 use Rattle.registry_core.specs.Fits.{Fits}
@@ -29,7 +30,7 @@ use Rattle.desk_engine.specs.declared.outcomes.Outcome.TheVariants.{Answered, Re
 use Rattle.desk_engine.specs.Deliveries.{heard_unless}
 use Rattle.desk_engine.specs.InOrder.{HasNoRoom, IsInOrder, Survives, entries_of, entry_at, kept_after}
 use Rattle.desk_engine.specs.Outcomes.{IfRefused, IsOutcome, IsUnheardEnvelope, doubt_of, fault_of, is_unavailable}
-use Rattle.desk_engine.specs.steps.Hearing.{HearsNew, Repeats, Says}
+use Rattle.desk_engine.specs.steps.Hearing.{HearsNew, IsDecided, Repeats, Says}
 use Rattle.desk_engine.specs.Told.{AnswerText, RefusalText, Told, envelope_told, refusal_told, reply_told}
 use Rattle.desk_engine.proofs.KeptAfter.{length-kept_after}
 use Rattle.desk_engine.proofs.Places.{cases_option, entry_of-entries_of, has_pair-pair_place, no_place, same_envelope, stands_for}
@@ -212,6 +213,13 @@ can_add c heard e view d viewed none fits is = record {
   new = none;
   effect_fits = subst (λ (x : Decision). Fits x.0 (state_of c heard)) (sym is) fits;
 }
+
+-- what is decided by these settings, with texts in other words
+pub decided_by : (c own : Settings) (heard : List Envelope) (e : Envelope) (view : View) (effect : Effect) (message answer m a : List ℕ) → own ≡ c → m ≡ message → a ≡ answer
+    → (IsHeard own heard → entry_of e (entries_of own heard) ≡ None → IsView own (state_of own heard) e view → IsDecided own heard e effect message answer)
+    → IsHeard c heard → entry_of e (entries_of c heard) ≡ None → IsView c (state_of c heard) e view → IsDecided c heard e effect m a
+decided_by c own heard e view effect message answer m a its messaged answered made = rw (messaged, answered)
+    (subst (λ s. IsHeard s heard → entry_of e (entries_of s heard) ≡ None → IsView s (state_of s heard) e view → IsDecided s heard e effect message answer) its made)
 
 -- after a fault the store holds what it held, and the message is in doubt where the fault is the disk's
 pub survives_fault : {K : Type 0} (m : Meaning K) (c : Settings) (new : K) (heard : List Envelope) (e : Envelope) (fault : StoreFault)

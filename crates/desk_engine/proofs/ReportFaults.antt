@@ -21,9 +21,6 @@ owner_is_no_time is = cc
 pub store_is_no_time : (fault : StoreFault) → ¬ (Unavailable fault ≡ Time)
 store_is_no_time fault is = cc
 
-pub store_is_no_owner : (fault : StoreFault) → ¬ (Unavailable fault ≡ Owner)
-store_is_no_owner fault is = cc
-
 pub store_is_no_gateway : (fault : StoreFault) → ¬ (Unavailable fault ≡ Gateway)
 store_is_no_gateway fault is = cc
 

@@ -1,12 +1,14 @@
 -- What one message makes of the store, and what it is told.
 use Rattle.std.specs.Prelude.{◌≡◌, ◌≢◌, ℕ, List, [], ◌∷◌, ◌++◌, Some, MatchOption}
 use Rattle.registry_core.specs.declared.answers.Refusal.TheVariants.{TransactionReused}
+use Rattle.registry_core.specs.declared.effects.Effect.{Effect}
 use Rattle.registry_core.specs.declared.messages.Envelope.{Envelope}
 use Rattle.registry_core.specs.Heard.{state_of}
 use Rattle.registry_core.specs.Settings.{Settings}
 use Rattle.registry_core.specs.Step.{step}
 use Rattle.desk_store.specs.declared.faults.StoreFault.TheVariants.{Memory}
 use Rattle.desk_store.specs.Calls.{IsUnavailability}
+use Rattle.desk_store.specs.Kept.{CanAdd, with_entry}
 use Rattle.desk_store.specs.Meaning.{Meaning}
 use Rattle.desk_wire.specs.Answers.{answer_text, head_of_envelope}
 use Rattle.desk_wire.specs.Writing.{message_text}
@@ -34,6 +36,12 @@ Repeats c e message answer (Answered text) = (message_text c.receiver e ≡ mess
 Repeats c e message answer (Refused refusal text) =
     (message_text c.receiver e ≢ message) × (refusal_told c TransactionReused (Some (head_of_envelope e)) ≡ RefusalText refusal text.items)
 Repeats c e message answer (Unavailable fault) = fault ≡ Memory
+
+-- The effect and the texts are what is kept of a message whose pair is new, and can be kept.
+pub record IsDecided (c : Settings) (heard : List Envelope) (e : Envelope) (effect : Effect) (message answer : List ℕ) : Type 0 where
+  pub can : CanAdd (kept_after c heard) e effect
+  pub kept : with_entry (kept_after c heard) e message effect answer ≡ kept_after c (heard ++ e ∷ [])
+  pub told : answer ≡ answer_text c.receiver (head_of_envelope e) (step c (state_of c heard) e).1
 
 -- A message whose pair is new is heard and answered, or the store is unavailable and has not heard it.
 abbrev pub HearsNew : {K : Type 0} → Meaning K → Settings → List Envelope → Envelope → K → Outcome → Type 0
