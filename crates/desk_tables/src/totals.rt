@@ -1,10 +1,10 @@
 //! How many there are of each thing that a desk holds.
-ghost use Rattle.std.specs.Prelude.{◌≡◌, length};
+ghost use Rattle.std.specs.Prelude.{◌≡◌, bytes_eq, is_some, length};
 ghost use Rattle.sqlite.specs.Held.{state};
 ghost use Rattle.desk_store.specs.Calls.{IsRead, Tells, TellsDown, fault_in};
 ghost use Rattle.desk_store.specs.Parts.{AreCounts};
 ghost use Rattle.desk_tables.specs.Store.{meaning_of};
-ghost use Rattle.desk_tables.specs.Totals.{AreTotals};
+ghost use Rattle.desk_tables.specs.Totals.{AreTotals, HaveIt};
 ghost use Rattle.desk_tables.specs.steps.Calls.{Asks};
 ghost use Rattle.desk_tables.specs.steps.LookUps.{OfKept};
 
@@ -28,6 +28,18 @@ pub struct Totals {
     pub replies: u64,
 }
 
+/// The last number of senders, of owners and of gateways.
+fn named_in<S: Alter>(conn: &mut Connection<S>) -> Result<(u64, u64, u64), RowFault>
+    ensures { Asks (state S.Store conn.old) (state S.Store conn.new) result (λ r. Unit {0}) (λ r. Unit {0})
+        (OfKept (λ kept many. HaveIt bytes_eq (λ name. is_some (kept.facts.senders name)) many.0
+        × HaveIt bytes_eq kept.facts.owners many.1 × HaveIt bytes_eq kept.facts.gateways many.2)) }
+{
+    let senders = last_sender(conn)?;
+    let owners = last_owner(conn)?;
+    let gateways = last_gateway(conn)?;
+    Ok((or_none(senders), or_none(owners), or_none(gateways)))
+}
+
 /// The last number of each table that isn't counted already.
 fn totals_in<S: Alter>(
     conn: &mut Connection<S>,
@@ -37,15 +49,13 @@ fn totals_in<S: Alter>(
     ensures { Asks (state S.Store conn.old) (state S.Store conn.new) result (λ r. Unit {0}) (λ r. Unit {0})
         (OfKept (λ kept totals. AreCounts kept.facts numbered → replies ≡ length kept.entries → AreTotals kept totals)) }
 {
-    let senders = last_sender(conn)?;
-    let owners = last_owner(conn)?;
-    let gateways = last_gateway(conn)?;
+    let (senders, owners, gateways) = named_in(conn)?;
     let devices = last_device(conn)?;
     let limits = last_limit(conn)?;
     Ok(Totals {
-        senders: or_none(senders),
-        owners: or_none(owners),
-        gateways: or_none(gateways),
+        senders,
+        owners,
+        gateways,
         devices: or_none(devices),
         limits: or_none(limits),
         numbered,
