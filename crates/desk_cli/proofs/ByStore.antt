@@ -8,7 +8,7 @@ use Rattle.registry_core.specs.Settings.{Settings}
 use Rattle.desk_tables.specs.Store.{meaning_of}
 use Rattle.desk_tables.specs.declared.tables.Tables.{Tables}
 use Rattle.desk_cli.proofs.OnTables.{is_left, keeps}
-use Rattle.desk_cli.specs.Answering.{StoreKeeps, StoreLeaves}
+use Rattle.desk_engine.specs.Hearing.{StoreKeeps, StoreLeaves}
 use Rattle.desk_cli.specs.OnTables.{IsLeft, KeepsHeard}
 use Rattle.desk_cli.specs.steps.Jobs.{ByStore, DoesByStore, Done}
 use Rattle.desk_cli.specs.declared.faults.Fault.{Fault}

@@ -1,74 +1,60 @@
--- The answers of an import, what is written of them, and what is said of the file that the store is in.
-use Rattle.std.proofs.Common.{◌≡◌, ℕ, List, [], ◌∷◌, ◌++◌, false, true, Option, Some, None, Result, Ok, Err, refl, ap, ap₂, sym, ◌∙◌, inl, inr, length, take, subst, append_assoc}
-use Rattle.std.proofs.KnownBytes.{Appends-nil, Consumes-nil, Keeps-refl}
-use Rattle.std.proofs.Math.Seq.{take-length}
-use Rattle.std.proofs.lemmas.Bool.{ltb-false, true≢false}
-use Rattle.std.specs.Io.KnownBytes.{Appends, Consumes, IsAtEnd}
-use Rattle.std.specs.List.{flat_map}
-use Rattle.std.specs.Prelude.{◌⊎◌, ◌≤◌, Bool, nat_lt, slice_get, if◌then◌else◌, ⊤}
+-- What came of an import, and what is said of the file that the store is in.
+use Rattle.std.proofs.Common.{◌≡◌, ℕ, List, [], Option, None, Result, Ok, Err, refl, sym, ◌∙◌, inl, subst}
+use Rattle.std.proofs.KnownBytes.{Appends-nil, Consumes-nil}
+use Rattle.std.specs.Prelude.{⊤}
 use Rattle.registry_core.specs.declared.messages.Envelope.{Envelope}
-use Rattle.registry_core.specs.Heard.{heard_with}
 use Rattle.registry_core.specs.Settings.{Settings}
 use Rattle.desk_store.specs.declared.faults.StoreFault.{StoreFault}
-use Rattle.desk_store.specs.Calls.{IsUnavailability, is_disk}
-use Rattle.desk_store.specs.Meaning.{Meaning}
-use Rattle.desk_wire.specs.CsvReports.{IsReportUnlessMemory, is_ended, longest_report, reads_report, records_of, report_of_records}
 use Rattle.desk_wire.specs.declared.csv_faults.CsvFault.{CsvFault}
 use Rattle.desk_wire.specs.declared.csv_faults.CsvFault.TheVariants as csv
-use Rattle.desk_engine.specs.declared.outcomes.Outcome.{Outcome}
-use Rattle.desk_engine.specs.declared.outcomes.Outcome.TheVariants as outcome
-use Rattle.desk_engine.specs.Hearing.{Hears}
-use Rattle.desk_engine.specs.Importing.{AreAnswers, doubt_at_stop, heard_in_order}
-use Rattle.desk_engine.specs.InOrder.{WasInOrder}
-use Rattle.desk_engine.specs.Lines.{line_feed}
-use Rattle.desk_engine.specs.Outcomes.{IsOutcome, is_unavailable}
-use Rattle.desk_engine.specs.Told.{Told, envelope_told, text_of}
-use Rattle.desk_cli.proofs.OnTables.{unshut_by}
-use Rattle.desk_cli.proofs.Opened.{err, is_unavailable as is_told_unavailable}
-use Rattle.desk_cli.specs.Answering.{StoreKeeps, StoreLeaves}
+use Rattle.desk_engine.specs.declared.csv_importing.ImportEnd.TheVariants as end
+use Rattle.desk_engine.specs.CsvImporting.{ImportEndsBy, ImportsFirst, RefusesReport}
+use Rattle.desk_cli.proofs.Opened.{err, is_unavailable}
 use Rattle.desk_cli.specs.Faults.{fault_of_csv, fault_of_store}
-use Rattle.desk_cli.specs.commands.Importing.{ImportsBy, ImportsFirst, RefusesReport, answer_envelopes}
-use Rattle.desk_cli.specs.steps.Importing.{HearsEnvelopes, HearsSome, line_of}
+use Rattle.desk_cli.specs.commands.Importing.{ImportsBy}
 use Rattle.desk_cli.specs.declared.faults.Fault.{Fault}
 use Rattle.desk_cli.specs.declared.faults.Fault.TheVariants.{Exists, NotADesk, Schema, Owner, Gateway, Month, CsvSize, CsvEnd, CsvHeader, CsvRecord, Unavailable, File, Network}
 
--- an outcome that isn't Unavailable is the text that is told
-told_line : (told : Told) (o : Outcome) → IsOutcome told o → is_unavailable o ≡ false → line_of o ≡ text_of told ++ line_feed ∷ []
-told_line told (outcome.Answered text) is answered = ap (λ t. text_of t ++ line_feed ∷ []) (sym is)
-told_line told (outcome.Refused refusal text) is answered = ap (λ t. text_of t ++ line_feed ∷ []) (sym is)
-told_line told (outcome.Unavailable fault) is answered = absurd (true≢false answered)
+-- ---- the end of an import, as the command tells it
 
--- what is written of the answers is what the envelopes are told
-pub answers_written : (c : Settings) (heard es : List Envelope) (os : List Outcome) → AreAnswers c heard es os → flat_map line_of os ≡ answer_envelopes c heard es
-answers_written c heard [] [] are = refl
-answers_written c heard (e ∷ es) (o ∷ os) are =
-    ap₂ (λ line rest. line ++ rest) (told_line (envelope_told c heard e) o are.0 are.1) (answers_written c (heard_with c heard e) es os are.2)
-    ∙ append_assoc (text_of (envelope_told c heard e)) (line_feed ∷ []) (answer_envelopes c (heard_with c heard e) es)
-answers_written c heard [] (o ∷ os) are = absurd are
-answers_written c heard (e ∷ es) [] are = absurd are
+module _ (c : Settings) (heard : List Envelope) (sender : List ℕ) (Kept : List Envelope → Type 0) (Left : List Envelope → Option Envelope → Type 0) (rest_before rest before after : Option (List ℕ)) (T : Type 0) where
+  -- nothing is said of what was written
+  pub some_written : (Written : List ℕ → Type 0) → ImportsFirst c heard sender Kept Left rest_before rest before after Written → ImportsFirst c heard sender Kept Left rest_before rest before after (λ _. ⊤)
+  some_written Written by = record {
+    input = by.input;
+    read = by.read;
+    envelopes = by.envelopes;
+    report = by.report;
+    count = by.count;
+    doubt = by.doubt;
+    in_doubt = by.in_doubt;
+    left_is = by.left_is;
+    answers = tt;
+  }
 
--- the message in doubt is the one after those that were answered, or none is
-pub in_doubt : (es : List Envelope) (os : List Outcome) (stopped : Option StoreFault)
-    → (doubt_at_stop es os stopped ≡ None) ⊎ (doubt_at_stop es os stopped ≡ slice_get es (length os))
-in_doubt [] os stopped = inl refl
-in_doubt (e ∷ es) [] stopped = next (is_disk stopped) e es
-  where
-    next : (disk : Bool) (e : Envelope) (es : List Envelope) → ((if disk then Some e else None) ≡ None) ⊎ ((if disk then Some e else None) ≡ slice_get (e ∷ es) 0)
-    next true e es = inr refl
-    next false e es = inl refl
-in_doubt (e ∷ es) (o ∷ os) stopped = in_doubt es os stopped
+  pub no_report : (why : CsvFault) → ImportEndsBy c heard sender Kept Left rest_before rest before after (end.NoReport why) → (fault : Fault) → fault ≡ fault_of_csv why
+      → ImportsBy c heard sender Kept Left rest_before rest before after (err {T = T} fault)
+  no_report why by fault is = subst (λ f. ImportsBy c heard sender Kept Left rest_before rest before after (err {T = T} f)) (sym is) (so why by)
+    where
+      so : (why : CsvFault) → ImportEndsBy c heard sender Kept Left rest_before rest before after (end.NoReport why)
+          → ImportsBy c heard sender Kept Left rest_before rest before after (err {T = T} (fault_of_csv why))
+      so csv.Size by = by
+      so csv.Unended by = by
+      so csv.Header by = by
+      so (csv.Record n) by = by
+      so csv.Memory by = absurd by
 
--- where it didn't stop none is
-no_doubt : (es : List Envelope) (os : List Outcome) (stopped : Option StoreFault) → stopped ≡ None → doubt_at_stop es os stopped ≡ None
-no_doubt [] os stopped is = refl
-no_doubt (e ∷ es) [] stopped is = ap (λ s. if is_disk s then Some e else None) is
-no_doubt (e ∷ es) (o ∷ os) stopped is = no_doubt es os stopped is
+  pub stopped_at : (why : StoreFault) → ImportEndsBy c heard sender Kept Left rest_before rest before after (end.Unavailable why) → (fault : Fault) → fault ≡ fault_of_store why
+      → ImportsBy c heard sender Kept Left rest_before rest before after (err {T = T} fault)
+  stopped_at why by fault is = subst (λ f. ImportsBy c heard sender Kept Left rest_before rest before after (err {T = T} f)) (sym (is ∙ is_unavailable why by.1)) by.0
+
+-- ---- a store in a file
 
 module _ (c : Settings) (heard : List Envelope) (sender : List ℕ) (Kept Stands : List Envelope → Type 0) (Left Stays : List Envelope → Option Envelope → Type 0)
     (kept : (all : List Envelope) → Kept all → Stands all) (left : (all : List Envelope) (doubt : Option Envelope) → Left all doubt → Stays all doubt)
     (rest_before rest before after : Option (List ℕ)) where
-  refuses : (fault : Fault) → RefusesReport c heard sender Kept Left rest_before rest before after fault → RefusesReport c heard sender Stands Stays rest_before rest before after fault
-  refuses fault by = record { input = by.input; read = by.read; why = by.why; no_report = by.no_report; told = by.told; kept = kept _ by.kept; answers = by.answers }
+  refuses : (why : CsvFault) → RefusesReport c heard sender Kept Left rest_before rest before after why → RefusesReport c heard sender Stands Stays rest_before rest before after why
+  refuses why by = record { input = by.input; read = by.read; no_report = by.no_report; kept = kept _ by.kept; answers = by.answers }
 
   first : (Written : List ℕ → Type 0) → ImportsFirst c heard sender Kept Left rest_before rest before after Written → ImportsFirst c heard sender Stands Stays rest_before rest before after Written
   first Written by = record {
@@ -100,116 +86,9 @@ module _ (c : Settings) (heard : List Envelope) (sender : List ℕ) (Kept Stands
   carried (Err Month) by = absurd by
   carried (Err Network) by = absurd by
 
--- nothing was read of a report, or nothing of what was read is one
-nothing_imported : (c : Settings) (heard : List Envelope) (sender : List ℕ) (Kept : List Envelope → Type 0) (Left : List Envelope → Option Envelope → Type 0) (rest_before rest before after : Option (List ℕ))
-    (Written : List ℕ → Type 0) → ((input : List ℕ) × Consumes rest_before rest input) → Left heard None → Written [] → ImportsFirst c heard sender Kept Left rest_before rest before after Written
-nothing_imported c heard sender Kept Left rest_before rest before after Written read left written =
-    record { input = read.0; read = read.1; envelopes = []; report = inl refl; count = 0; doubt = None; in_doubt = inl refl; left_is = left; answers = written }
-
 -- where nothing was opened, nothing was heard or answered
 pub imports_unopened : (c : Settings) (heard : List Envelope) (sender : List ℕ) (Kept : List Envelope → Type 0) (Left : List Envelope → Option Envelope → Type 0) (rest before : Option (List ℕ)) (T : Type 0)
     (fault : Fault) → fault ≡ Unavailable → Left heard None → ImportsBy c heard sender Kept Left rest rest before before (err {T = T} fault)
 imports_unopened c heard sender Kept Left rest before T fault is left =
     subst (λ f. ImportsBy c heard sender Kept Left rest rest before before (err {T = T} f)) (sym is)
-    (nothing_imported c heard sender Kept Left rest rest before before _ ([], Consumes-nil rest) left (Appends-nil before))
-
--- ---- envelopes that a store heard in order
-
-module _ {K : Type 0} (m : Meaning K) (c : Settings) (heard : List Envelope) (old new : K) (es : List Envelope) (os : List Outcome) (stopped : Option StoreFault) (before after : Option (List ℕ))
-    {foreign : Bool} (store : Hears m old new (is_disk stopped) foreign (λ d all. heard_in_order d all (take (length os) es)) (λ d. doubt_at_stop es os stopped))
-    (was : WasInOrder m c heard old new) where
-  leaves_first : StoreLeaves m c heard old new (heard_in_order c heard (take (length os) es)) (doubt_at_stop es os stopped)
-  leaves_first = record { order = store.order c heard was; crash = λ doubt. store.crash c heard doubt was }
-
-  hears_some : (Written : List ℕ → Type 0) → Written (answer_envelopes c heard (take (length os) es))
-      → HearsSome c heard (StoreKeeps m c heard old new) (StoreLeaves m c heard old new) es before after Written
-  hears_some Written written =
-      record { count = length os; doubt = doubt_at_stop es os stopped; in_doubt = in_doubt es os stopped; left_is = leaves_first; answers = written }
-
-  -- the answers couldn't be written
-  pub unwritten : HearsSome c heard (StoreKeeps m c heard old new) (StoreLeaves m c heard old new) es before after (λ _. ⊤)
-  unwritten = hears_some (λ _. ⊤) tt
-
-  module _ (are : AreAnswers c heard (take (length os) es) os) (written : Appends before after (flat_map line_of os)) where
-    its_answers : Appends before after (answer_envelopes c heard (take (length os) es))
-    its_answers = subst (Appends before after) (answers_written c heard (take (length os) es) os are) written
-
-    -- an envelope found the store unavailable
-    pub stopped_at : (T : Type 0) (why : StoreFault) → IsUnavailability why → (fault : Fault) → fault ≡ fault_of_store why
-        → HearsEnvelopes c heard (StoreKeeps m c heard old new) (StoreLeaves m c heard old new) es before after (err {T = T} fault)
-    stopped_at T why unavailable fault is =
-        subst (λ f. HearsEnvelopes c heard (StoreKeeps m c heard old new) (StoreLeaves m c heard old new) es before after (err {T = T} f)) (sym (is ∙ is_told_unavailable why unavailable))
-        (hears_some (Appends before after) its_answers)
-
-    -- all were heard
-    pub heard_all_of : stopped ≡ None → length os ≡ length es
-        → StoreKeeps m c heard old new (heard_in_order c heard es) × Appends before after (answer_envelopes c heard es)
-    heard_all_of none whole =
-        let all : take (length os) es ≡ es = rw whole (take-length es) in
-        let doubt : doubt_at_stop es os stopped ≡ None = no_doubt es os stopped none in
-        let leaves : StoreLeaves m c heard old new (heard_in_order c heard es) None =
-        subst (λ envelopes. StoreLeaves m c heard old new (heard_in_order c heard envelopes) None) all (subst (StoreLeaves m c heard old new (heard_in_order c heard (take (length os) es))) doubt leaves_first) in
-        (record { leaves = leaves; still = unshut_by m old new store.call (ap is_disk none) }, subst (λ envelopes. Appends before after (answer_envelopes c heard envelopes)) all its_answers)
-
--- ---- a report that was read
-
-not_too_long : (sender text : List ℕ) (es : List Envelope) → reads_report sender text ≡ Ok es → length text ≤ longest_report
-not_too_long sender text es is = within (nat_lt longest_report (length text)) refl is
-  where
-    Answers : Result (List Envelope) CsvFault → Type 0
-    Answers (Ok x) = Unit {0}
-    Answers (Err why) = ⊥
-
-    within : (b : Bool) → nat_lt longest_report (length text) ≡ b
-        → (if b then Err csv.Size else if is_ended text then report_of_records sender (records_of text) else Err csv.Unended) ≡ Ok es → length text ≤ longest_report
-    within true too is = absurd (subst Answers (sym is) tt)
-    within false not_too is = ltb-false _ _ not_too
-
-module _ (c : Settings) (heard : List Envelope) (sender : List ℕ) (Kept : List Envelope → Type 0) (Left : List Envelope → Option Envelope → Type 0) (rest_before rest before after : Option (List ℕ)) {T : Type 0} where
-  -- its envelopes were heard so
-  pub with_report : (input : List ℕ) (es : List Envelope) → Consumes rest_before rest input → (length input ≤ longest_report → IsAtEnd rest) → reads_report sender input ≡ Ok es
-      → (r : Result T Fault) → HearsEnvelopes c heard Kept Left es before after r → ImportsBy c heard sender Kept Left rest_before rest before after r
-  with_report input es read whole is (Ok x) by =
-      record { input = input; read = read; whole = whole (not_too_long sender input es is); envelopes = es; report = is; kept = by.0; answers = by.1 }
-  with_report input es read whole is (Err Unavailable) by =
-      record { input = input; read = read; envelopes = es; report = inr is; count = by.count; doubt = by.doubt; in_doubt = by.in_doubt; left_is = by.left_is; answers = by.answers }
-  with_report input es read whole is (Err File) by =
-      record { input = input; read = read; envelopes = es; report = inr is; count = by.count; doubt = by.doubt; in_doubt = by.in_doubt; left_is = by.left_is; answers = by.answers }
-  with_report input es read whole is (Err Exists) by = absurd by
-  with_report input es read whole is (Err NotADesk) by = absurd by
-  with_report input es read whole is (Err Schema) by = absurd by
-  with_report input es read whole is (Err Owner) by = absurd by
-  with_report input es read whole is (Err Gateway) by = absurd by
-  with_report input es read whole is (Err Month) by = absurd by
-  with_report input es read whole is (Err CsvSize) by = absurd by
-  with_report input es read whole is (Err CsvEnd) by = absurd by
-  with_report input es read whole is (Err CsvHeader) by = absurd by
-  with_report input es read whole is (Err (CsvRecord n)) by = absurd by
-  with_report input es read whole is (Err Network) by = absurd by
-
--- nothing was heard, since the text is no report, or couldn't be had
-module _ (c : Settings) (heard : List Envelope) (sender : List ℕ) (Kept : List Envelope → Type 0) (Left : List Envelope → Option Envelope → Type 0) (rest_before rest before : Option (List ℕ))
-    (kept : Kept heard) (left : Left heard None) where
-  pub no_text : (T : Type 0) (fault : Fault) → (fault ≡ File) ⊎ (fault ≡ Unavailable) → ((input : List ℕ) × Consumes rest_before rest input)
-      → ImportsBy c heard sender Kept Left rest_before rest before before (err {T = T} fault)
-  no_text T fault is read = elim is [
-    | inl file ↦ subst (λ f. ImportsBy c heard sender Kept Left rest_before rest before before (err {T = T} f)) (sym file)
-        (nothing_imported c heard sender Kept Left rest_before rest before before _ read left tt)
-    | inr memory ↦ subst (λ f. ImportsBy c heard sender Kept Left rest_before rest before before (err {T = T} f)) (sym memory)
-        (nothing_imported c heard sender Kept Left rest_before rest before before _ read left (Appends-nil before))
-  ]
-
-  refused : (input : List ℕ) → Consumes rest_before rest input → (why : CsvFault) → reads_report sender input ≡ Err why
-      → RefusesReport c heard sender Kept Left rest_before rest before before (fault_of_csv why)
-  refused input read why is = record { input = input; read = read; why = why; no_report = is; told = refl; kept = kept; answers = Keeps-refl before }
-
-  pub no_report : (T : Type 0) (input : List ℕ) → Consumes rest_before rest input → (why : CsvFault) → IsReportUnlessMemory why (reads_report sender input) → (fault : Fault) → fault ≡ fault_of_csv why
-      → ImportsBy c heard sender Kept Left rest_before rest before before (err {T = T} fault)
-  no_report T input read why is fault told = subst (λ f. ImportsBy c heard sender Kept Left rest_before rest before before (err {T = T} f)) (sym told) (by why is)
-    where
-      by : (why : CsvFault) → IsReportUnlessMemory why (reads_report sender input) → ImportsBy c heard sender Kept Left rest_before rest before before (err {T = T} (fault_of_csv why))
-      by csv.Size is = refused input read csv.Size is
-      by csv.Unended is = refused input read csv.Unended is
-      by csv.Header is = refused input read csv.Header is
-      by (csv.Record n) is = refused input read (csv.Record n) is
-      by csv.Memory is = nothing_imported c heard sender Kept Left rest_before rest before before _ (input, read) left (Appends-nil before)
+    (record { input = []; read = Consumes-nil rest; envelopes = []; report = inl refl; count = 0; doubt = None; in_doubt = inl refl; left_is = left; answers = Appends-nil before })

@@ -14,5 +14,4 @@ pub mod Opened
 pub mod Printed
 pub mod Reported
 pub mod Serving
-pub mod Stays
 pub mod Tellings

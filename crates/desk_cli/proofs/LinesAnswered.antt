@@ -12,7 +12,8 @@ use Rattle.desk_engine.specs.Lines.{FailsToWrite, HasHeardLines, IsCutShort, all
 use Rattle.desk_cli.proofs.OnTables.{unshut_by}
 use Rattle.desk_cli.proofs.Opened.{err, is_unavailable}
 use Rattle.desk_cli.specs.Faults.{fault_of_store}
-use Rattle.desk_cli.specs.Answering.{AnswersBy, AnswersFirst, HearsFirst, StoreKeeps, StoreLeaves}
+use Rattle.desk_engine.specs.Hearing.{StoreKeeps, StoreLeaves}
+use Rattle.desk_cli.specs.Answering.{AnswersBy, AnswersFirst, HearsFirst}
 use Rattle.desk_cli.specs.declared.faults.Fault.{Fault}
 use Rattle.desk_cli.specs.declared.faults.Fault.TheVariants.{Exists, NotADesk, Schema, Owner, Gateway, Month, CsvSize, CsvEnd, CsvHeader, CsvRecord, Unavailable, File, Network}
 
@@ -20,23 +21,23 @@ module _ {K : Type 0} (m : Meaning K) (c : Settings) (heard : List Envelope) (ol
   -- what was heard is kept, unless a fault of the disk was told
   pub keeps_lines : {disk foreign : Bool} → IsCall m old new disk foreign → disk ≡ false → (lines : List (List ℕ)) → HasHeardLines m c heard old new lines None
       → StoreKeeps m c heard old new (heard_lines c heard lines)
-  keeps_lines call is lines hears = record { leaves = record { order = hears.order; crash = hears.crash }; still = unshut_by m old new call is }
+  keeps_lines call is lines hears = record { leaves = hears; still = unshut_by m old new call is }
 
   module _ (left rest before after : Option (List ℕ)) (input : List ℕ) (read : Consumes left rest input) where
     -- all lines were heard, and handing the answers on failed
     pub hears_all : {foreign : Bool} → IsCall m old new false foreign → HasHeardLines m c heard old new (all_lines input) None
         → HearsFirst c heard (StoreKeeps m c heard old new) (StoreLeaves m c heard old new) left rest before after
-    hears_all call hears = record { input = input; read = read; lines = all_lines input; beginning = ([], sym (append-nil (all_lines input))); kept = keeps_lines call refl _ hears }
+    hears_all call hears = record { input = input; read = read; lines = all_lines input; beginning = ([], sym (append-nil (all_lines input))); kept = keeps_lines call refl (all_lines input) hears }
 
     -- a read failed after the lines that are ended
     pub hears_ended : {foreign : Bool} → IsCall m old new false foreign → HasHeardLines m c heard old new (whole_lines input) None
         → HearsFirst c heard (StoreKeeps m c heard old new) (StoreLeaves m c heard old new) left rest before after
-    hears_ended call hears = record { input = input; read = read; lines = whole_lines input; beginning = (last_line input ∷ [], refl); kept = keeps_lines call refl _ hears }
+    hears_ended call hears = record { input = input; read = read; lines = whole_lines input; beginning = (last_line input ∷ [], refl); kept = keeps_lines call refl (whole_lines input) hears }
 
     -- a write failed after the line
     pub hears_unwritten : {foreign : Bool} → IsCall m old new false foreign → FailsToWrite m c heard old new input
         → HearsFirst c heard (StoreKeeps m c heard old new) (StoreLeaves m c heard old new) left rest before after
-    hears_unwritten call fails = record { input = input; read = read; lines = fails.lines ++ fails.line ∷ []; beginning = fails.beginning; kept = keeps_lines call refl _ fails.hears }
+    hears_unwritten call fails = record { input = input; read = read; lines = fails.lines ++ fails.line ∷ []; beginning = fails.beginning; kept = keeps_lines call refl (fails.lines ++ fails.line ∷ []) fails.hears }
 
     -- a line found the store unavailable
     is_cut_short : (fault : StoreFault) → IsCutShort m c heard old new before after input fault
@@ -48,7 +49,7 @@ module _ {K : Type 0} (m : Meaning K) (c : Settings) (heard : List Envelope) (ol
       beginning = (cut.line ∷ cut.beginning.0, cut.beginning.1 ∙ append_assoc cut.lines (cut.line ∷ []) cut.beginning.0);
       doubt = _;
       in_doubt = inr (cut.line, fault, cut.beginning, refl);
-      left_is = record { order = cut.answered.hears.order; crash = cut.answered.hears.crash };
+      left_is = cut.answered.hears;
       answers = cut.answered.answers;
     }
 

@@ -17,7 +17,7 @@ use Rattle.desk_tables.specs.Store.{meaning_of, one_kept, own_law}
 use Rattle.desk_tables.specs.declared.tables.Tables.{Tables}
 use Rattle.desk_engine.specs.InOrder as engine
 use Rattle.desk_engine.specs.InOrder.{Survives, WasInOrder, doubt_after, kept_after}
-use Rattle.desk_cli.specs.Answering.{StoreKeeps, StoreLeaves}
+use Rattle.desk_engine.specs.Hearing.{StoreKeeps, StoreLeaves}
 use Rattle.desk_cli.specs.OnTables.{HasHeard, IsLeft, KeepsHeard, KeepsRules, LeftHeard, WasOpened}
 
 -- a desk that was made has heard nothing

@@ -7,7 +7,7 @@ use Rattle.desk_store.specs.Calls.{IsRead, is_disk}
 use Rattle.desk_store.specs.Meaning.{Meaning}
 use Rattle.desk_store.specs.declared.faults.StoreFault.{StoreFault}
 use Rattle.desk_engine.specs.InOrder.{kept_after}
-use Rattle.desk_cli.specs.Answering.{StoreKeeps, StoreLeaves}
+use Rattle.desk_engine.specs.Hearing.{StoreKeeps, StoreLeaves}
 use Rattle.desk_cli.specs.OnTables.{WasOpened}
 
 module _ {K : Type 0} (m : Meaning K) (c : Settings) (heard : List Envelope) (old new : K) (was : WasOpened m old c heard) (fault : Option StoreFault) (read : IsRead m old new fault) (sound : m.sound new) where

@@ -7,7 +7,7 @@ use Rattle.desk_store.specs.Meaning.{Meaning}
 use Rattle.desk_engine.specs.InOrder.{WasInOrder}
 use Rattle.desk_cli.proofs.OnTables.{unshut_by}
 use Rattle.desk_cli.proofs.Opened.{err}
-use Rattle.desk_cli.specs.Answering.{StoreKeeps, StoreLeaves}
+use Rattle.desk_engine.specs.Hearing.{StoreKeeps, StoreLeaves}
 use Rattle.desk_http.specs.Served.{Connections, HearsEach, delivered_by}
 use Rattle.desk_cli.specs.Ports.{AtPorts, Ports, at_ports}
 use Rattle.desk_cli.specs.commands.Serving.{HearsServed, ServesBy}

@@ -4,28 +4,11 @@ use Rattle.std.specs.Io.KnownBytes.{Appends, Consumes, IsAtEnd}
 use Rattle.registry_core.specs.declared.messages.Envelope.{Envelope}
 use Rattle.registry_core.specs.Settings.{Settings}
 use Rattle.desk_store.specs.declared.faults.StoreFault.{StoreFault}
-use Rattle.desk_store.specs.Meaning.{Meaning}
 use Rattle.desk_engine.specs.declared.outcomes.Outcome.TheVariants as outcome
-use Rattle.desk_engine.specs.InOrder.{IsInOrder, Survives, doubt_after}
 use Rattle.desk_engine.specs.Lines.{IsBeginning, all_lines, answer_lines, heard_lines}
 use Rattle.desk_engine.specs.Outcomes.{doubt_of_text}
 use Rattle.desk_cli.specs.declared.faults.Fault.{Fault}
 use Rattle.desk_cli.specs.declared.faults.Fault.TheVariants.{File, Unavailable}
-
--- ---- what a store keeps
-
-module _ {K : Type 0} (m : Meaning K) (c : Settings) (heard : List Envelope) (old new : K) where
-  -- it is in order for what is heard now, and a crash leaves that, or that with the message in doubt
-  pub record StoreLeaves (after : List Envelope) (now : Option Envelope) : Type 0 where
-    pub order : IsInOrder m c new after
-    pub crash : (doubt : Option Envelope) → Survives m c old heard doubt → Survives m c new after (doubt_after (m.down old) doubt now)
-
-  -- no fault of the disk has shut it, and a crash leaves that alone
-  pub record StoreKeeps (after : List Envelope) : Type 0 where
-    pub leaves : StoreLeaves after None
-    pub still : m.down new ≡ m.down old
-
--- ---- lines
 
 -- the message in doubt is none, or that of the line after these
 abbrev pub IsDoubtAfter : Settings → List (List ℕ) → List ℕ → Option Envelope → Type 0

@@ -1,6 +1,5 @@
 -- What private functions promise one another.
 pub mod Checking
 pub mod CommandLine
-pub mod Importing
 pub mod Jobs
 pub mod Printing

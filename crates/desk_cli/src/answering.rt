@@ -3,7 +3,8 @@ ghost use Rattle.std.specs.Prelude.{◌≡◌, List};
 ghost use Rattle.registry_core.specs.declared.messages.Envelope.{Envelope};
 ghost use Rattle.registry_core.specs.Settings.{Settings};
 ghost use Rattle.desk_engine.specs.InOrder.{WasInOrder};
-ghost use Rattle.desk_cli.specs.Answering.{AnswersBy, StoreKeeps, StoreLeaves};
+ghost use Rattle.desk_engine.specs.Hearing.{StoreKeeps, StoreLeaves};
+ghost use Rattle.desk_cli.specs.Answering.{AnswersBy};
 
 use crate::faults::Fault;
 use desk_engine::{LinesEnd, run_lines};

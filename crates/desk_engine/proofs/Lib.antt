@@ -1,4 +1,5 @@
 pub mod AirUse
+pub mod CsvImports
 pub mod HeardTexts
 pub mod HearingAgain
 pub mod HearingCases

@@ -1,3 +1,4 @@
+pub mod CsvImporting
 pub mod Deliveries
 pub mod Hearing
 pub mod Importing
@@ -8,5 +9,6 @@ pub mod Months
 pub mod Outcomes
 pub mod Reporting
 pub mod Reports
+pub mod Stays
 pub mod Told
 pub mod steps

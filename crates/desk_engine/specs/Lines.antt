@@ -12,7 +12,8 @@ use Rattle.desk_engine.specs.declared.lines.LinesEnd.{LinesEnd}
 use Rattle.desk_engine.specs.declared.lines.LinesEnd.TheVariants.{Done, Read, Write, Unavailable}
 use Rattle.desk_engine.specs.declared.outcomes.Outcome.TheVariants as outcome
 use Rattle.desk_engine.specs.Deliveries.{Delivery, heard_after}
-use Rattle.desk_engine.specs.InOrder.{HasNoRoom, IsInOrder, Survives, doubt_after}
+use Rattle.desk_engine.specs.Hearing.{StoreLeaves}
+use Rattle.desk_engine.specs.InOrder.{HasNoRoom}
 use Rattle.desk_engine.specs.Outcomes.{doubt_of_text}
 use Rattle.desk_engine.specs.Told.{text_of, text_told}
 
@@ -97,10 +98,8 @@ fault_of_end _ = None
 
 module _ {K : Type 0} (m : Meaning K) (c : Settings) (heard : List Envelope) (old new : K) where
   -- the store is in order for what is heard after these lines, and a crash leaves that, or that with the message in doubt
-  pub record HasHeardLines (lines : List (List ℕ)) (now : Option Envelope) : Type 0 where
-    pub order : IsInOrder m c new (heard_lines c heard lines)
-    pub crash : (doubt : Option Envelope) → Survives m c old heard doubt
-        → Survives m c new (heard_lines c heard lines) (doubt_after (m.down old) doubt now)
+  abbrev pub HasHeardLines : List (List ℕ) → Option Envelope → Type 0
+  HasHeardLines lines now = StoreLeaves m c heard old new (heard_lines c heard lines) now
 
   -- and their answers are what was written
   pub record HasAnswered (before after : Option (List ℕ)) (lines : List (List ℕ)) (now : Option Envelope) : Type 0 where

@@ -1,4 +1,5 @@
 -- What the clauses of private functions say.
+pub mod CsvImporting
 pub mod Hearing
 pub mod Lines
 pub mod Uses

@@ -2,6 +2,7 @@
 #![tactic(auto)]
 
 mod band_reports;
+mod csv_importing;
 mod delivering;
 mod from_nothing;
 mod hearing;
@@ -14,8 +15,10 @@ mod owner_reports;
 mod reads;
 mod report_faults;
 mod uses;
+mod writes;
 
 pub use band_reports::band_report;
+pub use csv_importing::{ImportEnd, import_report};
 pub use delivering::{LONGEST_MESSAGE, deliver, run};
 pub use from_nothing::run_from_nothing;
 pub use hearing::hear;
@@ -25,3 +28,4 @@ pub use outcomes::Outcome;
 pub use owner_reports::owner_report;
 pub use reads::read_some;
 pub use report_faults::ReportFault;
+pub use writes::write_whole;

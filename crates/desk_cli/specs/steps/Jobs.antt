@@ -13,7 +13,8 @@ use Rattle.desk_tables.specs.declared.tables.Tables.{Tables}
 use Rattle.desk_engine.specs.declared.report_faults.ReportFault.{ReportFault}
 use Rattle.registry_core.specs.Heard.{state_of}
 use Rattle.registry_core.specs.State.{State}
-use Rattle.desk_cli.specs.Answering.{AnswersBy, StoreKeeps, StoreLeaves}
+use Rattle.desk_engine.specs.Hearing.{StoreKeeps, StoreLeaves}
+use Rattle.desk_cli.specs.Answering.{AnswersBy}
 use Rattle.desk_cli.specs.OnTables.{IsLeft, WasOpened}
 use Rattle.desk_cli.specs.Ports.{AtPorts}
 use Rattle.desk_cli.specs.Printing.{PrintsBy}

@@ -1,5 +1,6 @@
 use Rattle.std.proofs.Common.{refl}
 use Rattle.std.proofs.KnownBytes.{Appends-kept}
+use Rattle.desk_engine.specs.Lines.{all_lines}
 use Rattle.desk_cli.proofs.LinesAnswered.{cut_short, hears_all, keeps_lines}
 use Rattle.desk_cli.proofs.answering.answer_lines.Goals as goal
 
@@ -11,7 +12,7 @@ returns-in-Ok-clause-ends g c = λ config heard was.
       input = ran.0;
       read = ran.1;
       whole = c.in-Done.ensures.done refl;
-      kept = keeps_lines _ _ _ _ _ c.in-Done.ensures.call refl _ ends.hears;
+      kept = keeps_lines _ _ _ _ _ c.in-Done.ensures.call refl (all_lines ran.0) ends.hears;
       answers = Appends-kept _ _ _ _ ends.answers c.in-Ok.ensures.bytes;
     }
 

@@ -2,7 +2,7 @@ use Rattle.std.proofs.Common.{[], Err, refl, ap, ◌∙◌}
 use Rattle.desk_cli.proofs.Inited.{exists_told, not_a_desk_told}
 use Rattle.desk_cli.proofs.OnTables.{keeps, was_in_order, was_new}
 use Rattle.desk_cli.proofs.Opened.{is_unavailable}
-use Rattle.desk_cli.proofs.Stays.{stays}
+use Rattle.desk_engine.specs.Stays.{stays}
 use Rattle.desk_cli.proofs.commands.init.init_command.Goals as goal
 
 pub returns-in-Ok : goal.returns-in-Ok

@@ -7,7 +7,7 @@ use Rattle.desk_rows.specs.Meta.{HasMeta}
 use Rattle.desk_cli.proofs.Migrated.{exists_of, store_told, told_or_unavailable}
 use Rattle.desk_cli.proofs.OnTables.{keeps, was_in_order}
 use Rattle.desk_cli.proofs.Opened.{is_unavailable, schema_told}
-use Rattle.desk_cli.proofs.Stays.{stays}
+use Rattle.desk_engine.specs.Stays.{stays}
 use Rattle.desk_cli.specs.declared.faults.Fault.TheVariants.{Exists, Schema}
 use Rattle.desk_cli.proofs.commands.migrating.migrate_command.Goals as goal
 

@@ -1,18 +1,21 @@
-use Rattle.std.proofs.Common.{subst}
-use Rattle.desk_wire.specs.CsvReports.{IsReportUnlessMemory, reads_report}
-use Rattle.desk_cli.proofs.Imported.{no_report, no_text}
+use Rattle.desk_cli.proofs.Imported.{no_report, some_written, stopped_at}
 use Rattle.desk_cli.proofs.OnTables.{opened_in_order}
-use Rattle.desk_cli.proofs.Stays.{stays}
 use Rattle.desk_cli.proofs.commands.importing.ImportJob.run.Goals as goal
 
-pub returns-in-Err-clause-does : goal.returns-in-Err-clause-does
-returns-in-Err-clause-does g c = λ config heard was sound.
-    let same = stays g.K.Looks.meaning config heard c.args.keeper.now (opened_in_order _ _ _ _ _ was sound) in
-    no_text config heard c.args.self.now.sender.now _ _ _ _ _ same same.leaves (Unit {0}) c.in-Err.fault c.in-Err.ensures.failed.0 c.in-Err.ensures.failed.1
+pub returns-in-Done-clause-does : goal.returns-in-Done-clause-does
+returns-in-Done-clause-does g c = λ config heard was sound. c.in-Done.ensures.ends config heard (opened_in_order _ _ _ _ _ was sound)
 
-pub returns-clause-does : goal.returns-clause-does
-returns-clause-does g c = λ config heard was sound.
-    let same = stays g.K.Looks.meaning config heard c.args.keeper.now (opened_in_order _ _ _ _ _ was sound) in
-    let is =
-    subst (λ text. IsReportUnlessMemory c.in-Err-read_report.fault (reads_report c.args.self.now.sender.now text)) c.deref.ensures.value c.in-Err-read_report.ensures.err in
-    no_report config heard c.args.self.now.sender.now _ _ _ _ _ same same.leaves (Unit {0}) c.in-Ok.text.items c.in-Ok.ensures.read.0 c.in-Err-read_report.fault is c.into.result c.into.ensures
+pub returns-in-NoReport-clause-does : goal.returns-in-NoReport-clause-does
+returns-in-NoReport-clause-does g c = λ config heard was sound.
+    no_report config heard c.args.self.now.sender.now _ _ _ _ _ _ (Unit {0}) c.in-NoReport.fault (c.in-NoReport.ensures.ends config heard (opened_in_order _ _ _ _ _ was sound)) c.into.result c.into.ensures
+
+pub returns-in-Read-clause-does : goal.returns-in-Read-clause-does
+returns-in-Read-clause-does g c = λ config heard was sound.
+    some_written config heard c.args.self.now.sender.now _ _ _ _ _ _ (Unit {0}) _ (c.in-Read.ensures.ends config heard (opened_in_order _ _ _ _ _ was sound))
+
+pub returns-in-Write-clause-does : goal.returns-in-Write-clause-does
+returns-in-Write-clause-does g c = λ config heard was sound. c.in-Write.ensures.ends config heard (opened_in_order _ _ _ _ _ was sound)
+
+pub returns-in-Unavailable-clause-does : goal.returns-in-Unavailable-clause-does
+returns-in-Unavailable-clause-does g c = λ config heard was sound.
+    stopped_at config heard c.args.self.now.sender.now _ _ _ _ _ _ (Unit {0}) c.in-Unavailable.fault (c.in-Unavailable.ensures.ends config heard (opened_in_order _ _ _ _ _ was sound)) c.into-in-Unavailable.result c.into-in-Unavailable.ensures

@@ -1,15 +1,16 @@
 -- Envelopes heard in order by a store, and what is written for them.
-use Rattle.std.specs.Prelude.{◌≡◌, ◌⊎◌, ℕ, List, [], ◌∷◌, ◌++◌, Option, None, Result, Ok, Err, slice_get, take, ⊤}
+use Rattle.std.specs.Prelude.{◌≡◌, ◌⊎◌, ℕ, List, [], ◌∷◌, ◌++◌, Option, None, slice_get, take, ⊤}
 use Rattle.std.specs.Io.KnownBytes.{Appends}
 use Rattle.registry_core.specs.declared.messages.Envelope.{Envelope}
 use Rattle.registry_core.specs.Settings.{Settings}
+use Rattle.desk_store.specs.Calls.{IsUnavailability}
+use Rattle.desk_engine.specs.declared.csv_importing.ImportEnd.{ImportEnd}
+use Rattle.desk_engine.specs.declared.csv_importing.ImportEnd.TheVariants as end
 use Rattle.desk_engine.specs.declared.outcomes.Outcome.{Outcome}
 use Rattle.desk_engine.specs.declared.outcomes.Outcome.TheVariants.{Answered, Refused, Unavailable}
+use Rattle.desk_engine.specs.CsvImporting.{answer_envelopes}
 use Rattle.desk_engine.specs.Importing.{heard_in_order}
 use Rattle.desk_engine.specs.Lines.{line_feed}
-use Rattle.desk_cli.specs.commands.Importing.{answer_envelopes}
-use Rattle.desk_cli.specs.declared.faults.Fault.{Fault}
-use Rattle.desk_cli.specs.declared.faults.Fault.TheVariants as fault
 
 -- the line of an outcome: none where the store was unavailable
 abbrev pub line_of : Outcome → List ℕ
@@ -26,8 +27,9 @@ module _ (c : Settings) (heard : List Envelope) (Kept : List Envelope → Type 0
     pub left_is : Left (heard_in_order c heard (take count envelopes)) doubt
     pub answers : Written (answer_envelopes c heard (take count envelopes))
 
-  abbrev pub HearsEnvelopes : {T : Type 0} → Result T Fault → Type 0
-  HearsEnvelopes (Ok x) = Kept (heard_in_order c heard envelopes) × Appends before after (answer_envelopes c heard envelopes)
-  HearsEnvelopes (Err fault.Unavailable) = HearsSome (Appends before after)
-  HearsEnvelopes (Err fault.File) = HearsSome (λ _. ⊤)
-  HearsEnvelopes (Err _) = ⊥
+  -- by how it ended
+  abbrev pub HearsEnvelopes : ImportEnd → Type 0
+  HearsEnvelopes end.Done = Kept (heard_in_order c heard envelopes) × Appends before after (answer_envelopes c heard envelopes)
+  HearsEnvelopes (end.Unavailable fault) = HearsSome (Appends before after) × IsUnavailability fault
+  HearsEnvelopes (end.Write fault) = HearsSome (λ _. ⊤)
+  HearsEnvelopes _ = ⊥

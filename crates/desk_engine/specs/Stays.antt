@@ -5,7 +5,7 @@ use Rattle.registry_core.specs.declared.messages.Envelope.{Envelope}
 use Rattle.registry_core.specs.Settings.{Settings}
 use Rattle.desk_store.specs.Meaning.{Meaning}
 use Rattle.desk_engine.specs.InOrder.{Survives, WasInOrder, doubt_after}
-use Rattle.desk_cli.specs.Answering.{StoreKeeps}
+use Rattle.desk_engine.specs.Hearing.{StoreKeeps}
 
 module _ {K : Type 0} (m : Meaning K) (c : Settings) (heard : List Envelope) (keeper : K) where
   -- a store that is up is in no doubt

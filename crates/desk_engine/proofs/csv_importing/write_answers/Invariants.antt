@@ -1,8 +1,8 @@
 use Rattle.std.proofs.Common.{take}
 use Rattle.std.specs.List.{flat_map}
 use Rattle.std.specs.Io.KnownBytes.{Appends}
-use Rattle.desk_cli.specs.steps.Importing.{line_of}
-use Rattle.desk_cli.proofs.commands.importing.write_answers.Given as goal
+use Rattle.desk_engine.specs.steps.CsvImporting.{line_of}
+use Rattle.desk_engine.proofs.csv_importing.write_answers.Given as goal
 
 -- the answers so far are written
 abbrev pub invariant-loop-outcome : goal.invariant-loop-outcome

@@ -1,7 +1,7 @@
 use Rattle.std.proofs.Common.{◌-◌, ◌+◌}
 use Rattle.std.specs.Io.KnownBytes.{Consumes}
 use Rattle.desk_wire.specs.CsvReports.{longest_report}
-use Rattle.desk_cli.proofs.commands.importing.report_text.Given as goal
+use Rattle.desk_engine.proofs.csv_importing.report_text.Given as goal
 
 -- the octets so far are those that were read
 abbrev pub invariant-loop-chunk : goal.invariant-loop-chunk

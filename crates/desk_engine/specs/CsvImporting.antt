@@ -1,0 +1,70 @@
+-- A gateway report, heard in order: what was heard of it and what was written for it, by how it ended.
+use Rattle.std.specs.Prelude.{◌≡◌, ◌⊎◌, ℕ, List, [], ◌∷◌, ◌++◌, Option, Some, None, Ok, Err, slice_get, take, ⊤}
+use Rattle.std.specs.Io.KnownBytes.{Appends, Consumes, IsAtEnd, Keeps}
+use Rattle.registry_core.specs.declared.messages.Envelope.{Envelope}
+use Rattle.registry_core.specs.Heard.{heard_with}
+use Rattle.registry_core.specs.Settings.{Settings}
+use Rattle.desk_store.specs.declared.faults.StoreFault.{StoreFault}
+use Rattle.desk_store.specs.Calls.{IsUnavailability}
+use Rattle.desk_wire.specs.CsvReports.{reads_report}
+use Rattle.desk_wire.specs.declared.csv_faults.CsvFault.{CsvFault}
+use Rattle.desk_wire.specs.declared.csv_faults.CsvFault.TheVariants.{Memory}
+use Rattle.desk_engine.specs.declared.csv_importing.ImportEnd.{ImportEnd}
+use Rattle.desk_engine.specs.declared.csv_importing.ImportEnd.TheVariants.{Done, NoReport, Read, Write, Unavailable}
+use Rattle.desk_engine.specs.Importing.{heard_in_order}
+use Rattle.desk_engine.specs.Lines.{line_feed}
+use Rattle.desk_engine.specs.Told.{envelope_told, text_of}
+
+-- what the envelopes are told, in order, each text with an LF
+abbrev pub answer_envelopes : Settings → List Envelope → List Envelope → List ℕ
+answer_envelopes c heard [] = []
+answer_envelopes c heard (e ∷ es) = text_of (envelope_told c heard e) ++ line_feed ∷ answer_envelopes c (heard_with c heard e) es
+
+-- why the store was unavailable for a record
+abbrev pub fault_of_import : ImportEnd → Option StoreFault
+fault_of_import (Unavailable fault) = Some fault
+fault_of_import (Write fault) = fault
+fault_of_import _ = None
+
+-- What had been heard, and by whom the report is; what says that these are kept, and that these are left, or these with one more;
+-- what a reader has left before and after, and what a writer holds before and after.
+module _ (c : Settings) (heard : List Envelope) (sender : List ℕ) (Kept : List Envelope → Type 0) (Left : List Envelope → Option Envelope → Type 0)
+    (left rest before after : Option (List ℕ)) where
+  -- every record was heard, and exactly their answers were written
+  pub record ImportsAll : Type 0 where
+    pub input : List ℕ
+    pub read : Consumes left rest input
+    pub whole : IsAtEnd rest
+    pub envelopes : List Envelope
+    pub report : reads_report sender input ≡ Ok envelopes
+    pub kept : Kept (heard_in_order c heard envelopes)
+    pub answers : Appends before after (answer_envelopes c heard envelopes)
+
+  -- The input is no report: nothing of it was heard, and nothing was written. Of one that is too long only the first octets were read.
+  pub record RefusesReport (why : CsvFault) : Type 0 where
+    pub input : List ℕ
+    pub read : Consumes left rest input
+    pub no_report : reads_report sender input ≡ Err why
+    pub kept : Kept heard
+    pub answers : Keeps before after
+
+  -- The first records were heard, and of them this was written. The next is the one in doubt.
+  pub record ImportsFirst (Written : List ℕ → Type 0) : Type 0 where
+    pub input : List ℕ
+    pub read : Consumes left rest input
+    pub envelopes : List Envelope
+    pub report : (envelopes ≡ []) ⊎ (reads_report sender input ≡ Ok envelopes)
+    pub count : ℕ
+    pub doubt : Option Envelope
+    pub in_doubt : (doubt ≡ None) ⊎ (doubt ≡ slice_get envelopes count)
+    pub left_is : Left (heard_in_order c heard (take count envelopes)) doubt
+    pub answers : Written (answer_envelopes c heard (take count envelopes))
+
+  -- by how it ended
+  abbrev pub ImportEndsBy : ImportEnd → Type 0
+  ImportEndsBy Done = ImportsAll
+  ImportEndsBy (NoReport Memory) = ⊥
+  ImportEndsBy (NoReport why) = RefusesReport why
+  ImportEndsBy Read = ImportsFirst (λ answers. (answers ≡ []) × Keeps before after)
+  ImportEndsBy (Write fault) = ImportsFirst (λ answers. ⊤)
+  ImportEndsBy (Unavailable fault) = ImportsFirst (Appends before after) × IsUnavailability fault

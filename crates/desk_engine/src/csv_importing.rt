@@ -1,0 +1,138 @@
+//! A gateway report from a reader, heard in order, answers to a writer.
+ghost use Rattle.std.specs.Prelude.{◌≡◌, ◌⊎◌, ◌≤◌, ℕ, List, length, IfOk, IfErr, OnOk};
+ghost use Rattle.std.specs.List.{flat_map};
+ghost use Rattle.std.specs.Io.KnownBytes.{Appends, Consumes, IsAtEnd};
+ghost use Rattle.registry_core.specs.declared.messages.Envelope.{Envelope};
+ghost use Rattle.registry_core.specs.Settings.{Settings};
+ghost use Rattle.desk_store.specs.Calls.{IsCall, IsOfCalls, is_disk, is_foreign};
+ghost use Rattle.desk_wire.specs.CsvReports.{longest_report};
+ghost use Rattle.desk_engine.specs.CsvImporting.{ImportEndsBy, fault_of_import};
+ghost use Rattle.desk_engine.specs.Hearing.{StoreKeeps, StoreLeaves};
+ghost use Rattle.desk_engine.specs.InOrder.{WasInOrder};
+ghost use Rattle.desk_engine.specs.steps.CsvImporting.{HearsEnvelopes, line_of};
+
+use crate::importing::import;
+use crate::outcomes::Outcome;
+use crate::reads::read_some;
+use crate::writes::write_with_line_feed;
+use desk_store::{Keeper, StoreFault};
+use desk_wire::{CsvFault, LONGEST_REPORT, read_report};
+use radio_core::Name;
+use registry_core::Envelope;
+use std::alloc::Global;
+use std::io;
+use std::io::{Read, Write};
+
+/// How the import of a gateway report ended.
+#[derive(Clone, Copy)]
+pub enum ImportEnd {
+    /// Every record is heard and answered.
+    Done,
+    /// What was read is no gateway report: nothing is heard. (Want of memory is told as `Unavailable`.)
+    NoReport(CsvFault),
+    /// A read failed: nothing is heard.
+    Read,
+    /// A write failed. The first records are heard: all of them, unless the store was unavailable for one, and why it was.
+    Write(Option<StoreFault>),
+    /// The store was unavailable for a record, or there was no memory to keep the report. The records before it are answered.
+    Unavailable(StoreFault),
+}
+
+/// Hears the records of a gateway report in order, as messages of this sender, up to the first that is answered Unavailable,
+/// and writes the answers of those that were heard, one a line.
+///
+/// Nothing is heard before the report is read whole, and nothing is written before all are heard. Of a report that is too
+/// long no more is read than tells so. With `Done` exactly the answers of all records were written and handed on, with
+/// `Unavailable` exactly those of the records before the one that found the store so. In each case the store is in order for
+/// what was heard, and so a record that comes again gets its first answer.
+pub fn import_report<K: Keeper, R: Read, W: Write>(
+    alloc: Global,
+    keeper: &mut K,
+    sender: &Name,
+    reader: &mut R,
+    writer: &mut W,
+) -> ImportEnd
+    ensures call { IsCall K.meaning keeper.old keeper.new (is_disk (fault_of_import result)) (is_foreign (fault_of_import result)) }
+    ensures told { IsOfCalls (fault_of_import result) }
+    ensures ends { (c : Settings) (heard : List Envelope) → WasInOrder K.meaning c heard keeper.old keeper.new
+        → ImportEndsBy c heard sender.now (StoreKeeps K.meaning c heard keeper.old keeper.new) (StoreLeaves K.meaning c heard keeper.old keeper.new)
+        (R.remaining reader.old) (R.remaining reader.new) (W.contents writer.old) (W.contents writer.new) result }
+{
+    let text = match report_text(alloc, reader) {
+        Ok(text) => text,
+        Err(end) => return end,
+    };
+    match read_report(alloc, &text, sender) {
+        Ok(envelopes) => hear_envelopes(alloc, keeper, &envelopes, writer),
+        Err(CsvFault::Memory) => ImportEnd::Unavailable(StoreFault::Memory),
+        Err(fault) => ImportEnd::NoReport(fault),
+    }
+}
+
+/// The octets of the reader: all of them, or as many as are too many for a report.
+fn report_text<R: Read>(alloc: Global, reader: &mut R) -> Result<Vec<u8>, ImportEnd>
+    ensures read { IfOk result (λ text. Consumes (R.remaining reader.old) (R.remaining reader.new) text.items
+        × (length text.items ≤ longest_report → IsAtEnd (R.remaining reader.new))) }
+    ensures failed { IfErr result (λ end. ((end ≡ ImportEnd.Read) ⊎ (end ≡ ImportEnd.Unavailable StoreFault.Memory))
+        × ((input : List ℕ) × Consumes (R.remaining reader.old) (R.remaining reader.new) input)) }
+{
+    let mut text = Vec::new(alloc);
+    let mut chunk = [0u8; 8192];
+    while text.len() <= LONGEST_REPORT {
+        match read_some(reader, &mut chunk) {
+            Ok(0) => return Ok(text),
+            Ok(count) => {
+                if text.extend_from_slice(&chunk[..count]).is_err() {
+                    return Err(ImportEnd::Unavailable(StoreFault::Memory));
+                }
+            }
+            Err(_) => return Err(ImportEnd::Read),
+        }
+    }
+    Ok(text)
+}
+
+/// Hears envelopes in order, and writes the answers of those that were heard.
+fn hear_envelopes<K: Keeper, W: Write>(
+    alloc: Global,
+    keeper: &mut K,
+    envelopes: &[Envelope],
+    writer: &mut W,
+) -> ImportEnd
+    ensures call { IsCall K.meaning keeper.old keeper.new (is_disk (fault_of_import result)) (is_foreign (fault_of_import result)) }
+    ensures told { IsOfCalls (fault_of_import result) }
+    ensures hears { (c : Settings) (heard : List Envelope) → WasInOrder K.meaning c heard keeper.old keeper.new
+        → HearsEnvelopes c heard (StoreKeeps K.meaning c heard keeper.old keeper.new) (StoreLeaves K.meaning c heard keeper.old keeper.new)
+        envelopes.now (W.contents writer.old) (W.contents writer.new) result }
+{
+    let imported = import(alloc, keeper, envelopes);
+    match write_answers(writer, &imported.answers) {
+        Ok(()) => {}
+        Err(_) => return ImportEnd::Write(imported.stopped),
+    }
+    match imported.stopped {
+        Some(fault) => ImportEnd::Unavailable(fault),
+        None => ImportEnd::Done,
+    }
+}
+
+/// Writes the answers, one a line, and hands them on.
+fn write_answers<W: Write>(writer: &mut W, outcomes: &[Outcome]) -> io::Result<()>
+    ensures { OnOk result (Appends (W.contents writer.old) (W.contents writer.new) (flat_map line_of outcomes.now)) }
+{
+    for outcome in outcomes {
+        write_answer(writer, outcome)?;
+    }
+    writer.flush()
+}
+
+/// Writes one answer and an LF.
+fn write_answer<W: Write>(writer: &mut W, outcome: &Outcome) -> io::Result<()>
+    ensures { OnOk result (Appends (W.contents writer.old) (W.contents writer.new) (line_of outcome.now)) }
+{
+    match outcome {
+        Outcome::Answered(text) => write_with_line_feed(writer, text.as_slice()),
+        Outcome::Refused(_, text) => write_with_line_feed(writer, text.as_slice()),
+        Outcome::Unavailable(_) => Ok(()),
+    }
+}
