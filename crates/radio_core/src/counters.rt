@@ -16,24 +16,3 @@ pub fn rebuild(last: Option<u32>, low: u16) -> Option<u32>
     let ahead = (u32::from(low) + 65_536 - next % 65_536) % 65_536;
     next.checked_add(ahead)
 }
-
-#[cfg(test)]
-mod tests {
-    use super::*;
-    use crate::holding::holds_at;
-
-    #[test]
-    fn counters_are_rebuilt(rt: HostRuntime) {
-        let rows = [
-            (None, 65_535, Some(65_535)),
-            (Some(65_535), 0, Some(65_536)),
-            (Some(5), 5, Some(65_541)),
-            (Some(5), 6, Some(6)),
-            (Some(4_294_901_760), 65_535, Some(4_294_967_295)),
-            (Some(4_294_967_295), 0, None),
-        ];
-        for (place, (last, low, counter)) in rows.iter().enumerate() {
-            holds_at(&rt, rebuild(*last, *low) == *counter, place);
-        }
-    }
-}

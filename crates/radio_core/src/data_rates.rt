@@ -74,32 +74,3 @@ pub fn max_phy(dr: DataRate) -> usize
         DataRate::Dr4 | DataRate::Dr5 | DataRate::Dr6 | DataRate::Dr7 => 255,
     }
 }
-
-#[cfg(test)]
-mod tests {
-    use super::*;
-    use crate::holding::holds_at;
-
-    #[test]
-    fn data_rates_have_numbers_and_lengths(rt: HostRuntime) {
-        let rows = [
-            (0, Some(DataRate::Dr0), 64),
-            (1, Some(DataRate::Dr1), 64),
-            (2, Some(DataRate::Dr2), 64),
-            (3, Some(DataRate::Dr3), 128),
-            (4, Some(DataRate::Dr4), 255),
-            (5, Some(DataRate::Dr5), 255),
-            (6, Some(DataRate::Dr6), 255),
-            (7, Some(DataRate::Dr7), 255),
-            (8, None, 0),
-            (255, None, 0),
-        ];
-        for (place, (number, found, most)) in rows.iter().enumerate() {
-            holds_at(&rt, DataRate::new(*number) == *found, place);
-            if let Some(dr) = found {
-                holds_at(&rt, dr.get() == *number, place);
-                holds_at(&rt, max_phy(*dr) == *most, place);
-            }
-        }
-    }
-}

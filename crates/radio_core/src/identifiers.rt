@@ -66,25 +66,3 @@ impl DevAddr {
         self.address
     }
 }
-
-#[cfg(test)]
-mod tests {
-    use super::*;
-    use crate::holding::holds_at;
-
-    #[test]
-    fn numbers_are_given_back_and_ordered(rt: HostRuntime) {
-        let numbers = [0, 0x0004_a30b_001a_2b3c, 0x70b3_d57e_d000_0001, u64::MAX];
-        for (place, number) in numbers.iter().enumerate() {
-            holds_at(&rt, Eui::new(*number).get() == *number, place);
-        }
-        let addresses = [0, 0x01a0_0000, u32::MAX];
-        for (place, address) in addresses.iter().enumerate() {
-            holds_at(&rt, DevAddr::new(*address).get() == *address, place);
-        }
-        let later = Eui::new(0x0004_a30b_001a_2b3d);
-        holds_at(&rt, Eui::new(0x0004_a30b_001a_2b3c) < later, 1);
-        let later = DevAddr::new(0x01a0_0001);
-        holds_at(&rt, DevAddr::new(0x01a0_0000) < later, 2);
-    }
-}

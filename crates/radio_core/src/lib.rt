@@ -6,8 +6,6 @@ mod bands;
 mod counters;
 mod data_rates;
 mod frames;
-#[cfg(test)]
-mod holding;
 mod identifiers;
 pub mod laws;
 mod names;

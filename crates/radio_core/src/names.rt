@@ -113,33 +113,3 @@ impl Hash for Name {
         state.write(self.get());
     }
 }
-
-#[cfg(test)]
-mod tests {
-    use super::*;
-    use crate::holding::holds_at;
-
-    #[test]
-    fn names_have_their_form(rt: HostRuntime) {
-        let longest = [b'a'; 32];
-        let longer = [b'a'; 33];
-        let texts: [(&[u8], bool); 9] = [
-            (b"town", true),
-            (b"A.b-c_9", true),
-            (b"", false),
-            (b"a b", false),
-            (b"a/b", false),
-            (b"caf\xc3\xa9", false),
-            (b"a\0", false),
-            (&longest, true),
-            (&longer, false),
-        ];
-        for (place, (text, is_one)) in texts.iter().enumerate() {
-            let is_kept = match Name::new(text) {
-                Some(name) => name.get() == *text && name.as_str().as_bytes() == *text,
-                None => false,
-            };
-            holds_at(&rt, is_kept == *is_one, place);
-        }
-    }
-}

@@ -69,31 +69,3 @@ impl PartialEq for Octets {
 impl Eq for Octets {
     ghost laws = { nat_list_eq_equiv };
 }
-
-#[cfg(test)]
-mod tests {
-    use super::*;
-    use crate::holding::holds_at;
-
-    #[test]
-    fn at_most_255_octets_are_kept(rt: HostRuntime) {
-        let longest = [0xa5; 255];
-        let longer = [0xa5; 256];
-        let texts: [(&[u8], bool); 4] = [
-            (b"", true),
-            (b"\x40\x00", true),
-            (&longest, true),
-            (&longer, false),
-        ];
-        for (place, (text, is_one)) in texts.iter().enumerate() {
-            let is_kept = match Octets::new(text) {
-                Some(octets) => octets.get() == *text,
-                None => false,
-            };
-            holds_at(&rt, is_kept == *is_one, place);
-        }
-        let one = Octets::new(b"\x40");
-        holds_at(&rt, one == Octets::new(b"\x40"), 1);
-        holds_at(&rt, one != Octets::new(b"\x40\x00"), 2);
-    }
-}

@@ -7,7 +7,7 @@ use std::alloc::{AllocError, Global};
 use std::process::Abort;
 use std::test::Fail;
 
-const HEADER: &[u8] = b"transaction,type,gateway,time_us,freq_hz,dr,phy,verdict\n";
+static HEADER: &[u8] = b"transaction,type,gateway,time_us,freq_hz,dr,phy,verdict\n";
 
 /// Records, each alone behind the header, that are envelopes.
 static TAKEN: [&[u8]; 12] = [

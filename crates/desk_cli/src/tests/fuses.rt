@@ -20,6 +20,16 @@ use std::test::Fail;
 /// More calls than a run makes.
 const MANY: u64 = 10_000;
 
+/// What is done with a database. One function does it with a database in files: a proof that names a connection over files and makes
+/// a call with it takes long.
+trait Step {
+    fn take<R: Abort + AllocGlobal, S: Alter + Drop>(
+        &mut self,
+        rt: &R,
+        conn: Connection<S>,
+    ) -> Result<Connection<S>, Fail>;
+}
+
 /// A connection to the files, or, where they can't be opened, what is left of them.
 fn connected<D: Disk + Drop>(
     alloc: Global,
@@ -39,12 +49,32 @@ fn files_of<D: Disk + Drop>(conn: Connection<FileStore<D>>) -> Files<D> {
     conn.into_store().close()
 }
 
+/// The step is taken, where the files can be opened. Whether it was, and what is left of the files.
+fn in_files<R: Abort + AllocGlobal, D: Disk + Drop, T: Step>(
+    rt: &R,
+    files: Files<D>,
+    step: &mut T,
+) -> Result<(bool, Files<D>), Fail> {
+    match connected(rt.alloc(), files) {
+        Ok(conn) => Ok((true, files_of(step.take(rt, conn)?))),
+        Err(files) => Ok((false, files)),
+    }
+}
+
 /// The octets in a file that isn't fused.
 fn file_of(alloc: Global, octets: &[u8]) -> Result<Memory, Fail> {
     let mut file = Memory::new(alloc);
     file.write_at(0, octets)?;
     file.sync()?;
     Ok(file)
+}
+
+/// Files that have nothing.
+fn empty(alloc: Global) -> Files<Memory> {
+    Files {
+        log: Memory::new(alloc),
+        db: Memory::new(alloc),
+    }
 }
 
 /// Copies of the files, of which the log passes so many calls on, or the first file does.
@@ -73,40 +103,57 @@ fn unfused(alloc: Global, files: &Files<Fuse<Memory>>) -> Result<Files<Memory>, 
     })
 }
 
-// ---- a desk that is made and hears
-
-/// A desk is made in the database, and hears the messages until the disk fails. How many were answered, and the connection.
-fn heard_on<R: Abort + AllocGlobal, S: Alter + Drop>(
+/// The step is taken with copies of the files, as a process leaves them that has ended, and as a machine does that has lost all that
+/// wasn't synced.
+fn expect_left<R: Abort + AllocGlobal, T: Step>(
     rt: &R,
-    conn: Connection<S>,
-    deliveries: &[Delivery],
-) -> Result<(usize, Connection<S>), Fail> {
-    let config = config(65_536).ok_or("no configuration")?;
-    match Tables::create(rt.alloc(), ready(conn)?, config) {
-        Ok(tables) => {
-            let mut tables = Box::new(rt.alloc(), tables)?;
-            let answered = deliver_with_failure(rt, &mut *tables, deliveries, StoreFault::Disk);
-            Ok((answered, Box::into_inner(tables).close()))
+    files: Files<Fuse<Memory>>,
+    step: &mut T,
+) -> Result<(), Fail> {
+    let mut files = files;
+    for loses_unsynced in [false, true] {
+        if loses_unsynced {
+            files.log.crash();
+            files.db.crash();
         }
-        Err((fault, conn)) => {
-            holds(rt, fault == StoreFault::Disk, "why no desk is made");
-            Ok((0, conn))
-        }
+        let (is_opened, _) = in_files(rt, unfused(rt.alloc(), &files)?, step)?;
+        holds(rt, is_opened, "that they are opened");
     }
+    Ok(())
 }
 
-/// The same in files. How many were answered, and what is left of the files.
-fn heard_in<R: Abort + AllocGlobal, D: Disk + Drop>(
-    rt: &R,
-    files: Files<D>,
-    deliveries: &[Delivery],
-) -> Result<(usize, Files<D>), Fail> {
-    match connected(rt.alloc(), files) {
-        Ok(conn) => {
-            let (answered, conn) = heard_on(rt, conn, deliveries)?;
-            Ok((answered, files_of(conn)))
+// ---- a desk that is made and hears
+
+/// A desk is made, and hears the messages until the disk fails: how many were answered.
+#[derive(Drop)]
+struct Hears<'a> {
+    deliveries: &'a [Delivery],
+    answered: usize,
+}
+
+impl Step for Hears<'_> {
+    fn take<R: Abort + AllocGlobal, S: Alter + Drop>(
+        &mut self,
+        rt: &R,
+        conn: Connection<S>,
+    ) -> Result<Connection<S>, Fail> {
+        let config = config(65_536).ok_or("no configuration")?;
+        match Tables::create(rt.alloc(), ready(conn)?, config) {
+            Ok(tables) => {
+                let mut tables = Box::new(rt.alloc(), tables)?;
+                self.answered = deliver_with_failure(
+                    rt,
+                    &mut *tables,
+                    self.deliveries,
+                    StoreFault::Disk,
+                );
+                Ok(Box::into_inner(tables).close())
+            }
+            Err((fault, conn)) => {
+                holds(rt, fault == StoreFault::Disk, "why no desk is made");
+                Ok(conn)
+            }
         }
-        Err(files) => Ok((0, files)),
     }
 }
 
@@ -126,33 +173,26 @@ fn opened_or_made<R: Abort + AllocGlobal, S: Alter + Drop>(
 }
 
 /// What the database holds is what stood after so many messages, or with the next one too; and all are told as without a stop.
-fn goes_on<R: Abort + AllocGlobal, S: Alter + Drop>(
-    rt: &R,
-    conn: Connection<S>,
+#[derive(Drop)]
+struct GoesOn<'a> {
     answered: usize,
-    deliveries: &[Delivery],
-    wanted: &[String],
-) -> Result<(), Fail> {
-    let mut conn = opened_or_made(rt, conn)?;
-    let rows = rows_in(rt.alloc(), &mut conn)?;
-    let mut either = wanted.iter().skip(answered).take(2);
-    holds_at(rt, either.any(|one| *one == rows), answered);
-    let conn = told_each(rt, found(rt.alloc(), conn)?, deliveries);
-    let whole = wanted.last().ok_or("no rows")?;
-    expect_found(rt, conn, deliveries, whole)
+    deliveries: &'a [Delivery],
+    wanted: &'a [String],
 }
 
-/// What the files hold is.
-fn goes_on_in<R: Abort + AllocGlobal, D: Disk + Drop>(
-    rt: &R,
-    files: Files<D>,
-    answered: usize,
-    deliveries: &[Delivery],
-    wanted: &[String],
-) -> Result<(), Fail> {
-    match connected(rt.alloc(), files) {
-        Ok(conn) => goes_on(rt, conn, answered, deliveries, wanted),
-        Err(_) => Err("not opened".into()),
+impl Step for GoesOn<'_> {
+    fn take<R: Abort + AllocGlobal, S: Alter + Drop>(
+        &mut self,
+        rt: &R,
+        conn: Connection<S>,
+    ) -> Result<Connection<S>, Fail> {
+        let mut conn = opened_or_made(rt, conn)?;
+        let rows = rows_in(rt.alloc(), &mut conn)?;
+        let mut either = self.wanted.iter().skip(self.answered).take(2);
+        holds_at(rt, either.any(|one| *one == rows), self.answered);
+        let conn = told_each(rt, found(rt.alloc(), conn)?, self.deliveries);
+        let whole = self.wanted.last().ok_or("no rows")?;
+        expect_found(rt, conn, self.deliveries, whole)
     }
 }
 
@@ -172,21 +212,21 @@ fn rows_after_each<R: Abort + AllocGlobal>(
 fn desk_stops<R: Abort + AllocGlobal>(rt: &R, is_log: bool) -> Result<(), Fail> {
     let deliveries = all_deliveries(rt.alloc())?;
     let wanted = rows_after_each(rt, &deliveries)?;
-    let empty = Files {
-        log: Memory::new(rt.alloc()),
-        db: Memory::new(rt.alloc()),
-    };
+    let empty = empty(rt.alloc());
     for calls in 0..MANY {
+        let mut hears = Hears {
+            deliveries: &deliveries,
+            answered: 0,
+        };
         let files = fused(rt.alloc(), &empty, is_log, calls)?;
-        let (answered, mut left) = heard_in(rt, files, &deliveries)?;
-        for loses_unsynced in [false, true] {
-            if loses_unsynced {
-                left.log.crash();
-                left.db.crash();
-            }
-            let files = unfused(rt.alloc(), &left)?;
-            goes_on_in(rt, files, answered, &deliveries, &wanted)?;
-        }
+        let (_, left) = in_files(rt, files, &mut hears)?;
+        let answered = hears.answered;
+        let mut goes_on = GoesOn {
+            answered,
+            deliveries: &deliveries,
+            wanted: &wanted,
+        };
+        expect_left(rt, left, &mut goes_on)?;
         if answered == deliveries.len() {
             holds(rt, calls > 1, "that it stops");
             return Ok(());
@@ -207,82 +247,64 @@ fn a_desk_whose_first_file_stops(rt: HostRuntime) -> Result<(), Fail> {
 
 // ---- a desk that is moved
 
-/// A desk of schema 1 is made in the database.
-fn first_on<R: Abort + AllocGlobal, S: Alter + Drop>(
-    rt: &R,
-    conn: Connection<S>,
-) -> Result<Connection<S>, Fail> {
-    let mut conn = conn;
-    make_first(rt, &mut conn)?;
-    Ok(conn)
-}
+/// A desk of schema 1 is made.
+#[derive(Drop)]
+struct MakesFirst;
 
-/// Files with a desk of schema 1.
-fn first_files<R: Abort + AllocGlobal>(rt: &R) -> Result<Files<Memory>, Fail> {
-    let empty = Files {
-        log: Memory::new(rt.alloc()),
-        db: Memory::new(rt.alloc()),
-    };
-    match connected(rt.alloc(), empty) {
-        Ok(conn) => Ok(files_of(first_on(rt, conn)?)),
-        Err(_) => Err("not opened".into()),
+impl Step for MakesFirst {
+    fn take<R: Abort + AllocGlobal, S: Alter + Drop>(
+        &mut self,
+        rt: &R,
+        conn: Connection<S>,
+    ) -> Result<Connection<S>, Fail> {
+        let mut conn = conn;
+        make_first(rt, &mut conn)?;
+        Ok(conn)
     }
 }
 
-/// Whether the desk is moved, and the connection.
-fn moved_on<R: Abort + AllocGlobal, S: Alter + Drop>(
-    rt: &R,
-    conn: Connection<S>,
-) -> Result<(bool, Connection<S>), Fail> {
-    let (fault, conn) = moved(rt.alloc(), conn)?;
-    let is_told = fault.is_none() || fault == Some(StoreFault::Disk);
-    holds(rt, is_told, "why it isn't moved");
-    Ok((fault.is_none(), conn))
+/// The desk is moved, unless the disk fails.
+#[derive(Drop)]
+struct Moves {
+    is_moved: bool,
 }
 
-/// The same in files. Whether the desk is moved, and what is left of the files.
-fn moved_in<R: Abort + AllocGlobal, D: Disk + Drop>(
-    rt: &R,
-    files: Files<D>,
-) -> Result<(bool, Files<D>), Fail> {
-    match connected(rt.alloc(), files) {
-        Ok(conn) => {
-            let (is_moved, conn) = moved_on(rt, conn)?;
-            Ok((is_moved, files_of(conn)))
-        }
-        Err(files) => Ok((false, files)),
+impl Step for Moves {
+    fn take<R: Abort + AllocGlobal, S: Alter + Drop>(
+        &mut self,
+        rt: &R,
+        conn: Connection<S>,
+    ) -> Result<Connection<S>, Fail> {
+        let (fault, conn) = moved(rt.alloc(), conn)?;
+        self.is_moved = fault.is_none();
+        let is_told = fault.is_none() || fault == Some(StoreFault::Disk);
+        holds(rt, is_told, "why it isn't moved");
+        Ok(conn)
     }
 }
 
 /// The database holds the desk, of schema 1 or, where it was told to be moved, of schema 2, with all its rows.
-fn is_whole<R: Abort + AllocGlobal, S: Alter + Drop>(
-    rt: &R,
-    conn: Connection<S>,
+#[derive(Drop)]
+struct IsWhole<'a> {
     is_moved: bool,
-    deliveries: &[Delivery],
-    rows: &String,
-) -> Result<(), Fail> {
-    let (fault, conn) = moved(rt.alloc(), conn)?;
-    let is_first = fault.is_none() && !is_moved;
-    holds(
-        rt,
-        is_first || fault == Some(StoreFault::SchemaVersion),
-        "its schema",
-    );
-    expect_found(rt, conn, deliveries, rows)
+    deliveries: &'a [Delivery],
+    rows: &'a String,
 }
 
-/// The files hold it so.
-fn is_whole_in<R: Abort + AllocGlobal, D: Disk + Drop>(
-    rt: &R,
-    files: Files<D>,
-    is_moved: bool,
-    deliveries: &[Delivery],
-    rows: &String,
-) -> Result<(), Fail> {
-    match connected(rt.alloc(), files) {
-        Ok(conn) => is_whole(rt, conn, is_moved, deliveries, rows),
-        Err(_) => Err("not opened".into()),
+impl Step for IsWhole<'_> {
+    fn take<R: Abort + AllocGlobal, S: Alter + Drop>(
+        &mut self,
+        rt: &R,
+        conn: Connection<S>,
+    ) -> Result<Connection<S>, Fail> {
+        let (fault, conn) = moved(rt.alloc(), conn)?;
+        let is_first = fault.is_none() && !self.is_moved;
+        holds(
+            rt,
+            is_first || fault == Some(StoreFault::SchemaVersion),
+            "its schema",
+        );
+        expect_found(rt, conn, self.deliveries, self.rows)
     }
 }
 
@@ -290,17 +312,17 @@ fn is_whole_in<R: Abort + AllocGlobal, D: Disk + Drop>(
 fn moving_stops<R: Abort + AllocGlobal>(rt: &R, is_log: bool) -> Result<(), Fail> {
     let deliveries = deliveries(rt.alloc())?;
     let rows = rows_after(rt, &deliveries)?;
-    let first = first_files(rt)?;
+    let (_, first) = in_files(rt, empty(rt.alloc()), &mut MakesFirst)?;
     for calls in 0..MANY {
-        let (is_moved, mut left) = moved_in(rt, fused(rt.alloc(), &first, is_log, calls)?)?;
-        for loses_unsynced in [false, true] {
-            if loses_unsynced {
-                left.log.crash();
-                left.db.crash();
-            }
-            let files = unfused(rt.alloc(), &left)?;
-            is_whole_in(rt, files, is_moved, &deliveries, &rows)?;
-        }
+        let mut moves = Moves { is_moved: false };
+        let (_, left) = in_files(rt, fused(rt.alloc(), &first, is_log, calls)?, &mut moves)?;
+        let is_moved = moves.is_moved;
+        let mut is_whole = IsWhole {
+            is_moved,
+            deliveries: &deliveries,
+            rows: &rows,
+        };
+        expect_left(rt, left, &mut is_whole)?;
         if is_moved {
             holds(rt, calls > 1, "that it stops");
             return Ok(());

@@ -100,7 +100,8 @@ fn a_desk_is_moved_with_all_it_holds(rt: HostRuntime) -> Result<(), Fail> {
     let (fault, conn) = moved(rt.alloc(), conn)?;
     let is_moved = fault == Some(StoreFault::SchemaVersion);
     holds(&rt, is_moved, "that it isn't moved again");
-    expect_found(&rt, conn, &deliveries, &rows_after(&rt, &deliveries)?)
+    drop(expect_found(&rt, conn, &deliveries, &rows_after(&rt, &deliveries)?)?);
+    Ok(())
 }
 
 /// What is done to a database of schema 1, and why it isn't moved then.

@@ -2,6 +2,7 @@
 //! which requests differ.
 use Row::{Asks, Books, Frames, Joins, Letters};
 use Told::{Booked, Framed, Joined, Plain};
+use Value::{Number, Text};
 use std::alloc::{AllocError, Global};
 
 /// What a request is told.
@@ -97,7 +98,7 @@ pub(crate) fn delivery_of(alloc: Global, row: &Row) -> Result<Delivery, AllocErr
             asked(alloc, sender, transaction, type_name, members, told)
         }
         Joins(sender, transaction, heard, told) => {
-            let members = heard_members(alloc, &heard, "\"")?;
+            let members = heard_members(alloc, JOIN_MEMBERS, &heard)?;
             asked(
                 alloc,
                 sender,
@@ -108,7 +109,7 @@ pub(crate) fn delivery_of(alloc: Global, row: &Row) -> Result<Delivery, AllocErr
             )
         }
         Frames(sender, transaction, heard, told) => {
-            let members = heard_members(alloc, &heard, "")?;
+            let members = heard_members(alloc, FRAME_MEMBERS, &heard)?;
             asked(
                 alloc,
                 sender,
@@ -130,18 +131,18 @@ pub(crate) fn delivery_of(alloc: Global, row: &Row) -> Result<Delivery, AllocErr
             )
         }
         Letters(text, number, wanted) => Ok(Delivery {
-            text: format!(in alloc; "{text}")?,
+            text: text.to_string(alloc)?,
             number,
-            wanted: format!(in alloc; "{wanted}")?,
+            wanted: wanted.to_string(alloc)?,
         }),
     }
 }
 
 fn asked(
     alloc: Global,
-    sender: &str,
+    sender: &'static str,
     transaction: u32,
-    type_name: &str,
+    type_name: &'static str,
     members: &str,
     told: Told,
 ) -> Result<Delivery, AllocError> {
@@ -152,66 +153,156 @@ fn asked(
     })
 }
 
-/// The members of a report, the verdict between quotes where it is a text.
-fn heard_members(alloc: Global, heard: &Heard, quote: &str) -> Result<String, AllocError> {
-    let Heard {
-        gateway,
-        time,
-        freq,
-        rate,
-        octets,
-        verdict,
-    } = *heard;
-    format!(in alloc;
-        r#""Gateway":"{gateway}","Time":{time},"Freq":{freq},"DataRate":{rate},"PHYPayload":"{octets}","Verdict":{quote}{verdict}{quote}"#
-    )
+// Texts with a # where a value stands. They are statics: a proof goes through all letters of a constant where it is used.
+
+static REQUEST_FORM: &str =
+    r##"{"ProtocolVersion":"1.0","SenderID":"#","ReceiverID":"desk","TransactionID":#,"MessageType":"#",#}"##;
+
+/// The members of a report, the verdict a text.
+static JOIN_MEMBERS: &str =
+    r##""Gateway":"#","Time":#,"Freq":#,"DataRate":#,"PHYPayload":"#","Verdict":"#""##;
+
+/// The same, the verdict as it stands.
+static FRAME_MEMBERS: &str =
+    r##""Gateway":"#","Time":#,"Freq":#,"DataRate":#,"PHYPayload":"#","Verdict":#"##;
+
+static DOWN_MEMBERS: &str = r##""Uplink":#,"Gateway":"#","Window":#,"PHYPayload":"#""##;
+
+static PLAIN_ANSWER: &str =
+    r##"{"MessageType":"#Ans","ProtocolVersion":"1.0","ReceiverID":"#","Result":{"Description":"#","ResultCode":"#"},"SenderID":"desk","TransactionID":#}"##;
+
+static JOINED_ANSWER: &str =
+    r##"{"Airtime":#,"Band":"#","Copy":#,"DevAddr":"#","MessageType":"#Ans","ProtocolVersion":"1.0","ReceiverID":"#","Result":{"Description":"","ResultCode":"Success"},"SenderID":"desk","TransactionID":#,"Uplink":#}"##;
+
+static FRAMED_ANSWER: &str =
+    r##"{"Airtime":#,"Band":"#","Copy":#,"Counter":#,"DevEUI":"#","MessageType":"#Ans","ProtocolVersion":"1.0","ReceiverID":"#","Result":{"Description":"","ResultCode":"Success"},"SenderID":"desk","TransactionID":#,"Uplink":#}"##;
+
+static BOOKED_ANSWER: &str =
+    r##"{"Airtime":#,"Band":"#","Booking":#,"MessageType":"#Ans","ProtocolVersion":"1.0","ReceiverID":"#","Result":{"Description":"","ResultCode":"Success"},"SenderID":"desk","Start":#,"TransactionID":#}"##;
+
+/// What stands in the place of a #.
+#[derive(Clone, Copy)]
+enum Value<'a> {
+    Text(&'a str),
+    Number(u64),
+}
+
+/// The text with its values, in order.
+fn filled(alloc: Global, form: &str, values: &[Value<'_>]) -> Result<String, AllocError> {
+    let mut text = String::new(alloc);
+    for (place, part) in form.split('#').enumerate() {
+        text.push_str(part)?;
+        match values.get(place) {
+            Some(Text(value)) => text.push_str(value)?,
+            Some(Number(value)) => text.push_str(value.to_string(alloc)?.as_str())?,
+            None => {}
+        }
+    }
+    Ok(text)
+}
+
+fn heard_members(alloc: Global, form: &str, heard: &Heard) -> Result<String, AllocError> {
+    let values = [
+        Text(heard.gateway),
+        Number(heard.time),
+        Number(u64::from(heard.freq)),
+        Number(u64::from(heard.rate)),
+        Text(heard.octets),
+        Text(heard.verdict),
+    ];
+    filled(alloc, form, &values)
 }
 
 fn down_members(alloc: Global, down: &Down) -> Result<String, AllocError> {
-    let Down {
-        uplink,
-        gateway,
-        window,
-        octets,
-    } = *down;
-    format!(in alloc;
-        r#""Uplink":{uplink},"Gateway":"{gateway}","Window":{window},"PHYPayload":"{octets}""#
-    )
+    let values = [
+        Number(down.uplink),
+        Text(down.gateway),
+        Number(u64::from(down.window)),
+        Text(down.octets),
+    ];
+    filled(alloc, DOWN_MEMBERS, &values)
 }
 
-fn request(
+fn request<'a>(
     alloc: Global,
-    sender: &str,
+    sender: &'a str,
     transaction: u32,
-    type_name: &str,
-    members: &str,
+    type_name: &'a str,
+    members: &'a str,
 ) -> Result<String, AllocError> {
-    format!(in alloc;
-        r#"{{"ProtocolVersion":"1.0","SenderID":"{sender}","ReceiverID":"desk","TransactionID":{transaction},"MessageType":"{type_name}",{members}}}"#
-    )
+    let values = [
+        Text(sender),
+        Number(u64::from(transaction)),
+        Text(type_name),
+        Text(members),
+    ];
+    filled(alloc, REQUEST_FORM, &values)
 }
 
 fn answer(
     alloc: Global,
-    receiver: &str,
+    receiver: &'static str,
     transaction: u32,
-    type_name: &str,
+    type_name: &'static str,
     told: Told,
 ) -> Result<String, AllocError> {
+    let (receiver, transaction) = (Text(receiver), Number(u64::from(transaction)));
+    let type_name = Text(type_name);
     match told {
-        Plain(_, description, code) => format!(in alloc;
-            r#"{{"MessageType":"{type_name}Ans","ProtocolVersion":"1.0","ReceiverID":"{receiver}","Result":{{"Description":"{description}","ResultCode":"{code}"}},"SenderID":"desk","TransactionID":{transaction}}}"#
-        ),
-        Framed(airtime, band, copy, counter, dev_eui, uplink) => format!(in alloc;
-            r#"{{"Airtime":{airtime},"Band":"{band}","Copy":{copy},"Counter":{counter},"DevEUI":"{dev_eui}","MessageType":"{type_name}Ans","ProtocolVersion":"1.0","ReceiverID":"{receiver}","Result":{{"Description":"","ResultCode":"Success"}},"SenderID":"desk","TransactionID":{transaction},"Uplink":{uplink}}}"#
-        ),
-        Booked(airtime, band, booking, start) => format!(in alloc;
-            r#"{{"Airtime":{airtime},"Band":"{band}","Booking":{booking},"MessageType":"{type_name}Ans","ProtocolVersion":"1.0","ReceiverID":"{receiver}","Result":{{"Description":"","ResultCode":"Success"}},"SenderID":"desk","Start":{start},"TransactionID":{transaction}}}"#
-        ),
-        Joined(airtime, band, copy, addr, uplink) => format!(in alloc;
-            r#"{{"Airtime":{airtime},"Band":"{band}","Copy":{copy},"DevAddr":"{addr}","MessageType":"{type_name}Ans","ProtocolVersion":"1.0","ReceiverID":"{receiver}","Result":{{"Description":"","ResultCode":"Success"}},"SenderID":"desk","TransactionID":{transaction},"Uplink":{uplink}}}"#
-        ),
+        Plain(_, description, code) => {
+            let values = [
+                type_name,
+                receiver,
+                Text(description),
+                Text(code),
+                transaction,
+            ];
+            filled(alloc, PLAIN_ANSWER, &values)
+        }
+        Joined(airtime, band, copy, addr, uplink) => {
+            let values = [
+                Number(u64::from(airtime)),
+                Text(band),
+                truth(copy),
+                Text(addr),
+                type_name,
+                receiver,
+                transaction,
+                Number(uplink),
+            ];
+            filled(alloc, JOINED_ANSWER, &values)
+        }
+        Framed(airtime, band, copy, counter, dev_eui, uplink) => {
+            let values = [
+                Number(u64::from(airtime)),
+                Text(band),
+                truth(copy),
+                Number(u64::from(counter)),
+                Text(dev_eui),
+                type_name,
+                receiver,
+                transaction,
+                Number(uplink),
+            ];
+            filled(alloc, FRAMED_ANSWER, &values)
+        }
+        Booked(airtime, band, booking, start) => {
+            let values = [
+                Number(u64::from(airtime)),
+                Text(band),
+                Number(booking),
+                type_name,
+                receiver,
+                Number(start),
+                transaction,
+            ];
+            filled(alloc, BOOKED_ANSWER, &values)
+        }
     }
+}
+
+fn truth(is_so: bool) -> Value<'static> {
+    Text(if is_so { "true" } else { "false" })
 }
 
 fn number_of(told: Told) -> u8 {

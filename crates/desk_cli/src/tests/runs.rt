@@ -62,29 +62,30 @@ fn expect_run<R: Abort + AllocGlobal, K: Opened>(
     Ok(())
 }
 
-/// The table after the setup.
-fn expect_after_setup<R: Abort + AllocGlobal, K: Opened>(rt: &R, rows: &[Row]) -> Result<(), Fail> {
-    expect_run::<R, K>(rt, 65_536, &[&SETUP[..], rows])
-}
-
-fn downlinks_have_their_outcomes<R: Abort + AllocGlobal, K: Opened>(rt: &R) -> Result<(), Fail> {
-    expect_after_setup::<R, K>(rt, &WORKED_DOWNLINKS)?;
-    expect_after_setup::<R, K>(rt, &BETWEEN)?;
-    expect_after_setup::<R, K>(rt, &BETWEEN_ABOVE)?;
-    expect_after_setup::<R, K>(rt, &COLLISIONS)?;
-    expect_after_setup::<R, K>(rt, &DOWNLINKS)?;
-    expect_after_setup::<R, K>(rt, &LENGTHS)
+/// The tables that come right after the setup.
+fn after_setup() -> [&'static [Row]; 11] {
+    [
+        &REGISTRY,
+        &JOINS,
+        &DATA,
+        &SESSIONS,
+        &FSK,
+        &WORKED_DOWNLINKS,
+        &BETWEEN,
+        &BETWEEN_ABOVE,
+        &COLLISIONS,
+        &DOWNLINKS,
+        &LENGTHS,
+    ]
 }
 
 pub(super) fn have_their_outcomes<R: Abort + AllocGlobal, K: Opened>(rt: &R) -> Result<(), Fail> {
     expect_run::<R, K>(rt, 65_536, &[&OWNERS[..]])?;
     expect_run::<R, K>(rt, 1, &[&SETUP[..], &ONE_ADDRESS])?;
-    expect_after_setup::<R, K>(rt, &REGISTRY)?;
-    expect_after_setup::<R, K>(rt, &JOINS)?;
-    expect_after_setup::<R, K>(rt, &DATA)?;
-    expect_after_setup::<R, K>(rt, &SESSIONS)?;
-    expect_after_setup::<R, K>(rt, &FSK)?;
-    downlinks_have_their_outcomes::<R, K>(rt)
+    for rows in &after_setup() {
+        expect_run::<R, K>(rt, 65_536, &[&SETUP[..], *rows])?;
+    }
+    Ok(())
 }
 
 pub(super) fn hours_have_their_outcomes<R: Abort + AllocGlobal, K: Opened>(

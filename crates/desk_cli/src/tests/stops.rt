@@ -106,17 +106,16 @@ pub(super) fn rows_after<R: Abort + AllocGlobal>(
     rows_in(rt.alloc(), &mut heard(rt, deliveries)?)
 }
 
-/// The desk of the connection has these rows, and each delivery is told once more what it was told.
+/// The desk of the connection has these rows, and each delivery is told once more what it was told. The connection to it.
 pub(super) fn expect_found<R: Abort + AllocGlobal, S: Alter + Drop>(
     rt: &R,
     conn: Connection<S>,
     deliveries: &[Delivery],
     rows: &String,
-) -> Result<(), Fail> {
+) -> Result<Connection<S>, Fail> {
     let mut conn = conn;
     holds(rt, rows_in(rt.alloc(), &mut conn)? == *rows, "the rows");
-    drop(told_each(rt, found(rt.alloc(), conn)?, deliveries));
-    Ok(())
+    Ok(told_each(rt, found(rt.alloc(), conn)?, deliveries))
 }
 
 /// Each delivery was told what it is to be told, and what was found then is the desk that heard them.
@@ -129,7 +128,8 @@ fn expect_run<R: Abort + AllocGlobal, S: Alter + Drop>(
         return Err("no desk".into());
     };
     expect_outcomes(rt, &outcomes, deliveries);
-    expect_found(rt, conn, deliveries, &rows_after(rt, deliveries)?)
+    drop(expect_found(rt, conn, deliveries, &rows_after(rt, deliveries)?)?);
+    Ok(())
 }
 
 /// The whole at once: a desk is made, hears the messages, and is found again after the machine has stopped. `fuses.rt` stops it at

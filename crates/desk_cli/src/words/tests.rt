@@ -13,7 +13,7 @@ use helps::{
     REPORT_HELP, SERVE_HELP,
 };
 use registry_core::Config;
-use std::alloc::{AllocError, Global};
+use std::alloc::Global;
 use std::process::Abort;
 use std::test::Fail;
 
@@ -43,47 +43,56 @@ static NAMELESS: [(&[&str], ErrorKind); 14] = [
     ),
 ];
 
-/// The command's name, and the values of a configuration, one after another.
-fn settings_text(alloc: Global, name: &str, config: &Config) -> Result<String, AllocError> {
-    let (receiver, operator) = (config.receiver().as_str(), config.operator().as_str());
-    let (base, addresses) = (config.base(), config.addresses());
-    format!(in alloc; "{name} {receiver} {operator} {base:08x} {addresses}")
+/// A command's name, its texts and its numbers, in order, the file first; what it hasn't is empty or 0.
+pub(crate) type Values = (&'static str, [&'static str; 3], [u32; 2]);
+
+/// The configuration has these names and numbers.
+fn are_settings(config: &Config, (_, texts, numbers): &Values) -> bool {
+    config.receiver().as_str() == texts[1]
+        && config.operator().as_str() == texts[2]
+        && config.base() == numbers[0]
+        && config.addresses() == numbers[1]
 }
 
-/// The command's name and its values, one after another.
-fn command_text(alloc: Global, command: &Command<'_>) -> Result<String, AllocError> {
-    match *command {
-        Command::Lines { config } => settings_text(alloc, "lines", &config),
+/// The command has this name and these values.
+fn is_command(command: &Command<'_>, want: &Values) -> bool {
+    let (name, texts, numbers) = want;
+    match command {
+        Command::Lines { config } => *name == "lines" && are_settings(config, want),
         Command::Init { file, config } => {
-            let name = ["init", file].join(alloc, " ")?;
-            settings_text(alloc, name.as_str(), &config)
+            *name == "init" && *file == texts[0] && are_settings(config, want)
         }
-        Command::Migrate { file } => ["migrate", file].join(alloc, " "),
-        Command::Hear { file } => ["hear", file].join(alloc, " "),
-        Command::Import { file, sender } => ["import", file, sender.as_str()].join(alloc, " "),
+        Command::Migrate { file } => *name == "migrate" && *file == texts[0],
+        Command::Hear { file } => *name == "hear" && *file == texts[0],
+        Command::Import { file, sender } => {
+            *name == "import" && *file == texts[0] && sender.as_str() == texts[1]
+        }
         Command::Serve {
             file,
             port,
             connections,
-        } => format!(in alloc; "serve {file} {port} {connections}"),
-        Command::Report { file, owner, month } => {
-            ["report", file, owner, month].join(alloc, " ")
+        } => {
+            *name == "serve"
+                && *file == texts[0]
+                && u32::from(*port) == numbers[0]
+                && *connections == numbers[1]
         }
-        Command::Bands { file, gateway } => ["bands", file, gateway].join(alloc, " "),
-        Command::Check { file } => ["check", file].join(alloc, " "),
+        Command::Report { file, owner, month } => {
+            *name == "report" && *file == texts[0] && *owner == texts[1] && *month == texts[2]
+        }
+        Command::Bands { file, gateway } => {
+            *name == "bands" && *file == texts[0] && *gateway == texts[1]
+        }
+        Command::Check { file } => *name == "check" && *file == texts[0],
     }
 }
 
 /// The words name this command, with these values.
-pub(crate) fn is_named<'a>(
-    alloc: Global,
-    words: &'a [&'a str],
-    want: &str,
-) -> Result<bool, AllocError> {
+pub(crate) fn is_named<'a>(alloc: Global, words: &'a [&'a str], want: &Values) -> bool {
     let Ok(command) = read_words(alloc, words) else {
-        return Ok(false);
+        return false;
     };
-    Ok(command_text(alloc, &command)?.as_str() == want)
+    is_command(&command, want)
 }
 
 /// The words name nothing that clap takes, and its error is of this kind.

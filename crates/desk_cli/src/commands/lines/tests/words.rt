@@ -1,14 +1,17 @@
 //! The words of `desk lines`.
 use crate::tests::holding::holds_at;
 use crate::usage::BadValue;
-use crate::words::tests::{is_bad, is_named};
+use crate::words::tests::{Values, is_bad, is_named};
 use std::test::Fail;
 
 const LONGER: &str = "abcdefghijklmnopqrstuvwxyz-_.0123";
 
-/// Words, and the command that they name, with its values one after another.
-static NAMED: [(&[&str], &str); 9] = [
-    (&["desk", "lines"], "lines desk office 01a00000 65536"),
+/// Words, and the command that they name, with its values.
+static NAMED: [(&[&str], Values); 9] = [
+    (
+        &["desk", "lines"],
+        ("lines", ["", "desk", "office"], [0x01a0_0000, 65_536]),
+    ),
     (
         &[
             "desk",
@@ -22,7 +25,7 @@ static NAMED: [(&[&str], &str); 9] = [
             "--addresses",
             "7",
         ],
-        "lines town op.1 00000001 7",
+        ("lines", ["", "town", "op.1"], [1, 7]),
     ),
     (
         &[
@@ -33,15 +36,15 @@ static NAMED: [(&[&str], &str); 9] = [
             "--operator=-._A",
             "--receiver=Z",
         ],
-        "lines Z -._A ffab09cd 8",
+        ("lines", ["", "Z", "-._A"], [0xffab_09cd, 8]),
     ),
     (
         &["desk", "lines", "--base", "01A00000"],
-        "lines desk office 01a00000 65536",
+        ("lines", ["", "desk", "office"], [0x01a0_0000, 65_536]),
     ),
     (
         &["desk", "lines", "--base", "ffffffff", "--addresses", "1"],
-        "lines desk office ffffffff 1",
+        ("lines", ["", "desk", "office"], [0xffff_ffff, 1]),
     ),
     (
         &[
@@ -52,7 +55,7 @@ static NAMED: [(&[&str], &str); 9] = [
             "--addresses",
             "4294967295",
         ],
-        "lines desk office 00000001 4294967295",
+        ("lines", ["", "desk", "office"], [1, 4_294_967_295]),
     ),
     (
         &[
@@ -61,21 +64,27 @@ static NAMED: [(&[&str], &str); 9] = [
             "--receiver",
             "abcdefghijklmnopqrstuvwxyz-_.012",
         ],
-        "lines abcdefghijklmnopqrstuvwxyz-_.012 office 01a00000 65536",
+        (
+            "lines",
+            ["", "abcdefghijklmnopqrstuvwxyz-_.012", "office"],
+            [0x01a0_0000, 65_536],
+        ),
     ),
     (
         &["desk", "lines", "--operator", "desk"],
-        "lines desk desk 01a00000 65536",
+        ("lines", ["", "desk", "desk"], [0x01a0_0000, 65_536]),
     ),
-    (&["another", "lines"], "lines desk office 01a00000 65536"),
+    (
+        &["another", "lines"],
+        ("lines", ["", "desk", "office"], [0x01a0_0000, 65_536]),
+    ),
 ];
 
 #[test]
-fn words_that_name_lines(rt: HostRuntime) -> Result<(), Fail> {
+fn words_that_name_lines(rt: HostRuntime) {
     for (place, (words, want)) in NAMED.iter().enumerate() {
-        holds_at(&rt, is_named(rt.alloc(), words, want)?, place);
+        holds_at(&rt, is_named(rt.alloc(), words, want), place);
     }
-    Ok(())
 }
 
 static BAD: [(&[&str], BadValue); 24] = [

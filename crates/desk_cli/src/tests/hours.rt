@@ -1,9 +1,9 @@
-//! Worked rows. What they assert is a call of one of two functions, since an assertion that stands in a test costs its proof several
-//! times as much; one does only where the sweep asks for order.
-use crate::hours::{clear, fits, peak, use_at};
-use crate::interval::Span;
-use crate::near::{is_near, near_range};
-use crate::sweep::{in_order, sweep_fits, sweep_peak};
+//! Rows of sliding hours: spans, use, peak, what fits, what is clear and what is near. One asserts by itself, since the sweep asks for
+//! order.
+use super::holding::{holds, holds_at};
+use duty_core::{
+    Span, clear, fits, in_order, is_near, near_range, peak, sweep_fits, sweep_peak, use_at,
+};
 use std::alloc::{AllocError, Global};
 use std::process::Abort;
 use std::test::Fail;
@@ -13,16 +13,6 @@ const HOUR: i64 = 3_600_000_000;
 
 /// The first microsecond of February 2024.
 const MONTH: i64 = 1_706_745_600_000_000;
-
-/// It is so. `what` names it where it isn't.
-fn holds(rt: &impl Abort, is_so: bool, what: &str) {
-    assert!(rt; is_so, "{what}");
-}
-
-/// It is so, of the row in this place.
-fn holds_at(rt: &impl Abort, is_so: bool, place: usize) {
-    assert!(rt; is_so, "at {place}");
-}
 
 fn span(rt: &impl Abort, start: i64, len: u32) -> Span {
     Span::new(start, len).expect(rt, "the start is in range")
