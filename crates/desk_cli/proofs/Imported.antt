@@ -1,6 +1,7 @@
 -- What came of an import, and what is said of the file that the store is in.
-use Rattle.std.proofs.Common.{◌≡◌, ℕ, List, [], Option, None, Result, Ok, Err, refl, sym, ◌∙◌, inl, subst}
+use Rattle.std.proofs.Common.{◌≡◌, ℕ, List, [], Option, Some, None, Result, Ok, Err, refl, sym, ◌∙◌, inl, inr, length, subst}
 use Rattle.std.proofs.KnownBytes.{Appends-nil, Consumes-nil}
+use Rattle.std.proofs.Math.Seq.{take-length}
 use Rattle.std.specs.Prelude.{⊤}
 use Rattle.registry_core.specs.declared.messages.Envelope.{Envelope}
 use Rattle.registry_core.specs.Settings.{Settings}
@@ -9,6 +10,7 @@ use Rattle.desk_wire.specs.declared.csv_faults.CsvFault.{CsvFault}
 use Rattle.desk_wire.specs.declared.csv_faults.CsvFault.TheVariants as csv
 use Rattle.desk_engine.specs.declared.csv_importing.ImportEnd.TheVariants as end
 use Rattle.desk_engine.specs.CsvImporting.{ImportEndsBy, ImportsFirst, RefusesReport}
+use Rattle.desk_engine.specs.Importing.{heard_in_order}
 use Rattle.desk_cli.proofs.Opened.{err, is_unavailable}
 use Rattle.desk_cli.specs.Faults.{fault_of_csv, fault_of_store}
 use Rattle.desk_cli.specs.commands.Importing.{ImportsBy}
@@ -31,6 +33,22 @@ module _ (c : Settings) (heard : List Envelope) (sender : List ℕ) (Kept : List
     left_is = by.left_is;
     answers = tt;
   }
+
+  -- the answers couldn't be written, of all or of the first
+  pub unwritten : ((all : List Envelope) → Kept all → Left all None) → (why : Option StoreFault) → ImportEndsBy c heard sender Kept Left rest_before rest before after (end.Write why)
+      → ImportsBy c heard sender Kept Left rest_before rest before after (err {T = T} File)
+  unwritten leaves None by = record {
+    input = by.input;
+    read = by.read;
+    envelopes = by.envelopes;
+    report = inr by.report;
+    count = length by.envelopes;
+    doubt = None;
+    in_doubt = inl refl;
+    left_is = subst (λ es. Left (heard_in_order c heard es) None) (sym (take-length by.envelopes)) (leaves _ by.kept);
+    answers = tt;
+  }
+  unwritten leaves (Some fault) by = by.0
 
   pub no_report : (why : CsvFault) → ImportEndsBy c heard sender Kept Left rest_before rest before after (end.NoReport why) → (fault : Fault) → fault ≡ fault_of_csv why
       → ImportsBy c heard sender Kept Left rest_before rest before after (err {T = T} fault)

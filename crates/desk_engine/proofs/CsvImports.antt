@@ -5,13 +5,13 @@ use Rattle.std.proofs.Math.Seq.{take-length}
 use Rattle.std.proofs.lemmas.Bool.{ltb-false, true≢false}
 use Rattle.std.specs.Io.KnownBytes.{Appends, Consumes, IsAtEnd}
 use Rattle.std.specs.List.{flat_map}
-use Rattle.std.specs.Prelude.{◌⊎◌, ◌≤◌, ◌||◌, Bool, nat_lt, slice_get, if◌then◌else◌, ⊤}
+use Rattle.std.specs.Prelude.{◌⊎◌, ◌≤◌, ◌||◌, Bool, IfSome, nat_lt, slice_get, if◌then◌else◌, ⊤}
 use Rattle.registry_core.specs.declared.messages.Envelope.{Envelope}
 use Rattle.registry_core.specs.Heard.{heard_with}
 use Rattle.registry_core.specs.Settings.{Settings}
 use Rattle.desk_store.specs.declared.faults.StoreFault.{StoreFault}
 use Rattle.desk_store.specs.declared.faults.StoreFault.TheVariants as store
-use Rattle.desk_store.specs.Calls.{is_disk}
+use Rattle.desk_store.specs.Calls.{IsUnavailability, is_disk}
 use Rattle.desk_store.specs.Meaning.{Meaning}
 use Rattle.desk_wire.specs.CsvReports.{IsReportUnlessMemory, is_ended, longest_report, reads_report, records_of, report_of_records}
 use Rattle.desk_wire.specs.declared.csv_faults.CsvFault.{CsvFault}
@@ -71,14 +71,27 @@ module _ {K : Type 0} (m : Meaning K) (c : Settings) (heard : List Envelope) (ol
   leaves_first : StoreLeaves m c heard old new (heard_in_order c heard (take (length os) es)) (doubt_at_stop es os stopped)
   leaves_first = record { order = store.order c heard was; crash = λ doubt. store.crash c heard doubt was }
 
+  all_of : length os ≡ length es → take (length os) es ≡ es
+  all_of whole = rw whole (take-length es)
+
   hears_some : (Written : List ℕ → Type 0) → Written (answer_envelopes c heard (take (length os) es))
       → HearsSome c heard (StoreKeeps m c heard old new) (StoreLeaves m c heard old new) es before after Written
   hears_some Written written =
       record { count = length os; doubt = doubt_at_stop es os stopped; in_doubt = in_doubt es os stopped; left_is = leaves_first; answers = written }
 
-  -- the answers couldn't be written
-  pub unwritten : HearsSome c heard (StoreKeeps m c heard old new) (StoreLeaves m c heard old new) es before after (λ _. ⊤)
-  unwritten = hears_some (λ _. ⊤) tt
+  -- all were heard
+  pub kept_all : stopped ≡ None → length os ≡ length es → StoreKeeps m c heard old new (heard_in_order c heard es)
+  kept_all none whole =
+      let doubt : doubt_at_stop es os stopped ≡ None = no_doubt es os stopped none in
+      let leaves : StoreLeaves m c heard old new (heard_in_order c heard es) None =
+      subst (λ envelopes. StoreLeaves m c heard old new (heard_in_order c heard envelopes) None) (all_of whole) (subst (StoreLeaves m c heard old new (heard_in_order c heard (take (length os) es))) doubt leaves_first) in
+      record { leaves = leaves; still = store.call.shut ∙ ap (λ s. is_disk s || m.down old) none }
+
+  -- the answers couldn't be written, of all or of the first
+  pub unwritten : (why : Option StoreFault) → stopped ≡ why → (why ≡ None → length os ≡ length es) → IfSome why IsUnavailability
+      → HearsEnvelopes c heard (StoreKeeps m c heard old new) (StoreLeaves m c heard old new) es before after (end.Write why)
+  unwritten None is whole unavailable = kept_all is (whole refl)
+  unwritten (Some fault) is whole unavailable = (hears_some (λ _. ⊤) tt, unavailable)
 
   module _ (are : AreAnswers c heard (take (length os) es) os) (written : Appends before after (flat_map line_of os)) where
     its_answers : Appends before after (answer_envelopes c heard (take (length os) es))
@@ -91,12 +104,7 @@ module _ {K : Type 0} (m : Meaning K) (c : Settings) (heard : List Envelope) (ol
     -- all were heard
     pub heard_all_of : stopped ≡ None → length os ≡ length es
         → StoreKeeps m c heard old new (heard_in_order c heard es) × Appends before after (answer_envelopes c heard es)
-    heard_all_of none whole =
-        let all : take (length os) es ≡ es = rw whole (take-length es) in
-        let doubt : doubt_at_stop es os stopped ≡ None = no_doubt es os stopped none in
-        let leaves : StoreLeaves m c heard old new (heard_in_order c heard es) None =
-        subst (λ envelopes. StoreLeaves m c heard old new (heard_in_order c heard envelopes) None) all (subst (StoreLeaves m c heard old new (heard_in_order c heard (take (length os) es))) doubt leaves_first) in
-        (record { leaves = leaves; still = store.call.shut ∙ ap (λ s. is_disk s || m.down old) none }, subst (λ envelopes. Appends before after (answer_envelopes c heard envelopes)) all its_answers)
+    heard_all_of none whole = (kept_all none whole, subst (λ envelopes. Appends before after (answer_envelopes c heard envelopes)) (all_of whole) its_answers)
 
 -- ---- a report that was read
 
@@ -120,8 +128,10 @@ module _ (c : Settings) (heard : List Envelope) (sender : List ℕ) (Kept : List
       record { input = input; read = read; whole = whole (not_too_long sender input es is); envelopes = es; report = is; kept = by.0; answers = by.1 }
   with_report input es read whole is (end.Unavailable fault) by =
       (record { input = input; read = read; envelopes = es; report = inr is; count = by.0.count; doubt = by.0.doubt; in_doubt = by.0.in_doubt; left_is = by.0.left_is; answers = by.0.answers }, by.1)
-  with_report input es read whole is (end.Write fault) by =
-      record { input = input; read = read; envelopes = es; report = inr is; count = by.count; doubt = by.doubt; in_doubt = by.in_doubt; left_is = by.left_is; answers = by.answers }
+  with_report input es read whole is (end.Write None) by =
+      record { input = input; read = read; whole = whole (not_too_long sender input es is); envelopes = es; report = is; kept = by; answers = tt }
+  with_report input es read whole is (end.Write (Some fault)) by =
+      (record { input = input; read = read; envelopes = es; report = inr is; count = by.0.count; doubt = by.0.doubt; in_doubt = by.0.in_doubt; left_is = by.0.left_is; answers = by.0.answers }, by.1)
   with_report input es read whole is end.Read by = absurd by
   with_report input es read whole is (end.NoReport why) by = absurd by
 

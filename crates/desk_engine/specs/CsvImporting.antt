@@ -30,15 +30,15 @@ fault_of_import _ = None
 -- what a reader has left before and after, and what a writer holds before and after.
 module _ (c : Settings) (heard : List Envelope) (sender : List ℕ) (Kept : List Envelope → Type 0) (Left : List Envelope → Option Envelope → Type 0)
     (left rest before after : Option (List ℕ)) where
-  -- every record was heard, and exactly their answers were written
-  pub record ImportsAll : Type 0 where
+  -- every record was heard, and of their answers this was written
+  pub record ImportsAll (Written : List ℕ → Type 0) : Type 0 where
     pub input : List ℕ
     pub read : Consumes left rest input
     pub whole : IsAtEnd rest
     pub envelopes : List Envelope
     pub report : reads_report sender input ≡ Ok envelopes
     pub kept : Kept (heard_in_order c heard envelopes)
-    pub answers : Appends before after (answer_envelopes c heard envelopes)
+    pub answers : Written (answer_envelopes c heard envelopes)
 
   -- The input is no report: nothing of it was heard, and nothing was written. Of one that is too long only the first octets were read.
   pub record RefusesReport (why : CsvFault) : Type 0 where
@@ -62,9 +62,10 @@ module _ (c : Settings) (heard : List Envelope) (sender : List ℕ) (Kept : List
 
   -- by how it ended
   abbrev pub ImportEndsBy : ImportEnd → Type 0
-  ImportEndsBy Done = ImportsAll
+  ImportEndsBy Done = ImportsAll (Appends before after)
   ImportEndsBy (NoReport Memory) = ⊥
   ImportEndsBy (NoReport why) = RefusesReport why
   ImportEndsBy Read = ImportsFirst (λ answers. (answers ≡ []) × Keeps before after)
-  ImportEndsBy (Write fault) = ImportsFirst (λ answers. ⊤)
+  ImportEndsBy (Write None) = ImportsAll (λ answers. ⊤)
+  ImportEndsBy (Write (Some fault)) = ImportsFirst (λ answers. ⊤) × IsUnavailability fault
   ImportEndsBy (Unavailable fault) = ImportsFirst (Appends before after) × IsUnavailability fault

@@ -32,7 +32,7 @@ pub enum ImportEnd {
     NoReport(CsvFault),
     /// A read failed: nothing is heard.
     Read,
-    /// A write failed. Some first records are heard; and why the store was unavailable for the next one, if it was.
+    /// A write failed. Every record is heard; or those before the one that the store was unavailable for, and why it was.
     Write(Option<StoreFault>),
     /// The store was unavailable for a record, or there was no memory to keep the report. The records before it are answered.
     Unavailable(StoreFault),

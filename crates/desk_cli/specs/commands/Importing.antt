@@ -32,7 +32,7 @@ import_named rows = named_as do
 module _ (c : Settings) (heard : List Envelope) (sender : List ℕ) (Kept : List Envelope → Type 0) (Left : List Envelope → Option Envelope → Type 0)
     (left rest before after : Option (List ℕ)) where
   abbrev pub ImportsBy : {T : Type 0} → Result T Fault → Type 0
-  ImportsBy (Ok x) = ImportsAll c heard sender Kept Left left rest before after
+  ImportsBy (Ok x) = ImportsAll c heard sender Kept Left left rest before after (Appends before after)
   ImportsBy (Err Unavailable) = ImportsFirst c heard sender Kept Left left rest before after (Appends before after)
   ImportsBy (Err File) = ImportsFirst c heard sender Kept Left left rest before after (λ _. ⊤)
   ImportsBy (Err CsvSize) = RefusesReport c heard sender Kept Left left rest before after csv.Size

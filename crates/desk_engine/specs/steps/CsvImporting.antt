@@ -1,5 +1,5 @@
 -- Envelopes heard in order by a store, and what is written for them.
-use Rattle.std.specs.Prelude.{◌≡◌, ◌⊎◌, ℕ, List, [], ◌∷◌, ◌++◌, Option, None, slice_get, take, ⊤}
+use Rattle.std.specs.Prelude.{◌≡◌, ◌⊎◌, ℕ, List, [], ◌∷◌, ◌++◌, Option, Some, None, slice_get, take, ⊤}
 use Rattle.std.specs.Io.KnownBytes.{Appends}
 use Rattle.registry_core.specs.declared.messages.Envelope.{Envelope}
 use Rattle.registry_core.specs.Settings.{Settings}
@@ -31,5 +31,6 @@ module _ (c : Settings) (heard : List Envelope) (Kept : List Envelope → Type 0
   abbrev pub HearsEnvelopes : ImportEnd → Type 0
   HearsEnvelopes end.Done = Kept (heard_in_order c heard envelopes) × Appends before after (answer_envelopes c heard envelopes)
   HearsEnvelopes (end.Unavailable fault) = HearsSome (Appends before after) × IsUnavailability fault
-  HearsEnvelopes (end.Write fault) = HearsSome (λ _. ⊤)
+  HearsEnvelopes (end.Write None) = Kept (heard_in_order c heard envelopes)
+  HearsEnvelopes (end.Write (Some fault)) = HearsSome (λ _. ⊤) × IsUnavailability fault
   HearsEnvelopes _ = ⊥
