@@ -8,9 +8,9 @@ times a second at what each process has taken. Nothing that earlier runs kept is
 to the log.
 
 It prints minutes of a processor, crate by crate: of the first check, the check with its tests, the check before its first edit, and the
-edits; and then what the run took in all, as the system counted it. A machine whose processors others share takes up to twice as long
-as one that is alone: the last line tells the whole in first checks of `radio_core`, which goes with the machine. It fails where the
-gate does.
+edits; and then what the run took in all, as the system counted it. Where rt tries a crate's first edit from nothing no check is told
+before it, and the edits took that much more. A machine whose processors others share takes up to twice as long as one that is alone:
+the last line tells the whole in first checks of `radio_core`, which goes with the machine. It fails where the gate does.
 """
 
 import argparse
