@@ -1,11 +1,12 @@
 #!/usr/bin/env python3
 """Runs the gate from nothing, and tells where its processor time goes.
 
-    checks/gate_minutes.py [--jobs 1] [--log FILE]
+    checks/gate_minutes.py [--jobs 1] [--log FILE] [--huge-pages]
 
 It clones the commit that is checked out into a folder of its own, runs `rt ci` there with so many checks side by side, and looks four
 times a second at what each process has taken. Nothing that earlier runs kept is taken over, where rt can be told so. What rt says goes
-to the log.
+to the log. With --huge-pages, for which it has to be run by root, the kernel gives every program huge pages until the run ends, and
+then goes by what it was told before.
 
 It prints minutes of a processor, crate by crate: of the first check, the check with its tests, the check before its first edit, and the
 edits; and then what the run took in all, as the system counted it. Where rt tries a crate's first edit from nothing no check is told
@@ -22,6 +23,7 @@ import sys
 import tempfile
 import time
 from collections import Counter
+from contextlib import contextmanager
 from pathlib import Path
 
 ROOT = Path(__file__).resolve().parent.parent
@@ -30,6 +32,7 @@ FIRST, TESTS, BEFORE, EDITS = KINDS = ["first check", "with its tests", "before 
 OTHER = "building and running programs, and rt itself"
 CRATE = re.compile(r"--crate-name (\S+)")
 KEPT = re.compile(r"--incremental (\S+)")
+HUGE_PAGES = Path("/sys/kernel/mm/transparent_hugepage/enabled")
 
 
 def part_of(words, folder):
@@ -78,12 +81,27 @@ def words_of_gate():
     return ["rt", "ci", "--anew"] if "--anew" in said.stdout + said.stderr else ["rt", "ci"]
 
 
+@contextmanager
+def huge_pages(are_wanted):
+    """The kernel gives every program huge pages meanwhile, where they are wanted."""
+    if not are_wanted:
+        yield
+        return
+    before = re.search(r"\[(\w+)\]", HUGE_PAGES.read_text())[1]
+    HUGE_PAGES.write_text("always")
+    try:
+        yield
+    finally:
+        HUGE_PAGES.write_text(before)
+
+
 def main():
     words = argparse.ArgumentParser(description=__doc__.splitlines()[0])
     words.add_argument("--jobs", type=int, default=1, help="how many checks run side by side (default: 1)")
     words.add_argument("--log", type=Path, default=Path("gate.log"), help="where what rt says goes (default: gate.log)")
+    words.add_argument("--huge-pages", action="store_true", help="have the kernel give every program huge pages meanwhile")
     given = words.parse_args()
-    with tempfile.TemporaryDirectory(prefix="gate-") as folder, given.log.open("w") as log:
+    with huge_pages(given.huge_pages), tempfile.TemporaryDirectory(prefix="gate-") as folder, given.log.open("w") as log:
         subprocess.run(["git", "clone", "-q", ROOT, f"{folder}/desk"], check=True)
         how = {"cwd": f"{folder}/desk", "stdin": subprocess.DEVNULL, "stdout": log, "stderr": log, "start_new_session": True}
         began, before = time.monotonic(), resource.getrusage(resource.RUSAGE_CHILDREN)
