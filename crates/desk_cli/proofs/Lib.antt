@@ -15,3 +15,4 @@ pub mod Printed
 pub mod Reported
 pub mod Serving
 pub mod Tellings
+pub mod Unsound

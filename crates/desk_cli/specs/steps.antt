@@ -3,3 +3,4 @@ pub mod Checking
 pub mod CommandLine
 pub mod Jobs
 pub mod Printing
+pub mod Unsound

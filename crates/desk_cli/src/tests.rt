@@ -24,10 +24,11 @@ mod stops;
 mod stored_lines;
 pub(crate) mod streams;
 mod sweeping;
+mod switched;
 mod texts;
 
 use desk_engine::{Outcome, deliver};
-use desk_store::{Keeper, Lists, Switched};
+use desk_store::{Keeper, Lists};
 use desk_tables::Tables;
 use holding::holds;
 use radio_core::Name;
@@ -37,6 +38,7 @@ use sqlite::{Alter, Connection, MemStore};
 use std::alloc::Global;
 use std::process::Abort;
 use std::test::Fail;
+use switched::Switched;
 
 /// A store that tests can make.
 pub(crate) trait Opened: Keeper + Drop + Sized {

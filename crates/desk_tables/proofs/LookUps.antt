@@ -1,8 +1,6 @@
 -- What stands after a look-up, and what it tells.
-use Rattle.std.proofs.Common.{◌≡◌, ◌⊎◌, inl, inr, Bool, true, false, true≢false, IsTrue, None, Some, List, Result, Ok, Err, refl, sym, ap, subst, ◌∙◌, arith}
+use Rattle.std.proofs.Common.{◌≡◌, ◌⊎◌, inl, inr, Bool, true, false, true≢false, IsTrue, None, Some, List, Result, Ok, Err, refl, sym, subst, ◌∙◌, arith}
 use Rattle.std.specs.Prelude.{◌||◌, IfOk}
-use Rattle.std.specs.Result.{IsErrAnd}
-use Rattle.std.proofs.lemmas.Result.{err_from_is_err_and}
 use Rattle.sqlite_trees.specs.declared.store.Store.{Ghosts}
 use Rattle.sqlite.specs.State.{State, HasCleanDisk, IsUnchanged, IsRolledBack, Survives}
 use Rattle.sqlite.specs.Held.{Held, state}
@@ -215,24 +213,14 @@ module _ {S T : Type 0} (g : Ghosts S) (old : Tables S) (mid : Held S) (new : Ta
 
 -- ---- a store that is down is asked nothing
 
-pub disk_told : {T : Type 0} {fault : StoreFault} (result : Result T StoreFault) → IsErrAnd result (λ told. told ≡ fault) → fault ≡ told_as.Disk
-    → result ≡ Err told_as.Disk
-disk_told {T = T} result with_fault is =
-    let told = err_from_is_err_and result with_fault in
-    told.1 ∙ ap (λ (f : StoreFault). let r : Result T StoreFault = Err f in r) (told.2 ∙ is)
-
-pub none_told : {T : Type 0} {fault : StoreFault} {result : Result T StoreFault} → result ≡ Err fault → (P : T → Type 0) → IfOk result P
-none_told is P = subst (λ r. IfOk r P) (sym is) tt
-
-pub down_read : {S T : Type 0} (g : Ghosts S) (s : Tables S) {fault : StoreFault} (result : Result T StoreFault) → IsErrAnd result (λ told. told ≡ fault)
-    → (fault ≡ told_as.Disk) × (s.down ≡ true) → calls.IsRead (meaning_of g) s s (fault_in result)
-down_read g s result with_fault down = subst (λ r. calls.IsRead (meaning_of g) s s (fault_in r)) (sym (disk_told result with_fault down.0)) (record {
+pub down_read : {S : Type 0} (g : Ghosts S) (s : Tables S) → s.down ≡ true → calls.IsRead (meaning_of g) s s (Some told_as.Disk)
+down_read g s down = record {
   same = refl;
   was_sound = λ sound. sound;
-  shut = down.1;
+  shut = down;
   strange = refl;
   reading = tt;
   held = λ kept sound holds. holds;
   left = λ kept all sound holds left. left;
   unavailable = λ kept sound holds. tt;
-})
+}

@@ -1,8 +1,6 @@
 -- A commit that a store refuses before it writes: it is down, it is no desk's, or no more may be heard.
-use Rattle.std.proofs.Common.{◌≡◌, inl, ℕ, ◌≤◌, true, false, true≢false, List, Some, Result, Err, IsTrue, refl, sym, ap, subst, ◌∙◌, arith}
+use Rattle.std.proofs.Common.{◌≡◌, inl, ℕ, ◌≤◌, true, false, true≢false, List, Some, Err, IsTrue, refl, sym, subst, ◌∙◌, arith}
 use Rattle.std.specs.Prelude.{◌||◌}
-use Rattle.std.specs.Result.{IsErrAnd}
-use Rattle.std.proofs.lemmas.Result.{err_from_is_err_and}
 use Rattle.registry_core.specs.declared.effects.Effect.{Effect}
 use Rattle.registry_core.specs.declared.messages.Envelope.{Envelope}
 use Rattle.registry_core.specs.Heard.{most_heard}
@@ -23,8 +21,8 @@ use Rattle.desk_tables.proofs.LookUps.{disk_or_as}
 
 module _ {S : Type 0} (g : Ghosts S) (old : Tables S) (e : Envelope) (message : List ℕ) (effect : Effect) (answer : List ℕ) where
   -- it is down
-  commit_shut : old.down ≡ true → IsCommit (meaning_of g) old old e message effect answer (Err Disk)
-  commit_shut down = record {
+  pub commit_down : old.down ≡ true → IsCommit (meaning_of g) old old e message effect answer (Err Disk)
+  commit_down down = record {
     call = record { same = refl; was_sound = λ clean. clean; shut = down; strange = refl };
     told = tt;
     down = λ is. refl;
@@ -36,13 +34,6 @@ module _ {S : Type 0} (g : Ghosts S) (old : Tables S) (e : Envelope) (message : 
     doubt = λ kept clean holds can up is. absurd (true≢false (sym down ∙ up));
     stays = λ all clean is left. left;
   }
-
-  pub commit_down : (fault : StoreFault) (result : Result (Unit {0}) StoreFault) → IsErrAnd result (λ told. told ≡ fault)
-      → (fault ≡ Disk) × (old.down ≡ true) → IsCommit (meaning_of g) old old e message effect answer result
-  commit_down fault result failed (disk, down) =
-      let told = err_from_is_err_and result failed in
-      let is : result ≡ Err Disk = told.1 ∙ ap (λ (f : StoreFault). let r : Result (Unit {0}) StoreFault = Err f in r) (told.2 ∙ disk) in
-      subst (λ r. IsCommit (meaning_of g) old old e message effect answer r) (sym is) (commit_shut down)
 
   module _ (up : old.down ≡ false) where
     -- it is in a transaction: it holds nothing

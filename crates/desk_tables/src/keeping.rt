@@ -71,7 +71,9 @@ impl<S: Alter> Tables<S> {
         rows_follow_facts();
         keys_are_free();
         changed_rows_are_there();
-        self.up()?;
+        if self.down {
+            return Err(StoreFault::Disk);
+        }
         // of a store that holds something all is committed
         if !self.conn.is_autocommit() {
             return Err(self.fail(RowFault::Refused));

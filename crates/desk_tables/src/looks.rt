@@ -29,61 +29,81 @@ impl<S: Alter> Looks for Tables<S> {
     }
 
     fn role_of(&mut self, name: &Name) -> Result<Option<Role>, StoreFault> {
-        self.up()?;
+        if self.down {
+            return Err(StoreFault::Disk);
+        }
         let answer = names::role_of(&mut self.conn, name);
         self.tell(answer)
     }
 
     fn texts_of(&mut self, envelope: &Envelope) -> Result<Option<Texts>, StoreFault> {
-        self.up()?;
+        if self.down {
+            return Err(StoreFault::Disk);
+        }
         let answer = names::texts_of(&mut self.conn, envelope);
         self.tell(answer)
     }
 
     fn has_owner(&mut self, name: &Name) -> Result<bool, StoreFault> {
-        self.up()?;
+        if self.down {
+            return Err(StoreFault::Disk);
+        }
         let answer = names::has_owner(&mut self.conn, name);
         self.tell(answer)
     }
 
     fn has_gateway(&mut self, name: &Name) -> Result<bool, StoreFault> {
-        self.up()?;
+        if self.down {
+            return Err(StoreFault::Disk);
+        }
         let answer = names::has_gateway(&mut self.conn, name);
         self.tell(answer)
     }
 
     fn device(&mut self, dev_eui: Eui) -> Result<Option<Device>, StoreFault> {
-        self.up()?;
+        if self.down {
+            return Err(StoreFault::Disk);
+        }
         let answer = devices::device(&mut self.conn, dev_eui);
         self.tell(answer)
     }
 
     fn last_nonce(&mut self, device: Eui) -> Result<Option<u16>, StoreFault> {
-        self.up()?;
+        if self.down {
+            return Err(StoreFault::Disk);
+        }
         let answer = devices::last_nonce(&mut self.conn, device);
         self.tell(answer)
     }
 
     fn session(&mut self, number: u64) -> Result<Option<Session>, StoreFault> {
-        self.up()?;
+        if self.down {
+            return Err(StoreFault::Disk);
+        }
         let answer = sessions::session(&mut self.conn, number);
         self.tell(answer)
     }
 
     fn last_counter(&mut self, session: u64) -> Result<Option<u32>, StoreFault> {
-        self.up()?;
+        if self.down {
+            return Err(StoreFault::Disk);
+        }
         let answer = sessions::last_counter(&mut self.conn, session);
         self.tell(answer)
     }
 
     fn is_below_floor(&mut self, device: Eui, session: u64) -> Result<bool, StoreFault> {
-        self.up()?;
+        if self.down {
+            return Err(StoreFault::Disk);
+        }
         let answer = devices::is_below_floor(&mut self.conn, device, session);
         self.tell(answer)
     }
 
     fn join_with(&mut self, device: Eui, nonce: u16) -> Result<Option<(u64, Uplink)>, StoreFault> {
-        self.up()?;
+        if self.down {
+            return Err(StoreFault::Disk);
+        }
         let answer = uplinks::join_with(&mut self.conn, device, nonce);
         self.tell(answer)
     }
@@ -93,37 +113,49 @@ impl<S: Alter> Looks for Tables<S> {
         session: u64,
         counter: u32,
     ) -> Result<Option<(u64, Uplink)>, StoreFault> {
-        self.up()?;
+        if self.down {
+            return Err(StoreFault::Disk);
+        }
         let answer = sessions::data_with(&mut self.conn, session, counter);
         self.tell(answer)
     }
 
     fn uplink(&mut self, number: u64) -> Result<Option<Uplink>, StoreFault> {
-        self.up()?;
+        if self.down {
+            return Err(StoreFault::Disk);
+        }
         let answer = uplinks::uplink(&mut self.conn, number);
         self.tell(answer)
     }
 
     fn copy_at(&mut self, uplink: u64, gateway: &Name) -> Result<Option<Reception>, StoreFault> {
-        self.up()?;
+        if self.down {
+            return Err(StoreFault::Disk);
+        }
         let answer = uplinks::copy_at(&mut self.conn, uplink, gateway);
         self.tell(answer)
     }
 
     fn is_answered(&mut self, uplink: u64) -> Result<bool, StoreFault> {
-        self.up()?;
+        if self.down {
+            return Err(StoreFault::Disk);
+        }
         let answer = uplinks::is_answered(&mut self.conn, uplink);
         self.tell(answer)
     }
 
     fn next_down(&mut self, session: u64) -> Result<u64, StoreFault> {
-        self.up()?;
+        if self.down {
+            return Err(StoreFault::Disk);
+        }
         let answer = sessions::next_down(&mut self.conn, session);
         self.tell(answer)
     }
 
     fn booking(&mut self, number: u64) -> Result<Option<Booking>, StoreFault> {
-        self.up()?;
+        if self.down {
+            return Err(StoreFault::Disk);
+        }
         let answer = uplinks::booking(&mut self.conn, number);
         self.tell(answer)
     }
@@ -134,24 +166,32 @@ impl<S: Alter> Looks for Tables<S> {
         band: Option<Band>,
         start: u64,
     ) -> Result<Vec<Span>, StoreFault> {
-        self.up()?;
+        if self.down {
+            return Err(StoreFault::Disk);
+        }
         let answer = spans::near(self.alloc, &mut self.conn, gateway, band, start);
         self.tell(answer)
     }
 
     fn limit_of(&mut self, gateway: &Name, band: Band) -> Result<u64, StoreFault> {
-        self.up()?;
+        if self.down {
+            return Err(StoreFault::Disk);
+        }
         let answer = limits::limit_of(&mut self.conn, gateway, band);
         self.tell(answer)
     }
 
     fn counts(&mut self) -> Result<Counts, StoreFault> {
-        self.up()?;
+        if self.down {
+            return Err(StoreFault::Disk);
+        }
         Ok(self.counts)
     }
 
     fn next_device(&mut self, owner: &Name, after: Option<Eui>) -> Result<Option<Eui>, StoreFault> {
-        self.up()?;
+        if self.down {
+            return Err(StoreFault::Disk);
+        }
         let answer = devices::next_device(&mut self.conn, owner, after);
         self.tell(answer)
     }
@@ -163,13 +203,17 @@ impl<S: Alter> Looks for Tables<S> {
         from: i64,
         to: i64,
     ) -> Result<Vec<Span>, StoreFault> {
-        self.up()?;
+        if self.down {
+            return Err(StoreFault::Disk);
+        }
         let answer = spans::uplinks_of(self.alloc, &mut self.conn, device, band, from, to);
         self.tell(answer)
     }
 
     fn bookings_of(&mut self, gateway: &Name, band: Band) -> Result<Vec<Span>, StoreFault> {
-        self.up()?;
+        if self.down {
+            return Err(StoreFault::Disk);
+        }
         let answer = spans::bookings_of(self.alloc, &mut self.conn, gateway, band);
         self.tell(answer)
     }

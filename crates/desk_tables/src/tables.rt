@@ -28,17 +28,6 @@ pub struct Tables<S: Alter> {
 }
 
 impl<S: Alter> Tables<S> {
-    /// A store that is down is asked nothing.
-    pub(crate) fn up(&self) -> Result<(), StoreFault>
-        ensures up { OnOk result (self.now.down ≡ false) }
-        ensures down { IfErr result (λ fault. (fault ≡ Disk) × (self.now.down ≡ true)) }
-    {
-        if self.down {
-            return Err(StoreFault::Disk);
-        }
-        Ok(())
-    }
-
     /// What a fault of the connection is told as.
     pub(crate) fn fail(&mut self, fault: RowFault) -> StoreFault
         ensures { Fails S.Store self.old self.new fault result }

@@ -70,7 +70,9 @@ impl<S: Alter> Tables<S> {
         ensures down { TellsDown (meaning_of S.Store) self.old result }
         ensures told { Tells (meaning_of S.Store) self.old self.new result AreTotals }
     {
-        self.up()?;
+        if self.down {
+            return Err(StoreFault::Disk);
+        }
         let answer = totals_in(&mut self.conn, self.counts, self.heard);
         self.tell(answer)
     }

@@ -2,9 +2,10 @@
 use super::holding::holds;
 use super::rows::Delivery;
 use super::stops::all_deliveries;
+use super::switched::{Failure, Switched};
 use super::{expect_told, hear_each, opening};
 use desk_engine::{Outcome, deliver};
-use desk_store::{Failure, Keeper, StoreFault, Switched};
+use desk_store::{Keeper, StoreFault};
 use std::process::Abort;
 use std::test::Fail;
 

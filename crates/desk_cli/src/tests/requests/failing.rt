@@ -4,7 +4,7 @@ use super::responses::{ADDED, BAD_MONTH, MALFORMED, UNAVAILABLE};
 use super::{expect, posted};
 use crate::tests::opening;
 use crate::tests::rows::REQUEST;
-use desk_store::{Failure, Switched};
+use crate::tests::switched::{Failure, Switched};
 use std::alloc::Global;
 use std::test::Fail;
 

@@ -2,4 +2,4 @@ use Rattle.desk_tables.proofs.LookUps.{read_told}
 use Rattle.desk_tables.proofs.looks.TablesLooks.role_of.Goals as goal
 
 pub returns-clause-read : goal.returns-clause-read
-returns-clause-read g c = read_told _ _ _ _ _ _ _ c.in_ok-up.ensures.up c.role_of-answer.ensures c.tell.ensures
+returns-clause-read g c = read_told _ _ _ _ _ _ _ c.if-self.false c.role_of-answer.ensures c.tell.ensures

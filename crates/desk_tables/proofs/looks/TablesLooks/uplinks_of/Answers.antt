@@ -1,25 +1,19 @@
 use Rattle.std.proofs.Common.{◌∙◌, FitsSigned, rules, sym, true≢false, w64}
 use Rattle.std.proofs.lemmas.Int.{to_z-of_z}
-use Rattle.desk_tables.proofs.LookUps.{disk_told, down_read, kept_told, none_told, read_told}
+use Rattle.desk_tables.proofs.LookUps.{down_read, kept_told, read_told}
 use Rattle.desk_tables.proofs.looks.TablesLooks.uplinks_of.Goals as goal
 
-pub returns-in_err-up-clause-read : goal.returns-in_err-up-clause-read
-returns-in_err-up-clause-read g c = down_read _ _ c.from_residual.result c.from_residual.ensures.1 c.in_err-up.ensures.down
-
-pub returns-in_err-up-clause-down : goal.returns-in_err-up-clause-down
-returns-in_err-up-clause-down g c down = disk_told c.from_residual.result c.from_residual.ensures.1 c.in_err-up.ensures.down.0
-
-pub returns-in_err-up-clause-told : goal.returns-in_err-up-clause-told
-returns-in_err-up-clause-told g c kept sound holds = none_told (disk_told c.from_residual.result c.from_residual.ensures.1 c.in_err-up.ensures.down.0) _
+pub returns-then-self-clause-read : goal.returns-then-self-clause-read
+returns-then-self-clause-read g c = down_read _ _ c.if-self.true
 
 pub returns-clause-read : goal.returns-clause-read
-returns-clause-read g c = read_told _ _ _ _ _ _ _ c.in_ok-up.ensures.up c.uplinks_of-answer.ensures c.tell.ensures
+returns-clause-read g c = read_told _ _ _ _ _ _ _ c.if-self.false c.uplinks_of-answer.ensures c.tell.ensures
 
 pub returns-clause-down : goal.returns-clause-down
-returns-clause-down g c down = absurd (true≢false (sym down ∙ c.in_ok-up.ensures.up))
+returns-clause-down g c down = absurd (true≢false (sym down ∙ c.if-self.false))
 
 pub returns-clause-told : goal.returns-clause-told
 returns-clause-told g c =
     let from : FitsSigned w64 c.args.from = search rules in
     let to : FitsSigned w64 c.args.to = search rules in
-    kept_told _ _ _ _ _ _ _ c.in_ok-up.ensures.up (rw (to_z-of_z w64 c.args.from from, to_z-of_z w64 c.args.to to) at c.uplinks_of-answer.ensures) c.tell.ensures
+    kept_told _ _ _ _ _ _ _ c.if-self.false (rw (to_z-of_z w64 c.args.from from, to_z-of_z w64 c.args.to to) at c.uplinks_of-answer.ensures) c.tell.ensures

@@ -1,0 +1,15 @@
+-- A store of which nothing is said but what it was made with and when it is down or no desk's: it is never sound. One for tests.
+use Rattle.std.specs.Prelude.{Bool}
+use Rattle.registry_core.specs.Settings.{Settings}
+use Rattle.desk_store.specs.Meaning.{Meaning}
+
+abbrev pub unsound : {K : Type 0} → (K → Settings) → (K → Bool) → (K → Bool) → Meaning K
+unsound configuration down foreign = record {
+  configuration = configuration;
+  sound = λ k. ⊥;
+  down = down;
+  foreign = foreign;
+  sized = λ k. ⊥;
+  holds = λ k kept. ⊥;
+  leaves = λ k all. ⊥;
+}
