@@ -1,14 +1,14 @@
 //! What the store is asked: a statement or two each, and what a fault is told as.
 ghost use Rattle.desk_tables.specs.Store.{meaning_of};
 
-mod devices;
 mod limits;
-mod names;
 mod sessions;
-mod spans;
+mod texts;
 mod uplinks;
 
 use crate::tables::Tables;
+use desk_rows::order::{arranged_rows_tell, orders_hold};
+use desk_rows::{gateway_is_known, owner_is_known};
 use desk_store::{Counts, Looks, StoreFault, Texts};
 use duty_core::Span;
 use radio_core::{Band, Eui, Name};
@@ -32,7 +32,7 @@ impl<S: Alter> Looks for Tables<S> {
         if self.down {
             return Err(StoreFault::Disk);
         }
-        let answer = names::role_of(&mut self.conn, name);
+        let answer = desk_rows::role_of(&mut self.conn, name);
         self.tell(answer)
     }
 
@@ -40,7 +40,7 @@ impl<S: Alter> Looks for Tables<S> {
         if self.down {
             return Err(StoreFault::Disk);
         }
-        let answer = names::texts_of(&mut self.conn, envelope);
+        let answer = texts::texts_of(&mut self.conn, envelope);
         self.tell(answer)
     }
 
@@ -48,7 +48,7 @@ impl<S: Alter> Looks for Tables<S> {
         if self.down {
             return Err(StoreFault::Disk);
         }
-        let answer = names::has_owner(&mut self.conn, name);
+        let answer = owner_is_known(&mut self.conn, name);
         self.tell(answer)
     }
 
@@ -56,7 +56,7 @@ impl<S: Alter> Looks for Tables<S> {
         if self.down {
             return Err(StoreFault::Disk);
         }
-        let answer = names::has_gateway(&mut self.conn, name);
+        let answer = gateway_is_known(&mut self.conn, name);
         self.tell(answer)
     }
 
@@ -64,7 +64,7 @@ impl<S: Alter> Looks for Tables<S> {
         if self.down {
             return Err(StoreFault::Disk);
         }
-        let answer = devices::device(&mut self.conn, dev_eui);
+        let answer = desk_rows::device(&mut self.conn, dev_eui);
         self.tell(answer)
     }
 
@@ -72,7 +72,7 @@ impl<S: Alter> Looks for Tables<S> {
         if self.down {
             return Err(StoreFault::Disk);
         }
-        let answer = devices::last_nonce(&mut self.conn, device);
+        let answer = desk_rows::last_nonce(&mut self.conn, device);
         self.tell(answer)
     }
 
@@ -96,7 +96,7 @@ impl<S: Alter> Looks for Tables<S> {
         if self.down {
             return Err(StoreFault::Disk);
         }
-        let answer = devices::is_below_floor(&mut self.conn, device, session);
+        let answer = sessions::is_below_floor(&mut self.conn, device, session);
         self.tell(answer)
     }
 
@@ -169,7 +169,9 @@ impl<S: Alter> Looks for Tables<S> {
         if self.down {
             return Err(StoreFault::Disk);
         }
-        let answer = spans::near(self.alloc, &mut self.conn, gateway, band, start);
+        arranged_rows_tell();
+        orders_hold();
+        let answer = desk_rows::near(self.alloc, &mut self.conn, gateway, band, start);
         self.tell(answer)
     }
 
@@ -192,7 +194,9 @@ impl<S: Alter> Looks for Tables<S> {
         if self.down {
             return Err(StoreFault::Disk);
         }
-        let answer = devices::next_device(&mut self.conn, owner, after);
+        arranged_rows_tell();
+        orders_hold();
+        let answer = desk_rows::next_device(&mut self.conn, owner, after);
         self.tell(answer)
     }
 
@@ -206,7 +210,9 @@ impl<S: Alter> Looks for Tables<S> {
         if self.down {
             return Err(StoreFault::Disk);
         }
-        let answer = spans::uplinks_of(self.alloc, &mut self.conn, device, band, from, to);
+        arranged_rows_tell();
+        orders_hold();
+        let answer = desk_rows::uplinks_of(self.alloc, &mut self.conn, device, band, from, to);
         self.tell(answer)
     }
 
@@ -214,7 +220,9 @@ impl<S: Alter> Looks for Tables<S> {
         if self.down {
             return Err(StoreFault::Disk);
         }
-        let answer = spans::bookings_of(self.alloc, &mut self.conn, gateway, band);
+        arranged_rows_tell();
+        orders_hold();
+        let answer = desk_rows::bookings_of(self.alloc, &mut self.conn, gateway, band);
         self.tell(answer)
     }
 }

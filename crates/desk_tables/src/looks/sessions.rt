@@ -1,14 +1,15 @@
 //! What is asked of a session. A number above the greatest whole one is no session's.
-ghost use Rattle.std.specs.Prelude.{◌≡◌};
+ghost use Rattle.std.specs.Prelude.{◌≡◌, option_and_then};
 ghost use Rattle.sqlite.specs.Held.{state};
 ghost use Rattle.registry_core.specs.Bookings.{next_down};
-ghost use Rattle.registry_core.specs.Derived.{data_with, last_counter};
+ghost use Rattle.registry_core.specs.Derived.{data_with, is_below, is_below_floor, last_counter};
 ghost use Rattle.registry_core.specs.Numbered.{item_at};
 ghost use Rattle.desk_rows.specs.Calls.{Reads};
 ghost use Rattle.desk_tables.specs.steps.LookUps.{OfKept};
 
 use desk_rows::order::look_ups_tell;
-use desk_rows::{RowFault, uplink_with};
+use desk_rows::{RowFault, floor_of, uplink_with};
+use radio_core::Eui;
 use registry_core::{Kind, Session, Uplink, Whole};
 use sqlite::{Alter, Connection};
 
@@ -60,4 +61,27 @@ pub(crate) fn next_down<S: Alter>(conn: &mut Connection<S>, session: u64) -> Res
         Some(session) => Ok(desk_rows::next_down(conn, session)?.unwrap_or(0)),
         None => Ok(0),
     }
+}
+
+/// Whether the number is below the floor, of a device that has one.
+fn is_below(number: u64, floor: Option<Option<u64>>) -> bool
+    ensures { result ≡ is_below number (option_and_then (λ floor. floor) floor) }
+{
+    match floor {
+        Some(Some(floor)) => number < floor,
+        _ => false,
+    }
+}
+
+pub(crate) fn is_below_floor<S: Alter>(
+    conn: &mut Connection<S>,
+    device: Eui,
+    session: u64,
+) -> Result<bool, RowFault>
+    ensures { Reads (state S.Store conn.old) (state S.Store conn.new) result
+        (OfKept (λ kept below. below ≡ is_below_floor kept.facts.uplinks kept.facts.sessions device session)) }
+{
+    look_ups_tell();
+    let floor = floor_of(conn, device)?;
+    Ok(is_below(session, floor))
 }

@@ -1,5 +1,9 @@
-use Rattle.std.proofs.Common.{◌∙◌, sym, true≢false}
+use Rattle.std.proofs.Common.{◌∙◌, sym, subst, true≢false}
 use Rattle.desk_tables.proofs.LookUps.{down_read, kept_told, read_told}
+use Rattle.duty_core.specs.InOrder.{IsByStart}
+use Rattle.desk_store.specs.Lookups.{downlinks_near}
+use Rattle.desk_tables.proofs.SpanLookUps.{near_told}
+use Rattle.desk_tables.proofs.Reading.{says_also}
 use Rattle.desk_tables.proofs.looks.TablesLooks.near.Goals as goal
 
 pub returns-then-self-clause-read : goal.returns-then-self-clause-read
@@ -12,4 +16,6 @@ pub returns-clause-down : goal.returns-clause-down
 returns-clause-down g c down = absurd (true≢false (sym down ∙ c.if-self.false))
 
 pub returns-clause-told : goal.returns-clause-told
-returns-clause-told g c = kept_told _ _ _ _ _ _ _ c.if-self.false c.near-answer.ensures c.tell.ensures
+returns-clause-told g c = kept_told _ _ _ _ _ _ _ c.if-self.false (says_also _ _ _ _ _ (λ r spans is config kept tell.
+    subst (IsByStart (downlinks_near kept.facts.bookings c.args.gateway.now c.args.band c.args.start)) (sym is)
+    (near_told c.args.gateway.now c.args.band c.args.start kept.facts r (c.arranged_rows_tell.ensures config kept.facts r tell.are) c.orders_hold.ensures)) c.near-answer.ensures) c.tell.ensures

@@ -1,6 +1,11 @@
-use Rattle.std.proofs.Common.{◌∙◌, FitsSigned, rules, sym, true≢false, w64}
+use Rattle.std.proofs.Common.{◌∙◌, FitsSigned, rules, sym, subst, true≢false, w64}
 use Rattle.std.proofs.lemmas.Int.{to_z-of_z}
 use Rattle.desk_tables.proofs.LookUps.{down_read, kept_told, read_told}
+use Rattle.duty_core.specs.InOrder.{IsByStart}
+use Rattle.registry_core.specs.declared.facts.Uplink.{Uplink}
+use Rattle.registry_core.specs.Reports.{in_band, interval_of, uplinks_from}
+use Rattle.desk_rows.specs.order.Arranged.{by_start}
+use Rattle.desk_tables.proofs.Reading.{says_also}
 use Rattle.desk_tables.proofs.looks.TablesLooks.uplinks_of.Goals as goal
 
 pub returns-then-self-clause-read : goal.returns-then-self-clause-read
@@ -16,4 +21,7 @@ pub returns-clause-told : goal.returns-clause-told
 returns-clause-told g c =
     let from : FitsSigned w64 c.args.from = search rules in
     let to : FitsSigned w64 c.args.to = search rules in
-    kept_told _ _ _ _ _ _ _ c.if-self.false (rw (to_z-of_z w64 c.args.from from, to_z-of_z w64 c.args.to to) at c.uplinks_of-answer.ensures) c.tell.ensures
+    kept_told _ _ _ _ _ _ _ c.if-self.false (says_also _ _ _ _ _ (λ r spans is config kept tell.
+    subst (IsByStart (in_band c.args.band (uplinks_from kept.facts.uplinks kept.facts.sessions c.args.device c.args.from c.args.to))) (sym is)
+    ((c.arranged_rows_tell.ensures config kept.facts r tell.are).uplinks c.args.device c.args.band c.args.from c.args.to
+    (by_start (λ (u : Uplink). (interval_of u).start)) c.orders_hold.ensures.uplinks)) (rw (to_z-of_z w64 c.args.from from, to_z-of_z w64 c.args.to to) at c.uplinks_of-answer.ensures)) c.tell.ensures

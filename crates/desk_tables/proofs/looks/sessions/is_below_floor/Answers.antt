@@ -5,7 +5,7 @@ use Rattle.desk_rows.specs.Rows.{is_device}
 use Rattle.desk_tables.proofs.CallLemmas.{failed_with}
 use Rattle.desk_tables.proofs.Reading.{fails, shows}
 use Rattle.desk_tables.proofs.Telling.{floor_told}
-use Rattle.desk_tables.proofs.looks.devices.is_below_floor.Goals as goal
+use Rattle.desk_tables.proofs.looks.sessions.is_below_floor.Goals as goal
 
 pub returns-in_err-floor : goal.returns-in_err-floor
 returns-in_err-floor g c = fails (failed_with c.from_residual.result c.from_residual.ensures.1) c.in_err-floor.ensures

@@ -3,7 +3,7 @@ use Rattle.desk_store.specs.Kept.{entry_of, texts_of}
 use Rattle.desk_tables.proofs.Entries.{heard_texts}
 use Rattle.desk_tables.proofs.CallLemmas.{failed_with}
 use Rattle.desk_tables.proofs.Reading.{fails, shows}
-use Rattle.desk_tables.proofs.looks.names.texts_of.Goals as goal
+use Rattle.desk_tables.proofs.looks.texts.texts_of.Goals as goal
 
 pub returns-in_err-found : goal.returns-in_err-found
 returns-in_err-found g c = fails (failed_with c.from_residual.result c.from_residual.ensures.1) c.in_err-found.ensures
