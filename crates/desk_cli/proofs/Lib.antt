@@ -15,4 +15,3 @@ pub mod Printed
 pub mod Reported
 pub mod Serving
 pub mod Tellings
-pub mod Unsound

@@ -3,4 +3,3 @@ pub mod Checking
 pub mod CommandLine
 pub mod Jobs
 pub mod Printing
-pub mod Unsound

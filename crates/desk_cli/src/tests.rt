@@ -5,7 +5,6 @@ mod csv_reports;
 mod data_frames;
 mod downlinks;
 mod ends;
-mod failing;
 mod fsk;
 mod fuses;
 pub(crate) mod holding;
@@ -24,7 +23,6 @@ mod stops;
 mod stored_lines;
 pub(crate) mod streams;
 mod sweeping;
-mod switched;
 mod texts;
 
 use desk_engine::{Outcome, deliver};
@@ -38,7 +36,6 @@ use sqlite::{Alter, Connection, MemStore};
 use std::alloc::Global;
 use std::process::Abort;
 use std::test::Fail;
-use switched::Switched;
 
 /// A store that tests can make.
 pub(crate) trait Opened: Keeper + Drop + Sized {
@@ -49,12 +46,6 @@ pub(crate) trait Opened: Keeper + Drop + Sized {
 impl Opened for Lists {
     fn opened(alloc: Global, config: Config) -> Result<Box<Self>, Fail> {
         Ok(Box::new(alloc, Lists::new(alloc, config)?)?)
-    }
-}
-
-impl Opened for Switched {
-    fn opened(alloc: Global, config: Config) -> Result<Box<Self>, Fail> {
-        Ok(Box::new(alloc, Switched::new(alloc, config)?)?)
     }
 }
 
@@ -173,12 +164,6 @@ fn rows_hold<R: Abort + AllocGlobal, K: Opened>(rt: &R) -> Result<(), Fail> {
 #[test]
 fn rows_over_lists(rt: HostRuntime) -> Result<(), Fail> {
     rows_hold::<HostRuntime, Lists>(&rt)
-}
-
-/// Its switch is left alone.
-#[test]
-fn rows_over_a_switched_store(rt: HostRuntime) -> Result<(), Fail> {
-    rows_hold::<HostRuntime, Switched>(&rt)
 }
 
 #[test]

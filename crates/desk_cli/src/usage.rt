@@ -8,7 +8,7 @@ use clap::error::{Error, ErrorKind};
 use std::fmt::{self, Display, Formatter};
 
 /// A value that isn't in its form, or values that don't go together.
-#[derive(Clone, Copy, PartialEq, Eq)]
+#[derive(Clone, Copy)]
 pub enum BadValue {
     /// `--receiver` is no name.
     Receiver,

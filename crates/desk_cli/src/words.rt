@@ -20,6 +20,3 @@ pub fn read_words<'a>(alloc: Global, words: &'a [&'a str]) -> Result<Command<'a>
         Err(error) => Err(usage_of(error)),
     }
 }
-
-#[cfg(test)]
-pub(crate) mod tests;

@@ -6,13 +6,13 @@ ghost use Rattle.desk_http.specs.Served.{unknown};
 mod one_file;
 
 use super::run;
-use crate::endings::Ending;
+use crate::endings::{Ending, ending_of};
 use crate::faults::Fault;
 use crate::files::Files;
 use crate::network::Network;
-use crate::tests::holding::holds_at;
+use crate::tests::holding::{holds, holds_at};
 use crate::tests::ready;
-use crate::words::tests::helps::LINES_HELP;
+use crate::usage::Usage;
 use desk_http::{Listening, ServeEnd};
 use sqlite::{Alter, Connection, MemStore};
 use std::alloc::Global;
@@ -143,6 +143,23 @@ const NO_COMMAND_OF_LINES: &str =
 const EMPTY_WORD: &str =
     "error: unexpected argument '' found\n\nUsage: desk lines [OPTIONS]\n\nFor more information, try '--help'.\n";
 
+/// The other helps stand in `checks/words.py`, with what is printed of other words.
+const LINES_HELP: &str = "\
+Answers the messages of standard input, one a line, for a new desk in memory
+
+Usage: desk lines [OPTIONS]
+
+Options:
+      --receiver <NAME>    The desk's own name [default: desk]
+      --operator <NAME>    The first operator [default: office]
+      --base <HEX8>        The first device address [default: 01a00000]
+      --addresses <COUNT>  How many device addresses [default: 65536]
+  -h, --help               Print help
+
+Example:
+  desk lines --receiver town < messages.txt
+";
+
 const NO_TEXT: &str = "error: a word isn't UTF-8\n";
 
 /// Words, how the program ends, its answers, and what is on its fault line.
@@ -199,5 +216,18 @@ fn runs_of_words(rt: HostRuntime) -> Result<(), Fail> {
         holds_at(&rt, faults.as_slice() == told.as_bytes(), place);
         holds_at(&rt, reader.is_empty() == (*ending == Ending::Done), place);
     }
+    Ok(())
+}
+
+/// No test refuses memory, so what is printed then is asked here.
+#[test]
+fn want_of_memory_is_printed(rt: HostRuntime) -> Result<(), Fail> {
+    let printed = Usage::Memory.to_string(rt.alloc())?;
+    holds(&rt, printed.as_str() == "desk: unavailable\n", "the line");
+    holds(
+        &rt,
+        ending_of(&Usage::Memory) == Ending::Failed,
+        "the ending",
+    );
     Ok(())
 }

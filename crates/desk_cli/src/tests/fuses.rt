@@ -3,13 +3,13 @@
 //! What is there then is opened as a process leaves it that has ended, and as a machine does that has lost all that wasn't synced. Its
 //! rows are those before the message under way, or those with it; each message is then told what it is told without a stop, and the
 //! same rows are left. `checks/refused_commands.py` stops the program so, over files of this machine.
-use super::failing::deliver_with_failure;
 use super::holding::{holds, holds_at};
 use super::migrating::{make_first, moved};
 use super::rows::Delivery;
 use super::stops::{all_deliveries, deliveries, expect_found, rows_after, rows_in};
-use super::{config, found, made, ready, told_each};
-use desk_store::StoreFault;
+use super::{config, expect_told, found, made, ready, told_each};
+use desk_engine::{Outcome, deliver};
+use desk_store::{Keeper, StoreFault};
 use desk_tables::Tables;
 use sqlite::{Alter, Connection, FileStore, Files, Options};
 use sqlite_disk::{Crash, Disk, Fuse, Memory};
@@ -124,6 +124,27 @@ fn expect_left<R: Abort + AllocGlobal, T: Step>(
 
 // ---- a desk that is made and hears
 
+/// Delivers in order. Each is told what it is to be told until the disk fails, and from then on each is told that it did. How many
+/// were told before.
+fn told_until_stop<R: Abort + AllocGlobal, K: Keeper>(
+    rt: &R,
+    keeper: &mut K,
+    deliveries: &[Delivery],
+) -> usize {
+    let mut stopped = None;
+    for (place, delivery) in deliveries.iter().enumerate() {
+        let outcome = deliver(rt.alloc(), keeper, delivery.text.as_bytes());
+        if let Outcome::Unavailable(fault) = outcome {
+            holds(rt, fault == StoreFault::Disk, delivery.wanted.as_str());
+            stopped = stopped.or(Some(place));
+        } else {
+            holds(rt, stopped.is_none(), delivery.wanted.as_str());
+            expect_told(rt, &outcome, delivery);
+        }
+    }
+    stopped.unwrap_or(deliveries.len())
+}
+
 /// A desk is made, and hears the messages until the disk fails: how many were answered.
 #[derive(Drop)]
 struct Hears<'a> {
@@ -141,12 +162,7 @@ impl Step for Hears<'_> {
         match Tables::create(rt.alloc(), ready(conn)?, config) {
             Ok(tables) => {
                 let mut tables = Box::new(rt.alloc(), tables)?;
-                self.answered = deliver_with_failure(
-                    rt,
-                    &mut *tables,
-                    self.deliveries,
-                    StoreFault::Disk,
-                );
+                self.answered = told_until_stop(rt, &mut *tables, self.deliveries);
                 Ok(Box::into_inner(tables).close())
             }
             Err((fault, conn)) => {

@@ -1,5 +1,5 @@
 //! Requests over plain lists: whole responses, and what is left unread.
-mod failing;
+mod damaged;
 mod limits;
 mod reports;
 pub(crate) mod responses;

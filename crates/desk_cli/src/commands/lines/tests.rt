@@ -1,6 +1,4 @@
 //! Whole runs of `desk lines`, over readers and writers of the tests.
-mod words;
-
 use super::lines_command;
 use crate::endings::Ending;
 use crate::faults::end;

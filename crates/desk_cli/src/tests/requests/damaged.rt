@@ -1,0 +1,42 @@
+//! A desk whose rows are none that a desk keeps. Peers that fail stand with the tests of `serve`.
+use super::reports::{Row, expect_reports};
+use super::responses::{BAD_MONTH, MALFORMED, UNAVAILABLE};
+use super::{expect, posted};
+use crate::tests::found;
+use crate::tests::rows::REQUEST;
+use crate::tests::stops::{deliveries, heard};
+use desk_store::Keeper;
+use std::process::Abort;
+use std::test::Fail;
+
+/// A role, a DevEUI and a time on air out of their ranges.
+const DAMAGE: &str =
+    "UPDATE sender SET role = 7; UPDATE device SET eui = x'00'; UPDATE booking SET state = 0, airtime = -1";
+
+/// The reports.
+static DAMAGED: [Row; 3] = [
+    ("/v1/reports/town/2024-02", 503, UNAVAILABLE),
+    ("/v1/bands/gw-a", 503, UNAVAILABLE),
+    ("/v1/reports/town/2024-13", 400, BAD_MONTH),
+];
+
+/// A message and both reports need what is damaged, and what needs no row is answered as ever.
+fn expect_unavailable<R: Abort + AllocGlobal, K: Keeper>(
+    rt: &R,
+    keeper: &mut K,
+) -> Result<(), Fail> {
+    let input = posted(rt.alloc(), REQUEST, "abc")?;
+    expect(rt, keeper, input.as_bytes(), 3, 503, UNAVAILABLE);
+    expect_reports(rt, keeper, &DAMAGED)?;
+    let input = posted(rt.alloc(), "{", "")?;
+    expect(rt, keeper, input.as_bytes(), 0, 400, MALFORMED);
+    Ok(())
+}
+
+#[test]
+fn rows_are_out_of_range(rt: HostRuntime) -> Result<(), Fail> {
+    let mut conn = heard(&rt, &deliveries(rt.alloc())?)?;
+    conn.execute_batch(DAMAGE)?;
+    let mut tables = found(rt.alloc(), conn)?;
+    expect_unavailable(&rt, &mut *tables)
+}
