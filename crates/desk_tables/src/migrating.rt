@@ -14,7 +14,7 @@ ghost use Rattle.desk_rows.specs.Schema.{first_schema};
 ghost use Rattle.desk_tables.specs.Adopting.{IsGivenBack, IsStore};
 ghost use Rattle.desk_tables.specs.Migrating.{IsBackFromMove, IsOfFirstSchema};
 ghost use Rattle.desk_tables.specs.Store.{meaning_of};
-ghost use Rattle.desk_tables.specs.steps.Migrating.{Moves};
+ghost use Rattle.desk_tables.specs.steps.Migrating.{MakesSecond, Moves};
 
 use crate::desk_shape::{is_first_schema, is_limit_taken};
 use crate::faults::store_fault;
@@ -24,7 +24,7 @@ use crate::tables::Tables;
 use desk_rows::{RowFault, create_limits, raise_version};
 use desk_store::StoreFault;
 use registry_core::Config;
-use sqlite::{Alter, Connection};
+use sqlite::{Alter, Connection, Transaction};
 use std::alloc::Global;
 
 /// The configuration of the desk whose tables of schema 1 the database has. `Exists` where the name of the table that it lacks is
@@ -60,14 +60,22 @@ fn first_desk<S: Alter>(conn: &mut Connection<S>) -> Result<Config, StoreFault>
     Ok(config)
 }
 
-/// The table of limits and the version, or nothing.
+/// The table of limits, and then the version.
+fn write_second<S: Alter>(tx: &mut Transaction<'_, S>) -> Result<(), RowFault>
+    ensures same_reference { tx.new.conn.ghost_name ≡ tx.old.conn.ghost_name }
+    ensures makes { MakesSecond (state S.Store tx.old.conn.now) (state S.Store tx.new.conn.now) result }
+{
+    create_limits(tx)?;
+    raise_version(tx)
+}
+
+/// The same as a whole, or nothing.
 fn move_tables<S: Alter>(conn: &mut Connection<S>) -> Result<(), RowFault>
     requires { conn.old.in_transaction ≡ false }
     ensures { Moves (state S.Store conn.old) (state S.Store conn.new) result }
 {
     let mut tx = conn.transaction();
-    create_limits(&mut tx)?;
-    raise_version(&mut tx)?;
+    write_second(&mut tx)?;
     match tx.commit() {
         Ok(()) => Ok(()),
         Err(error) => Err(commit_fault(error)),

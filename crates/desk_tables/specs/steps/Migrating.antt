@@ -1,17 +1,27 @@
 -- The transaction that moves the tables of schema 1 to schema 2.
 use Rattle.std.specs.Prelude.{◌≡◌, ◌≤◌, false, None, IsTrue, IfErr, OnErr, OnOk, Result}
+use Rattle.std.specs.Result.{is_ok}
 use Rattle.sqlite_trees.specs.Tree.{Trees}
 use Rattle.sqlite_trees.specs.View.{doubt}
 use Rattle.sqlite.specs.State.{State, HasCleanDisk, Survives}
+use Rattle.desk_rows.specs.Calls.{IsWritingCall}
 use Rattle.desk_rows.specs.Faults.{IsEven}
 use Rattle.desk_rows.specs.Migrating.{HoldsFirst}
 use Rattle.desk_rows.specs.Rows.{Holds, Rows}
 use Rattle.desk_rows.specs.declared.faults.RowFault.{RowFault}
 use Rattle.desk_tables.specs.Opening.{TreesHold}
+use Rattle.desk_tables.specs.steps.Calls.{IsInside}
 
 -- the rows that the trees hold are those of the tables before
 abbrev pub AreRowsBefore : State → Trees → Type 0
 AreRowsBefore old trees = (r : Rows) → HoldsFirst old.now r → TreesHold trees r
+
+-- Inside a transaction the two statements make schema 2 of the rows of schema 1. With no limit on steps, they fail only for memory, the
+-- disk or a size.
+pub record MakesSecond (old new : State) (result : Result (Unit {0}) RowFault) : Type 0 where
+  pub write : IsWritingCall old new (is_ok result)
+  pub made : HasCleanDisk new → IsInside old → (r : Rows) → HoldsFirst old.now r → OnOk result (Holds new.now r)
+  pub in_order : HasCleanDisk new → IsInside old → old.step_limit ≡ None → (r : Rows) → HoldsFirst old.now r → IfErr result IsEven
 
 -- On a connection that is open, it ends with the rows of the tables before in schema 2, all of it committed, or it leaves what was
 -- committed. A crash leaves what it left before, or these rows.
