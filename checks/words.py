@@ -3,10 +3,10 @@
 
     checks/words.py [--program FILE]
 
-What stands here: what each help says, letter for letter; words that a command takes, with the values that it then goes by; words that
-clap's rules refuse, told by how clap begins its error; and values out of their form or their range, told by the program's own line. A
-run that names no command ends with status 2, writes nothing to standard output, and leaves no file. Which words name which command is
-proved; what is printed of them isn't.
+What stands here: what each help says, letter for letter; words that a command takes, and what `init` then makes of its values; words
+that clap's rules refuse, told by how clap begins its error; and values out of their form or their range, told by the program's own
+line. A run that names no command ends with status 2, writes nothing to standard output, and leaves no file. Which words name which
+command with which values is proved; what is printed of them isn't.
 
 The program is `./desk`, which is proved and built first where it isn't current, or with --program the built one in FILE.
 """
@@ -190,6 +190,9 @@ Example:
   desk check town.db
 """,
 }
+
+# Other words for the first of them.
+WHOLE_HELP = ["-h", "help"]
 
 USAGES = {
     "": f"error: a command is needed\n\nUsage: desk [COMMAND]{SEE_HELP}",
@@ -390,6 +393,8 @@ def words_of(line):
 def sees_what_is_printed(desk):
     for line, text in {**HELPS, **USAGES}.items():
         desk.is_refused(words_of(line), lambda told, text=text: told == text)
+    for line in WHOLE_HELP:
+        desk.is_refused(words_of(line), lambda told: told == HELPS["--help"])
     for words, text in ODD:
         desk.is_refused(words, lambda told, text=text: told == text)
 

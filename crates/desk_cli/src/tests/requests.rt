@@ -1,4 +1,4 @@
-//! Requests over plain lists: whole responses, and what is left unread.
+//! Requests over plain lists, and over damaged tables: whole responses, and what is left unread.
 mod damaged;
 mod limits;
 mod reports;

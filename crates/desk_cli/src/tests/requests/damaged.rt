@@ -13,14 +13,14 @@ use std::test::Fail;
 const DAMAGE: &str =
     "UPDATE sender SET role = 7; UPDATE device SET eui = x'00'; UPDATE booking SET state = 0, airtime = -1";
 
-/// The reports.
+/// What reads a damaged row is answered with 503. A month is looked at before any row.
 static DAMAGED: [Row; 3] = [
     ("/v1/reports/town/2024-02", 503, UNAVAILABLE),
     ("/v1/bands/gw-a", 503, UNAVAILABLE),
     ("/v1/reports/town/2024-13", 400, BAD_MONTH),
 ];
 
-/// A message and both reports need what is damaged, and what needs no row is answered as ever.
+/// A message and both reports read what is damaged. What is no message reads nothing, and is answered as ever.
 fn expect_unavailable<R: Abort + AllocGlobal, K: Keeper>(
     rt: &R,
     keeper: &mut K,
