@@ -8,7 +8,6 @@ pub mod InFiles
 pub mod Inited
 pub mod LinesAnswered
 pub mod Migrated
-pub mod Numerals
 pub mod OnTables
 pub mod Opened
 pub mod Printed

@@ -5,7 +5,8 @@ use Rattle.clap.specs.Simple.{App, new_rule, with_rule}
 use Rattle.clap.specs.Walk.{Row, Rule, Text, first_of}
 use Rattle.radio_core.specs.Names.{is_name}
 use Rattle.registry_core.specs.Settings.{Settings}
-use Rattle.desk_cli.specs.Numbers.{base_of, count_of}
+use Rattle.desk_wire.specs.Decimals.{count_in}
+use Rattle.desk_wire.specs.Hexadecimal.{addr_in}
 use Rattle.desk_cli.specs.declared.usage.BadValue.{BadValue}
 use Rattle.desk_cli.specs.declared.usage.BadValue.TheVariants.{Receiver, Operator, Base, Addresses, Block, Missing}
 
@@ -79,6 +80,6 @@ unfoldable pub config_of : List Row → OrBad Settings
 config_of rows = do
   receiver ← needs (value_at name_of (codes "receiver") rows) Receiver
   operator ← needs (value_at name_of (codes "operator") rows) Operator
-  base ← needs (value_at base_of (codes "base") rows) Base
-  addresses ← needs (value_at count_of (codes "addresses") rows) Addresses
+  base ← needs (value_at addr_in (codes "base") rows) Base
+  addresses ← needs (value_at count_in (codes "addresses") rows) Addresses
   needs (settings_of receiver operator base addresses) Block

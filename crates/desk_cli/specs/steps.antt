@@ -1,5 +1,6 @@
 -- What private functions promise one another.
 pub mod Checking
 pub mod CommandLine
+pub mod Given
 pub mod Jobs
 pub mod Printing

@@ -4,13 +4,16 @@ ghost use Rattle.clap.specs.Matches.{found_of};
 ghost use Rattle.clap.specs.Simple.{app_of, new_app, with_rule};
 ghost use Rattle.clap.specs.Walk.{first_of, rows_of, rule_of};
 ghost use Rattle.clap.specs.declared.builder.command.Command.TheViews.{out-Command as fields_of};
-ghost use Rattle.desk_cli.specs.Numbers.{base_of, connections_of, count_of, port_of};
+ghost use Rattle.desk_wire.specs.Decimals.{count_in};
+ghost use Rattle.desk_wire.specs.Hexadecimal.{addr_in};
+ghost use Rattle.desk_cli.specs.Numbers.{connections_of, port_of};
 ghost use Rattle.desk_cli.specs.steps.CommandLine.{AddsWord, IsCommand};
 ghost use Rattle.desk_cli.specs.Options.{behind, config_of, name_of, needed_rule, option_rule, place_rule, placed, settings_of, value_at, with_settings};
 
-use crate::numbers::{base_of, connections_of, count_of, port_of};
+use crate::numbers::{connections_of, port_of};
 use crate::usage::BadValue;
 use clap::{Arg, ArgMatches};
+use desk_wire::{addr_of, count_of};
 use radio_core::Name;
 use registry_core::Config;
 use std::alloc::{AllocError, Global};
@@ -148,13 +151,13 @@ pub(crate) fn name_at(options: &ArgMatches<'_>, option: &str) -> Option<Name>
 }
 
 fn base_at(options: &ArgMatches<'_>, option: &str) -> Option<u32>
-    ensures { result ≡ value_at base_of option.now (rows_of (found_of options.now)) }
+    ensures { result ≡ value_at addr_in option.now (rows_of (found_of options.now)) }
 {
-    base_of(text_at(options, option)?)
+    Some(addr_of(text_at(options, option)?)?.get())
 }
 
 fn count_at(options: &ArgMatches<'_>, option: &str) -> Option<u32>
-    ensures { result ≡ value_at count_of option.now (rows_of (found_of options.now)) }
+    ensures { result ≡ value_at count_in option.now (rows_of (found_of options.now)) }
 {
     count_of(text_at(options, option)?)
 }

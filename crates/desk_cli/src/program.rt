@@ -7,6 +7,7 @@ ghost use Rattle.desk_cli.specs.Doing.{DoesAsked};
 ghost use Rattle.desk_cli.specs.Endings.{ending_of};
 ghost use Rattle.desk_cli.specs.Named.{Asked};
 ghost use Rattle.desk_cli.specs.Runs.{EndsUnread, Given, IsNamed, IsUnread, Runs, given};
+ghost use Rattle.desk_cli.specs.steps.Given.{IsNotGiven};
 ghost use Rattle.desk_cli.specs.Ports.{at_ports};
 
 use crate::endings::{Ending, ending_of};
@@ -73,35 +74,13 @@ pub fn run_given<S: Alter, N: Files<S>, B: Network, R: Read, W: Write, F: Write>
         → (reader.new ≡ reader.old) × (answers.new ≡ answers.old) × (result.1 ≡ None) }
     ensures unread { IfErr arguments (λ error. EndsUnread (error_kind error) result.0) }
 {
-    match arguments {
-        Ok(arguments) => run_words(alloc, arguments, files, network, reader, answers, faults),
-        Err(error) => (tell(&unread(&error), faults), None),
-    }
-}
-
-/// The same of arguments that could be read, the program's own name first.
-fn run_words<S: Alter, N: Files<S>, B: Network, R: Read, W: Write, F: Write>(
-    alloc: Global,
-    arguments: Args,
-    files: N,
-    network: &B,
-    reader: &mut R,
-    answers: &mut W,
-    faults: &mut F,
-) -> (Ending, Option<Connection<S>>)
-    ensures runs { Runs S.Store (N.paths files) (at_ports B.ports network.now B.Port.meaning B.Port.Reader.remaining B.Port.Writer.contents) result.1
-        (R.remaining reader.old) (R.remaining reader.new) (W.contents answers.old) (W.contents answers.new) (Ok (map string_bytes (into_iter_items arguments))) result.0 }
-    ensures quiet { result.0 ≡ Ending.Done → faults.new ≡ faults.old }
-    ensures misused { result.0 ≡ Ending.Misused
-        → (reader.new ≡ reader.old) × (answers.new ≡ answers.old) × (result.1 ≡ None) }
-{
-    match strings_of(alloc, arguments) {
+    match given_strings(alloc, arguments) {
         Ok(strings) => run_strings(alloc, &strings, files, network, reader, answers, faults),
-        Err(_) => (tell(&Usage::Memory, faults), None),
+        Err(why) => (tell(&why, faults), None),
     }
 }
 
-/// The same of their texts.
+/// The same of their texts, the program's own name first.
 fn run_strings<S: Alter, N: Files<S>, B: Network, R: Read, W: Write, F: Write>(
     alloc: Global,
     strings: &[String],
@@ -145,6 +124,20 @@ fn unread(error: &io::Error) -> Usage
         Usage::Memory
     } else {
         Usage::NotText
+    }
+}
+
+/// The texts of the arguments, or why they can't be had.
+fn given_strings(alloc: Global, arguments: io::Result<Args>) -> Result<Vec<String>, Usage>
+    ensures texts { IfOk result (λ strings. given arguments ≡ Ok (map string_bytes strings.items)) }
+    ensures none { IfErr result (λ usage. IsNotGiven arguments usage) }
+{
+    match arguments {
+        Ok(arguments) => match strings_of(alloc, arguments) {
+            Ok(strings) => Ok(strings),
+            Err(_) => Err(Usage::Memory),
+        },
+        Err(error) => Err(unread(&error)),
     }
 }
 

@@ -1,6 +1,6 @@
-pub mod CsvDecimals
 pub mod CsvRows
 pub mod DataRateNumbers
+pub mod DecimalDigits
 pub mod FirstFaults
 pub mod HexTexts
 pub mod InRange

@@ -1,10 +1,7 @@
 -- Which envelopes a gateway's report in CSV (RFC 4180) is; its columns are this project's.
-use Rattle.std.specs.Prelude.{◌≡◌, ℕ, ◌+◌, ◌^◌, ◌-◌, ◌==◌, Bool, false, ◌&&◌, List, [], ◌∷◌, length, Option, Some, None, Result, Ok, Err, codes, nat_le, nat_lt, option_map, slice_get, ⊤, if◌then◌else◌}
-use Rattle.std.specs.Char.{is_ascii_digit}
-use Rattle.std.specs.List.{list_all}
+use Rattle.std.specs.Prelude.{◌≡◌, ℕ, ◌+◌, ◌^◌, ◌-◌, ◌==◌, Bool, false, ◌&&◌, List, [], ◌∷◌, length, Option, Some, None, Result, Ok, Err, codes, nat_lt, option_map, slice_get, ⊤, if◌then◌else◌}
 use Rattle.std.specs.Option.{option_map_or}
 use Rattle.std.specs.Str.{bytes_eq}
-use Rattle.std.specs.Str.Parse.{digits_value}
 use Rattle.csv.specs.Reading.{default_config, records_from, strip_bom}
 use Rattle.csv.specs.Records.{field_at}
 use Rattle.csv.specs.declared.parser.State.TheVariants.{StartRecord}
@@ -14,6 +11,7 @@ use Rattle.registry_core.specs.declared.messages.Message.{Message}
 use Rattle.registry_core.specs.declared.messages.Message.TheVariants.{JoinHeard, FrameHeard}
 use Rattle.registry_core.specs.declared.messages.Report.{Report}
 use Rattle.desk_wire.specs.DataRates.{data_rate_numbered}
+use Rattle.desk_wire.specs.Decimals.{decimal_below, decimal_in}
 use Rattle.desk_wire.specs.Hexadecimal.{octets_in}
 use Rattle.desk_wire.specs.Optional.{◌>>=◌, only_if}
 use Rattle.desk_wire.specs.Verdicts.{join_verdict_named}
@@ -28,18 +26,6 @@ abbrev pub most_records : ℕ
 most_records = 100000
 
 -- ---- a field in its form
-
--- one to sixteen decimal digits and nothing else
-abbrev pub is_decimal : List ℕ → Bool
-is_decimal text = nat_le 1 (length text) && nat_le (length text) 16 && list_all is_ascii_digit text
-
--- the whole number that such digits write
-unfoldable pub decimal_in : List ℕ → Option ℕ
-decimal_in text = if is_decimal text then Some (digits_value 10 text) else None
-
--- and it is below the limit
-abbrev pub decimal_below : ℕ → List ℕ → Option ℕ
-decimal_below limit text = decimal_in text >>= only_if (λ n. nat_lt n limit)
 
 -- a counter, or none in an empty field
 abbrev pub counter_or_none : List ℕ → Option (Option ℕ)

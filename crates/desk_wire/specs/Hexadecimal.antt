@@ -1,5 +1,5 @@
--- Hexadecimal text: which octets or which EUI a text is, and how octets, EUIs and device addresses are written (this
--- project's form).
+-- Hexadecimal text: which octets, which EUI or which device address a text is, and how they are written (this project's
+-- form).
 use Rattle.std.specs.Prelude.{ℕ, List, length, take, drop, codes, nat_le, ◌==◌, Option, option_map, if◌then◌else◌}
 use Rattle.std.specs.Int.{w32, w64, from_be_bytes, to_be_bytes}
 use Rattle.std.specs.Result.{result_ok}
@@ -22,6 +22,10 @@ octets_in text = decoded (unprefixed text)
 -- the EUI that a text is: exactly 8 octets, the most significant first
 unfoldable pub eui_in : List ℕ → Option ℕ
 eui_in text = option_map (from_be_bytes w64) (octets_in text >>= only_if (λ octets. length octets == 8))
+
+-- the device address that a text is: exactly 4 octets with no `0x`, the most significant first
+unfoldable pub addr_in : List ℕ → Option ℕ
+addr_in text = option_map (from_be_bytes w32) (decoded text >>= only_if (λ octets. length octets == 4))
 
 -- the text of octets: two digits for each, in lower case
 unfoldable pub octet_digits : List ℕ → List ℕ

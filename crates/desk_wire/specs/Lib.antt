@@ -3,6 +3,7 @@ pub mod Bands
 pub mod Bodies
 pub mod CsvReports
 pub mod DataRates
+pub mod Decimals
 pub mod Faults
 pub mod Hexadecimal
 pub mod Laws

@@ -1,12 +1,11 @@
 //! A gateway's report in CSV, read as envelopes.
-ghost use Rattle.std.specs.Prelude.{◌≡◌, ◌∷◌, ◌++◌, ◌^◌, ℕ, [], suc, IfOk, IfErr, OnOk, true, if◌then◌else◌};
-ghost use Rattle.std.specs.Char.{is_ascii_digit};
-ghost use Rattle.std.specs.List.{list_all};
+ghost use Rattle.std.specs.Prelude.{◌≡◌, ◌∷◌, ◌++◌, ℕ, [], suc, IfOk, IfErr, OnOk, true, if◌then◌else◌};
 ghost use Rattle.csv.specs.Records.{fields_of};
-ghost use Rattle.desk_wire.specs.CsvReports.{counter_or_none, decimal_below, decimal_in, envelope_in, envelopes_from, has_field, heard_in, is_decimal, is_header, reads_report, report_in, report_of_records, IsReportUnlessMemory};
+ghost use Rattle.desk_wire.specs.CsvReports.{counter_or_none, envelope_in, envelopes_from, has_field, heard_in, is_header, reads_report, report_in, report_of_records, IsReportUnlessMemory};
 ghost use Rattle.desk_wire.specs.steps.CsvReports.{data_rate_at, name_at, octets_at, rows_left, u32_at, whole_at, IsReading};
 
 use crate::csv_faults::CsvFault;
+use crate::decimals::{decimal_of, u32_of};
 use crate::hexadecimal::octets_of;
 use crate::verdicts::join_verdict_named;
 use csv::{ByteRecord, Reader, ReaderBuilder};
@@ -20,35 +19,6 @@ pub const LONGEST_REPORT: usize = 16_777_216;
 
 /// The records behind the header, at most (this project's limit).
 const MOST_RECORDS: u32 = 100_000;
-
-fn are_digits(text: &[u8]) -> bool
-    ensures { result ≡ list_all is_ascii_digit text.now }
-{
-    text.iter().all(|octet| octet.is_ascii_digit())
-}
-
-/// One to sixteen decimal digits and nothing else.
-fn is_decimal(text: &[u8]) -> bool
-    ensures { result ≡ is_decimal text.now }
-{
-    1 <= text.len() && text.len() <= 16 && are_digits(text)
-}
-
-#[tactic(auto, unfolding(crate::specs::CsvReports::decimal_in))]
-fn decimal_of(text: &[u8]) -> Option<u64>
-    ensures { result ≡ decimal_in text.now }
-{
-    if !is_decimal(text) {
-        return None;
-    }
-    u64::from_str_radix(str::from_utf8(text).ok()?, 10).ok()
-}
-
-fn u32_of(text: &[u8]) -> Option<u32>
-    ensures { result ≡ decimal_below (2 ^ 32) text.now }
-{
-    u32::try_from(decimal_of(text)?).ok()
-}
 
 fn counter_or_none_of(text: &[u8]) -> Option<Option<u32>>
     ensures { result ≡ counter_or_none text.now }

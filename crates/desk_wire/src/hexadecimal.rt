@@ -1,7 +1,7 @@
-//! Hexadecimal text: octets and EUIs read from digits, and octets, EUIs and device addresses written in them.
+//! Hexadecimal text: octets, EUIs and device addresses read from digits, and written in them.
 ghost use Rattle.std.specs.Prelude.{◌≡◌, ◌/◌, IfOk, length};
 ghost use Rattle.std.specs.String.{string_bytes};
-ghost use Rattle.desk_wire.specs.Hexadecimal.{unprefixed, decoded, octets_in, eui_in, octet_digits, eui_digits, addr_digits};
+ghost use Rattle.desk_wire.specs.Hexadecimal.{unprefixed, decoded, octets_in, eui_in, addr_in, octet_digits, eui_digits, addr_digits};
 
 use radio_core::{DevAddr, Eui, Octets};
 use std::alloc::{AllocError, Global};
@@ -23,19 +23,25 @@ fn decoded(digits: &[u8], room: &mut [u8]) -> Option<Octets>
     Octets::new(room)
 }
 
-/// The octets that a text is: two digits for each, in either case, with or without `0x` before them. `None` exactly
-/// where it isn't digits, their number is odd, or there are more than 255 octets. It takes no memory.
+/// The octets that digits are: two digits for each, in either case. `None` exactly where it isn't digits, their number is odd, or
+/// there are more than 255 octets. It takes no memory.
 #[tactic(auto, using(crate::proofs::HexTexts::too_long))]
-pub(crate) fn octets_of(text: &[u8]) -> Option<Octets>
-    ensures { result ≡ octets_in text.now }
+fn octets_of_digits(digits: &[u8]) -> Option<Octets>
+    ensures { result ≡ decoded digits.now }
 {
-    let digits = unprefixed(text);
     let size = digits.len() / 2;
     if size > 255 {
         return None;
     }
     let mut room = [0; 255];
     decoded(digits, &mut room[..size])
+}
+
+/// The octets that a text is, with or without `0x` before its digits.
+pub(crate) fn octets_of(text: &[u8]) -> Option<Octets>
+    ensures { result ≡ octets_in text.now }
+{
+    octets_of_digits(unprefixed(text))
 }
 
 /// The EUI that a text is: exactly 8 octets, the most significant first.
@@ -46,6 +52,16 @@ pub(crate) fn eui_of(text: &str) -> Option<Eui>
     let octets = octets_of(text.as_bytes())?;
     let number = <[u8; 8]>::try_from(octets.get()).ok()?;
     Some(Eui::new(u64::from_be_bytes(number)))
+}
+
+/// The device address that a text is: 8 digits in either case and nothing else, the most significant first.
+#[tactic(auto, unfolding(crate::specs::Hexadecimal::addr_in))]
+pub fn addr_of(text: &str) -> Option<DevAddr>
+    ensures { result ≡ addr_in text.now }
+{
+    let octets = octets_of_digits(text.as_bytes())?;
+    let number = <[u8; 4]>::try_from(octets.get()).ok()?;
+    Some(DevAddr::new(u32::from_be_bytes(number)))
 }
 
 /// The text of octets: two digits for each, in lower case.

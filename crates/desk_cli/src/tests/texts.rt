@@ -97,10 +97,15 @@ fn expect_written<R: Abort + AllocGlobal>(rt: &R, text: &str, wanted: &str) -> R
 }
 
 #[test]
-fn messages_are_written_in_one_way(rt: HostRuntime) -> Result<(), Fail> {
+fn kept_texts_are_written_as_they_stand(rt: HostRuntime) -> Result<(), Fail> {
     for text in &KEPT {
         expect_written(&rt, text, text)?;
     }
+    Ok(())
+}
+
+#[test]
+fn messages_are_written_in_one_way(rt: HostRuntime) -> Result<(), Fail> {
     for (text, wanted) in &OTHER {
         expect_written(&rt, text, wanted)?;
     }

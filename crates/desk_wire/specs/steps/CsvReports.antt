@@ -8,7 +8,7 @@ use Rattle.csv.specs.declared.reader.Reader.{Reader}
 use Rattle.csv.specs.declared.reader.Trim.TheVariants as trim
 use Rattle.radio_core.specs.declared.data_rates.DataRate.{DataRate}
 use Rattle.radio_core.specs.Names.{is_name}
-use Rattle.desk_wire.specs.CsvReports.{decimal_below, decimal_in}
+use Rattle.desk_wire.specs.Decimals.{decimal_below, decimal_in}
 use Rattle.desk_wire.specs.DataRates.{data_rate_numbered}
 use Rattle.desk_wire.specs.Hexadecimal.{octets_in}
 use Rattle.desk_wire.specs.Optional.{◌>>=◌, only_if}

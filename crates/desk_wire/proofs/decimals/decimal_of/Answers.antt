@@ -1,6 +1,6 @@
 use Rattle.std.proofs.Common.{◌∙◌, sym}
-use Rattle.desk_wire.proofs.CsvDecimals.{decimal_parses, reads_utf8, text_read}
-use Rattle.desk_wire.proofs.csv_reports.decimal_of.Goals as goal
+use Rattle.desk_wire.proofs.DecimalDigits.{decimal_parses, reads_utf8, text_read}
+use Rattle.desk_wire.proofs.decimals.decimal_of.Goals as goal
 
 pub returns-in_err-ok : goal.returns-in_err-ok
 returns-in_err-ok c =

@@ -13,7 +13,7 @@ use Rattle.std.specs.Prelude.{IsUtf8, MatchResult}
 use Rattle.std.specs.Result.{result_ok}
 use Rattle.std.specs.Str.{IsAscii}
 use Rattle.std.specs.Str.Parse.{AllDigits, ParsesUnsigned, without_leading_plus}
-use Rattle.desk_wire.specs.CsvReports.{decimal_in, is_decimal}
+use Rattle.desk_wire.specs.Decimals.{decimal_in, is_decimal}
 
 digit : (c : ℕ) → is_ascii_digit c ≡ true → digit_value c < 10
 digit c h = grind (arith, nat_tests)
