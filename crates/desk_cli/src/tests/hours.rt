@@ -90,14 +90,28 @@ fn finds_the_peak(rt: HostRuntime) {
     has_peak(&rt, &worked(&rt), 25);
 }
 
+/// The new span fits, by both ways, within so much and no less. The others are in order.
+fn just_fits(rt: &impl Abort, spans: &[Span], new: Span, most: u64) {
+    assert!(rt; in_order(spans));
+    let above = most.saturating_sub(1);
+    holds(rt, fits(spans, new, most), "just within");
+    holds(rt, !fits(spans, new, above), "one above");
+    holds(rt, sweep_fits(spans, new, most), "within by the sweep");
+    holds(rt, !sweep_fits(spans, new, above), "above by the sweep");
+}
+
 #[test]
 fn fits_up_to_the_limit(rt: HostRuntime) {
     let [first, second, third] = worked(&rt);
-    let both = [first, second];
-    holds(&rt, !fits(&both, third, 24), "one above");
-    holds(&rt, fits(&both, third, 25), "just within");
+    just_fits(&rt, &[first, second], third, 25);
+    just_fits(&rt, &[], first, 20);
+    // The fullest hours begin at the new one's start and end at its end.
+    let new = span(&rt, 0, 10);
+    just_fits(&rt, &[span(&rt, 4, 4)], new, 14);
+    // The fullest hour begins at a start, and no clock's hour does.
+    let new = span(&rt, 100, 10);
+    just_fits(&rt, &[new, span(&rt, HOUR + 97, 6)], new, 23);
     holds(&rt, fits(&[], span(&rt, 0, 0), 0), "nothing within nothing");
-    holds(&rt, !fits(&[], first, 19), "too long alone");
 }
 
 #[test]

@@ -100,6 +100,7 @@ static MONTHS: [Step; 2] = [
             Owner("town", "2000-01", Ok(UNUSED_LINE)),
             Owner("town", "2000-02", Ok(FRAME_LINE)),
             Owner("town", "2000-03", Ok(UNUSED_LINE)),
+            Owner("town", "2023-11", Ok(UNUSED_LINE)),
             Owner("town", "2023-12", Ok(JOIN_LINE)),
             Owner("town", "2024-01", Ok(FRAME_LINE)),
             Owner("town", "2024-02", Ok(FRAME_LINE)),
