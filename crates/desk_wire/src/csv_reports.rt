@@ -12,7 +12,6 @@ use csv::{ByteRecord, Reader, ReaderBuilder};
 use radio_core::{DataRate, Name, Octets, Rate};
 use registry_core::{Envelope, Message, Report, Whole};
 use std::alloc::Global;
-use std::str;
 
 /// The octets of a report, at most (this project's limit).
 pub const LONGEST_REPORT: usize = 16_777_216;

@@ -1,4 +1,4 @@
-//! Messages, answers and refusals as JSON texts.
+//! Messages, answers and refusals as JSON texts, gateways' reports in CSV, and numbers in digits.
 #![tactic(auto)]
 
 mod answers;

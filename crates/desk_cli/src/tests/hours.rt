@@ -1,5 +1,5 @@
-//! Rows of sliding hours: spans, use, peak, what fits, what is clear and what is near. One asserts by itself, since the sweep asks for
-//! order.
+//! Rows of sliding hours: spans, use, peak, what fits, what is clear and what is near. What the sweep is asked asserts by itself, since
+//! it asks for order.
 use super::holding::{holds, holds_at};
 use duty_core::{
     Span, clear, fits, in_order, is_near, near_range, peak, sweep_fits, sweep_peak, use_at,
@@ -108,7 +108,7 @@ fn fits_up_to_the_limit(rt: HostRuntime) {
     // The fullest hours begin at the new one's start and end at its end.
     let new = span(&rt, 0, 10);
     just_fits(&rt, &[span(&rt, 4, 4)], new, 14);
-    // The fullest hour begins at a start, and no clock's hour does.
+    // The fullest hour begins at a start, where no hour of the clock begins.
     let new = span(&rt, 100, 10);
     just_fits(&rt, &[new, span(&rt, HOUR + 97, 6)], new, 23);
     holds(&rt, fits(&[], span(&rt, 0, 0), 0), "nothing within nothing");
