@@ -11,6 +11,7 @@ pub(crate) mod holding;
 mod hours;
 pub(crate) mod importing;
 mod joins;
+mod keys;
 mod limits;
 mod lines;
 mod migrating;

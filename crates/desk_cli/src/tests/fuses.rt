@@ -124,8 +124,8 @@ fn expect_left<R: Abort + AllocGlobal, T: Step>(
 
 // ---- a desk that is made and hears
 
-/// Delivers in order. Each is told what it is to be told until the disk fails, and from then on each is told that it did. How many
-/// were told before.
+/// Delivers in order. Each is told what it is to be told until the disk fails, and from then on each is told that it did, and so is
+/// who asks for the counts. How many were told before.
 fn told_until_stop<R: Abort + AllocGlobal, K: Keeper>(
     rt: &R,
     keeper: &mut K,
@@ -142,6 +142,8 @@ fn told_until_stop<R: Abort + AllocGlobal, K: Keeper>(
             expect_told(rt, &outcome, delivery);
         }
     }
+    let tells_counts = keeper.counts().is_ok();
+    holds(rt, tells_counts == stopped.is_none(), "the counts");
     stopped.unwrap_or(deliveries.len())
 }
 

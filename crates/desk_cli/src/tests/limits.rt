@@ -55,7 +55,7 @@ pub(super) static LOWERED: [Row; 5] = [
 
 /// After the setup: limits before the first downlink, each for its gateway and band alone.
 #[rattlefmt::skip]
-pub(super) static FIRST_LIMITS: [Row; 18] = [
+pub(super) static FIRST_LIMITS: [Row; 19] = [
     Asks("bridge", 9, "LimitSet", LIMIT_OF_NONE, ROLE),
     Asks("office", 18, "LimitSet", LIMIT_OF_NONE, GATEWAY),
     Asks("office", 19, "LimitSet", r#""Gateway":"gw-a","Band":"B4","Limit":991232"#, SUCCESS),
@@ -75,8 +75,9 @@ pub(super) static FIRST_LIMITS: [Row; 18] = [
     Asks("office", 20, "LimitSet", r#""Gateway":"gw-a","Band":"B4","Limit":1982464"#, SUCCESS),
     Frames("bridge", 21, Heard { time: 1_706_745_629_000_000, octets: UP_3, verdict: "3", ..HEARD }, Framed(1_155_072, "B4", false, 3, DEVICE_EUI, 5)),
     Books("bridge", 22, Down { uplink: 5, octets: DOWN_3, ..DOWN }, Booked(991_232, "B4", 4, 1_706_745_630_000_000)),
-    // and none at all leaves none
-    Asks("office", 21, "LimitSet", NONE_OF_B3, SUCCESS),
+    // and none at all leaves none, in its own band
+    Asks("office", 21, "LimitSet", HALF_OF_B3, SUCCESS),
+    Asks("office", 22, "LimitSet", NONE_OF_B3, SUCCESS),
     Books("bridge", 23, Down { uplink: 1, octets: ACCEPT, ..DOWN }, DUTY),
 ];
 

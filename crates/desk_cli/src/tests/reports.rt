@@ -10,7 +10,7 @@ use super::{Opened, deliver_each, with_device};
 use Asked::{Bands, Owner};
 use desk_engine::{ReportFault, band_report, owner_report};
 use desk_store::Keeper;
-use radio_core::{Band, Eui};
+use radio_core::{Band, Eui, Name};
 use std::process::Abort;
 use std::test::Fail;
 
@@ -138,9 +138,9 @@ static MONTHS: [Step; 2] = [
     ),
 ];
 
-/// Two more devices of the owner: one before the first in order, and one after it.
+/// Two more devices of the owner: one before the first in order, and one after it, which stay when the first is moved.
 #[rattlefmt::skip]
-static ORDER: [Step; 1] = [
+static ORDER: [Step; 2] = [
     (
         &[
             Asks("office", 900_012, "DeviceAdd", OTHER, SUCCESS),
@@ -148,6 +148,13 @@ static ORDER: [Step; 1] = [
             Joins("bridge", 10, FIRST, FIRST_ADDED),
         ],
         &[Owner("town", "2024-02", Ok("0000000000000001,0,0,0,0,0,0,0,0,0,0,0,0,0\n0004a30b001a2b3c,1,0,0,0,0,61696,61696,0,0,0,0,0,0\n0004a30b001a2b3d,0,0,0,0,0,0,0,0,0,0,0,0,0\n"))],
+    ),
+    (
+        &[Asks("office", 900_014, "OwnerAdd", PORT, SUCCESS), Asks("office", 900_015, "DeviceMove", DEVICE_TO_PORT, SUCCESS)],
+        &[
+            Owner("town", "2024-02", Ok("0000000000000001,0,0,0,0,0,0,0,0,0,0,0,0,0\n0004a30b001a2b3d,0,0,0,0,0,0,0,0,0,0,0,0,0\n")),
+            Owner("port", "2024-02", Ok(JOIN_LINE)),
+        ],
     ),
 ];
 
@@ -200,11 +207,18 @@ static TWO_SESSIONS: [Row; 2] = [
     Joins("bridge", 11, Heard { time: 1_706_745_590_061_696, octets: NONCE_1, ..FIRST }, Joined(61_696, "B3", false, "01a00001", 2)),
 ];
 
-/// Reports ask a store for the uplinks of all of a device's sessions, in order of start.
-fn uplinks_in_any_order<R: Abort + AllocGlobal, K: Opened>(rt: &R) -> Result<(), Fail> {
+/// Reports ask a store for an owner's devices one after another, and for the uplinks of all of a device's sessions in order of start.
+fn a_store_tells_in_order<R: Abort + AllocGlobal, K: Opened>(rt: &R) -> Result<(), Fail> {
     let mut keeper = with_device::<R, K>(rt)?;
     deliver_each(rt, &mut *keeper, &TWO_SESSIONS)?;
+    let owner = Name::new(b"town").ok_or("no name")?;
     let device = Eui::new(0x0004_a30b_001a_2b3c);
+    let after_last = keeper.next_device(&owner, Some(device));
+    holds(
+        rt,
+        after_last == Ok(None),
+        "that no device is after the last",
+    );
     let Ok(spans) = keeper.uplinks_of(device, Band::B3, 0, i64::MAX) else {
         return Err("no uplinks".into());
     };
@@ -215,8 +229,9 @@ fn uplinks_in_any_order<R: Abort + AllocGlobal, K: Opened>(rt: &R) -> Result<(),
 }
 
 pub(super) fn are_told<R: Abort + AllocGlobal, K: Opened>(rt: &R) -> Result<(), Fail> {
+    // first, since a report over a store that tells the last device again has no end
+    a_store_tells_in_order::<R, K>(rt)?;
     expect_steps::<R, K>(rt, &WORKED)?;
     expect_steps::<R, K>(rt, &MONTHS)?;
-    expect_steps::<R, K>(rt, &ORDER)?;
-    uplinks_in_any_order::<R, K>(rt)
+    expect_steps::<R, K>(rt, &ORDER)
 }

@@ -11,9 +11,10 @@ use super::rows::{
     SUCCESS, TOWN, delivery_of,
 };
 use super::runs::{expect_outcomes, texts_of};
-use super::{config, found, made, told_each};
+use super::{config, found, hear_each, made, told_each};
+use crate::on_tables::run_in_memory;
 use crate::stopping::run_through_stop;
-use desk_engine::Outcome;
+use desk_engine::{Outcome, run_from_nothing};
 use desk_store::StoreFault;
 use sqlite::{Alter, Connection, MemStore};
 use std::alloc::Global;
@@ -141,4 +142,26 @@ fn a_run_is_found_after_a_stop(rt: HostRuntime) -> Result<(), Fail> {
     let config = config(65_536).ok_or("no configuration")?;
     let ran = run_through_stop(rt.alloc(), config, &texts);
     expect_run(&rt, ran, &deliveries)
+}
+
+/// The same in memory, where nothing stops.
+#[test]
+fn a_run_in_memory_is_found(rt: HostRuntime) -> Result<(), Fail> {
+    let deliveries = all_deliveries(rt.alloc())?;
+    let texts = texts_of(rt.alloc(), &deliveries)?;
+    let config = config(65_536).ok_or("no configuration")?;
+    let ran = run_in_memory(rt.alloc(), config, &texts);
+    expect_run(&rt, ran, &deliveries)
+}
+
+/// The same over lists, which tell each delivery once more what they told it.
+#[test]
+fn a_run_from_nothing_is_answered(rt: HostRuntime) -> Result<(), Fail> {
+    let deliveries = all_deliveries(rt.alloc())?;
+    let texts = texts_of(rt.alloc(), &deliveries)?;
+    let config = config(65_536).ok_or("no configuration")?;
+    let (mut lists, outcomes) = run_from_nothing(rt.alloc(), config, &texts)?;
+    expect_outcomes(&rt, &outcomes, &deliveries);
+    hear_each(&rt, &mut lists, &deliveries);
+    Ok(())
 }
