@@ -64,7 +64,7 @@ TESTS = {
     "desk_engine/a_report_ends_after_the_first_device": "tests::rows_over_lists",
     "desk_engine/an_import_hears_the_first_again": "tests::rows_over_lists",
     "desk_engine/another_message_answered_as_the_kept_one": "tests::rows_over_lists",
-    "desk_engine/from_nothing_runs_nothing": "tests::stops::a_run_from_nothing_is_answered",
+    "desk_engine/from_nothing_runs_nothing": "tests::stops::a_run_is_found_after_a_stop",
     "desk_engine/the_last_line_dropped": "tests::lines::a_long_line_is_answered",
     "desk_http/a_cut_body_delivered_before_it_is_refused": "tests::requests::limits::every_beginning",
     "desk_http/two_connections_served_for_each": "commands::serving::tests::peers_in_order",

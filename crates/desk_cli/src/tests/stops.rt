@@ -11,13 +11,14 @@ use super::rows::{
     SUCCESS, TOWN, delivery_of,
 };
 use super::runs::{expect_outcomes, texts_of};
-use super::{config, found, hear_each, made, told_each};
+use super::{config, found, made, told_each};
 use crate::on_tables::run_in_memory;
 use crate::stopping::run_through_stop;
 use desk_engine::{Outcome, run_from_nothing};
-use desk_store::StoreFault;
+use desk_store::{Lists, StoreFault};
+use registry_core::Config;
 use sqlite::{Alter, Connection, MemStore};
-use std::alloc::Global;
+use std::alloc::{AllocError, Global};
 use std::fmt::Write;
 use std::process::Abort;
 use std::test::Fail;
@@ -133,35 +134,25 @@ fn expect_run<R: Abort + AllocGlobal, S: Alter + Drop>(
     Ok(())
 }
 
+/// A run from nothing over lists, in a box: they are large, and would be moved about.
+fn run_over_lists(
+    alloc: Global,
+    config: Config,
+    texts: &[&[u8]],
+) -> Result<Box<(Lists, Vec<Outcome>)>, AllocError> {
+    Ok(Box::new(alloc, run_from_nothing(alloc, config, texts)?)?)
+}
+
 /// The whole at once: a desk is made, hears the messages, and is found again after the machine has stopped. `fuses.rt` stops it at
-/// each call of its files.
+/// each call of its files. The same in memory, and over lists, where nothing stops.
 #[test]
 fn a_run_is_found_after_a_stop(rt: HostRuntime) -> Result<(), Fail> {
-    let deliveries = all_deliveries(rt.alloc())?;
-    let texts = texts_of(rt.alloc(), &deliveries)?;
+    let alloc = rt.alloc();
+    let deliveries = all_deliveries(alloc)?;
+    let texts = texts_of(alloc, &deliveries)?;
     let config = config(65_536).ok_or("no configuration")?;
-    let ran = run_through_stop(rt.alloc(), config, &texts);
-    expect_run(&rt, ran, &deliveries)
-}
-
-/// The same in memory, where nothing stops.
-#[test]
-fn a_run_in_memory_is_found(rt: HostRuntime) -> Result<(), Fail> {
-    let deliveries = all_deliveries(rt.alloc())?;
-    let texts = texts_of(rt.alloc(), &deliveries)?;
-    let config = config(65_536).ok_or("no configuration")?;
-    let ran = run_in_memory(rt.alloc(), config, &texts);
-    expect_run(&rt, ran, &deliveries)
-}
-
-/// The same over lists, which tell each delivery once more what they told it.
-#[test]
-fn a_run_from_nothing_is_answered(rt: HostRuntime) -> Result<(), Fail> {
-    let deliveries = all_deliveries(rt.alloc())?;
-    let texts = texts_of(rt.alloc(), &deliveries)?;
-    let config = config(65_536).ok_or("no configuration")?;
-    let (mut lists, outcomes) = run_from_nothing(rt.alloc(), config, &texts)?;
-    expect_outcomes(&rt, &outcomes, &deliveries);
-    hear_each(&rt, &mut lists, &deliveries);
+    expect_run(&rt, run_through_stop(alloc, config, &texts), &deliveries)?;
+    expect_run(&rt, run_in_memory(alloc, config, &texts), &deliveries)?;
+    expect_outcomes(&rt, &run_over_lists(alloc, config, &texts)?.1, &deliveries);
     Ok(())
 }
