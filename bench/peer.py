@@ -51,7 +51,9 @@ LONGEST_BOOKING = 3_000_000
 
 def schema():
     """The statements that make a desk's tables and indexes, as the desk has them."""
-    return re.search(r'"(CREATE TABLE meta .*)"', MAKING.read_text())[1]
+    # A text that goes on in the next line leaves out the blanks that begin it.
+    source = re.sub(r"\\\n\s*", "", MAKING.read_text())
+    return re.search(r'"(CREATE TABLE meta .*)"', source)[1]
 
 
 class File:

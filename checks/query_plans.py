@@ -20,6 +20,8 @@ from pathlib import Path
 ROOT = Path(__file__).resolve().parent.parent
 SOURCES = ROOT / "crates" / "desk_rows" / "src"
 TEXT = re.compile(r'"((?:SELECT|UPDATE|CREATE) [^"]*)"')
+# A text that goes on in the next line: the blanks that begin it aren't its own.
+GOES_ON = re.compile(r"\\\n\s*")
 # The first row in the order of the rowid, or the last; and the table of one row.
 ENDS = re.compile(r"^SELECT (\w+) FROM \w+ ORDER BY \1( DESC)? LIMIT 1$")
 ONE_ROW = re.compile(r"^SELECT [^?]* FROM meta$")
@@ -30,7 +32,7 @@ OF_SESSIONS = re.compile(r"^SELECT [^?]* FROM session JOIN uplink ON uplink\.ses
 def statements():
     """Each text of the sources, with the file that it stands in."""
     for path in sorted(SOURCES.glob("*.rt")):
-        for text in TEXT.findall(path.read_text()):
+        for text in TEXT.findall(GOES_ON.sub("", path.read_text())):
             yield path.name, text
 
 

@@ -8,7 +8,8 @@ its Nth request for memory refused, or with the calls of its log, or of the file
 it makes fewer than N. Each run has to end as it does where nothing is refused, or with status 3: with `desk: file` where the file
 couldn't be opened for it, whose rows are then as they were, and else with `desk: unavailable`, after the first lines of what it
 writes or none. The real SQLite then reads the file: its rows are those of before the message under way or those with it, and what was
-answered is in it. The command once more, with nothing refused, writes what it writes where nothing ever was, and leaves those rows.
+answered is in it; where memory is refused `migrate` has moved nothing. The command once more, with nothing refused, writes what it
+writes where nothing ever was, and leaves those rows.
 
 After calls are refused the files are taken twice: as a process leaves them that has ended, and as a machine does that has lost all
 that wasn't synced.
@@ -95,9 +96,11 @@ class Program:
 class Case:
     """A command on a copy of this file, or on none, the lines that it is given, and what it writes."""
 
-    def __init__(self, name, file, command, *options, given="", written="", again=None):
+    def __init__(self, name, file, command, *options, given="", written="", again=None, stays=False):
         self.name, self.file, self.command, self.options = name, file, command, options
         self.given, self.written = given, written
+        # whether want of memory leaves the rows of before
+        self.stays = stays
         # how it ends once more where it has done all
         self.again = again or (0, "", written)
         # those before this request are of an opening, which has its own case
@@ -135,6 +138,7 @@ class Case:
         left = rows_of(file)
         wants(self.is_between(left, states, written, outcome), f"{what}: the rows are {left}")
         if outcome == "unavailable" and left == states[-1] != states[0]:
+            wants(not self.stays or program.refusal.lasts, f"{what}: it was done all the same")
             outcome = "kept"
         status, written, told, _ = program.run(words, self.given)
         done = self.again if left == states[-1] else (0, "", self.written)
@@ -313,7 +317,7 @@ def cases_in(program, folder, seed):
     first = folder / "first.db"
     copy_to(day, first)
     execute(first, TO_SCHEMA_1)
-    yield Case("migrate", first, "migrate", again=(1, "desk: schema\n", ""))
+    yield Case("migrate", first, "migrate", again=(1, "desk: schema\n", ""), stays=True)
     line, answer = lines.splitlines()[0], told.splitlines()[0]
     empty = folder / "empty.db"
     program.ends(["init", empty], "", "")

@@ -1,7 +1,6 @@
 pub mod Asked
 pub mod ByRules
 pub mod ByStore
-pub mod Checked
 pub mod FoundAgain
 pub mod Imported
 pub mod InFiles
@@ -14,3 +13,4 @@ pub mod Printed
 pub mod Reported
 pub mod Serving
 pub mod Tellings
+pub mod TotalsPrinted

@@ -1,4 +1,5 @@
-//! The commands of the program. Each has a module with its words, what it does, and its tests; here they are listed.
+//! The commands of the program. Each has a module with its words and what it does, `report` and `bands` one for both; here they are
+//! listed. What they do on one file is tested in `program/tests/one_file.rt`, and by rows over each kind of store.
 ghost use Rattle.std.specs.Prelude.{◌≡◌, IfOk};
 ghost use Rattle.clap.specs.Matches.{found_of};
 ghost use Rattle.clap.specs.Simple.{App, app_of, subcommand_rows_of};

@@ -10,7 +10,7 @@ use Rattle.sqlite.specs.declared.error.Error.{Error}
 use Rattle.desk_rows.specs.Faults.{fault_of}
 use Rattle.desk_rows.specs.Making.{IsEmptied}
 use Rattle.desk_rows.specs.declared.faults.RowFault.TheVariants.{Refused}
-use Rattle.desk_rows.proofs.BatchSteps.{IsStep, Leads}
+use Rattle.desk_rows.proofs.BatchSteps.{CreatesOne, Leads}
 
 -- ---- one after the other
 
@@ -68,7 +68,7 @@ IsNeverRefused text before = (S : Type 0) (g : Ghosts S) (most : ℕ) (old new :
 pub none_refused : (schema : Schema) → IsNeverRefused [] schema
 none_refused schema S g most old new e has empty inside told h = let failed = h.0 in cc
 
-pub first_spared : (text first rest : List ℕ) (before mid : Schema) → Begins text first rest → IsStep first before mid → IsNeverRefused rest mid → IsNeverRefused text before
+pub first_spared : (text first rest : List ℕ) (before mid : Schema) → Begins text first rest → CreatesOne first before mid → IsNeverRefused rest mid → IsNeverRefused text before
 first_spared [] first rest before mid begins step later S g most old new e has empty inside told h = begins.some refl
 first_spared (b ∷ more) first rest before mid begins step later S g zero old new e has empty inside told h = h
 first_spared (b ∷ more) first rest before mid begins step later S g (suc most) old new e has empty inside told (inl (why, failed, inl ran)) =

@@ -129,7 +129,7 @@ pub record IsCommand (sql : List ℕ) (before : Schema) (command : Command) : Ty
   pub given : 0 ≡ length compiled.names
 
 -- what one statement of the batch does
-pub record IsStep (sql : List ℕ) (before after : Schema) : Type 1 where
+pub record CreatesOne (sql : List ℕ) (before after : Schema) : Type 1 where
   pub leads : Leads sql before after
   pub spared : IsSpared sql before
 
@@ -151,7 +151,7 @@ module _ (sql : List ℕ) (before : Schema) (command : Command) (text : IsComman
   }
 
 pub table_step : (sql : List ℕ) (before : Schema) (table : Table) (text : IsCommand sql before CreateTable) → table_defined_by (text_of sql text.compiled) ≡ Ok table
-    → lacks_sequence (created before table) ≡ false → accepts_table before (text_of sql text.compiled) table ≡ true → IsStep sql before (created before table)
+    → lacks_sequence (created before table) ≡ false → accepts_table before (text_of sql text.compiled) table ≡ true → CreatesOne sql before (created before table)
 table_step sql before table text defined counted accepted = record {
   leads = table_leads sql before table (is_command sql before CreateTable text) (is_plain sql before CreateTable text)
       (ap (λ c. table_defined_by (statement_of sql c)) text.means ∙ defined) counted;
@@ -160,7 +160,7 @@ table_step sql before table text defined counted accepted = record {
 
 pub index_step : (sql : List ℕ) (before : Schema) (at : ℕ) (table : Table) (index : Index) (text : IsCommand sql before (CreateIndex at)) → slice_get before.tables at ≡ Some table
     → index_defined_by table (text_of sql text.compiled) ≡ Ok index → accepts_index before (text_of sql text.compiled) table index ≡ true
-    → IsStep sql before (indexed before table index)
+    → CreatesOne sql before (indexed before table index)
 index_step sql before at table index text there defined accepted = record {
   leads = index_leads sql before at table index (is_command sql before (CreateIndex at) text) there (is_plain sql before (CreateIndex at) text)
       (ap (λ c. index_defined_by table (statement_of sql c)) text.means ∙ defined);

@@ -15,6 +15,8 @@ use Rattle.sqlite_sql.specs.declared.ops.BinaryOp.TheVariants.{Compare}
 use Rattle.sqlite_sql.specs.declared.ops.CompareOp.TheVariants.{Eq}
 use Rattle.sqlite_sql.specs.Term.{op2, Term, lit, col, holds, eval_all}
 use Rattle.sqlite_sql.specs.Query.{output, output_cmp}
+use Rattle.sqlite_schema.specs.declared.schema.Schema.{Schema}
+use Rattle.sqlite.specs.Effect.{Database}
 use Rattle.sqlite.specs.Listing.{understood}
 use Rattle.sqlite.specs.Program.{overlay}
 use Rattle.sqlite.specs.State.{State}
@@ -28,13 +30,15 @@ use Rattle.registry_core.specs.declared.facts.Uplink.{Uplink}
 use Rattle.registry_core.specs.Derived.{is_data, is_data_of, last_counter}
 use Rattle.registry_core.specs.Numbered.{greatest}
 use Rattle.registry_core.specs.Ranges.{IsEui}
-use Rattle.desk_rows.specs.Schema.{desk_schema}
-use Rattle.desk_rows.specs.Calls.{Reads}
+use Rattle.desk_rows.specs.Migrating.{HoldsFirst}
+use Rattle.desk_rows.specs.Schema.{first_schema}
+use Rattle.desk_rows.specs.Calls.{Reads, ReadsFirst, ReadsOf}
 use Rattle.desk_rows.specs.steps.Queries.{Finds}
 use Rattle.desk_rows.specs.Rows.{Rows, Holds, SessionRow, IsSession, IsUplink, booking_cells, device_cells, limit_cells, name_cells, reply_cells, sender_cells, session_cells, uplink_cells, eui, number, kind_number, table_of, last_number}
 use Rattle.desk_rows.specs.declared.faults.RowFault.{RowFault}
-use Rattle.desk_rows.proofs.Lookups.{IsLookup, finds, says_so}
+use Rattle.desk_rows.proofs.Lookups.{IsLookup, IsLookupOf, finds_of, has_schema, says_so}
 use Rattle.desk_rows.proofs.Ordered.{Asked, query_of, falling, encode, zip_from, head, first_sorted, map_same, map_twice}
+use Rattle.desk_rows.proofs.OrderLemmas.Counting.{filter_alike}
 use Rattle.desk_rows.proofs.Terms.{is, same, and_true, number_equal, eui_equal}
 
 -- the first of those that pass, by falling keys
@@ -114,10 +118,6 @@ module _ {X : Type 0} (f : X → ℕ) (p : X → Bool) where
       go true later = (each x all.0, later)
       go false later = later
 
-filtered_alike : {X : Type 0} (P : X → Type 0) (p q : X → Bool) → ((x : X) → P x → p x ≡ q x) → (xs : List X) → AllByRecursion P xs → filter p xs ≡ filter q xs
-filtered_alike P p q alike [] all = refl
-filtered_alike P p q alike (x ∷ xs) all = (λ i. cond (alike x all.0 i) (x ∷ filter p xs) (filter p xs)) ∙ ap (λ l. cond (q x) (x ∷ l) l) (filtered_alike P p q alike xs all.1)
-
 numbers_of : {X : Type 0} (n : ℕ) (x : X) (xs : List X) → greatest (map (λ (b : ℕ × X). b.0) (filter (λ b. true) (zip_from n (x ∷ xs)))) ≡ Some (n + length xs)
 numbers_of n x [] = ap Some (omega arith)
 numbers_of n x (y ∷ xs) = ap (λ o. Some (option_map_or (max n) o n)) (numbers_of (n + 1) y xs) ∙ ap Some (omega arith)
@@ -128,16 +128,17 @@ last_is (x ∷ xs) = numbers_of 1 x xs
 
 -- ---- the one lemma of these look-ups: `f` is the key, and `show` how a row shows it
 
-module _ {sql : List ℕ} {many tree : ℕ} {terms project : List Term} {order : List (Term × Key)} (text : IsLookup sql many (latest tree terms project order)) (params : Row) {old new : State}
-    (many_is : many ≡ length params) (typed : accepts_program desk_schema [] (query_of (latest tree terms project order)) params ≡ true)
-    {X : Type 0} (cells : X → Row) (xs : Rows → List X) (stored : (r : Rows) → Holds old.now r → overlay old.now.trees [] tree ≡ table_of cells (xs r))
+module _ {desk : Schema} (Have : Database → Rows → Type 0) (schema : (db : Database) (r : Rows) → Have db r → db.schema ≡ desk)
+    {sql : List ℕ} {many tree : ℕ} {terms project : List Term} {order : List (Term × Key)} (text : IsLookupOf desk sql many (latest tree terms project order)) (params : Row) {old new : State}
+    (many_is : many ≡ length params) (typed : accepts_program desk [] (query_of (latest tree terms project order)) params ≡ true)
+    {X : Type 0} (cells : X → Row) (xs : Rows → List X) (stored : (r : Rows) → Have old.now r → overlay old.now.trees [] tree ≡ table_of cells (xs r))
     (p : ℕ × X → Bool) (tests : (b : ℕ × X) → list_all (holds (params ∷ encode cells b ∷ [])) terms ≡ p b)
     (f : ℕ × X → ℕ) (shown : (b : ℕ × X) → eval_all project (params ∷ encode cells b ∷ []) ≡ number (f b) ∷ [])
     (orders : (b c : ℕ × X) → output_cmp (query_of (latest tree terms project order)) (output (query_of (latest tree terms project order)) (params ∷ encode cells b ∷ []))
     (output (query_of (latest tree terms project order)) (params ∷ encode cells c ∷ [])) ≡ falling_by f (λ (b : ℕ × X). b.0) b c) where
-  pub greatest_found : {result : Result (Option ℕ) RowFault} (Fits : ℕ → Type 0) → ((r : Rows) → Holds old.now r → IfSome (greatest (map f (filter p (zip_from 1 (xs r))))) Fits)
-      → Finds sql params old new (λ n. n) (λ n. number n ∷ []) Fits result → Reads old new result (λ r n. n ≡ greatest (map f (filter p (zip_from 1 (xs r)))))
-  greatest_found {result} Fits fits found = says_so (finds text params old new found.answer found.run many_is typed result found.is_read _
+  pub greatest_found : {result : Result (Option ℕ) RowFault} (Fits : ℕ → Type 0) → ((r : Rows) → Have old.now r → IfSome (greatest (map f (filter p (zip_from 1 (xs r))))) Fits)
+      → Finds sql params old new (λ n. n) (λ n. number n ∷ []) Fits result → ReadsOf desk Have old new result (λ r n. n ≡ greatest (map f (filter p (zip_from 1 (xs r)))))
+  greatest_found {result} Fits fits found = says_so (finds_of text Have schema params old new found.answer found.run many_is typed result found.is_read _
       (λ r has. (
         fits r has,
         λ rows answer. first_sorted (latest tree terms project order) (overlay old.now.trees []) cells (xs r) (stored r has) params p tests (λ b. number (f b) ∷ []) shown (falling_by f (λ (b : ℕ × X). b.0)) (untied_falling f (λ (b : ℕ × X). b.0)) orders rows answer
@@ -228,41 +229,76 @@ any : (o : Option ℕ) → IfSome o (λ n. Unit {0})
 any None = tt
 any (Some n) = tt
 
-module _ {sql : List ℕ} {tree : ℕ} (text : IsLookup sql 0 (last_of tree)) (typed : accepts_program desk_schema [] (query_of (last_of tree)) [] ≡ true)
-    {X : Type 0} (cells : X → Row) (xs : Rows → List X) {old new : State} (stored : (r : Rows) → Holds old.now r → overlay old.now.trees [] tree ≡ table_of cells (xs r)) where
-  last_told : {result : Result (Option ℕ) RowFault} → Finds sql [] old new (λ n. n) (λ n. number n ∷ []) (λ n. Unit {0}) result → Reads old new result (λ r n. n ≡ last_number (xs r))
+module _ {desk : Schema} (Have : Database → Rows → Type 0) (schema : (db : Database) (r : Rows) → Have db r → db.schema ≡ desk)
+    {sql : List ℕ} {tree : ℕ} (text : IsLookupOf desk sql 0 (last_of tree)) (typed : accepts_program desk [] (query_of (last_of tree)) [] ≡ true)
+    {X : Type 0} (cells : X → Row) (xs : Rows → List X) {old new : State} (stored : (r : Rows) → Have old.now r → overlay old.now.trees [] tree ≡ table_of cells (xs r)) where
+  last_told : {result : Result (Option ℕ) RowFault} → Finds sql [] old new (λ n. n) (λ n. number n ∷ []) (λ n. Unit {0}) result → ReadsOf desk Have old new result (λ r n. n ≡ last_number (xs r))
   last_told found = says_so
-      (greatest_found text [] refl typed cells xs stored (λ b. true) (λ b. refl) (λ b. b.0) (λ b. refl)
+      (greatest_found Have schema text [] refl typed cells xs stored (λ b. true) (λ b. refl) (λ b. b.0) (λ b. refl)
       (λ b c. ap (λ o. ordering_then o Equal) (value_cmp-Int (pos c.0) (pos b.0)) ∙ once b.0 c.0) (λ _. Unit {0}) (λ r has. any _) found)
       (λ r has n is. is ∙ last_is (xs r))
 
 module _ {old new : State} {result : Result (Option ℕ) RowFault} where
   pub last_sender_told : Finds last_sender_text [] old new (λ n. n) (λ n. number n ∷ []) (λ n. Unit {0}) result → Reads old new result (λ r n. n ≡ last_number r.senders)
-  last_sender_told = last_told last_sender_lookup refl sender_cells (λ r. r.senders) (λ r has. has.ten.sender)
+  last_sender_told = last_told Holds has_schema last_sender_lookup refl sender_cells (λ r. r.senders) (λ r has. has.ten.sender)
 
   pub last_reply_told : Finds last_reply_text [] old new (λ n. n) (λ n. number n ∷ []) (λ n. Unit {0}) result → Reads old new result (λ r n. n ≡ last_number r.replies)
-  last_reply_told = last_told last_reply_lookup refl reply_cells (λ r. r.replies) (λ r has. has.ten.reply)
+  last_reply_told = last_told Holds has_schema last_reply_lookup refl reply_cells (λ r. r.replies) (λ r has. has.ten.reply)
 
   pub last_owner_told : Finds last_owner_text [] old new (λ n. n) (λ n. number n ∷ []) (λ n. Unit {0}) result → Reads old new result (λ r n. n ≡ last_number r.owners)
-  last_owner_told = last_told last_owner_lookup refl name_cells (λ r. r.owners) (λ r has. has.ten.owner)
+  last_owner_told = last_told Holds has_schema last_owner_lookup refl name_cells (λ r. r.owners) (λ r has. has.ten.owner)
 
   pub last_gateway_told : Finds last_gateway_text [] old new (λ n. n) (λ n. number n ∷ []) (λ n. Unit {0}) result → Reads old new result (λ r n. n ≡ last_number r.gateways)
-  last_gateway_told = last_told last_gateway_lookup refl name_cells (λ r. r.gateways) (λ r has. has.ten.gateway)
+  last_gateway_told = last_told Holds has_schema last_gateway_lookup refl name_cells (λ r. r.gateways) (λ r has. has.ten.gateway)
 
   pub last_device_told : Finds last_device_text [] old new (λ n. n) (λ n. number n ∷ []) (λ n. Unit {0}) result → Reads old new result (λ r n. n ≡ last_number r.devices)
-  last_device_told = last_told last_device_lookup refl device_cells (λ r. r.devices) (λ r has. has.ten.device)
+  last_device_told = last_told Holds has_schema last_device_lookup refl device_cells (λ r. r.devices) (λ r has. has.ten.device)
 
   pub last_session_told : Finds last_session_text [] old new (λ n. n) (λ n. number n ∷ []) (λ n. Unit {0}) result → Reads old new result (λ r n. n ≡ last_number r.sessions)
-  last_session_told = last_told last_session_lookup refl session_cells (λ r. r.sessions) (λ r has. has.ten.session)
+  last_session_told = last_told Holds has_schema last_session_lookup refl session_cells (λ r. r.sessions) (λ r has. has.ten.session)
 
   pub last_uplink_told : Finds last_uplink_text [] old new (λ n. n) (λ n. number n ∷ []) (λ n. Unit {0}) result → Reads old new result (λ r n. n ≡ last_number r.uplinks)
-  last_uplink_told = last_told last_uplink_lookup refl uplink_cells (λ r. r.uplinks) (λ r has. has.ten.uplink)
+  last_uplink_told = last_told Holds has_schema last_uplink_lookup refl uplink_cells (λ r. r.uplinks) (λ r has. has.ten.uplink)
 
   pub last_booking_told : Finds last_booking_text [] old new (λ n. n) (λ n. number n ∷ []) (λ n. Unit {0}) result → Reads old new result (λ r n. n ≡ last_number r.bookings)
-  last_booking_told = last_told last_booking_lookup refl booking_cells (λ r. r.bookings) (λ r has. has.ten.booking)
+  last_booking_told = last_told Holds has_schema last_booking_lookup refl booking_cells (λ r. r.bookings) (λ r has. has.ten.booking)
 
   pub last_limit_told : Finds last_limit_text [] old new (λ n. n) (λ n. number n ∷ []) (λ n. Unit {0}) result → Reads old new result (λ r n. n ≡ last_number r.limits)
-  last_limit_told = last_told last_limit_lookup refl limit_cells (λ r. r.limits) (λ r has. has.limit)
+  last_limit_told = last_told Holds has_schema last_limit_lookup refl limit_cells (λ r. r.limits) (λ r has. has.limit)
+
+-- ---- the same four over tables of schema 1
+
+first_has_schema : (db : Database) (r : Rows) → HoldsFirst db r → db.schema ≡ first_schema
+first_has_schema db r has = has.ten.schema
+
+first_reply_lookup : IsLookupOf first_schema last_reply_text 0 (last_of 3)
+unfolding understood everything
+first_reply_lookup = record { names = _; compiled = _; means = refl; command = refl; plain = (refl, refl); whole = omega arith; given = refl; unlisted = refl }
+
+first_session_lookup : IsLookupOf first_schema last_session_text 0 (last_of 11)
+unfolding understood everything
+first_session_lookup = record { names = _; compiled = _; means = refl; command = refl; plain = (refl, refl); whole = omega arith; given = refl; unlisted = refl }
+
+first_uplink_lookup : IsLookupOf first_schema last_uplink_text 0 (last_of 13)
+unfolding understood everything
+first_uplink_lookup = record { names = _; compiled = _; means = refl; command = refl; plain = (refl, refl); whole = omega arith; given = refl; unlisted = refl }
+
+first_booking_lookup : IsLookupOf first_schema last_booking_text 0 (last_of 17)
+unfolding understood everything
+first_booking_lookup = record { names = _; compiled = _; means = refl; command = refl; plain = (refl, refl); whole = omega arith; given = refl; unlisted = refl }
+
+module _ {old new : State} {result : Result (Option ℕ) RowFault} where
+  pub first_reply_told : Finds last_reply_text [] old new (λ n. n) (λ n. number n ∷ []) (λ n. Unit {0}) result → ReadsFirst old new result (λ r n. n ≡ last_number r.replies)
+  first_reply_told = last_told HoldsFirst first_has_schema first_reply_lookup refl reply_cells (λ r. r.replies) (λ r has. has.ten.reply)
+
+  pub first_session_told : Finds last_session_text [] old new (λ n. n) (λ n. number n ∷ []) (λ n. Unit {0}) result → ReadsFirst old new result (λ r n. n ≡ last_number r.sessions)
+  first_session_told = last_told HoldsFirst first_has_schema first_session_lookup refl session_cells (λ r. r.sessions) (λ r has. has.ten.session)
+
+  pub first_uplink_told : Finds last_uplink_text [] old new (λ n. n) (λ n. number n ∷ []) (λ n. Unit {0}) result → ReadsFirst old new result (λ r n. n ≡ last_number r.uplinks)
+  first_uplink_told = last_told HoldsFirst first_has_schema first_uplink_lookup refl uplink_cells (λ r. r.uplinks) (λ r has. has.ten.uplink)
+
+  pub first_booking_told : Finds last_booking_text [] old new (λ n. n) (λ n. number n ∷ []) (λ n. Unit {0}) result → ReadsFirst old new result (λ r n. n ≡ last_number r.bookings)
+  first_booking_told = last_told HoldsFirst first_has_schema first_booking_lookup refl booking_cells (λ r. r.bookings) (λ r has. has.ten.booking)
 
 -- ---- the last nonce of a device, the last counter of a session
 
@@ -301,20 +337,20 @@ module _ {old new : State} where
   pub last_nonce_told : (device : ℕ) → IsEui device → {result : Result (Option ℕ) RowFault} → Finds last_nonce_text (eui device ∷ []) old new (λ n. n) (λ n. number n ∷ []) (λ n. n < 2 ^ 16) result
       → Reads old new result (λ r nonce. nonce ≡ greatest (map (λ (s : SessionRow). s.session.nonce) (filter (λ (s : SessionRow). s.session.device == device) r.sessions)))
   last_nonce_told device in_range found = says_so
-      (greatest_found last_nonce_lookup (eui device ∷ []) refl refl session_cells (λ r. r.sessions) (λ r has. has.ten.session) (λ b. of_device device b.1) (λ b. and_true (of_device device b.1)) (λ b. b.1.session.nonce) (λ b. refl)
+      (greatest_found Holds has_schema last_nonce_lookup (eui device ∷ []) refl refl session_cells (λ r. r.sessions) (λ r has. has.ten.session) (λ b. of_device device b.1) (λ b. and_true (of_device device b.1)) (λ b. b.1.session.nonce) (λ b. refl)
       (λ b c. ap₂ (λ u v. ordering_then u (ordering_then v Equal)) (value_cmp-Int (pos c.1.session.nonce) (pos b.1.session.nonce)) (value_cmp-Int (pos c.0) (pos b.0))) (λ n. n < 2 ^ 16)
       (λ r has. subst (λ o. IfSome o (λ n. n < 2 ^ 16)) (sym (ap greatest (unnumbered (λ (s : SessionRow). s.session.nonce) (of_device device) 1 r.sessions)))
       (greatest_below (2 ^ 16) _ (all_passing (λ (s : SessionRow). s.session.nonce) (of_device device) IsSession (2 ^ 16) (λ s fits. fits.nonce) r.sessions has.ten.in_range.sessions))) found)
       (λ r has n is. is ∙ ap greatest (unnumbered (λ (s : SessionRow). s.session.nonce) (of_device device) 1 r.sessions
-      ∙ ap (map (λ (s : SessionRow). s.session.nonce)) (filtered_alike IsSession (of_device device) (λ s. s.session.device == device) (λ s fits. eui_equal s.session.device device fits.device in_range) r.sessions has.ten.in_range.sessions)))
+      ∙ ap (map (λ (s : SessionRow). s.session.nonce)) (filter_alike IsSession (of_device device) (λ s. s.session.device == device) (λ s fits. eui_equal s.session.device device fits.device in_range) r.sessions has.ten.in_range.sessions)))
 
   pub last_counter_told : (session : ℕ) → {result : Result (Option ℕ) RowFault} → Finds last_counter_text (number session ∷ []) old new (λ n. n) (λ n. number n ∷ []) (λ n. n < 2 ^ 32) result
       → Reads old new result (λ r counter. counter ≡ last_counter r.uplinks session)
   last_counter_told session found = says_so
-      (greatest_found last_counter_lookup (number session ∷ []) refl refl uplink_cells (λ r. r.uplinks) (λ r has. has.ten.uplink) (λ b. of_session session b.1)
+      (greatest_found Holds has_schema last_counter_lookup (number session ∷ []) refl refl uplink_cells (λ r. r.uplinks) (λ r has. has.ten.uplink) (λ b. of_session session b.1)
       (λ b. ap₂ (λ s t. s && (t && true)) (number_equal b.1.session session) (number_equal (kind_number b.1.kind) 1 ∙ data_kind b.1.kind) ∙ ap (λ t. (b.1.session == session) && t) (and_true (is_data b.1.kind))) (λ b. b.1.counter) (λ b. refl)
       (λ b c. ap₂ (λ u v. ordering_then u (ordering_then v Equal)) (value_cmp-Int (pos c.1.counter) (pos b.1.counter)) (value_cmp-Int (pos c.0) (pos b.0))) (λ n. n < 2 ^ 32)
       (λ r has. subst (λ o. IfSome o (λ n. n < 2 ^ 32)) (sym (ap greatest (unnumbered (λ (u : Uplink). u.counter) (of_session session) 1 r.uplinks)))
       (greatest_below (2 ^ 32) _ (all_passing (λ (u : Uplink). u.counter) (of_session session) IsUplink (2 ^ 32) (λ u fits. fits.counter) r.uplinks has.ten.in_range.uplinks))) found)
       (λ r has n is. is ∙ ap greatest (unnumbered (λ (u : Uplink). u.counter) (of_session session) 1 r.uplinks
-      ∙ ap (map (λ (u : Uplink). u.counter)) (filtered_alike IsUplink (of_session session) (is_data_of session) (λ u fits. turned (u.session == session) (is_data u.kind)) r.uplinks has.ten.in_range.uplinks)))
+      ∙ ap (map (λ (u : Uplink). u.counter)) (filter_alike IsUplink (of_session session) (is_data_of session) (λ u fits. turned (u.session == session) (is_data u.kind)) r.uplinks has.ten.in_range.uplinks)))

@@ -15,7 +15,8 @@ use Rattle.sqlite_resolve.specs.declared.error.CompileError.{CompileError}
 use Rattle.sqlite.specs.Command.TheVariants.{Select}
 use Rattle.sqlite.specs.declared.error.Error.{Error}
 use Rattle.sqlite.specs.declared.error.Error.TheVariants.{SqliteFailure, SqlInputError, InvalidParameterCount, ExecuteReturnedResults, InvalidQuery, MultipleStatement, QueryReturnedNoRows, InvalidColumnIndex, InvalidColumnType, IntegralValueOutOfRange, Utf8Error}
-use Rattle.sqlite.specs.Effect.{RefusesToRead}
+use Rattle.sqlite_schema.specs.declared.schema.Schema.{Schema}
+use Rattle.sqlite.specs.Effect.{Database, RefusesToRead}
 use Rattle.sqlite.specs.Listing.{understood, reads_listing, IsSourceOf}
 use Rattle.sqlite.specs.Program.{overlay}
 use Rattle.sqlite.specs.Clock.{timed}
@@ -27,7 +28,7 @@ use Rattle.desk_rows.specs.Rows.{Rows, Holds, table_of}
 use Rattle.desk_rows.specs.steps.Queries.{HasRun, IsReadOf, Finds, Knows}
 use Rattle.desk_rows.specs.CallLaws.{read_weaker}
 use Rattle.desk_rows.proofs.Ordered.{Asked, joined, query_of, by_rowid, head, zip_from, encode, first_by_rowid, some_map, map_twice, found_holds, zip_all, mapped_holds}
-use Rattle.desk_rows.specs.Calls.{IsReadingCall, Reads}
+use Rattle.desk_rows.specs.Calls.{IsReadingCallOf, Reads, ReadsOf}
 use Rattle.desk_rows.specs.Faults.{is_odd, IsEven, fault_of}
 use Rattle.desk_rows.specs.steps.Errors.{found_of, known_of}
 use Rattle.desk_rows.specs.declared.faults.RowFault.{RowFault}
@@ -37,16 +38,20 @@ use Rattle.desk_rows.proofs.FaultLemmas.{not_row}
 use Rattle.desk_rows.proofs.FaultLemmas.{told_else}
 use Rattle.desk_rows.proofs.RefusedLemmas.{unset}
 
--- the text is one such query, with so many parameters
-pub record IsLookup (sql : List ℕ) (many : ℕ) {trees : List ℕ} (a : Asked trees) : Type 0 where
+-- over tables of this schema the text is one such query, with so many parameters
+pub record IsLookupOf (desk : Schema) (sql : List ℕ) (many : ℕ) {trees : List ℕ} (a : Asked trees) : Type 0 where
   pub names : List (List ℕ)
   pub compiled : Compiled
-  pub means : understood desk_schema sql ≡ Ok compiled
+  pub means : understood desk sql ≡ Ok compiled
   pub command : compiled.command ≡ Select (record { lets = []; body = query_of a }) names
   pub plain : (compiled.returning ≡ None) × (compiled.formats ≡ [])
   pub whole : length sql ≤ compiled.tail
   pub given : many ≡ length compiled.names
-  pub unlisted : reads_listing desk_schema sql ≡ false
+  pub unlisted : reads_listing desk sql ≡ false
+
+-- over those of schema 2
+abbrev pub IsLookup : List ℕ → ℕ → {trees : List ℕ} → Asked trees → Type 0
+IsLookup = IsLookupOf desk_schema
 
 -- ---- a call of query_row
 
@@ -54,11 +59,11 @@ pub fold_stays : (db : Trees) (trees : List ℕ) (env : Env) → FoldOverflows d
 fold_stays db [] env h = h
 fold_stays db (tree ∷ trees) env h = fold_stays db trees (env ++ h.1 ∷ []) h.4
 
-module _ {sql : List ℕ} {many : ℕ} {trees : List ℕ} {a : Asked trees} (text : IsLookup sql many a) (params : Row) (old new : State) (has : old.now.schema ≡ desk_schema) where
-  is : command_of (understood desk_schema sql) ≡ Select (record { lets = []; body = query_of a }) text.names
+module _ {desk : Schema} {sql : List ℕ} {many : ℕ} {trees : List ℕ} {a : Asked trees} (text : IsLookupOf desk sql many a) (params : Row) (old new : State) (has : old.now.schema ≡ desk) where
+  is : command_of (understood desk sql) ≡ Select (record { lets = []; body = query_of a }) text.names
   is = ap command_of text.means ∙ text.command
 
-  plain : IsPlain (understood desk_schema sql)
+  plain : IsPlain (understood desk sql)
   plain = subst IsPlain (sym text.means) text.plain
 
   pub plain_now : IsPlain (understood old.now.schema sql)
@@ -68,9 +73,9 @@ module _ {sql : List ℕ} {many : ℕ} {trees : List ℕ} {a : Asked trees} (tex
   pub found_answers : (r : Result Row Error) → QueriesRow sql params old new r
       → IfOk (found_of r) (λ found. (rows : List Row) × (head rows ≡ found) × IsAnswer (query_of a) (overlay old.now.trees []) params rows)
   found_answers (Ok row) h =
-      let got = (first_as sql params old new desk_schema has _ is plain text.unlisted row h).1 in (row ∷ got.0, refl, got.1 Null)
+      let got = (first_as sql params old new desk has _ is plain text.unlisted row h).1 in (row ∷ got.0, refl, got.1 Null)
   found_answers (Err QueryReturnedNoRows) h =
-      ([], refl, (reads_as sql params old new desk_schema has _ is plain text.unlisted [] (shows_none sql params old new plain_now h)).answer Null)
+      ([], refl, (reads_as sql params old new desk has _ is plain text.unlisted [] (shows_none sql params old new plain_now h)).answer Null)
   found_answers (Err (SqliteFailure code)) h = tt
   found_answers (Err (SqlInputError why)) h = tt
   found_answers (Err (InvalidParameterCount a b)) h = tt
@@ -84,11 +89,11 @@ module _ {sql : List ℕ} {many : ℕ} {trees : List ℕ} {a : Asked trees} (tex
 
   -- the rows that were all shown are an answer
   pub shown_answers : (rows : List Row) → Shown sql params old new rows → IsAnswer (query_of a) (overlay old.now.trees []) params rows
-  shown_answers rows h = (reads_as sql params old new desk_schema has _ is plain text.unlisted rows h).answer Null
+  shown_answers rows h = (reads_as sql params old new desk has _ is plain text.unlisted rows h).answer Null
 
   -- the rows that were shown so far begin one
   pub begun_answers : (rows : List Row) → Begins sql params old rows → (tail : List Row) × IsAnswer (query_of a) (overlay old.now.trees []) params (rows ++ tail)
-  begun_answers rows h = let got = (begins_as sql params old new desk_schema has _ is plain text.unlisted rows h).1 in (got.0, got.1 Null)
+  begun_answers rows h = let got = (begins_as sql params old new desk has _ is plain text.unlisted rows h).1 in (got.0, got.1 Null)
 
   no_statement : many ≡ length params → (e : Error) → IsNoStatement old sql params e → ⊥
   no_statement many_is e (inl h) = let a = sym (ap (λ s. understood s sql) has ∙ text.means) ∙ h.1 in cc
@@ -102,7 +107,7 @@ module _ {sql : List ℕ} {many : ℕ} {trees : List ℕ} {a : Asked trees} (tex
       ]
 
   -- with parameters of the right types and no limit on steps it is never refused
-  pub never_refused : many ≡ length params → accepts_program desk_schema [] (query_of a) params ≡ true → old.step_limit ≡ None
+  pub never_refused : many ≡ length params → accepts_program desk [] (query_of a) params ≡ true → old.step_limit ≡ None
       → (e : Error) → fault_of e ≡ Refused → FailsToQuery sql params old new e → ⊥
   unfolding FailsToQuery IsNotRun
   never_refused many_is typed unlimited e told (inl (inl h)) = no_statement many_is e h.0
@@ -118,13 +123,13 @@ module _ {sql : List ℕ} {many : ℕ} {trees : List ℕ} {a : Asked trees} (tex
       let why : RefusesToRead old.step_limit (Select (record { lets = []; body = query_of a }) text.names) old.now params e =
       subst₂ (λ k d. RefusesToRead old.step_limit k d params e) cmd db it.2 in
       elim why [
-        | inl mistyped ↦ let no : accepts_program desk_schema [] (query_of a) params ≡ false = subst (λ s. accepts_program s [] (query_of a) params ≡ false) has mistyped.1 in
+        | inl mistyped ↦ let no : accepts_program desk [] (query_of a) params ≡ false = subst (λ s. accepts_program s [] (query_of a) params ≡ false) has mistyped.1 in
             true≢false (sym typed ∙ no)
         | inr (inl over) ↦ elim over.1 [ inl none ↦ none | inr folds ↦ fold_stays (overlay old.now.trees []) trees (params ∷ []) folds ]
         | inr (inr limited) ↦ unset old.step_limit unlimited limited.1
       ]
 
-  pub found_in_order : many ≡ length params → accepts_program desk_schema [] (query_of a) params ≡ true → old.step_limit ≡ None
+  pub found_in_order : many ≡ length params → accepts_program desk [] (query_of a) params ≡ true → old.step_limit ≡ None
       → (r : Result Row Error) → QueriesRow sql params old new r → IfErr (found_of r) (λ f. is_odd f ≡ false)
   unfolding QueriesRow
   found_in_order many_is typed unlimited (Ok row) h = tt
@@ -158,10 +163,10 @@ module _ {sql : List ℕ} {many : ℕ} {trees : List ℕ} {a : Asked trees} (tex
   found_in_order many_is typed unlimited (Err (SqliteFailure code)) (inr h) = absurd (let x = h.0 in cc)
 
 -- a call of query_row changes nothing
-pub lookup_reads : {sql : List ℕ} {many : ℕ} {trees : List ℕ} {a : Asked trees} (text : IsLookup sql many a) (params : Row) (old new : State) (r : Result Row Error)
+pub lookup_reads : {desk : Schema} {sql : List ℕ} {many : ℕ} {trees : List ℕ} {a : Asked trees} (text : IsLookupOf desk sql many a) (params : Row) (old new : State) (r : Result Row Error)
     → (doubt old.is_clean ≤ doubt new.is_clean) → (old.in_transaction ≡ false → new.in_transaction ≡ false)
-    → Survives old new (CommitsShowing sql params old) → (HasCleanDisk new → QueriesRow sql params old new r) → IsReadingCall old new (is_ok (found_of r))
-lookup_reads {sql} text params old new r clean mode survives ran = record {
+    → Survives old new (CommitsShowing sql params old) → (HasCleanDisk new → QueriesRow sql params old new r) → IsReadingCallOf desk old new (is_ok (found_of r))
+lookup_reads {sql = sql} text params old new r clean mode survives ran = record {
   clean = clean;
   mode = mode;
   survives = λ has up sure. survives_weaker _ _ _ _ (λ _ db. never_commits sql params old db (plain_now text params old new has)) survives;
@@ -170,30 +175,30 @@ lookup_reads {sql} text params old new r clean mode survives ran = record {
 
 -- ---- what a look-up tells
 
-module _ {sql : List ℕ} {many : ℕ} {trees : List ℕ} {a : Asked trees} (text : IsLookup sql many a) (params : Row) (old new : State) (answer : Result Row Error) (run : HasRun sql params old new answer)
-    (many_is : many ≡ length params) (typed : accepts_program desk_schema [] (query_of a) params ≡ true) where
-  has_read : IsReadingCall old new (is_ok (found_of answer))
+module _ {desk : Schema} {sql : List ℕ} {many : ℕ} {trees : List ℕ} {a : Asked trees} (text : IsLookupOf desk sql many a) (Have : Database → Rows → Type 0) (schema : (db : Database) (r : Rows) → Have db r → db.schema ≡ desk)
+    (params : Row) (old new : State) (answer : Result Row Error) (run : HasRun sql params old new answer) (many_is : many ≡ length params) (typed : accepts_program desk [] (query_of a) params ≡ true) where
+  has_read : IsReadingCallOf desk old new (is_ok (found_of answer))
   has_read = lookup_reads text params old new answer run.clean run.mode run.survives run.ran
 
   -- the first row is the one that is wanted
   abbrev pub IsFirst : Option Row → Type 0
   IsFirst want = (rows : List Row) → IsAnswer (query_of a) (overlay old.now.trees []) params rows → head rows ≡ want
 
-  found_is : HasCleanDisk new → (r : Rows) → Holds old.now r → (want : Option Row) → IsFirst want → IfOk (found_of answer) (λ found. found ≡ want)
-  found_is sure r has want first = go (found_of answer) (found_answers text params old new has.ten.schema answer (run.ran sure))
+  found_is : HasCleanDisk new → (r : Rows) → Have old.now r → (want : Option Row) → IsFirst want → IfOk (found_of answer) (λ found. found ≡ want)
+  found_is sure r has want first = go (found_of answer) (found_answers text params old new (schema old.now r has) answer (run.ran sure))
     where
       go : (f : Result (Option Row) RowFault) → IfOk f (λ found. (rows : List Row) × (head rows ≡ found) × IsAnswer (query_of a) (overlay old.now.trees []) params rows) → IfOk f (λ found. found ≡ want)
       go (Ok found) it = sym it.1 ∙ first it.0 it.2
       go (Err f) it = tt
 
-  found_even : HasCleanDisk new → old.step_limit ≡ None → (r : Rows) → Holds old.now r → IfErr (found_of answer) IsEven
-  found_even sure unlimited r has = found_in_order text params old new has.ten.schema many_is typed unlimited answer (run.ran sure)
+  found_even : HasCleanDisk new → old.step_limit ≡ None → (r : Rows) → Have old.now r → IfErr (found_of answer) IsEven
+  found_even sure unlimited r has = found_in_order text params old new (schema old.now r has) many_is typed unlimited answer (run.ran sure)
 
   -- whether there is a first row
-  pub knows : (result : Result Bool RowFault) → result ≡ known_of (found_of answer) → (want : Rows → Option Row) → ((r : Rows) → Holds old.now r → IsFirst (want r))
-      → Reads old new result (λ r known. known ≡ is_some (want r))
-  knows result is want first = rw is (record {
-    read = subst (IsReadingCall old new) (sym (known_ok (found_of answer))) has_read;
+  pub knows_of : (result : Result Bool RowFault) → result ≡ known_of (found_of answer) → (want : Rows → Option Row) → ((r : Rows) → Have old.now r → IsFirst (want r))
+      → ReadsOf desk Have old new result (λ r known. known ≡ is_some (want r))
+  knows_of result is want first = rw is (record {
+    read = subst (IsReadingCallOf desk old new) (sym (known_ok (found_of answer))) has_read;
     told = λ sure r has. told (found_of answer) (want r) (found_is sure r has (want r) (first r has));
     in_order = λ sure unlimited r has. even (found_of answer) (found_even sure unlimited r has);
   })
@@ -214,17 +219,35 @@ module _ {sql : List ℕ} {many : ℕ} {trees : List ℕ} {a : Asked trees} (tex
       even (Err f) h = h
 
   -- what the first row shows
-  pub finds : {T Seen : Type 0} {seen : T → Seen} {shows : Seen → Row} {Fits : Seen → Type 0} (result : Result (Option T) RowFault) → IsReadOf seen shows Fits (found_of answer) result
-      → (want : Rows → Option Seen) → ((r : Rows) → Holds old.now r → IfSome (want r) Fits × IsFirst (option_map shows (want r)))
-      → Reads old new result (λ r x. option_map seen x ≡ want r)
-  finds result is want first = record {
+  pub finds_of : {T Seen : Type 0} {seen : T → Seen} {shows : Seen → Row} {Fits : Seen → Type 0} (result : Result (Option T) RowFault) → IsReadOf seen shows Fits (found_of answer) result
+      → (want : Rows → Option Seen) → ((r : Rows) → Have old.now r → IfSome (want r) Fits × IsFirst (option_map shows (want r)))
+      → ReadsOf desk Have old new result (λ r x. option_map seen x ≡ want r)
+  finds_of result is want first = record {
     read = read_weaker old new _ _ is.read has_read;
     told = λ sure r has. let f = first r has in is.told (want r) f.0 (found_is sure r has _ f.1);
     in_order = λ sure unlimited r has. let f = first r has in is.in_order (want r) f.0 (found_is sure r has _ f.1) (found_even sure unlimited r has);
   }
 
+-- the same of schema 2
+pub has_schema : (db : Database) (r : Rows) → Holds db r → db.schema ≡ desk_schema
+has_schema db r has = has.ten.schema
+
+module _ {sql : List ℕ} {many : ℕ} {trees : List ℕ} {a : Asked trees} (text : IsLookup sql many a) (params : Row) (old new : State) (answer : Result Row Error) (run : HasRun sql params old new answer)
+    (many_is : many ≡ length params) (typed : accepts_program desk_schema [] (query_of a) params ≡ true) where
+  pub knows : (result : Result Bool RowFault) → result ≡ known_of (found_of answer) → (want : Rows → Option Row)
+      → ((r : Rows) → Holds old.now r → (rows : List Row) → IsAnswer (query_of a) (overlay old.now.trees []) params rows → head rows ≡ want r)
+      → Reads old new result (λ r known. known ≡ is_some (want r))
+  knows = knows_of text Holds has_schema params old new answer run many_is typed
+
+  pub finds : {T Seen : Type 0} {seen : T → Seen} {shows : Seen → Row} {Fits : Seen → Type 0} (result : Result (Option T) RowFault) → IsReadOf seen shows Fits (found_of answer) result
+      → (want : Rows → Option Seen)
+      → ((r : Rows) → Holds old.now r → IfSome (want r) Fits × ((rows : List Row) → IsAnswer (query_of a) (overlay old.now.trees []) params rows → head rows ≡ option_map shows (want r)))
+      → Reads old new result (λ r x. option_map seen x ≡ want r)
+  finds = finds_of text Holds has_schema params old new answer run many_is typed
+
 -- one thing said of what a look-up told, in place of another
-pub says_so : {X : Type 0} {old new : State} {result : Result X RowFault} {P Q : Rows → X → Type 0} → Reads old new result P → ((r : Rows) → Holds old.now r → (x : X) → P r x → Q r x) → Reads old new result Q
+pub says_so : {desk : Schema} {Have : Database → Rows → Type 0} {X : Type 0} {old new : State} {result : Result X RowFault} {P Q : Rows → X → Type 0} → ReadsOf desk Have old new result P
+    → ((r : Rows) → Have old.now r → (x : X) → P r x → Q r x) → ReadsOf desk Have old new result Q
 says_so {result = result} reads so = record { read = reads.read; told = λ sure r has. go result (so r has) (reads.told sure r has); in_order = reads.in_order }
   where
     go : {X E : Type 0} {P Q : X → Type 0} (result : Result X E) → ((x : X) → P x → Q x) → IfOk result P → IfOk result Q

@@ -89,9 +89,9 @@ in_range : (p : DeviceRow → Bool) (r : Rows) → AllByRecursion IsDevice r.dev
 in_range p r all = first_holds (λ (b : ℕ × DeviceRow). IsDevice b.1) IsEui (λ b. b.1.dev_eui) (λ b fits. fits.dev_eui) (rows_by by_eui p r.devices)
     (rows_all IsDevice IsDevice by_eui p (λ x fits passes. fits) r.devices all)
 
--- a number that was found, if it is to be kept
-abbrev kept : ℕ → Bool → Result (Option ℕ) RowFault
-kept n b = cond b (Ok (Some n)) (Err OutOfRange)
+-- a number that was found, if it is the next
+abbrev if_next : ℕ → Bool → Result (Option ℕ) RowFault
+if_next n b = cond b (Ok (Some n)) (Err OutOfRange)
 
 pub eui_read : (row : Row) (result : Result ℕ RowFault) → ReadsAt eui IsEui row 0 result → Decodes (λ n. n) (λ n. eui n ∷ []) IsEui row result
 eui_read row (Ok x) read = λ y fits shown. let same : ◌≡◌ {A = Result ℕ RowFault} (Ok x) (Ok y) =
@@ -166,7 +166,7 @@ module _ {old new : State} (owner : List ℕ) where
       still r has (Ok None) h = h
       still r has (Ok (Some n)) h = by (is_after after n)
         where
-          by : (b : Bool) → IfOk (kept n b) (λ next. next ≡ first_of (is_next_of owner after) r)
+          by : (b : Bool) → IfOk (if_next n b) (λ next. next ≡ first_of (is_next_of owner after) r)
           by true = h
           by false = tt
       still r has (Err f) h = tt

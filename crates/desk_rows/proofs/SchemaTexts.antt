@@ -6,7 +6,7 @@ use Rattle.sqlite_value.specs.Order.{value_cmp}
 use Rattle.sqlite_trees.specs.Sound.{fits_kind, is_free_name, begins, same_name}
 use Rattle.sqlite.specs.Listing.{understood}
 use Rattle.desk_rows.specs.Schema.{desk_tables, desk_indexes, meta_table, sender_table, reply_table, owner_table, gateway_table, device_table, session_table, uplink_table, copy_table, booking_table, limit_table}
-use Rattle.desk_rows.proofs.BatchSteps.{IsStep, table_step, index_step}
+use Rattle.desk_rows.proofs.BatchSteps.{CreatesOne, table_step, index_step}
 
 abbrev pub after : ℕ → ℕ → Schema
 after tables indexes = record { tables = take tables desk_tables; indexes = take indexes desk_indexes; views = [] }
@@ -56,91 +56,91 @@ booking_uplink_text = codes " CREATE INDEX booking_uplink ON booking (uplink);"
 abbrev pub limit_text : List ℕ
 limit_text = codes " CREATE TABLE band_limit (gateway TEXT NOT NULL, band INTEGER NOT NULL, value INTEGER NOT NULL, PRIMARY KEY (gateway, band)) STRICT"
 
-pub meta_step : IsStep meta_text (after 0 0) (after 1 0)
+pub meta_step : CreatesOne meta_text (after 0 0) (after 1 0)
 unfolding understood everything fits_kind is_free_name begins same_name value_cmp lib.Ieee.is_nan lib.Ieee.lt
 meta_step =
     table_step meta_text (after 0 0) (record meta_table { tree = 0 })
     (record { compiled = _; means = refl; is = refl; plain = (refl, refl); whole = omega arith; given = refl }) refl refl refl
 
-pub sender_step : IsStep sender_text (after 1 0) (after 2 1)
+pub sender_step : CreatesOne sender_text (after 1 0) (after 2 1)
 unfolding understood everything fits_kind is_free_name begins same_name value_cmp lib.Ieee.is_nan lib.Ieee.lt
 sender_step =
     table_step sender_text (after 1 0) (record sender_table { tree = 0 })
     (record { compiled = _; means = refl; is = refl; plain = (refl, refl); whole = omega arith; given = refl }) refl refl refl
 
-pub reply_step : IsStep reply_text (after 2 1) (after 3 2)
+pub reply_step : CreatesOne reply_text (after 2 1) (after 3 2)
 unfolding understood everything fits_kind is_free_name begins same_name value_cmp lib.Ieee.is_nan lib.Ieee.lt
 reply_step =
     table_step reply_text (after 2 1) (record reply_table { tree = 0 })
     (record { compiled = _; means = refl; is = refl; plain = (refl, refl); whole = omega arith; given = refl }) refl refl refl
 
-pub owner_step : IsStep owner_text (after 3 2) (after 4 3)
+pub owner_step : CreatesOne owner_text (after 3 2) (after 4 3)
 unfolding understood everything fits_kind is_free_name begins same_name value_cmp lib.Ieee.is_nan lib.Ieee.lt
 owner_step =
     table_step owner_text (after 3 2) (record owner_table { tree = 0 })
     (record { compiled = _; means = refl; is = refl; plain = (refl, refl); whole = omega arith; given = refl }) refl refl refl
 
-pub gateway_step : IsStep gateway_text (after 4 3) (after 5 4)
+pub gateway_step : CreatesOne gateway_text (after 4 3) (after 5 4)
 unfolding understood everything fits_kind is_free_name begins same_name value_cmp lib.Ieee.is_nan lib.Ieee.lt
 gateway_step =
     table_step gateway_text (after 4 3) (record gateway_table { tree = 0 })
     (record { compiled = _; means = refl; is = refl; plain = (refl, refl); whole = omega arith; given = refl }) refl refl refl
 
-pub device_step : IsStep device_text (after 5 4) (after 6 5)
+pub device_step : CreatesOne device_text (after 5 4) (after 6 5)
 unfolding understood everything fits_kind is_free_name begins same_name value_cmp lib.Ieee.is_nan lib.Ieee.lt
 device_step =
     table_step device_text (after 5 4) (record device_table { tree = 0 })
     (record { compiled = _; means = refl; is = refl; plain = (refl, refl); whole = omega arith; given = refl }) refl refl refl
 
-pub session_step : IsStep session_text (after 6 5) (after 7 6)
+pub session_step : CreatesOne session_text (after 6 5) (after 7 6)
 unfolding understood everything fits_kind is_free_name begins same_name value_cmp lib.Ieee.is_nan lib.Ieee.lt
 session_step =
     table_step session_text (after 6 5) (record session_table { tree = 0 })
     (record { compiled = _; means = refl; is = refl; plain = (refl, refl); whole = omega arith; given = refl }) refl refl refl
 
-pub uplink_step : IsStep uplink_text (after 7 6) (after 8 7)
+pub uplink_step : CreatesOne uplink_text (after 7 6) (after 8 7)
 unfolding understood everything fits_kind is_free_name begins same_name value_cmp lib.Ieee.is_nan lib.Ieee.lt
 uplink_step =
     table_step uplink_text (after 7 6) (record uplink_table { tree = 0 })
     (record { compiled = _; means = refl; is = refl; plain = (refl, refl); whole = omega arith; given = refl }) refl refl refl
 
-pub copy_step : IsStep copy_text (after 8 7) (after 9 8)
+pub copy_step : CreatesOne copy_text (after 8 7) (after 9 8)
 unfolding understood everything fits_kind is_free_name begins same_name value_cmp lib.Ieee.is_nan lib.Ieee.lt
 copy_step =
     table_step copy_text (after 8 7) (record copy_table { tree = 0 })
     (record { compiled = _; means = refl; is = refl; plain = (refl, refl); whole = omega arith; given = refl }) refl refl refl
 
-pub booking_step : IsStep booking_text (after 9 8) (after 10 8)
+pub booking_step : CreatesOne booking_text (after 9 8) (after 10 8)
 unfolding understood everything fits_kind is_free_name begins same_name value_cmp lib.Ieee.is_nan lib.Ieee.lt
 booking_step =
     table_step booking_text (after 9 8) (record booking_table { tree = 0 })
     (record { compiled = _; means = refl; is = refl; plain = (refl, refl); whole = omega arith; given = refl }) refl refl refl
 
-pub device_owner_step : IsStep device_owner_text (after 10 8) (after 10 9)
+pub device_owner_step : CreatesOne device_owner_text (after 10 8) (after 10 9)
 unfolding understood everything fits_kind is_free_name begins same_name value_cmp lib.Ieee.is_nan lib.Ieee.lt
 device_owner_step =
     index_step device_owner_text (after 10 8) 5 device_table _
     (record { compiled = _; means = refl; is = refl; plain = (refl, refl); whole = omega arith; given = refl }) refl refl refl
 
-pub uplink_start_step : IsStep uplink_start_text (after 10 9) (after 10 10)
+pub uplink_start_step : CreatesOne uplink_start_text (after 10 9) (after 10 10)
 unfolding understood everything fits_kind is_free_name begins same_name value_cmp lib.Ieee.is_nan lib.Ieee.lt
 uplink_start_step =
     index_step uplink_start_text (after 10 9) 7 uplink_table _
     (record { compiled = _; means = refl; is = refl; plain = (refl, refl); whole = omega arith; given = refl }) refl refl refl
 
-pub booking_start_step : IsStep booking_start_text (after 10 10) (after 10 11)
+pub booking_start_step : CreatesOne booking_start_text (after 10 10) (after 10 11)
 unfolding understood everything fits_kind is_free_name begins same_name value_cmp lib.Ieee.is_nan lib.Ieee.lt
 booking_start_step =
     index_step booking_start_text (after 10 10) 9 booking_table _
     (record { compiled = _; means = refl; is = refl; plain = (refl, refl); whole = omega arith; given = refl }) refl refl refl
 
-pub booking_uplink_step : IsStep booking_uplink_text (after 10 11) (after 10 12)
+pub booking_uplink_step : CreatesOne booking_uplink_text (after 10 11) (after 10 12)
 unfolding understood everything fits_kind is_free_name begins same_name value_cmp lib.Ieee.is_nan lib.Ieee.lt
 booking_uplink_step =
     index_step booking_uplink_text (after 10 11) 9 booking_table _
     (record { compiled = _; means = refl; is = refl; plain = (refl, refl); whole = omega arith; given = refl }) refl refl refl
 
-pub limit_step : IsStep limit_text (after 10 12) (after 11 13)
+pub limit_step : CreatesOne limit_text (after 10 12) (after 11 13)
 unfolding understood everything fits_kind is_free_name begins same_name value_cmp lib.Ieee.is_nan lib.Ieee.lt
 limit_step =
     table_step limit_text (after 10 12) (record limit_table { tree = 0 })

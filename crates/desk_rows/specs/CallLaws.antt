@@ -4,11 +4,11 @@ use Rattle.std.proofs.Common.{◌≡◌, ◌⊎◌, inl, inr, Bool, true, false,
 use Rattle.sqlite.specs.State.{State, HasCleanDisk, IsUnchanged, IsRolledBack}
 use Rattle.sqlite.proofs.Callers.{unchanged_then}
 use Rattle.sqlite.proofs.StateLemmas.{survives_then}
-use Rattle.desk_rows.specs.Schema.{desk_schema}
-use Rattle.desk_rows.specs.Calls.{StaysOrRollsBack, IsReadingCall, GoesOn, Writes, IsWritingCall}
+use Rattle.sqlite_schema.specs.declared.schema.Schema.{Schema}
+use Rattle.desk_rows.specs.Calls.{StaysOrRollsBack, IsReadingCallOf, GoesOn, Writes, IsWritingCall}
 
 -- what read well may then be found out of its range
-pub read_weaker : (old new : State) (a ok : Bool) → (IsTrue ok → IsTrue a) → IsReadingCall old new a → IsReadingCall old new ok
+pub read_weaker : {desk : Schema} (old new : State) (a ok : Bool) → (IsTrue ok → IsTrue a) → IsReadingCallOf desk old new a → IsReadingCallOf desk old new ok
 read_weaker old new a ok then_ok read = record { clean = read.clean; mode = read.mode; survives = read.survives; leaves = λ has up sure. go a ok then_ok (read.leaves has up sure) }
   where
     go : (a ok : Bool) → (IsTrue ok → IsTrue a) → StaysOrRollsBack a old new → StaysOrRollsBack ok old new
@@ -31,12 +31,12 @@ leaves_then true a b c p q = unchanged_then a b c p q
 leaves_then false a b c p (inl q) = inl (unchanged_then a b c p q)
 leaves_then false a b c p (inr q) = inr (back_then a b c p q)
 
-pub reads_then : (a b c : State) (ok : Bool) → IsReadingCall a b true → IsReadingCall b c ok → IsReadingCall a c ok
-reads_then a b c ok one two =
+pub reads_then : {desk : Schema} (a b c : State) (ok : Bool) → IsReadingCallOf desk a b true → IsReadingCallOf desk b c ok → IsReadingCallOf desk a c ok
+reads_then {desk} a b c ok one two =
     let early = λ (sure : HasCleanDisk c). let e : HasCleanDisk b = omega (arith, two.clean, sure) in e in
-    let has = λ (h : a.now.schema ≡ desk_schema) (up : IsTrue a.is_open) (sure : HasCleanDisk c).
-    let e : b.now.schema ≡ desk_schema = subst (λ d. d.schema ≡ desk_schema) (sym (one.leaves h up (early sure)).0.now_is) h in e in
-    let still = λ (h : a.now.schema ≡ desk_schema) (up : IsTrue a.is_open) (sure : HasCleanDisk c). (one.leaves h up (early sure)).0.is_open in
+    let has = λ (h : a.now.schema ≡ desk) (up : IsTrue a.is_open) (sure : HasCleanDisk c).
+    let e : b.now.schema ≡ desk = subst (λ d. d.schema ≡ desk) (sym (one.leaves h up (early sure)).0.now_is) h in e in
+    let still = λ (h : a.now.schema ≡ desk) (up : IsTrue a.is_open) (sure : HasCleanDisk c). (one.leaves h up (early sure)).0.is_open in
     record {
       clean = omega (arith, one.clean, two.clean);
       mode = λ idle. two.mode (one.mode idle);

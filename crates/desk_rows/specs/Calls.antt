@@ -2,10 +2,13 @@
 use Rattle.std.specs.Prelude.{◌≡◌, ◌⊎◌, ◌≤◌, Bool, true, false, Result, IsTrue, IfOk, IfErr, OnOk, None}
 use Rattle.std.specs.Result.{is_ok}
 use Rattle.sqlite_trees.specs.View.{doubt}
+use Rattle.sqlite_schema.specs.declared.schema.Schema.{Schema}
+use Rattle.sqlite.specs.Effect.{Database}
 use Rattle.sqlite.specs.State.{State, HasCleanDisk, Shows, Survives, IsUnchanged, IsRolledBack}
 use Rattle.desk_rows.specs.Faults.{IsEven}
 use Rattle.desk_rows.specs.Rows.{Rows, Holds}
-use Rattle.desk_rows.specs.Schema.{desk_schema}
+use Rattle.desk_rows.specs.Migrating.{HoldsFirst}
+use Rattle.desk_rows.specs.Schema.{desk_schema, first_schema}
 use Rattle.desk_rows.specs.declared.faults.RowFault.{RowFault}
 
 -- ---- reading
@@ -15,19 +18,31 @@ abbrev pub StaysOrRollsBack : Bool → State → State → Type 0
 StaysOrRollsBack true old new = IsUnchanged old new
 StaysOrRollsBack false old new = IsUnchanged old new ⊎ IsRolledBack old new
 
--- a reading call, which answered Ok or not
-pub record IsReadingCall (old new : State) (ok : Bool) : Type 0 where
+-- a reading call over tables of this schema, which answered Ok or not
+pub record IsReadingCallOf (desk : Schema) (old new : State) (ok : Bool) : Type 0 where
   pub clean : doubt old.is_clean ≤ doubt new.is_clean
   pub mode : old.in_transaction ≡ false → new.in_transaction ≡ false
-  pub survives : old.now.schema ≡ desk_schema → IsTrue old.is_open → HasCleanDisk new → Survives old new (λ _. ⊥)
-  pub leaves : old.now.schema ≡ desk_schema → IsTrue old.is_open → HasCleanDisk new → StaysOrRollsBack ok old new
+  pub survives : old.now.schema ≡ desk → IsTrue old.is_open → HasCleanDisk new → Survives old new (λ _. ⊥)
+  pub leaves : old.now.schema ≡ desk → IsTrue old.is_open → HasCleanDisk new → StaysOrRollsBack ok old new
 
--- A look-up changes nothing, and what it answers is so of the rows that are held. Over tables that hold rows, with no
--- limit on steps, it fails only for memory, the disk or a size.
-pub record Reads {X : Type 0} (old new : State) (result : Result X RowFault) (Says : Rows → X → Type 0) : Type 0 where
-  pub read : IsReadingCall old new (is_ok result)
-  pub told : HasCleanDisk new → (r : Rows) → Holds old.now r → IfOk result (Says r)
-  pub in_order : HasCleanDisk new → old.step_limit ≡ None → (r : Rows) → Holds old.now r → IfErr result IsEven
+-- over those of schema 2
+abbrev pub IsReadingCall : State → State → Bool → Type 0
+IsReadingCall = IsReadingCallOf desk_schema
+
+-- A look-up over tables of this schema changes nothing, and what it answers is so of the rows that are held, by Have. Over tables
+-- that hold rows, with no limit on steps, it fails only for memory, the disk or a size.
+pub record ReadsOf (desk : Schema) (Have : Database → Rows → Type 0) {X : Type 0} (old new : State) (result : Result X RowFault) (Says : Rows → X → Type 0) : Type 0 where
+  pub read : IsReadingCallOf desk old new (is_ok result)
+  pub told : HasCleanDisk new → (r : Rows) → Have old.now r → IfOk result (Says r)
+  pub in_order : HasCleanDisk new → old.step_limit ≡ None → (r : Rows) → Have old.now r → IfErr result IsEven
+
+-- over those of schema 2
+abbrev pub Reads : {X : Type 0} → State → State → Result X RowFault → (Rows → X → Type 0) → Type 0
+Reads = ReadsOf desk_schema Holds
+
+-- and over those of schema 1, of which none is a limit
+abbrev pub ReadsFirst : {X : Type 0} → State → State → Result X RowFault → (Rows → X → Type 0) → Type 0
+ReadsFirst = ReadsOf first_schema HoldsFirst
 
 -- ---- writing
 

@@ -11,7 +11,7 @@ ghost use Rattle.desk_rows.specs.steps.Shown.{booking_shown};
 ghost use Rattle.sqlite.specs.Held.{state};
 ghost use Rattle.desk_rows.specs.Rows.{BookingRow, last_number};
 ghost use Rattle.desk_rows.specs.order.Changes.{ended_row};
-ghost use Rattle.desk_rows.specs.Calls.{Changes, Reads};
+ghost use Rattle.desk_rows.specs.Calls.{Changes, Reads, ReadsFirst};
 
 use crate::columns::{band_at, name_at, number_at, span_at, standing_at};
 use crate::faults::RowFault;
@@ -73,7 +73,8 @@ pub fn is_answered<S: Alter>(conn: &mut Connection<S>, uplink: Whole) -> Result<
 
 /// The number of the last booking, if there is one.
 pub fn last_booking<S: Alter>(conn: &mut Connection<S>) -> Result<Option<u64>, RowFault>
-    ensures { Reads (state S.Store conn.old) (state S.Store conn.new) result (λ r number. number ≡ last_number r.bookings) }
+    ensures second { Reads (state S.Store conn.old) (state S.Store conn.new) result (λ r number. number ≡ last_number r.bookings) }
+    ensures first { ReadsFirst (state S.Store conn.old) (state S.Store conn.new) result (λ r number. number ≡ last_number r.bookings) }
 {
     find(
         conn,

@@ -14,8 +14,32 @@ use crate::writes::write;
 use registry_core::Config;
 use sqlite::{Alter, Transaction};
 
-const TABLES: &str =
-    "CREATE TABLE meta (id INTEGER PRIMARY KEY, version INTEGER NOT NULL, receiver TEXT NOT NULL, operator TEXT NOT NULL, base INTEGER NOT NULL, addresses INTEGER NOT NULL) STRICT; CREATE TABLE sender (name TEXT PRIMARY KEY, role INTEGER NOT NULL) STRICT; CREATE TABLE reply (seq INTEGER PRIMARY KEY, sender TEXT NOT NULL, number INTEGER NOT NULL, message BLOB NOT NULL, answer BLOB NOT NULL, UNIQUE (sender, number)) STRICT; CREATE TABLE owner (name TEXT PRIMARY KEY) STRICT; CREATE TABLE gateway (name TEXT PRIMARY KEY) STRICT; CREATE TABLE device (eui BLOB PRIMARY KEY, join_eui BLOB NOT NULL, owner TEXT NOT NULL, floor INTEGER) STRICT; CREATE TABLE session (number INTEGER PRIMARY KEY, device BLOB NOT NULL, nonce INTEGER NOT NULL, next_down INTEGER NOT NULL, UNIQUE (device, nonce)) STRICT; CREATE TABLE uplink (number INTEGER PRIMARY KEY, session INTEGER NOT NULL, kind INTEGER NOT NULL, counter INTEGER NOT NULL, octets BLOB NOT NULL, start INTEGER NOT NULL, airtime INTEGER NOT NULL, band INTEGER NOT NULL, UNIQUE (session, kind, counter)) STRICT; CREATE TABLE copy (uplink INTEGER NOT NULL, gateway TEXT NOT NULL, ended INTEGER NOT NULL, freq INTEGER NOT NULL, dr INTEGER NOT NULL, PRIMARY KEY (uplink, gateway)) STRICT; CREATE TABLE booking (number INTEGER PRIMARY KEY, uplink INTEGER NOT NULL, gateway TEXT NOT NULL, session INTEGER NOT NULL, kind INTEGER NOT NULL, band INTEGER NOT NULL, start INTEGER NOT NULL, airtime INTEGER NOT NULL, state INTEGER NOT NULL) STRICT; CREATE INDEX device_owner ON device (owner, eui); CREATE INDEX uplink_start ON uplink (session, start); CREATE INDEX booking_start ON booking (gateway, start); CREATE INDEX booking_uplink ON booking (uplink); CREATE TABLE band_limit (gateway TEXT NOT NULL, band INTEGER NOT NULL, value INTEGER NOT NULL, PRIMARY KEY (gateway, band)) STRICT";
+/// Schema 2, as sqlite3's `.schema` shows it of a desk's file.
+const TABLES: &str = "\
+CREATE TABLE meta (id INTEGER PRIMARY KEY, version INTEGER NOT NULL, receiver TEXT NOT NULL, \
+    operator TEXT NOT NULL, base INTEGER NOT NULL, addresses INTEGER NOT NULL) STRICT; \
+CREATE TABLE sender (name TEXT PRIMARY KEY, role INTEGER NOT NULL) STRICT; \
+CREATE TABLE reply (seq INTEGER PRIMARY KEY, sender TEXT NOT NULL, number INTEGER NOT NULL, \
+    message BLOB NOT NULL, answer BLOB NOT NULL, UNIQUE (sender, number)) STRICT; \
+CREATE TABLE owner (name TEXT PRIMARY KEY) STRICT; \
+CREATE TABLE gateway (name TEXT PRIMARY KEY) STRICT; \
+CREATE TABLE device (eui BLOB PRIMARY KEY, join_eui BLOB NOT NULL, owner TEXT NOT NULL, floor INTEGER) STRICT; \
+CREATE TABLE session (number INTEGER PRIMARY KEY, device BLOB NOT NULL, nonce INTEGER NOT NULL, \
+    next_down INTEGER NOT NULL, UNIQUE (device, nonce)) STRICT; \
+CREATE TABLE uplink (number INTEGER PRIMARY KEY, session INTEGER NOT NULL, kind INTEGER NOT NULL, \
+    counter INTEGER NOT NULL, octets BLOB NOT NULL, start INTEGER NOT NULL, airtime INTEGER NOT NULL, \
+    band INTEGER NOT NULL, UNIQUE (session, kind, counter)) STRICT; \
+CREATE TABLE copy (uplink INTEGER NOT NULL, gateway TEXT NOT NULL, ended INTEGER NOT NULL, freq INTEGER NOT NULL, \
+    dr INTEGER NOT NULL, PRIMARY KEY (uplink, gateway)) STRICT; \
+CREATE TABLE booking (number INTEGER PRIMARY KEY, uplink INTEGER NOT NULL, gateway TEXT NOT NULL, \
+    session INTEGER NOT NULL, kind INTEGER NOT NULL, band INTEGER NOT NULL, start INTEGER NOT NULL, \
+    airtime INTEGER NOT NULL, state INTEGER NOT NULL) STRICT; \
+CREATE INDEX device_owner ON device (owner, eui); \
+CREATE INDEX uplink_start ON uplink (session, start); \
+CREATE INDEX booking_start ON booking (gateway, start); \
+CREATE INDEX booking_uplink ON booking (uplink); \
+CREATE TABLE band_limit (gateway TEXT NOT NULL, band INTEGER NOT NULL, value INTEGER NOT NULL, \
+    PRIMARY KEY (gateway, band)) STRICT";
 
 /// The eleven tables with their indexes, in one batch, in a database that has none.
 pub fn create_tables<S: Alter>(tx: &mut Transaction<'_, S>) -> Result<(), RowFault>

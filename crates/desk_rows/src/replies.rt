@@ -2,7 +2,7 @@
 ghost use Rattle.std.specs.Prelude.{◌≡◌, ◌+◌, ◌<◌, ◌^◌, ◌++◌, [], ◌∷◌, ℕ, List, length, false, find, option_map};
 ghost use Rattle.std.specs.List.{list_any};
 ghost use Rattle.sqlite.specs.Held.{state};
-ghost use Rattle.desk_rows.specs.Calls.{Changes, Reads};
+ghost use Rattle.desk_rows.specs.Calls.{Changes, Reads, ReadsFirst};
 ghost use Rattle.sqlite_value.specs.declared.value.Value.TheVariants.{Blob};
 ghost use Rattle.desk_rows.specs.Replies.{reply_texts, texts_shown};
 ghost use Rattle.desk_rows.specs.Rows.{is_reply, last_number};
@@ -56,7 +56,8 @@ pub fn texts_of<S: Alter>(
 
 /// The number of the last message that was heard, if there is one.
 pub fn last_reply<S: Alter>(conn: &mut Connection<S>) -> Result<Option<u64>, RowFault>
-    ensures { Reads (state S.Store conn.old) (state S.Store conn.new) result (λ r number. number ≡ last_number r.replies) }
+    ensures second { Reads (state S.Store conn.old) (state S.Store conn.new) result (λ r number. number ≡ last_number r.replies) }
+    ensures first { ReadsFirst (state S.Store conn.old) (state S.Store conn.new) result (λ r number. number ≡ last_number r.replies) }
 {
     find(conn, "SELECT seq FROM reply ORDER BY seq DESC LIMIT 1", &[])
 }

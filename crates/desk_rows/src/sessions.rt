@@ -2,7 +2,7 @@
 ghost use Rattle.std.specs.Prelude.{◌≡◌, ◌==◌, ℕ, filter, map, ◌+◌, ◌<◌, ◌^◌, ◌++◌, [], ◌∷◌, length, false, Some, option_map};
 ghost use Rattle.std.specs.List.{list_any};
 ghost use Rattle.sqlite.specs.Held.{state};
-ghost use Rattle.desk_rows.specs.Calls.{Changes, Reads};
+ghost use Rattle.desk_rows.specs.Calls.{Changes, Reads, ReadsFirst};
 ghost use Rattle.registry_core.specs.declared.facts.Session.{Session};
 ghost use Rattle.registry_core.specs.Numbered.{first_that, greatest, item_at, item_changed};
 ghost use Rattle.registry_core.specs.Ranges.{IsEui};
@@ -77,7 +77,8 @@ pub fn session_with<S: Alter>(
 
 /// The number of the last session, if there is one.
 pub fn last_session<S: Alter>(conn: &mut Connection<S>) -> Result<Option<u64>, RowFault>
-    ensures { Reads (state S.Store conn.old) (state S.Store conn.new) result (λ r number. number ≡ last_number r.sessions) }
+    ensures second { Reads (state S.Store conn.old) (state S.Store conn.new) result (λ r number. number ≡ last_number r.sessions) }
+    ensures first { ReadsFirst (state S.Store conn.old) (state S.Store conn.new) result (λ r number. number ≡ last_number r.sessions) }
 {
     find(
         conn,

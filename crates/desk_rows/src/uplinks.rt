@@ -2,7 +2,7 @@
 ghost use Rattle.std.specs.Prelude.{◌≡◌, ◌+◌, ◌<◌, ◌^◌, ◌++◌, [], ◌∷◌, ℕ, length, false, option_map};
 ghost use Rattle.std.specs.List.{list_any};
 ghost use Rattle.sqlite.specs.Held.{state};
-ghost use Rattle.desk_rows.specs.Calls.{Changes, Reads};
+ghost use Rattle.desk_rows.specs.Calls.{Changes, Reads, ReadsFirst};
 ghost use Rattle.registry_core.specs.declared.facts.Uplink.{Uplink};
 ghost use Rattle.registry_core.specs.Derived.{last_counter};
 ghost use Rattle.registry_core.specs.Numbered.{first_that, item_at};
@@ -80,7 +80,8 @@ pub fn uplink_with<S: Alter>(
 
 /// The number of the last uplink, if there is one.
 pub fn last_uplink<S: Alter>(conn: &mut Connection<S>) -> Result<Option<u64>, RowFault>
-    ensures { Reads (state S.Store conn.old) (state S.Store conn.new) result (λ r number. number ≡ last_number r.uplinks) }
+    ensures second { Reads (state S.Store conn.old) (state S.Store conn.new) result (λ r number. number ≡ last_number r.uplinks) }
+    ensures first { ReadsFirst (state S.Store conn.old) (state S.Store conn.new) result (λ r number. number ≡ last_number r.uplinks) }
 {
     find(
         conn,

@@ -1,15 +1,22 @@
 -- What follows where a connection is adopted, and where it isn't.
-use Rattle.std.proofs.Common.{◌≡◌, ◌∙◌, Result, Ok, Err, IfErr, IfOk, ap}
+use Rattle.std.proofs.Common.{◌≡◌, ◌∙◌, Result, Ok, Err, IfErr, IfOk, ap, length, subst, sym}
+use Rattle.std.proofs.lemmas.List.{length-map}
 use Rattle.registry_core.specs.Settings.{Settings}
+use Rattle.registry_core.specs.State.{State as Registry}
 use Rattle.sqlite_trees.specs.declared.store.Store.{Ghosts}
 use Rattle.sqlite.specs.Effect.{Database}
-use Rattle.sqlite.specs.Held.{Held}
+use Rattle.sqlite.specs.Held.{Held, state}
 use Rattle.sqlite.specs.State.{State, IsUnchanged}
 use Rattle.desk_store.specs.declared.faults.StoreFault.{StoreFault}
+use Rattle.desk_store.specs.Kept.{Kept}
+use Rattle.desk_rows.specs.Rows.{BookingRow, SessionRow}
 use Rattle.desk_rows.specs.Schema.{desk_schema}
+use Rattle.desk_tables.specs.InOrder.{IsOfDesk, entry_in}
+use Rattle.desk_tables.specs.Store.{IsSettled, Stands}
 use Rattle.desk_tables.specs.declared.tables.Tables.{Tables}
 use Rattle.desk_tables.specs.steps.Adopting.{IsAdopted, IsNotAdopted, IsStoreOver}
 use Rattle.desk_tables.specs.steps.Calls.{IsReady}
+use Rattle.desk_tables.specs.steps.Counting.{AreCounted}
 
 module _ {S : Type 0} (g : Ghosts S) (conn : Held S) (config : Settings) where
   pub if_adopted : (P : Tables S → Type 0) (result : Result (Tables S) (StoreFault × Held S)) → IsAdopted g conn config result
@@ -29,3 +36,19 @@ ready_again old new same schema settled = record {
   schema = ap (λ (d : Database). d.schema) same.0.now_is ∙ schema;
   committed = settled;
 }
+
+-- a store over settled tables of a desk, with what they hold counted
+pub stands : {S : Type 0} (g : Ghosts S) (t : Tables S) (c : Settings) (kept : Kept) (db : Database) → IsSettled (state g t.conn) → t.config ≡ c → (state g t.conn).now ≡ db
+    → (is : IsOfDesk c kept db) → AreCounted is.in_order.rows (t.heard, t.counts) → Stands g t kept
+stands g t c kept db settled config same is told =
+    let r = is.in_order.rows in
+    record {
+      settled = settled;
+      desk = subst (λ s. IsOfDesk s kept (state g t.conn).now) (sym config) (subst (IsOfDesk c kept) (sym same) is);
+      heard = told.0 ∙ sym (ap length is.in_order.entries ∙ length-map r.replies entry_in);
+      counts = record {
+        sessions = told.1.0 ∙ sym (ap (λ (s : Registry). length s.sessions) is.in_order.are.is ∙ length-map r.sessions (λ (s : SessionRow). s.session));
+        uplinks = told.1.1 ∙ sym (ap (λ (s : Registry). length s.uplinks) is.in_order.are.is);
+        bookings = told.1.2 ∙ sym (ap (λ (s : Registry). length s.bookings) is.in_order.are.is ∙ length-map r.bookings (λ (b : BookingRow). b.booking));
+      };
+    }

@@ -2,20 +2,30 @@
 use Rattle.std.proofs.Common.{◌≡◌, inl, true, false, Result, Ok, Err, IfOk, IfErr, OnOk, refl, arith, sym, ap, subst, ◌∙◌}
 use Rattle.std.specs.Result.{is_ok, IsErrAnd}
 use Rattle.std.proofs.lemmas.Result.{err_from_is_err_and}
+use Rattle.sqlite_schema.specs.declared.schema.Schema.{Schema}
+use Rattle.sqlite.specs.Effect.{Database}
 use Rattle.sqlite.specs.State.{State, HasCleanDisk}
-use Rattle.desk_rows.specs.Calls.{Changes, Reads}
+use Rattle.desk_rows.specs.Calls.{Changes, ReadsOf}
 use Rattle.desk_rows.specs.Faults.{IsEven}
+use Rattle.desk_rows.specs.Migrating.{HoldsFirst}
+use Rattle.desk_rows.specs.Schema.{desk_schema, first_schema}
 use Rattle.desk_rows.specs.Rows.{Rows, Holds}
 use Rattle.desk_rows.specs.declared.faults.RowFault.{RowFault}
 use Rattle.desk_rows.specs.CallLaws.{reads_then, read_weaker, writes_then}
-use Rattle.desk_tables.specs.steps.Calls.{Asks, IsInside, Makes}
+use Rattle.desk_tables.specs.steps.Calls.{Asks, AsksOf, IsInside, Makes}
 use Rattle.desk_tables.proofs.Reading.{stays, unasked}
 
 -- ---- look-ups
 
+pub has_schema : (db : Database) (r : Rows) → Holds db r → db.schema ≡ desk_schema
+has_schema db r has = has.ten.schema
+
+pub first_has_schema : (db : Database) (r : Rows) → HoldsFirst db r → db.schema ≡ first_schema
+first_has_schema db r has = has.ten.schema
+
 -- one look-up
-pub asks_one : {X : Type 0} {old new : State} {result : Result X RowFault} {Says : Rows → X → Type 0} → Reads old new result Says
-    → Asks old new result (λ _. Unit {0}) (λ _. Unit {0}) Says
+pub asks_one : {desk : Schema} {Have : Database → Rows → Type 0} {X : Type 0} {old new : State} {result : Result X RowFault} {Says : Rows → X → Type 0}
+    → ReadsOf desk Have old new result Says → AsksOf desk Have old new result (λ _. Unit {0}) (λ _. Unit {0}) Says
 asks_one h = record {
   read = h.read;
   told = λ clean up r has _. h.told clean r has;
@@ -23,9 +33,9 @@ asks_one h = record {
 }
 
 -- what was read is judged without a look-up
-pub asks_as : {X Y : Type 0} {old new : State} {x : X} {Was Early Of May : Rows → Type 0} {Said : Rows → X → Type 0} {Says : Rows → Y → Type 0}
-    (result : Result Y RowFault) → Asks old new (Ok x) Was Early Said → ((r : Rows) → Of r → Was r) → ((r : Rows) → Of r → Said r x → IfOk result (Says r))
-    → ((r : Rows) → Of r → May r → Said r x → IfErr result IsEven) → Asks old new result Of May Says
+pub asks_as : {desk : Schema} {Have : Database → Rows → Type 0} {X Y : Type 0} {old new : State} {x : X} {Was Early Of May : Rows → Type 0} {Said : Rows → X → Type 0}
+    {Says : Rows → Y → Type 0} (result : Result Y RowFault) → AsksOf desk Have old new (Ok x) Was Early Said → ((r : Rows) → Of r → Was r)
+    → ((r : Rows) → Of r → Said r x → IfOk result (Says r)) → ((r : Rows) → Of r → May r → Said r x → IfErr result IsEven) → AsksOf desk Have old new result Of May Says
 asks_as {old = old} {new = new} result h was says even = record {
   read = read_weaker old new true (is_ok result) (λ _. refl) h.read;
   told = λ clean up r has of. says r of (h.told clean up r has (was r of));
@@ -37,43 +47,55 @@ ok_then (Ok x) P Q f h = f x h
 ok_then (Err e) P Q f h = tt
 
 -- another look-up after one
-pub asks_then : {X Y : Type 0} {a b c : State} {x : X} {result : Result Y RowFault} {First Early Second Late Of May : Rows → Type 0}
-    {Said : Rows → X → Type 0} {Told Says : Rows → Y → Type 0}
-    → Asks a b (Ok x) First Early Said → Asks b c result Second Late Told → ((r : Rows) → Of r → First r) → ((r : Rows) → Of r → Said r x → Second r)
-    → ((r : Rows) → Of r → May r → Said r x → Late r) → ((r : Rows) → Of r → Said r x → (y : Y) → Told r y → Says r y) → Asks a c result Of May Says
-asks_then {a = a} {b = b} {c = c} {result = result} {Told = Told} {Says = Says} one two first second late says =
+pub asks_then_of : {desk : Schema} {Have : Database → Rows → Type 0} (schema : (db : Database) (r : Rows) → Have db r → db.schema ≡ desk) {X Y : Type 0} {a b c : State} {x : X}
+    {result : Result Y RowFault} {First Early Second Late Of May : Rows → Type 0} {Said : Rows → X → Type 0} {Told Says : Rows → Y → Type 0}
+    → AsksOf desk Have a b (Ok x) First Early Said → AsksOf desk Have b c result Second Late Told → ((r : Rows) → Of r → First r) → ((r : Rows) → Of r → Said r x → Second r)
+    → ((r : Rows) → Of r → May r → Said r x → Late r) → ((r : Rows) → Of r → Said r x → (y : Y) → Told r y → Says r y) → AsksOf desk Have a c result Of May Says
+asks_then_of {Have = Have} schema {a = a} {b = b} {c = c} {result = result} {Told = Told} {Says = Says} one two first second late says =
     let early = λ (clean : HasCleanDisk c). let e : HasCleanDisk b = omega (arith, two.read.clean, clean) in e in
     record {
       read = reads_then a b c (is_ok result) one.read two.read;
       told = λ clean up r has of.
-          let same = (one.read.leaves has.ten.schema up (early clean)).0 in
+          let same = (one.read.leaves (schema a.now r has) up (early clean)).0 in
           let said = one.told (early clean) up r has (first r of) in
-          ok_then result (Told r) (Says r) (says r of said) (two.told clean same.is_open r (subst (λ d. Holds d r) (sym same.now_is) has) (second r of said));
+          ok_then result (Told r) (Says r) (says r of said) (two.told clean same.is_open r (subst (λ d. Have d r) (sym same.now_is) has) (second r of said));
       in_order = λ clean up unlimited r has of may.
-          let same = (one.read.leaves has.ten.schema up (early clean)).0 in
+          let same = (one.read.leaves (schema a.now r has) up (early clean)).0 in
           let said = one.told (early clean) up r has (first r of) in
-          let limit = (one.read.survives has.ten.schema up (early clean)).limit in
-          two.in_order clean same.is_open (limit ∙ unlimited) r (subst (λ d. Holds d r) (sym same.now_is) has) (second r of said) (late r of may said);
+          let limit = (one.read.survives (schema a.now r has) up (early clean)).limit in
+          two.in_order clean same.is_open (limit ∙ unlimited) r (subst (λ d. Have d r) (sym same.now_is) has) (second r of said) (late r of may said);
     }
 
+pub asks_then : {X Y : Type 0} {a b c : State} {x : X} {result : Result Y RowFault} {First Early Second Late Of May : Rows → Type 0}
+    {Said : Rows → X → Type 0} {Told Says : Rows → Y → Type 0}
+    → Asks a b (Ok x) First Early Said → Asks b c result Second Late Told → ((r : Rows) → Of r → First r) → ((r : Rows) → Of r → Said r x → Second r)
+    → ((r : Rows) → Of r → May r → Said r x → Late r) → ((r : Rows) → Of r → Said r x → (y : Y) → Told r y → Says r y) → Asks a c result Of May Says
+asks_then = asks_then_of has_schema
+
 -- what two look-ups in a row told
+pub asks_also_of : {desk : Schema} {Have : Database → Rows → Type 0} (schema : (db : Database) (r : Rows) → Have db r → db.schema ≡ desk) {X Y : Type 0} {a b c : State} {x : X}
+    {result : Result Y RowFault} {Said : Rows → X → Type 0} {Told : Rows → Y → Type 0}
+    → AsksOf desk Have a b (Ok x) (λ _. Unit {0}) (λ _. Unit {0}) Said → AsksOf desk Have b c result (λ _. Unit {0}) (λ _. Unit {0}) Told
+    → AsksOf desk Have a c result (λ _. Unit {0}) (λ _. Unit {0}) (λ r y. Said r x × Told r y)
+asks_also_of schema one two = asks_then_of schema one two (λ r of. of) (λ r of said. of) (λ r of may said. may) (λ r of said y told. (said, told))
+
 pub asks_also : {X Y : Type 0} {a b c : State} {x : X} {result : Result Y RowFault} {Said : Rows → X → Type 0} {Told : Rows → Y → Type 0}
     → Asks a b (Ok x) (λ _. Unit {0}) (λ _. Unit {0}) Said → Asks b c result (λ _. Unit {0}) (λ _. Unit {0}) Told
     → Asks a c result (λ _. Unit {0}) (λ _. Unit {0}) (λ r y. Said r x × Told r y)
-asks_also one two = asks_then one two (λ r of. of) (λ r of said. of) (λ r of may said. may) (λ r of said y told. (said, told))
+asks_also = asks_also_of has_schema
 
 -- a look-up that failed is the last
-pub asks_failed : {X Y : Type 0} {old new : State} {fault : RowFault} {result : Result Y RowFault} {Was Early Of May : Rows → Type 0}
+pub asks_failed : {desk : Schema} {Have : Database → Rows → Type 0} {X Y : Type 0} {old new : State} {fault : RowFault} {result : Result Y RowFault} {Was Early Of May : Rows → Type 0}
     {Said : Rows → X → Type 0} {Says : Rows → Y → Type 0}
-    → result ≡ Err fault → Asks {X = X} old new (Err fault) Was Early Said → ((r : Rows) → Of r → Was r) → ((r : Rows) → Of r → May r → Early r)
-    → Asks old new result Of May Says
-asks_failed {Y = Y} {old = old} {new = new} {fault = fault} {Of = Of} {May = May} {Says = Says} failed h was then =
-    let asked : Asks {X = Y} old new (Err fault) Of May Says = record {
+    → result ≡ Err fault → AsksOf desk Have {X = X} old new (Err fault) Was Early Said → ((r : Rows) → Of r → Was r) → ((r : Rows) → Of r → May r → Early r)
+    → AsksOf desk Have old new result Of May Says
+asks_failed {desk = desk} {Have = Have} {Y = Y} {old = old} {new = new} {fault = fault} {Of = Of} {May = May} {Says = Says} failed h was then =
+    let asked : AsksOf desk Have {X = Y} old new (Err fault) Of May Says = record {
       read = h.read;
       told = λ clean up r has of. tt;
       in_order = λ clean up unlimited r has of may. h.in_order clean up unlimited r has (was r of) (then r of may);
     } in
-    subst (λ (found : Result Y RowFault). Asks old new found Of May Says) (sym failed) asked
+    subst (λ (found : Result Y RowFault). AsksOf desk Have old new found Of May Says) (sym failed) asked
 
 -- a look-up after one failed, and is the last
 pub asks_then_failed : {X Y Z : Type 0} {a b c : State} {x : X} {fault : RowFault} {result : Result Z RowFault} {First Early Second Late Of May : Rows → Type 0}

@@ -1,12 +1,15 @@
 -- A desk whose tables are moved from schema 1 to schema 2.
-use Rattle.std.proofs.Common.{◌≡◌, ◌∙◌, pos, Ok, IsTrue, refl, sym, ap, subst, true≢false}
+use Rattle.std.proofs.Common.{◌≡◌, ◌∙◌, pos, Ok, IsTrue, inl, inr, true, refl, sym, ap, subst, true≢false}
 use Rattle.registry_core.specs.Settings.{Settings}
 use Rattle.sqlite_schema.specs.declared.schema.Schema.{Schema}
 use Rattle.sqlite_schema.specs.Names.{same_name}
 use Rattle.sqlite_catalog.specs.Change.{is_used}
 use Rattle.sqlite.specs.Effect.{Database}
-use Rattle.sqlite.specs.State.{State, HasCleanDisk}
+use Rattle.sqlite.specs.State.{State, HasCleanDisk, IsUnchanged, Survives}
+use Rattle.sqlite.proofs.Callers.{unchanged_then}
+use Rattle.sqlite_trees.specs.Tree.{Trees}
 use Rattle.desk_store.specs.Kept.{Kept}
+use Rattle.desk_rows.specs.Calls.{IsReadingCallOf}
 use Rattle.desk_rows.specs.Meta.{HasMeta, IsConfig, TellsMeta}
 use Rattle.desk_rows.specs.Migrating.{HoldsFirst, limit_name}
 use Rattle.desk_rows.specs.Rows.{Holds, Rows}
@@ -31,6 +34,11 @@ moved_desk c kept before after is moves = record {
   few = is.few;
 }
 
+pub moved_rows : (c : Settings) (kept : Kept) (before after : Database) (is : IsOfFirstSchema c kept before)
+    (moves : (r : Rows) → HoldsFirst before r → Holds after r) → (moved_desk c kept before after is moves).in_order.rows ≡ is.in_order.rows
+unfolding moved_desk
+moved_rows c kept before after is moves = refl
+
 pub first_tells : (c : Settings) (kept : Kept) (db : Database) → IsOfFirstSchema c kept db → TellsMeta db.trees (pos 1) c
 first_tells c kept db is = subst (TellsMeta db.trees (pos 1)) is.in_order.are.settings
     (meta_tells 1 first_schema db is.in_order.rows is.in_order.held.ten (subst IsConfig (sym is.in_order.are.settings) is.config))
@@ -50,3 +58,26 @@ ready_moved old new moves clean up r has = record {
   schema = has.ten.schema;
   committed = sym (moves.committed clean up);
 }
+
+-- what look-ups in tables of schema 1 left of a connection
+pub record IsLookedAt (old new : State) : Type 0 where
+  pub same : IsUnchanged old new
+  pub limit : new.step_limit ≡ old.step_limit
+  pub settled : new.now ≡ new.committed
+  pub crash : (trees : Trees) → new.may_leave trees → old.may_leave trees
+
+pub looked_at : (a b c : State) → IsUnchanged a b → Survives a b (λ _. ⊥) → b.now ≡ b.committed → HasCleanDisk b → HasCleanDisk c → a.now.schema ≡ first_schema
+    → IsReadingCallOf first_schema b c true → IsLookedAt a c
+looked_at a b c first survives settled early clean schema read =
+    let has : b.now.schema ≡ first_schema = ap (λ (d : Database). d.schema) first.0.now_is ∙ schema in
+    let second = read.leaves has first.0.is_open clean in
+    let after = read.survives has first.0.is_open clean in
+    record {
+      same = unchanged_then a b c first second;
+      limit = after.limit ∙ survives.limit;
+      settled = second.0.now_is ∙ settled ∙ sym second.0.committed_is;
+      crash = λ trees may. elim (after.crash clean trees may) [
+        | inl was ↦ elim (survives.crash early trees was) [ inl before ↦ before | inr none ↦ absurd none ]
+        | inr none ↦ absurd none
+      ];
+    }

@@ -110,17 +110,30 @@ impl<S: Alter> Tables<S> {
     {
         let mut conn = conn;
         match counted(&mut conn) {
-            Ok((heard, counts)) => Ok(Tables {
-                conn,
-                alloc,
-                config,
-                down: false,
-                foreign: false,
-                sized: false,
-                heard,
-                counts,
-            }),
+            Ok(counted) => Ok(Tables::over(alloc, conn, config, counted)),
             Err(fault) => Err((store_fault(fault), conn)),
+        }
+    }
+
+    /// The store over a connection whose tables hold so many messages and numbered things.
+    pub(crate) fn over(
+        alloc: Global,
+        conn: Connection<S>,
+        config: Config,
+        counted: (u64, Counts),
+    ) -> Tables<S>
+        ensures { result ≡ record { conn = conn; alloc = alloc; config = config; down = false; foreign = false; sized = false; heard = counted.0; counts = counted.1 } }
+    {
+        let (heard, counts) = counted;
+        Tables {
+            conn,
+            alloc,
+            config,
+            down: false,
+            foreign: false,
+            sized: false,
+            heard,
+            counts,
         }
     }
 

@@ -12,10 +12,12 @@ ghost use Rattle.desk_rows.specs.Migrating.{HoldsFirst, limit_name};
 ghost use Rattle.desk_rows.specs.Rows.{Rows};
 ghost use Rattle.desk_rows.specs.Schema.{first_schema};
 ghost use Rattle.desk_tables.specs.Adopting.{IsGivenBack, IsStore};
-ghost use Rattle.desk_tables.specs.Migrating.{IsBackFromMove, IsOfFirstSchema};
+ghost use Rattle.desk_tables.specs.InOrder.{AreOfDesk};
+ghost use Rattle.desk_tables.specs.Migrating.{IsOfFirstSchema};
 ghost use Rattle.desk_tables.specs.Store.{meaning_of};
 ghost use Rattle.desk_tables.specs.steps.Migrating.{MakesSecond, Moves};
 
+use crate::counting::counted;
 use crate::desk_shape::{is_first_schema, is_limit_taken};
 use crate::faults::store_fault;
 use crate::making::commit_fault;
@@ -86,7 +88,7 @@ impl<S: Alter> Tables<S> {
     /// The desk whose tables of schema 1 the database holds, moved to schema 2 with all that it holds; or the connection, beside
     /// why there is none: `NotADesk` where the row of meta isn't a desk's, `SchemaVersion` where that row tells another version
     /// than 1, then `Exists` where the name of the table that schema 1 lacks is taken, and `NotADesk` where the rest of the schema
-    /// isn't schema 1.
+    /// isn't schema 1, or a row has none of its numbers. Then nothing is changed, whatever the fault.
     pub fn migrate(
         alloc: Global,
         conn: Connection<S>,
@@ -111,7 +113,7 @@ impl<S: Alter> Tables<S> {
             → IfErr result (λ back. HasCleanDisk (state S.Store back.1) → (back.0 ≡ Exists) ⊎ IsUnavailability back.0) }
         ensures clean { IfOk result (λ t. (meaning_of S.Store).sound t → HasCleanDisk (state S.Store conn)) }
         ensures given_back { (c : Settings) (kept : Kept) → IsOfFirstSchema c kept (state S.Store conn).now
-            → IfErr result (λ back. IsBackFromMove c kept (state S.Store conn) (state S.Store back.1)) }
+            → IfErr result (λ back. IsGivenBack (state S.Store conn) (state S.Store back.1) (AreOfDesk c kept)) }
         ensures untouched { (conn.schema ≡ first_schema → (c : Settings) → ¬ TellsMeta (state S.Store conn).now.trees (pos 1) c)
             → IfErr result (λ back. IsGivenBack (state S.Store conn) (state S.Store back.1) (λ _. ⊥)) }
     {
@@ -120,8 +122,13 @@ impl<S: Alter> Tables<S> {
             Ok(config) => config,
             Err(fault) => return Err((fault, conn)),
         };
+        // Before they are moved: a look-up that fails then leaves them as they are.
+        let counted = match counted(&mut conn) {
+            Ok(counted) => counted,
+            Err(fault) => return Err((store_fault(fault), conn)),
+        };
         match move_tables(&mut conn) {
-            Ok(()) => Tables::adopt(alloc, conn, config),
+            Ok(()) => Ok(Tables::over(alloc, conn, config, counted)),
             Err(fault) => Err((store_fault(fault), conn)),
         }
     }

@@ -24,7 +24,7 @@ pub enum JoinVerdict {
 
 /// What a gateway reports of a frame: when its last symbol ended, in microseconds since 1970 UTC, how it was sent, and
 /// its octets.
-#[derive(Clone, Copy, PartialEq, Eq)]
+#[derive(Clone, Copy)]
 pub struct Report {
     pub gateway: Name,
     pub time: Whole,
@@ -33,7 +33,7 @@ pub struct Report {
 }
 
 /// What a sender asks.
-#[derive(Clone, Copy, PartialEq, Eq)]
+#[derive(Clone, Copy)]
 pub enum Message {
     /// A sender with this name and role is added.
     SenderAdd {
@@ -93,7 +93,7 @@ pub enum Message {
 pub const MOST_HEARD: usize = 9_007_199_254_740_991;
 
 /// A message with its sender and the sender's transaction number.
-#[derive(Clone, Copy, PartialEq, Eq)]
+#[derive(Clone, Copy)]
 pub struct Envelope {
     pub sender: Name,
     pub transaction: u32,

@@ -14,7 +14,8 @@ use Rattle.desk_rows.specs.Meta.{HasMeta, TellsMeta}
 use Rattle.desk_rows.specs.Migrating.{limit_name}
 use Rattle.desk_rows.specs.Schema.{first_schema}
 use Rattle.desk_tables.specs.Adopting.{IsGivenBack}
-use Rattle.desk_tables.specs.Migrating.{IsBackFromMove, IsOfFirstSchema}
+use Rattle.desk_tables.specs.InOrder.{AreOfDesk}
+use Rattle.desk_tables.specs.Migrating.{IsOfFirstSchema}
 use Rattle.desk_engine.specs.InOrder.{kept_after}
 use Rattle.desk_cli.specs.Named.{Named, migrate, named_as}
 use Rattle.desk_cli.specs.OnTables.{KeepsHeard}
@@ -43,14 +44,14 @@ pub record HasHeardInFirst (c : Settings) (heard : List Envelope) (db : Database
 abbrev pub IsOfVersion : {S : Type 0} → Ghosts S → Held S → ℤ → Type 0
 IsOfVersion g conn version = HasMeta conn.schema × ((c : Settings) × TellsMeta (state g conn).now.trees version c)
 
--- Of a file of schema 1: with status 0 it has schema 2 and keeps all that was heard, and else memory or the disk failed, and a crash
--- leaves what it left before or the tables moved. Of any file: the schema is told of a desk of another version than 1 alone, and that
+-- Of a file of schema 1: with status 0 it has schema 2 and keeps all that was heard, and else memory or the disk failed, all is as it
+-- was, and a crash leaves what it left before or the tables moved. Of any file: the schema is told of a desk of another version than 1 alone, and that
 -- something exists where the name of the table that is to be made is taken; what is no desk's of version 1 is given back as it was.
 pub record MigratesBy {S : Type 0} (g : Ghosts S) (conn back : Held S) {T : Type 0} (result : Result T Fault) : Type 0 where
   pub moved : (c : Settings) (heard : List Envelope) → HasHeardInFirst c heard (state g conn).now → OnOk result (HasCleanDisk (state g back) → KeepsHeard g back c heard)
   pub unavailable : (c : Settings) (heard : List Envelope) → HasHeardInFirst c heard (state g conn).now → OnErr result (HasCleanDisk (state g back) → result ≡ Err Unavailable)
   pub given_back : (c : Settings) (heard : List Envelope) → HasHeardInFirst c heard (state g conn).now
-      → OnErr result (IsBackFromMove c (kept_after c heard) (state g conn) (state g back))
+      → OnErr result (IsGivenBack (state g conn) (state g back) (AreOfDesk c (kept_after c heard)))
   pub first : OnOk result (HasCleanDisk (state g back) → (conn.schema ≡ first_schema) × IsOfVersion g conn (pos 1))
   pub told : OnErr result ((result ≡ Err NotADesk) ⊎ ((result ≡ Err Schema) ⊎ ((result ≡ Err Exists) ⊎ (result ≡ Err Unavailable))))
   pub version : HasCleanDisk (state g back) → result ≡ Err Schema → (version : ℤ) × IsOfVersion g conn version × (version ≢ pos 1)

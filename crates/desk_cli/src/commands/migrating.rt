@@ -41,8 +41,8 @@ pub(crate) fn migrate_of<'a>(options: &ArgMatches<'a>) -> Result<Command<'a>, Us
 /// back.
 ///
 /// `NotADesk` where the row of meta isn't a desk's, `Schema` where it tells another version than 1, then `Exists` where the name
-/// of the table that schema 1 lacks is taken, and `NotADesk` where the rest isn't schema 1: then nothing is changed. With
-/// `Unavailable` too, or the desk was moved, and the fault came after; a crash leaves one or the other.
+/// of the table that schema 1 lacks is taken, and `NotADesk` where the rest isn't schema 1, else `Unavailable`: then nothing
+/// is changed, and a crash leaves what was there, or the desk moved.
 pub fn migrate_command<S: Alter>(
     alloc: Global,
     conn: Connection<S>,

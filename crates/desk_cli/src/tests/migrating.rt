@@ -1,4 +1,4 @@
-//! A desk of schema 1 is moved to schema 2 with all that it holds.
+//! A desk of schema 1 is moved to schema 2 with all that it holds; what is none isn't moved, nor opened.
 use super::holding::holds;
 use super::ready;
 use super::stops::{deliveries, expect_found, heard, rows_after};
@@ -133,5 +133,34 @@ fn other_tables_are_not_moved(rt: HostRuntime) -> Result<(), Fail> {
         let (fault, _) = moved(rt.alloc(), conn)?;
         holds(&rt, fault == Some(*wanted), batch);
     }
+    Ok(())
+}
+
+/// Why the database isn't opened as a desk's, if it isn't.
+fn unopened(alloc: Global, conn: Connection<MemStore>) -> Result<Option<StoreFault>, Fail> {
+    Ok(match Tables::open(alloc, ready(conn)?) {
+        Ok(_) => None,
+        Err((fault, _)) => Some(fault),
+    })
+}
+
+/// What is done to a desk's database, and why it isn't opened then.
+static UNOPENED: [(&str, StoreFault); 3] = [
+    ("DELETE FROM meta", StoreFault::NotADesk),
+    ("UPDATE meta SET version = 7", StoreFault::SchemaVersion),
+    ("DROP INDEX booking_uplink", StoreFault::NotADesk),
+];
+
+#[test]
+fn other_tables_are_not_opened(rt: HostRuntime) -> Result<(), Fail> {
+    let deliveries = deliveries(rt.alloc())?;
+    for (batch, wanted) in &UNOPENED {
+        let mut conn = heard(&rt, &deliveries)?;
+        conn.execute_batch(batch)?;
+        let fault = unopened(rt.alloc(), conn)?;
+        holds(&rt, fault == Some(*wanted), batch);
+    }
+    let fault = unopened(rt.alloc(), first(&rt)?)?;
+    holds(&rt, fault == Some(StoreFault::SchemaVersion), "schema 1");
     Ok(())
 }

@@ -23,7 +23,7 @@ use Rattle.desk_rows.specs.order.LookUps.{first_by, is_row_of_device, zip_from}
 use Rattle.desk_rows.proofs.OrderLemmas.Counting.{filter-map, filter_alike, filter_twice}
 use Rattle.desk_rows.proofs.OrderLemmas.Each.{all_both, all_found, all_kept, all_map, all_shown, all_so, all_were}
 use Rattle.desk_rows.proofs.OrderLemmas.Finding.{found_passes}
-use Rattle.desk_rows.proofs.OrderLemmas.Framing.{always}
+use Rattle.desk_rows.proofs.Ordered.{every}
 use Rattle.desk_rows.proofs.OrderLemmas.Looking.{filter_shown, zipped_shown}
 use Rattle.desk_rows.proofs.OrderLemmas.Numbering.{item_at-map}
 use Rattle.desk_rows.proofs.OrderLemmas.Sorting.{all_sorted, spans_in_order}
@@ -57,7 +57,7 @@ uplinks_shown sessions uplinks dev_eui band from to = ap (map interval_of) (
     filter_alike (λ u. Unit {0}) (is_uplink_of sessions dev_eui band from to)
     (λ u. is_uplink_from (sessions_in sessions) dev_eui from to u && is_in_band band u)
     (λ u done. ap (λ own. ((own && int_le from (pos u.start)) && int_lt (pos u.start) to) && is_in_band band u) (own_row sessions dev_eui u.session)) uplinks
-    (always uplinks)
+    (every uplinks)
     ∙ sym (filter_twice (is_uplink_from (sessions_in sessions) dev_eui from to) (is_in_band band) uplinks))
 
 -- ---- the first in rising order

@@ -18,6 +18,7 @@ use Rattle.desk_rows.specs.order.RowsOf.{IsKeyed, IsOfSession, NamesRows, same_j
 use Rattle.desk_rows.proofs.OrderLemmas.Each.{apart_at}
 use Rattle.desk_rows.proofs.OrderLemmas.Looking.{first_zipped}
 use Rattle.desk_rows.proofs.OrderLemmas.Numbering.{item_at-map, item_place, row_there}
+use Rattle.desk_rows.proofs.Ordered.{every}
 
 -- ---- the first that passes
 
@@ -76,15 +77,11 @@ data_row_alike n u Data is = ap (λ k. u.session == n && kind_number k == 1) is 
     true_last true = refl
     true_last false = refl
 
-pub always : {X : Type 0} (xs : List X) → AllByRecursion (λ x. Unit {0}) xs
-always [] = tt
-always (x ∷ xs) = (tt, always xs)
-
 pub data_found : (uplinks : List Uplink) (n counter : ℕ) → row_with (is_uplink n Data counter) uplinks ≡ data_with uplinks n counter
 data_found uplinks n counter = first_zipped (is_uplink n Data counter) 1 uplinks ∙
     first_alike (λ u. Unit {0}) (is_uplink n Data counter) (is_data_with n counter)
     (λ u done. sym (and_assoc (u.session == n) (kind_number u.kind == 1) (u.counter == counter))
-    ∙ ap (λ b. b && u.counter == counter) (data_row_alike n u u.kind refl)) 1 uplinks (always uplinks)
+    ∙ ap (λ b. b && u.counter == counter) (data_row_alike n u u.kind refl)) 1 uplinks (every uplinks)
 
 -- ---- joins
 

@@ -18,9 +18,10 @@ use Rattle.desk_rows.proofs.OrderLemmas.Counting.{filter_alike}
 use Rattle.desk_rows.proofs.OrderLemmas.Each.{all_found}
 use Rattle.desk_rows.proofs.OrderLemmas.Finding.{found_passes}
 use Rattle.desk_rows.proofs.OrderLemmas.Following.{no_floor}
-use Rattle.desk_rows.proofs.OrderLemmas.Framing.{always, data_found, data_row_alike, join_found}
+use Rattle.desk_rows.proofs.OrderLemmas.Framing.{data_found, data_row_alike, join_found}
 use Rattle.desk_rows.proofs.OrderLemmas.Limits.{limit_stands}
 use Rattle.desk_rows.proofs.OrderLemmas.Looking.{any_shown, below_floor, first_falling, first_zipped, last_number, nonces_shown, row_numbered}
+use Rattle.desk_rows.proofs.Ordered.{every}
 use Rattle.desk_rows.proofs.OrderLemmas.Numbering.{item_at-map}
 
 rows_are_items : (r : Rows) → RowsAreItems r
@@ -69,7 +70,7 @@ module _ (c : Settings) (facts : State) (r : Rows) (are : AreRowsOf c facts r) w
         ∙ nonces_shown r.sessions dev_eui;
     counter = λ n order falls. first_falling (λ (u : Uplink). u.counter) order falls (is_data_row n) r.uplinks
         ∙ ap (λ us. greatest (map (λ (u : Uplink). u.counter) us))
-        (filter_alike (λ u. Unit {0}) (is_data_row n) (is_data_of n) (λ u done. data_row_alike n u u.kind refl) r.uplinks (always r.uplinks));
+        (filter_alike (λ u. Unit {0}) (is_data_row n) (is_data_of n) (λ u done. data_row_alike n u u.kind refl) r.uplinks (every r.uplinks));
   })
 
   numbers_tell : NumbersTell facts r

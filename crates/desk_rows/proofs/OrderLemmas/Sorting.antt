@@ -13,14 +13,12 @@ use Rattle.desk_rows.specs.order.Arranged.{PutsByStart, spans_by}
 use Rattle.desk_rows.specs.order.LookUps.{zip_from}
 use Rattle.desk_rows.proofs.OrderLemmas.Each.{all_so}
 use Rattle.desk_rows.proofs.OrderLemmas.Looking.{zipped_shown}
+use Rattle.desk_rows.proofs.OrderLemmas.Orders.{not_both}
 
 -- ---- of three starts
 
 not_below : (a b c : ℤ) → int_lt a b ≡ false → int_lt c a ≡ false → int_lt c b ≡ false
 not_below a b c ab ca = grind (arith, ints)
-
-not_both : (a b : ℤ) → int_lt a b ≡ true → int_lt b a ≡ false
-not_both a b ab = grind (arith, ints)
 
 at_most : (a b : ℤ) → int_lt b a ≡ false → a ≤ℤ b
 at_most a b ba = grind (arith, ints)

@@ -2,19 +2,31 @@
 use Rattle.std.specs.Prelude.{◌≡◌, ◌≤◌, false, Result, IsTrue, IfOk, IfErr, OnOk, OnErr, None}
 use Rattle.std.specs.Result.{is_ok}
 use Rattle.sqlite_trees.specs.View.{doubt}
+use Rattle.sqlite_schema.specs.declared.schema.Schema.{Schema}
+use Rattle.sqlite.specs.Effect.{Database}
 use Rattle.sqlite.specs.State.{State, HasCleanDisk, Survives}
-use Rattle.desk_rows.specs.Calls.{IsReadingCall, IsWritingCall}
+use Rattle.desk_rows.specs.Calls.{IsReadingCallOf, IsWritingCall}
 use Rattle.desk_rows.specs.Faults.{IsEven}
 use Rattle.desk_rows.specs.Rows.{Rows, Holds}
-use Rattle.desk_rows.specs.Schema.{desk_schema}
+use Rattle.desk_rows.specs.Migrating.{HoldsFirst}
+use Rattle.desk_rows.specs.Schema.{desk_schema, first_schema}
 use Rattle.desk_rows.specs.declared.faults.RowFault.{RowFault}
 
--- Look-ups in a row change nothing, and what they answer is so of the rows that are held, of which Of says which they are. Over
--- rows that they may ask for, with no limit on steps, they fail only for memory, the disk or a size.
-pub record Asks {X : Type 0} (old new : State) (result : Result X RowFault) (Of May : Rows → Type 0) (Says : Rows → X → Type 0) : Type 0 where
-  pub read : IsReadingCall old new (is_ok result)
-  pub told : HasCleanDisk new → IsTrue old.is_open → (r : Rows) → Holds old.now r → Of r → IfOk result (Says r)
-  pub in_order : HasCleanDisk new → IsTrue old.is_open → old.step_limit ≡ None → (r : Rows) → Holds old.now r → Of r → May r → IfErr result IsEven
+-- Look-ups in a row, over tables of this schema, change nothing, and what they answer is so of the rows that are held, by Have, of
+-- which Of says which they are. Over rows that they may ask for, with no limit on steps, they fail only for memory, the disk or a size.
+pub record AsksOf (desk : Schema) (Have : Database → Rows → Type 0) {X : Type 0} (old new : State) (result : Result X RowFault) (Of May : Rows → Type 0)
+    (Says : Rows → X → Type 0) : Type 0 where
+  pub read : IsReadingCallOf desk old new (is_ok result)
+  pub told : HasCleanDisk new → IsTrue old.is_open → (r : Rows) → Have old.now r → Of r → IfOk result (Says r)
+  pub in_order : HasCleanDisk new → IsTrue old.is_open → old.step_limit ≡ None → (r : Rows) → Have old.now r → Of r → May r → IfErr result IsEven
+
+-- over those of schema 2
+abbrev pub Asks : {X : Type 0} → State → State → Result X RowFault → (Of May : Rows → Type 0) → (Rows → X → Type 0) → Type 0
+Asks = AsksOf desk_schema Holds
+
+-- and over those of schema 1
+abbrev pub AsksFirst : {X : Type 0} → State → State → Result X RowFault → (Of May : Rows → Type 0) → (Rows → X → Type 0) → Type 0
+AsksFirst = AsksOf first_schema HoldsFirst
 
 -- inside a transaction of a connection that is open
 pub record IsInside (s : State) : Type 0 where

@@ -51,7 +51,7 @@ type Row = (
     &'static str,
 );
 
-static ROWS: [Row; 16] = [
+static ROWS: [Row; 18] = [
     (
         &[b"desk", b"import", b"f.db", b"--sender", b"office"],
         WORKED,
@@ -129,6 +129,21 @@ static ROWS: [Row; 16] = [
         Ending::Refused,
         "",
         "desk: gateway\n",
+    ),
+    // the worked report with a fourth record, cut after its fourth field
+    (
+        &[b"desk", b"import", b"f.db", b"--sender", b"office"],
+        "transaction,type,gateway,time_us,freq_hz,dr,phy,verdict\n10,JoinHeard,gw-a,1706745600061696,868100000,5,00010000d07ed5b3703c2b1a000ba304000000a1b2c3d4,Good\n11,FrameHeard,gw-a,1706745700041216,868300000,5,400000a00100000011223344,0\n12,FrameHeard,gw-b,1706745700041220,868300000,5,400000a00100000011223344,0\n13,FrameHeard,gw-a,1706745700041216",
+        Ending::Refused,
+        "",
+        "desk: csv end\n",
+    ),
+    (
+        &[b"desk", b"import", b"f.db", b"--sender", b"office"],
+        "transaction,type,gateway,time_us,freq_hz,dr,phy,verdict\n10,JoinHeard,gw-a,1706745600061696,868100000,5,00010000d07ed5b3703c2b1a000ba304000000a1b2c3d4,Good\n11,FrameHeard,gw-a,1706745700041216,868300000,5,400000a00100000011223344,0\n12,FrameHeard,gw-b,1706745700041220,868300000,5,400000a00100000011223344,0\n13,FrameHeard,gw-a,1706745700041216\n",
+        Ending::Refused,
+        "",
+        "desk: csv record 5\n",
     ),
     (&[b"desk", b"check", b"f.db"], "", Ending::Done, HOLDS, ""),
     (

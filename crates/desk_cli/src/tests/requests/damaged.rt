@@ -2,10 +2,14 @@
 use super::reports::{Row, expect_reports};
 use super::responses::{BAD_MONTH, MALFORMED, UNAVAILABLE};
 use super::{expect, posted};
+use crate::tests::downlinks::DROPPED_1;
 use crate::tests::found;
-use crate::tests::rows::REQUEST;
+use crate::tests::holding::holds;
+use crate::tests::rows::Row::Asks;
+use crate::tests::rows::{REQUEST, SUCCESS, delivery_of};
 use crate::tests::stops::{deliveries, heard};
-use desk_store::Keeper;
+use desk_engine::{Outcome, deliver};
+use desk_store::{Keeper, StoreFault};
 use std::process::Abort;
 use std::test::Fail;
 
@@ -39,4 +43,17 @@ fn rows_are_out_of_range(rt: HostRuntime) -> Result<(), Fail> {
     conn.execute_batch(DAMAGE)?;
     let mut tables = found(rt.alloc(), conn)?;
     expect_unavailable(&rt, &mut *tables)
+}
+
+#[test]
+fn a_booking_has_no_state(rt: HostRuntime) -> Result<(), Fail> {
+    let mut conn = heard(&rt, &deliveries(rt.alloc())?)?;
+    conn.execute_batch("UPDATE booking SET state = 3")?;
+    let mut tables = found(rt.alloc(), conn)?;
+    let done = Asks("bridge", 20, "DownDone", DROPPED_1, SUCCESS);
+    let text = delivery_of(rt.alloc(), &done)?.text;
+    let outcome = deliver(rt.alloc(), &mut *tables, text.as_bytes());
+    let is_told = matches!(outcome, Outcome::Unavailable(StoreFault::NotADesk));
+    holds(&rt, is_told, "that it is no desk's");
+    Ok(())
 }

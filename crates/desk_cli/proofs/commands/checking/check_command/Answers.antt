@@ -1,7 +1,7 @@
 use Rattle.std.proofs.Common.{None, arith}
 use Rattle.std.proofs.KnownBytes.{Keeps-refl}
 use Rattle.desk_engine.specs.InOrder.{kept_after}
-use Rattle.desk_cli.proofs.Checked.{is_check}
+use Rattle.desk_cli.proofs.TotalsPrinted.{is_check}
 use Rattle.desk_cli.proofs.OnTables.{is_left, keeps}
 use Rattle.desk_cli.proofs.Printed.{prints, prints_unopened}
 use Rattle.desk_cli.proofs.Reported.{is_kept_as_it_was, is_left_as_it_was}

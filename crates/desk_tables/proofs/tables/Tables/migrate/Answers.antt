@@ -1,15 +1,13 @@
-use Rattle.std.proofs.Common.{◌∙◌, inl, inr, pos, true≢false, sym, subst, arith}
+use Rattle.std.proofs.Common.{◌∙◌, inl, inr, true≢false, ap, refl, sym, subst, arith}
+use Rattle.sqlite.specs.Effect.{Database}
 use Rattle.sqlite.specs.Held.{state}
 use Rattle.sqlite.specs.State.{HasCleanDisk}
 use Rattle.desk_store.specs.Calls.{IsUnavailability}
-use Rattle.desk_rows.specs.Meta.{TellsMeta}
 use Rattle.desk_rows.specs.Migrating.{HoldsFirst}
-use Rattle.desk_tables.specs.Adopting.{IsStore}
-use Rattle.desk_tables.specs.InOrder.{IsOfDesk}
 use Rattle.desk_tables.specs.Migrating.{IsOfFirstSchema}
-use Rattle.desk_tables.specs.Store.{meaning_of}
-use Rattle.desk_tables.proofs.AdoptingLemmas.{if_adopted, if_not_adopted}
-use Rattle.desk_tables.proofs.MigratingLemmas.{first_tells, free_in_first, moved_desk, ready_moved}
+use Rattle.desk_tables.specs.steps.Counting.{AreCounted}
+use Rattle.desk_tables.proofs.AdoptingLemmas.{stands}
+use Rattle.desk_tables.proofs.MigratingLemmas.{first_tells, free_in_first, looked_at, moved_desk, moved_rows, ready_moved}
 use Rattle.desk_tables.proofs.OpeningLemmas.{failed_as, never_exists, never_version, odd_from_stranger, told_once, unavailable_from_even}
 use Rattle.desk_tables.proofs.tables.Tables.migrate.Goals as goal
 
@@ -46,7 +44,7 @@ returns-in-Err-clause-clean g c = tt
 pub returns-in-Err-clause-given_back : goal.returns-in-Err-clause-given_back
 returns-in-Err-clause-given_back g c settings kept is = record {
   clean = c.in-Err.ensures.crash.clean;
-  held = λ clean up. inl (c.in-Err.ensures.undone clean up);
+  undone = c.in-Err.ensures.undone;
   idle = c.in-Err.ensures.idle;
   crash = λ clean trees may. elim (c.in-Err.ensures.crash.crash clean trees may) [ inl was ↦ inl was | inr none ↦ absurd none ];
 }
@@ -59,6 +57,82 @@ returns-in-Err-clause-untouched g c other = record {
   crash = c.in-Err.ensures.crash.crash;
 }
 
+-- ---- not counted
+
+pub returns-in-Err-counted-clause-desk : goal.returns-in-Err-counted-clause-desk
+returns-in-Err-counted-clause-desk g c = tt
+
+pub returns-in-Err-counted-clause-in_order : goal.returns-in-Err-counted-clause-in_order
+returns-in-Err-counted-clause-in_order g c settings kept is = tt
+
+pub returns-in-Err-counted-clause-unavailable : goal.returns-in-Err-counted-clause-unavailable
+returns-in-Err-counted-clause-unavailable g c settings kept is clean =
+    let same = c.in-Ok.ensures.same (omega (arith, c.counted.ensures.first.read.clean, clean)) in
+    let even = c.in-Err-counted.ensures.first.in_order clean same.0.is_open (c.first_desk.ensures.crash.limit ∙ c.requires.unlimited)
+    is.in_order.rows (subst (λ d. HoldsFirst d is.in_order.rows) (sym same.0.now_is) is.in_order.held) tt tt in
+    subst IsUnavailability (sym c.store_fault.ensures) (unavailable_from_even c.in-Err-counted.fault (λ odd. true≢false (sym odd ∙ even)))
+
+pub returns-in-Err-counted-clause-stranger : goal.returns-in-Err-counted-clause-stranger
+returns-in-Err-counted-clause-stranger g c clean is schema s tells r first =
+    let same = c.in-Ok.ensures.same (omega (arith, c.counted.ensures.first.read.clean, clean)) in
+    let even = c.in-Err-counted.ensures.first.in_order clean same.0.is_open (c.first_desk.ensures.crash.limit ∙ c.requires.unlimited)
+    r (subst (λ d. HoldsFirst d r) (sym same.0.now_is) first) tt tt in
+    true≢false (sym (odd_from_stranger c.in-Err-counted.fault (sym c.store_fault.ensures ∙ is)) ∙ even)
+
+pub returns-in-Err-counted-clause-version : goal.returns-in-Err-counted-clause-version
+returns-in-Err-counted-clause-version g c clean is = absurd (never_version c.in-Err-counted.fault (sym c.store_fault.ensures ∙ is))
+
+pub returns-in-Err-counted-clause-other_version : goal.returns-in-Err-counted-clause-other_version
+returns-in-Err-counted-clause-other_version g c meta version s tells other clean =
+    let early : HasCleanDisk (state g.S.Store c.first_desk.new.conn) = omega (arith, c.counted.ensures.first.read.clean, clean) in
+    absurd (other (told_once _ _ _ _ _ tells (c.in-Ok.ensures.desk early).1).0)
+
+pub returns-in-Err-counted-clause-exists : goal.returns-in-Err-counted-clause-exists
+returns-in-Err-counted-clause-exists g c clean is = absurd (never_exists c.in-Err-counted.fault (sym c.store_fault.ensures ∙ is))
+
+pub returns-in-Err-counted-clause-taken : goal.returns-in-Err-counted-clause-taken
+returns-in-Err-counted-clause-taken g c meta s tells used clean =
+    let early : HasCleanDisk (state g.S.Store c.first_desk.new.conn) = omega (arith, c.counted.ensures.first.read.clean, clean) in
+    absurd (free_in_first _ (c.in-Ok.ensures.desk early).0 used)
+
+pub returns-in-Err-counted-clause-clean : goal.returns-in-Err-counted-clause-clean
+returns-in-Err-counted-clause-clean g c = tt
+
+pub returns-in-Err-counted-clause-given_back : goal.returns-in-Err-counted-clause-given_back
+returns-in-Err-counted-clause-given_back g c settings kept is =
+    let read = c.in-Err-counted.ensures.first.read in
+    let early = λ (clean : HasCleanDisk (state g.S.Store c.counted.new.conn)).
+    let e : HasCleanDisk (state g.S.Store c.first_desk.new.conn) = omega (arith, c.counted.ensures.first.read.clean, clean) in e in
+    let same = λ (clean : HasCleanDisk (state g.S.Store c.counted.new.conn)). c.in-Ok.ensures.same (early clean) in
+    let has = λ (clean : HasCleanDisk (state g.S.Store c.counted.new.conn)).
+    ap (λ (d : Database). d.schema) (same clean).0.now_is ∙ (c.in-Ok.ensures.desk (early clean)).0 in
+    record {
+      clean = omega (arith, c.first_desk.ensures.crash.clean, c.counted.ensures.first.read.clean);
+      undone = λ clean up. elim (read.leaves (has clean) (same clean).0.is_open clean) [
+        | inl still ↦ (still.0.now_is ∙ (same clean).0.now_is, still.0.committed_is ∙ (same clean).0.committed_is)
+        | inr back ↦
+            let was = back.undone up in
+            (was.0 ∙ sym (c.first_desk.ensures.settled (early clean) (same clean).0.is_open) ∙ (same clean).0.now_is, was.1 ∙ (same clean).0.committed_is)
+      ];
+      idle = c.counted.ensures.first.read.mode c.first_desk.ensures.idle;
+      crash = λ clean trees may. elim ((read.survives (has clean) (same clean).0.is_open clean).crash clean trees may) [
+        | inl mid ↦ elim (c.first_desk.ensures.crash.crash (early clean) trees mid) [ inl was ↦ inl was | inr none ↦ absurd none ]
+        | inr none ↦ absurd none
+      ];
+    }
+
+pub returns-in-Err-counted-clause-untouched : goal.returns-in-Err-counted-clause-untouched
+returns-in-Err-counted-clause-untouched g c other =
+    let never = λ (clean : HasCleanDisk (state g.S.Store c.counted.new.conn)).
+    let desk = c.in-Ok.ensures.desk (omega (arith, c.counted.ensures.first.read.clean, clean)) in
+    let e : ⊥ = other desk.0 _ desk.1 in e in
+    record {
+      clean = omega (arith, c.first_desk.ensures.crash.clean, c.counted.ensures.first.read.clean);
+      undone = λ clean up. absurd (never clean);
+      idle = c.counted.ensures.first.read.mode c.first_desk.ensures.idle;
+      crash = λ clean trees may. absurd (never clean);
+    }
+
 -- ---- not moved
 
 pub returns-in-Err-move_tables-clause-desk : goal.returns-in-Err-move_tables-clause-desk
@@ -69,32 +143,48 @@ returns-in-Err-move_tables-clause-in_order g c settings kept is = tt
 
 pub returns-in-Err-move_tables-clause-unavailable : goal.returns-in-Err-move_tables-clause-unavailable
 returns-in-Err-move_tables-clause-unavailable g c settings kept is clean =
-    let same = c.in-Ok.ensures.same (omega (arith, c.move_tables.ensures.clean, clean)) in
-    let even = c.in-Err-move_tables.ensures.in_order clean same.0.is_open (c.first_desk.ensures.crash.limit ∙ c.requires.unlimited)
-    is.in_order.rows (subst (λ d. HoldsFirst d is.in_order.rows) (sym same.0.now_is) is.in_order.held) in
-    subst IsUnavailability (sym c.store_fault.ensures) (unavailable_from_even c.in-Err-move_tables.fault (λ odd. true≢false (sym odd ∙ even)))
+    let mid = λ (clean : HasCleanDisk (state g.S.Store c.move_tables.new.conn)).
+    let e : HasCleanDisk (state g.S.Store c.counted.new.conn) = omega (arith, c.move_tables.ensures.clean, clean) in e in
+    let early = λ (clean : HasCleanDisk (state g.S.Store c.move_tables.new.conn)).
+    let e : HasCleanDisk (state g.S.Store c.first_desk.new.conn) = omega (arith, c.counted.ensures.first.read.clean, mid clean) in e in
+    let looked = λ (clean : HasCleanDisk (state g.S.Store c.move_tables.new.conn)).
+    let same = c.in-Ok.ensures.same (early clean) in
+    looked_at _ _ _ same c.first_desk.ensures.crash (c.first_desk.ensures.settled (early clean) same.0.is_open) (early clean) (mid clean)
+    (c.in-Ok.ensures.desk (early clean)).0 c.in-Ok-counted.ensures.first.read in
+    let at = looked clean in
+    let even = c.in-Err-move_tables.ensures.in_order clean at.same.0.is_open (at.limit ∙ c.requires.unlimited)
+    is.in_order.rows (subst (λ d. HoldsFirst d is.in_order.rows) (sym at.same.0.now_is) is.in_order.held) in
+    subst IsUnavailability (sym c.store_fault-in-Err-move_tables.ensures) (unavailable_from_even c.in-Err-move_tables.fault (λ odd. true≢false (sym odd ∙ even)))
 
 pub returns-in-Err-move_tables-clause-stranger : goal.returns-in-Err-move_tables-clause-stranger
 returns-in-Err-move_tables-clause-stranger g c clean is schema s tells r first =
-    let same = c.in-Ok.ensures.same (omega (arith, c.move_tables.ensures.clean, clean)) in
-    let even = c.in-Err-move_tables.ensures.in_order clean same.0.is_open (c.first_desk.ensures.crash.limit ∙ c.requires.unlimited)
-    r (subst (λ d. HoldsFirst d r) (sym same.0.now_is) first) in
-    true≢false (sym (odd_from_stranger c.in-Err-move_tables.fault (sym c.store_fault.ensures ∙ is)) ∙ even)
+    let mid = λ (clean : HasCleanDisk (state g.S.Store c.move_tables.new.conn)).
+    let e : HasCleanDisk (state g.S.Store c.counted.new.conn) = omega (arith, c.move_tables.ensures.clean, clean) in e in
+    let early = λ (clean : HasCleanDisk (state g.S.Store c.move_tables.new.conn)).
+    let e : HasCleanDisk (state g.S.Store c.first_desk.new.conn) = omega (arith, c.counted.ensures.first.read.clean, mid clean) in e in
+    let looked = λ (clean : HasCleanDisk (state g.S.Store c.move_tables.new.conn)).
+    let same = c.in-Ok.ensures.same (early clean) in
+    looked_at _ _ _ same c.first_desk.ensures.crash (c.first_desk.ensures.settled (early clean) same.0.is_open) (early clean) (mid clean)
+    (c.in-Ok.ensures.desk (early clean)).0 c.in-Ok-counted.ensures.first.read in
+    let at = looked clean in
+    let even = c.in-Err-move_tables.ensures.in_order clean at.same.0.is_open (at.limit ∙ c.requires.unlimited)
+    r (subst (λ d. HoldsFirst d r) (sym at.same.0.now_is) first) in
+    true≢false (sym (odd_from_stranger c.in-Err-move_tables.fault (sym c.store_fault-in-Err-move_tables.ensures ∙ is)) ∙ even)
 
 pub returns-in-Err-move_tables-clause-version : goal.returns-in-Err-move_tables-clause-version
-returns-in-Err-move_tables-clause-version g c clean is = absurd (never_version c.in-Err-move_tables.fault (sym c.store_fault.ensures ∙ is))
+returns-in-Err-move_tables-clause-version g c clean is = absurd (never_version c.in-Err-move_tables.fault (sym c.store_fault-in-Err-move_tables.ensures ∙ is))
 
 pub returns-in-Err-move_tables-clause-other_version : goal.returns-in-Err-move_tables-clause-other_version
 returns-in-Err-move_tables-clause-other_version g c meta version s tells other clean =
-    let early : HasCleanDisk (state g.S.Store c.first_desk.new.conn) = omega (arith, c.move_tables.ensures.clean, clean) in
+    let early : HasCleanDisk (state g.S.Store c.first_desk.new.conn) = omega (arith, c.move_tables.ensures.clean, c.counted.ensures.first.read.clean, clean) in
     absurd (other (told_once _ _ _ _ _ tells (c.in-Ok.ensures.desk early).1).0)
 
 pub returns-in-Err-move_tables-clause-exists : goal.returns-in-Err-move_tables-clause-exists
-returns-in-Err-move_tables-clause-exists g c clean is = absurd (never_exists c.in-Err-move_tables.fault (sym c.store_fault.ensures ∙ is))
+returns-in-Err-move_tables-clause-exists g c clean is = absurd (never_exists c.in-Err-move_tables.fault (sym c.store_fault-in-Err-move_tables.ensures ∙ is))
 
 pub returns-in-Err-move_tables-clause-taken : goal.returns-in-Err-move_tables-clause-taken
 returns-in-Err-move_tables-clause-taken g c meta s tells used clean =
-    let early : HasCleanDisk (state g.S.Store c.first_desk.new.conn) = omega (arith, c.move_tables.ensures.clean, clean) in
+    let early : HasCleanDisk (state g.S.Store c.first_desk.new.conn) = omega (arith, c.move_tables.ensures.clean, c.counted.ensures.first.read.clean, clean) in
     absurd (free_in_first _ (c.in-Ok.ensures.desk early).0 used)
 
 pub returns-in-Err-move_tables-clause-clean : goal.returns-in-Err-move_tables-clause-clean
@@ -102,31 +192,37 @@ returns-in-Err-move_tables-clause-clean g c = tt
 
 pub returns-in-Err-move_tables-clause-given_back : goal.returns-in-Err-move_tables-clause-given_back
 returns-in-Err-move_tables-clause-given_back g c settings kept is =
-    let moves = c.in-Err-move_tables.ensures in
+    let mid = λ (clean : HasCleanDisk (state g.S.Store c.move_tables.new.conn)).
+    let e : HasCleanDisk (state g.S.Store c.counted.new.conn) = omega (arith, c.move_tables.ensures.clean, clean) in e in
     let early = λ (clean : HasCleanDisk (state g.S.Store c.move_tables.new.conn)).
-    let e : HasCleanDisk (state g.S.Store c.first_desk.new.conn) = omega (arith, c.move_tables.ensures.clean, clean) in e in
+    let e : HasCleanDisk (state g.S.Store c.first_desk.new.conn) = omega (arith, c.counted.ensures.first.read.clean, mid clean) in e in
+    let looked = λ (clean : HasCleanDisk (state g.S.Store c.move_tables.new.conn)).
+    let same = c.in-Ok.ensures.same (early clean) in
+    looked_at _ _ _ same c.first_desk.ensures.crash (c.first_desk.ensures.settled (early clean) same.0.is_open) (early clean) (mid clean)
+    (c.in-Ok.ensures.desk (early clean)).0 c.in-Ok-counted.ensures.first.read in
+    let moves = c.in-Err-move_tables.ensures in
     record {
-      clean = omega (arith, c.first_desk.ensures.crash.clean, c.move_tables.ensures.clean);
-      held = λ clean up.
-          let same = c.in-Ok.ensures.same (early clean) in
-          let was = moves.neither clean same.0.is_open up in
-          inl (was.0 ∙ sym (c.first_desk.ensures.settled (early clean) same.0.is_open) ∙ same.0.now_is, was.1 ∙ same.0.committed_is);
+      clean = omega (arith, c.first_desk.ensures.crash.clean, c.counted.ensures.first.read.clean, c.move_tables.ensures.clean);
+      undone = λ clean up.
+          let at = looked clean in
+          let was = moves.neither clean at.same.0.is_open up in
+          (was.0 ∙ sym at.settled ∙ at.same.0.now_is, was.1 ∙ at.same.0.committed_is);
       idle = moves.mode;
       crash = λ clean trees may.
-          let same = c.in-Ok.ensures.same (early clean) in
-          elim ((moves.crash clean same.0.is_open).crash clean trees may) [
-            | inl before ↦ elim (c.first_desk.ensures.crash.crash (early clean) trees before) [ inl was ↦ inl was | inr none ↦ absurd none ]
-            | inr rows ↦ inr (moved_desk settings kept _ _ (subst (IsOfFirstSchema settings kept) (sym same.0.now_is) is) rows)
+          let at = looked clean in
+          elim ((moves.crash clean at.same.0.is_open).crash clean trees may) [
+            | inl before ↦ inl (at.crash trees before)
+            | inr rows ↦ inr (moved_desk settings kept _ _ (subst (IsOfFirstSchema settings kept) (sym at.same.0.now_is) is) rows)
           ];
     }
 
 pub returns-in-Err-move_tables-clause-untouched : goal.returns-in-Err-move_tables-clause-untouched
 returns-in-Err-move_tables-clause-untouched g c other =
     let never = λ (clean : HasCleanDisk (state g.S.Store c.move_tables.new.conn)).
-    let desk = c.in-Ok.ensures.desk (omega (arith, c.move_tables.ensures.clean, clean)) in
+    let desk = c.in-Ok.ensures.desk (omega (arith, c.move_tables.ensures.clean, c.counted.ensures.first.read.clean, clean)) in
     let e : ⊥ = other desk.0 _ desk.1 in e in
     record {
-      clean = omega (arith, c.first_desk.ensures.crash.clean, c.move_tables.ensures.clean);
+      clean = omega (arith, c.first_desk.ensures.crash.clean, c.counted.ensures.first.read.clean, c.move_tables.ensures.clean);
       undone = λ clean up. absurd (never clean);
       idle = c.move_tables.ensures.mode;
       crash = λ clean trees may. absurd (never clean);
@@ -135,94 +231,66 @@ returns-in-Err-move_tables-clause-untouched g c other =
 -- ---- moved
 
 pub returns-in-Ok-move_tables-clause-desk : goal.returns-in-Ok-move_tables-clause-desk
-returns-in-Ok-move_tables-clause-desk g c = if_adopted _ _ _ _ _ c.adopt.ensures (λ t is sound.
-    let early : HasCleanDisk (state g.S.Store c.first_desk.new.conn) = omega (arith, c.move_tables.ensures.clean, is.clean, sound) in
-    let desk = c.in-Ok.ensures.desk early in
-    (desk.0, subst (TellsMeta _ (pos 1)) (sym is.configuration) desk.1))
+returns-in-Ok-move_tables-clause-desk g c = rw c.over.ensures (λ sound.
+    c.in-Ok.ensures.desk (omega (arith, c.move_tables.ensures.clean, c.counted.ensures.first.read.clean, sound)))
 
 pub returns-in-Ok-move_tables-clause-in_order : goal.returns-in-Ok-move_tables-clause-in_order
-returns-in-Ok-move_tables-clause-in_order g c settings kept is = if_adopted _ _ _ _ _ c.adopt.ensures (λ t over sound.
-    let mid : HasCleanDisk (state g.S.Store c.move_tables.new.conn) = omega (arith, over.clean, sound) in
-    let early : HasCleanDisk (state g.S.Store c.first_desk.new.conn) = omega (arith, c.move_tables.ensures.clean, mid) in
-    let same = c.in-Ok.ensures.same early in
-    let told = (told_once _ _ _ _ _ (c.in-Ok.ensures.desk early).1 (first_tells settings kept _ is)).1 in
-    let desk = moved_desk settings kept _ _ (subst (IsOfFirstSchema settings kept) (sym same.0.now_is) is) (c.in-Ok-move_tables.ensures.made mid same.0.is_open) in
-    let ready = ready_moved _ _ c.in-Ok-move_tables.ensures mid same.0.is_open desk.in_order.rows desk.in_order.held in
-    subst (λ s. IsStore (meaning_of g.S.Store) t s kept) told
-    (over.holds sound ready kept (subst (λ s. IsOfDesk s kept (state g.S.Store c.move_tables.new.conn).now) (sym told) desk)))
+returns-in-Ok-move_tables-clause-in_order g c settings kept is = rw c.over.ensures (λ sound.
+    let mid = λ (clean : HasCleanDisk (state g.S.Store c.move_tables.new.conn)).
+    let e : HasCleanDisk (state g.S.Store c.counted.new.conn) = omega (arith, c.move_tables.ensures.clean, clean) in e in
+    let early = λ (clean : HasCleanDisk (state g.S.Store c.move_tables.new.conn)).
+    let e : HasCleanDisk (state g.S.Store c.first_desk.new.conn) = omega (arith, c.counted.ensures.first.read.clean, mid clean) in e in
+    let looked = λ (clean : HasCleanDisk (state g.S.Store c.move_tables.new.conn)).
+    let same = c.in-Ok.ensures.same (early clean) in
+    looked_at _ _ _ same c.first_desk.ensures.crash (c.first_desk.ensures.settled (early clean) same.0.is_open) (early clean) (mid clean)
+    (c.in-Ok.ensures.desk (early clean)).0 c.in-Ok-counted.ensures.first.read in
+    let at = looked sound in
+    let told = (told_once _ _ _ _ _ (c.in-Ok.ensures.desk (early sound)).1 (first_tells settings kept _ is)).1 in
+    let first = subst (IsOfFirstSchema settings kept) (sym at.same.0.now_is) is in
+    let made = c.in-Ok-move_tables.ensures.made sound at.same.0.is_open in
+    let desk = moved_desk settings kept _ _ first made in
+    let ready = ready_moved _ _ c.in-Ok-move_tables.ensures sound at.same.0.is_open desk.in_order.rows desk.in_order.held in
+    let same = c.in-Ok.ensures.same (early sound) in
+    let counts = c.in-Ok-counted.ensures.first.told (mid sound) same.0.is_open first.in_order.rows
+    (subst (λ d. HoldsFirst d first.in_order.rows) (at.same.0.now_is ∙ sym same.0.now_is) first.in_order.held) tt in
+    record {
+      configuration = told;
+      up = refl;
+      known = refl;
+      holds = λ up. stands g.S.Store _ settings kept _
+          (record {
+            open_still = ready.is_open;
+            autocommit = c.move_tables.ensures.mode;
+            committed = ready.committed;
+            unlimited = c.move_tables.ensures.limit ∙ at.limit ∙ c.requires.unlimited;
+          })
+          told refl desk (subst (λ r. AreCounted r c.in-Ok-counted.counted) (sym (moved_rows settings kept _ _ first made)) counts);
+    })
 
 pub returns-in-Ok-move_tables-clause-version : goal.returns-in-Ok-move_tables-clause-version
-returns-in-Ok-move_tables-clause-version g c = if_not_adopted _ _ _ _ _ c.adopt.ensures (λ back not clean is. absurd (not.version is))
+returns-in-Ok-move_tables-clause-version g c = tt
 
 pub returns-in-Ok-move_tables-clause-exists : goal.returns-in-Ok-move_tables-clause-exists
-returns-in-Ok-move_tables-clause-exists g c = if_not_adopted _ _ _ _ _ c.adopt.ensures (λ back not clean is. absurd (not.never is))
+returns-in-Ok-move_tables-clause-exists g c = tt
 
 pub returns-in-Ok-move_tables-clause-clean : goal.returns-in-Ok-move_tables-clause-clean
-returns-in-Ok-move_tables-clause-clean g c = if_adopted _ _ _ _ _ c.adopt.ensures (λ t is sound.
-    omega (arith, c.first_desk.ensures.crash.clean, c.move_tables.ensures.clean, is.clean, sound))
+returns-in-Ok-move_tables-clause-clean g c = rw c.over.ensures (λ sound.
+    omega (arith, c.first_desk.ensures.crash.clean, c.counted.ensures.first.read.clean, c.move_tables.ensures.clean, sound))
 
 pub returns-in-Ok-move_tables-clause-unavailable : goal.returns-in-Ok-move_tables-clause-unavailable
-returns-in-Ok-move_tables-clause-unavailable g c settings kept is = if_not_adopted _ _ _ _ _ c.adopt.ensures (λ back not clean.
-    let mid : HasCleanDisk (state g.S.Store c.move_tables.new.conn) = omega (arith, not.clean, clean) in
-    let same = c.in-Ok.ensures.same (omega (arith, c.move_tables.ensures.clean, mid)) in
-    let has = c.in-Ok-move_tables.ensures.made mid same.0.is_open is.in_order.rows (subst (λ d. HoldsFirst d is.in_order.rows) (sym same.0.now_is) is.in_order.held) in
-    not.in_order clean (ready_moved _ _ c.in-Ok-move_tables.ensures mid same.0.is_open is.in_order.rows has) is.in_order.rows has)
+returns-in-Ok-move_tables-clause-unavailable g c settings kept is = tt
 
 pub returns-in-Ok-move_tables-clause-stranger : goal.returns-in-Ok-move_tables-clause-stranger
-returns-in-Ok-move_tables-clause-stranger g c = if_not_adopted _ _ _ _ _ c.adopt.ensures (λ back not clean is schema s tells r first.
-    let mid : HasCleanDisk (state g.S.Store c.move_tables.new.conn) = omega (arith, not.clean, clean) in
-    let same = c.in-Ok.ensures.same (omega (arith, c.move_tables.ensures.clean, mid)) in
-    let has = c.in-Ok-move_tables.ensures.made mid same.0.is_open r (subst (λ d. HoldsFirst d r) (sym same.0.now_is) first) in
-    subst IsUnavailability is (not.in_order clean (ready_moved _ _ c.in-Ok-move_tables.ensures mid same.0.is_open r has) r has))
+returns-in-Ok-move_tables-clause-stranger g c = tt
 
 pub returns-in-Ok-move_tables-clause-other_version : goal.returns-in-Ok-move_tables-clause-other_version
-returns-in-Ok-move_tables-clause-other_version g c meta version s tells other = if_not_adopted _ _ _ _ _ c.adopt.ensures (λ back not clean.
-    let mid : HasCleanDisk (state g.S.Store c.move_tables.new.conn) = omega (arith, not.clean, clean) in
-    let desk = c.in-Ok.ensures.desk (omega (arith, c.move_tables.ensures.clean, mid)) in
-    absurd (other (told_once _ _ _ _ _ tells desk.1).0))
+returns-in-Ok-move_tables-clause-other_version g c meta version s tells other = tt
 
 pub returns-in-Ok-move_tables-clause-taken : goal.returns-in-Ok-move_tables-clause-taken
-returns-in-Ok-move_tables-clause-taken g c meta s tells used = if_not_adopted _ _ _ _ _ c.adopt.ensures (λ back not clean.
-    let mid : HasCleanDisk (state g.S.Store c.move_tables.new.conn) = omega (arith, not.clean, clean) in
-    let desk = c.in-Ok.ensures.desk (omega (arith, c.move_tables.ensures.clean, mid)) in
-    absurd (free_in_first _ desk.0 used))
+returns-in-Ok-move_tables-clause-taken g c meta s tells used = tt
 
 pub returns-in-Ok-move_tables-clause-given_back : goal.returns-in-Ok-move_tables-clause-given_back
-returns-in-Ok-move_tables-clause-given_back g c settings kept is = if_not_adopted _ _ _ _ _ c.adopt.ensures (λ back not.
-    let new = state g.S.Store back.1 in
-    let moves = c.in-Ok-move_tables.ensures in
-    let mid = λ (clean : HasCleanDisk new). let e : HasCleanDisk (state g.S.Store c.move_tables.new.conn) = omega (arith, not.clean, clean) in e in
-    let early = λ (clean : HasCleanDisk new).
-    let e : HasCleanDisk (state g.S.Store c.first_desk.new.conn) = omega (arith, c.move_tables.ensures.clean, mid clean) in e in
-    let same = λ (clean : HasCleanDisk new). c.in-Ok.ensures.same (early clean) in
-    let first = λ (clean : HasCleanDisk new). subst (IsOfFirstSchema settings kept) (sym (same clean).0.now_is) is in
-    let desk = λ (clean : HasCleanDisk new). moved_desk settings kept _ _ (first clean) (moves.made (mid clean) (same clean).0.is_open) in
-    let stays = λ (clean : HasCleanDisk new). not.stays clean
-    (ready_moved _ _ moves (mid clean) (same clean).0.is_open (desk clean).in_order.rows (desk clean).in_order.held) in
-    record {
-      clean = omega (arith, c.first_desk.ensures.crash.clean, c.move_tables.ensures.clean, not.clean);
-      held = λ clean up.
-          let was = (stays clean).undone clean up in
-          inr (subst (IsOfDesk settings kept) (sym was.0) (desk clean), was.1 ∙ moves.committed (mid clean) (same clean).0.is_open ∙ sym was.0);
-      idle = not.idle;
-      crash = λ clean trees may. elim ((stays clean).crash clean trees may) [
-        | inl before ↦ elim ((moves.crash (mid clean) (same clean).0.is_open).crash (mid clean) trees before) [
-          | inl still ↦ elim (c.first_desk.ensures.crash.crash (early clean) trees still) [ inl was ↦ inl was | inr none ↦ absurd none ]
-          | inr rows ↦ inr (moved_desk settings kept _ _ (first clean) rows)
-        ]
-        | inr none ↦ absurd none
-      ];
-    })
+returns-in-Ok-move_tables-clause-given_back g c settings kept is = tt
 
 pub returns-in-Ok-move_tables-clause-untouched : goal.returns-in-Ok-move_tables-clause-untouched
-returns-in-Ok-move_tables-clause-untouched g c other = if_not_adopted _ _ _ _ _ c.adopt.ensures (λ back not.
-    let never = λ (clean : HasCleanDisk (state g.S.Store back.1)).
-    let mid : HasCleanDisk (state g.S.Store c.move_tables.new.conn) = omega (arith, not.clean, clean) in
-    let desk = c.in-Ok.ensures.desk (omega (arith, c.move_tables.ensures.clean, mid)) in
-    let e : ⊥ = other desk.0 _ desk.1 in e in
-    record {
-      clean = omega (arith, c.first_desk.ensures.crash.clean, c.move_tables.ensures.clean, not.clean);
-      undone = λ clean up. absurd (never clean);
-      idle = not.idle;
-      crash = λ clean trees may. absurd (never clean);
-    })
+returns-in-Ok-move_tables-clause-untouched g c other = tt
