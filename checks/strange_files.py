@@ -13,6 +13,9 @@ a view of it has a name of the desk's, in other letters.
 And a desk's file of which one value is out of its range, in the columns that messages and reports read: a message or a
 report that needs the row finds no desk, and leaves all rows as they are.
 
+`desk migrate` gets files of schema 1 that are changed so that it can't move them, the numbers by which it counts their
+rows among it: it tells why, and the file is as it was.
+
 The program is `./desk`, which is proved and built first where it isn't current, or with --program the built one in
 FILE.
 """
@@ -44,6 +47,18 @@ CHANGED = [
     ("a receiver that is no name", "UPDATE meta SET receiver = 'the desk'", NOT_A_DESK),
     ("a table more", "CREATE TABLE note (id INTEGER PRIMARY KEY) STRICT", NOT_A_DESK),
     ("another version and a table more", "UPDATE meta SET version = 7; CREATE TABLE note (id INTEGER) STRICT", SCHEMA),
+]
+
+# what sqlite3 does to a file of schema 1 that has heard messages, and what `migrate` tells of it then
+UNMOVED = [
+    ("a table `band_limit`", "CREATE TABLE band_limit (id INTEGER PRIMARY KEY)", EXISTS),
+    ("a table more", "CREATE TABLE note (id INTEGER PRIMARY KEY) STRICT", NOT_A_DESK),
+    ("no row of meta", "DELETE FROM meta", NOT_A_DESK),
+    ("version 7", "UPDATE meta SET version = 7", SCHEMA),
+    ("a reply with another number", "UPDATE reply SET seq = -seq", NOT_A_DESK),
+    ("a session with another number", "UPDATE session SET number = -number", NOT_A_DESK),
+    ("an uplink with another number", "UPDATE uplink SET number = -number", NOT_A_DESK),
+    ("a booking with another number", "UPDATE booking SET number = -number", NOT_A_DESK),
 ]
 
 # what is in somebody's database beside its table, and what `init` tells of it
@@ -161,11 +176,26 @@ def asked(program, file, needs):
     return subprocess.run([program, *words], cwd=file.parent, input=text, capture_output=True, text=True)
 
 
-def out_of_range(program, folder):
-    whole, file = Path(folder) / "whole.db", Path(folder) / "town.db"
+def heard(program, folder):
+    """A desk's file that has heard messages."""
+    whole = Path(folder) / "whole.db"
     subprocess.run([program, "init", whole], check=True)
     lines = "".join((ROOT / "examples" / name).read_text() for name in HEARD)
     subprocess.run([program, "hear", whole], input=lines, stdout=subprocess.DEVNULL, check=True, text=True)
+    return whole
+
+
+def unmoved(program, whole, folder):
+    file = Path(folder) / "town.db"
+    for what, change, wanted in UNMOVED:
+        removed(file)
+        copy_to(whole, file)
+        execute(file, f"{TO_SCHEMA_1}; {change}")
+        refused(program, [["migrate", "town.db"]], f"of schema 1, {what}", file, wanted)
+
+
+def out_of_range(program, whole, folder):
+    file = Path(folder) / "town.db"
     for change, needs in OUT_OF_RANGE:
         removed(file)
         copy_to(whole, file)
@@ -208,8 +238,9 @@ def main():
             subprocess.run([program, "init", file], check=True)
             execute(file, text)
             refused(program, commands, what, file, wanted)
-        removed(file)
-        out_of_range(program, folder)
+        whole = heard(program, folder)
+        unmoved(program, whole, folder)
+        out_of_range(program, whole, folder)
 
 
 if __name__ == "__main__":

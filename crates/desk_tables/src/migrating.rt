@@ -112,6 +112,8 @@ impl<S: Alter> Tables<S> {
         ensures taken { HasMeta conn.schema → (c : Settings) → TellsMeta (state S.Store conn).now.trees (pos 1) c → IsTrue (is_used conn.schema limit_name)
             → IfErr result (λ back. HasCleanDisk (state S.Store back.1) → (back.0 ≡ Exists) ⊎ IsUnavailability back.0) }
         ensures clean { IfOk result (λ t. (meaning_of S.Store).sound t → HasCleanDisk (state S.Store conn)) }
+        ensures undone { IfErr result (λ back. HasCleanDisk (state S.Store back.1) → IsTrue (state S.Store back.1).is_open
+            → ((state S.Store back.1).now ≡ (state S.Store conn).now) × ((state S.Store back.1).committed ≡ (state S.Store conn).committed)) }
         ensures given_back { (c : Settings) (kept : Kept) → IsOfFirstSchema c kept (state S.Store conn).now
             → IfErr result (λ back. IsGivenBack (state S.Store conn) (state S.Store back.1) (AreOfDesk c kept)) }
         ensures untouched { (conn.schema ≡ first_schema → (c : Settings) → ¬ TellsMeta (state S.Store conn).now.trees (pos 1) c)

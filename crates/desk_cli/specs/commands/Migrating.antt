@@ -44,12 +44,15 @@ pub record HasHeardInFirst (c : Settings) (heard : List Envelope) (db : Database
 abbrev pub IsOfVersion : {S : Type 0} → Ghosts S → Held S → ℤ → Type 0
 IsOfVersion g conn version = HasMeta conn.schema × ((c : Settings) × TellsMeta (state g conn).now.trees version c)
 
--- Of a file of schema 1: with status 0 it has schema 2 and keeps all that was heard, and else memory or the disk failed, all is as it
--- was, and a crash leaves what it left before or the tables moved. Of any file: the schema is told of a desk of another version than 1 alone, and that
--- something exists where the name of the table that is to be made is taken; what is no desk's of version 1 is given back as it was.
+-- Of a file of schema 1: with status 0 it has schema 2 and keeps all that was heard, and else memory or the disk failed, and a crash
+-- leaves what it left before or the tables moved. Of any file: with another status all is as it was, while the connection is open;
+-- the schema is told of a desk of another version than 1 alone, and that something exists where the name of the table that is to be
+-- made is taken; what is no desk's of version 1 is given back as it was.
 pub record MigratesBy {S : Type 0} (g : Ghosts S) (conn back : Held S) {T : Type 0} (result : Result T Fault) : Type 0 where
   pub moved : (c : Settings) (heard : List Envelope) → HasHeardInFirst c heard (state g conn).now → OnOk result (HasCleanDisk (state g back) → KeepsHeard g back c heard)
   pub unavailable : (c : Settings) (heard : List Envelope) → HasHeardInFirst c heard (state g conn).now → OnErr result (HasCleanDisk (state g back) → result ≡ Err Unavailable)
+  pub undone : OnErr result (HasCleanDisk (state g back) → IsTrue (state g back).is_open
+      → ((state g back).now ≡ (state g conn).now) × ((state g back).committed ≡ (state g conn).committed))
   pub given_back : (c : Settings) (heard : List Envelope) → HasHeardInFirst c heard (state g conn).now
       → OnErr result (IsGivenBack (state g conn) (state g back) (AreOfDesk c (kept_after c heard)))
   pub first : OnOk result (HasCleanDisk (state g back) → (conn.schema ≡ first_schema) × IsOfVersion g conn (pos 1))

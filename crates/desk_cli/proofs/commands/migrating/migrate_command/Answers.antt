@@ -19,6 +19,7 @@ returns-in-Ok g c = record {
       keeps _ config heard c.in-Ok.tables c.in-Ok.tables was refl c.close.result g.met.S.Store.settled sound sound c.close.ensures.left c.close.ensures.in_order heard
       (stays _ _ _ _ (was_in_order _ config heard c.in-Ok.tables c.in-Ok.tables was sound));
   unavailable = λ config heard has. tt;
+  undone = tt;
   given_back = λ config heard has. tt;
   first = λ clean.
       let desk = c.in-Ok.ensures.desk (c.close.ensures.sound clean) in
@@ -35,6 +36,7 @@ pub returns-in-Err : goal.returns-in-Err
 returns-in-Err g c = record {
   moved = λ config heard has. tt;
   unavailable = λ config heard has clean. ap Err (c.into.ensures ∙ is_unavailable c.in-Err.fault (c.in-Err.ensures.unavailable config (kept_after config heard) has.tables clean));
+  undone = c.in-Err.ensures.undone;
   given_back = λ config heard has. c.in-Err.ensures.given_back config (kept_after config heard) has.tables;
   first = tt;
   told = store_told c.in-Err.fault c.into.result c.into.ensures;

@@ -41,6 +41,9 @@ returns-in-Err-clause-exists g c clean is = c.in-Err.ensures.exists clean (faile
 pub returns-in-Err-clause-clean : goal.returns-in-Err-clause-clean
 returns-in-Err-clause-clean g c = tt
 
+pub returns-in-Err-clause-undone : goal.returns-in-Err-clause-undone
+returns-in-Err-clause-undone g c = c.in-Err.ensures.undone
+
 pub returns-in-Err-clause-given_back : goal.returns-in-Err-clause-given_back
 returns-in-Err-clause-given_back g c settings kept is = record {
   clean = c.in-Err.ensures.crash.clean;
@@ -98,28 +101,32 @@ returns-in-Err-counted-clause-taken g c meta s tells used clean =
 pub returns-in-Err-counted-clause-clean : goal.returns-in-Err-counted-clause-clean
 returns-in-Err-counted-clause-clean g c = tt
 
+pub returns-in-Err-counted-clause-undone : goal.returns-in-Err-counted-clause-undone
+returns-in-Err-counted-clause-undone g c clean up =
+    let early : HasCleanDisk (state g.S.Store c.first_desk.new.conn) = omega (arith, c.counted.ensures.first.read.clean, clean) in
+    let same = c.in-Ok.ensures.same early in
+    let has = ap (λ (d : Database). d.schema) same.0.now_is ∙ (c.in-Ok.ensures.desk early).0 in
+    elim (c.in-Err-counted.ensures.first.read.leaves has same.0.is_open clean) [
+      | inl still ↦ (still.0.now_is ∙ same.0.now_is, still.0.committed_is ∙ same.0.committed_is)
+      | inr back ↦
+          let was = back.undone up in
+          (was.0 ∙ sym (c.first_desk.ensures.settled early same.0.is_open) ∙ same.0.now_is, was.1 ∙ same.0.committed_is)
+    ]
+
 pub returns-in-Err-counted-clause-given_back : goal.returns-in-Err-counted-clause-given_back
-returns-in-Err-counted-clause-given_back g c settings kept is =
-    let read = c.in-Err-counted.ensures.first.read in
-    let early = λ (clean : HasCleanDisk (state g.S.Store c.counted.new.conn)).
-    let e : HasCleanDisk (state g.S.Store c.first_desk.new.conn) = omega (arith, c.counted.ensures.first.read.clean, clean) in e in
-    let same = λ (clean : HasCleanDisk (state g.S.Store c.counted.new.conn)). c.in-Ok.ensures.same (early clean) in
-    let has = λ (clean : HasCleanDisk (state g.S.Store c.counted.new.conn)).
-    ap (λ (d : Database). d.schema) (same clean).0.now_is ∙ (c.in-Ok.ensures.desk (early clean)).0 in
-    record {
-      clean = omega (arith, c.first_desk.ensures.crash.clean, c.counted.ensures.first.read.clean);
-      undone = λ clean up. elim (read.leaves (has clean) (same clean).0.is_open clean) [
-        | inl still ↦ (still.0.now_is ∙ (same clean).0.now_is, still.0.committed_is ∙ (same clean).0.committed_is)
-        | inr back ↦
-            let was = back.undone up in
-            (was.0 ∙ sym (c.first_desk.ensures.settled (early clean) (same clean).0.is_open) ∙ (same clean).0.now_is, was.1 ∙ (same clean).0.committed_is)
-      ];
-      idle = c.counted.ensures.first.read.mode c.first_desk.ensures.idle;
-      crash = λ clean trees may. elim ((read.survives (has clean) (same clean).0.is_open clean).crash clean trees may) [
-        | inl mid ↦ elim (c.first_desk.ensures.crash.crash (early clean) trees mid) [ inl was ↦ inl was | inr none ↦ absurd none ]
+returns-in-Err-counted-clause-given_back g c settings kept is = record {
+  clean = omega (arith, c.first_desk.ensures.crash.clean, c.counted.ensures.first.read.clean);
+  undone = returns-in-Err-counted-clause-undone g c;
+  idle = c.counted.ensures.first.read.mode c.first_desk.ensures.idle;
+  crash = λ clean trees may.
+      let early : HasCleanDisk (state g.S.Store c.first_desk.new.conn) = omega (arith, c.counted.ensures.first.read.clean, clean) in
+      let same = c.in-Ok.ensures.same early in
+      let has = ap (λ (d : Database). d.schema) same.0.now_is ∙ (c.in-Ok.ensures.desk early).0 in
+      elim ((c.in-Err-counted.ensures.first.read.survives has same.0.is_open clean).crash clean trees may) [
+        | inl mid ↦ elim (c.first_desk.ensures.crash.crash early trees mid) [ inl was ↦ inl was | inr none ↦ absurd none ]
         | inr none ↦ absurd none
       ];
-    }
+}
 
 pub returns-in-Err-counted-clause-untouched : goal.returns-in-Err-counted-clause-untouched
 returns-in-Err-counted-clause-untouched g c other =
@@ -190,6 +197,20 @@ returns-in-Err-move_tables-clause-taken g c meta s tells used clean =
 pub returns-in-Err-move_tables-clause-clean : goal.returns-in-Err-move_tables-clause-clean
 returns-in-Err-move_tables-clause-clean g c = tt
 
+pub returns-in-Err-move_tables-clause-undone : goal.returns-in-Err-move_tables-clause-undone
+returns-in-Err-move_tables-clause-undone g c clean up =
+    let mid = λ (clean : HasCleanDisk (state g.S.Store c.move_tables.new.conn)).
+    let e : HasCleanDisk (state g.S.Store c.counted.new.conn) = omega (arith, c.move_tables.ensures.clean, clean) in e in
+    let early = λ (clean : HasCleanDisk (state g.S.Store c.move_tables.new.conn)).
+    let e : HasCleanDisk (state g.S.Store c.first_desk.new.conn) = omega (arith, c.counted.ensures.first.read.clean, mid clean) in e in
+    let looked = λ (clean : HasCleanDisk (state g.S.Store c.move_tables.new.conn)).
+    let same = c.in-Ok.ensures.same (early clean) in
+    looked_at _ _ _ same c.first_desk.ensures.crash (c.first_desk.ensures.settled (early clean) same.0.is_open) (early clean) (mid clean)
+    (c.in-Ok.ensures.desk (early clean)).0 c.in-Ok-counted.ensures.first.read in
+    let at = looked clean in
+    let was = c.in-Err-move_tables.ensures.neither clean at.same.0.is_open up in
+    (was.0 ∙ sym at.settled ∙ at.same.0.now_is, was.1 ∙ at.same.0.committed_is)
+
 pub returns-in-Err-move_tables-clause-given_back : goal.returns-in-Err-move_tables-clause-given_back
 returns-in-Err-move_tables-clause-given_back g c settings kept is =
     let mid = λ (clean : HasCleanDisk (state g.S.Store c.move_tables.new.conn)).
@@ -203,10 +224,7 @@ returns-in-Err-move_tables-clause-given_back g c settings kept is =
     let moves = c.in-Err-move_tables.ensures in
     record {
       clean = omega (arith, c.first_desk.ensures.crash.clean, c.counted.ensures.first.read.clean, c.move_tables.ensures.clean);
-      undone = λ clean up.
-          let at = looked clean in
-          let was = moves.neither clean at.same.0.is_open up in
-          (was.0 ∙ sym at.settled ∙ at.same.0.now_is, was.1 ∙ at.same.0.committed_is);
+      undone = returns-in-Err-move_tables-clause-undone g c;
       idle = moves.mode;
       crash = λ clean trees may.
           let at = looked clean in
@@ -288,6 +306,9 @@ returns-in-Ok-move_tables-clause-other_version g c meta version s tells other = 
 
 pub returns-in-Ok-move_tables-clause-taken : goal.returns-in-Ok-move_tables-clause-taken
 returns-in-Ok-move_tables-clause-taken g c meta s tells used = tt
+
+pub returns-in-Ok-move_tables-clause-undone : goal.returns-in-Ok-move_tables-clause-undone
+returns-in-Ok-move_tables-clause-undone g c = tt
 
 pub returns-in-Ok-move_tables-clause-given_back : goal.returns-in-Ok-move_tables-clause-given_back
 returns-in-Ok-move_tables-clause-given_back g c settings kept is = tt
