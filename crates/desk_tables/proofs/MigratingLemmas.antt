@@ -1,5 +1,5 @@
 -- A desk whose tables are moved from schema 1 to schema 2.
-use Rattle.std.proofs.Common.{◌≡◌, ◌∙◌, pos, Ok, IsTrue, inl, inr, true, refl, sym, ap, subst, true≢false}
+use Rattle.std.proofs.Common.{◌≡◌, ◌≤◌, ◌∙◌, arith, pos, Ok, IsTrue, inl, inr, true, refl, sym, ap, subst, true≢false}
 use Rattle.registry_core.specs.Settings.{Settings}
 use Rattle.sqlite_schema.specs.declared.schema.Schema.{Schema}
 use Rattle.sqlite_schema.specs.Names.{same_name}
@@ -8,6 +8,7 @@ use Rattle.sqlite.specs.Effect.{Database}
 use Rattle.sqlite.specs.State.{State, HasCleanDisk, IsUnchanged, Survives}
 use Rattle.sqlite.proofs.Callers.{unchanged_then}
 use Rattle.sqlite_trees.specs.Tree.{Trees}
+use Rattle.sqlite_trees.specs.View.{doubt}
 use Rattle.desk_store.specs.Kept.{Kept}
 use Rattle.desk_rows.specs.Calls.{IsReadingCallOf}
 use Rattle.desk_rows.specs.Meta.{HasMeta, IsConfig, TellsMeta}
@@ -66,17 +67,22 @@ pub record IsLookedAt (old new : State) : Type 0 where
   pub settled : new.now ≡ new.committed
   pub crash : (trees : Trees) → new.may_leave trees → old.may_leave trees
 
-pub looked_at : (a b c : State) → IsUnchanged a b → Survives a b (λ _. ⊥) → b.now ≡ b.committed → HasCleanDisk b → HasCleanDisk c → a.now.schema ≡ first_schema
-    → IsReadingCallOf first_schema b c true → IsLookedAt a c
-looked_at a b c first survives settled early clean schema read =
-    let has : b.now.schema ≡ first_schema = ap (λ (d : Database). d.schema) first.0.now_is ∙ schema in
-    let second = read.leaves has first.0.is_open clean in
-    let after = read.survives has first.0.is_open clean in
+-- it was looked at the row of meta and the schema, then counted, and what came after found no fault of the disk
+pub looked_before : (old first counted after : State) → (HasCleanDisk first → IsUnchanged old first) → Survives old first (λ _. ⊥)
+    → (HasCleanDisk first → IsTrue first.is_open → first.now ≡ first.committed) → (HasCleanDisk first → old.now.schema ≡ first_schema)
+    → IsReadingCallOf first_schema first counted true → doubt counted.is_clean ≤ doubt after.is_clean → HasCleanDisk after → IsLookedAt old counted
+looked_before old first counted after same survives settled schema read later clean =
+    let mid : HasCleanDisk counted = omega (arith, later, clean) in
+    let early : HasCleanDisk first = omega (arith, read.clean, mid) in
+    let still = same early in
+    let has : first.now.schema ≡ first_schema = ap (λ (d : Database). d.schema) still.0.now_is ∙ schema early in
+    let second = read.leaves has still.0.is_open mid in
+    let stays = read.survives has still.0.is_open mid in
     record {
-      same = unchanged_then a b c first second;
-      limit = after.limit ∙ survives.limit;
-      settled = second.0.now_is ∙ settled ∙ sym second.0.committed_is;
-      crash = λ trees may. elim (after.crash clean trees may) [
+      same = unchanged_then old first counted still second;
+      limit = stays.limit ∙ survives.limit;
+      settled = second.0.now_is ∙ settled early still.0.is_open ∙ sym second.0.committed_is;
+      crash = λ trees may. elim (stays.crash mid trees may) [
         | inl was ↦ elim (survives.crash early trees was) [ inl before ↦ before | inr none ↦ absurd none ]
         | inr none ↦ absurd none
       ];

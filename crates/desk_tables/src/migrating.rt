@@ -88,7 +88,7 @@ impl<S: Alter> Tables<S> {
     /// The desk whose tables of schema 1 the database holds, moved to schema 2 with all that it holds; or the connection, beside
     /// why there is none: `NotADesk` where the row of meta isn't a desk's, `SchemaVersion` where that row tells another version
     /// than 1, then `Exists` where the name of the table that schema 1 lacks is taken, and `NotADesk` where the rest of the schema
-    /// isn't schema 1, or a row has none of its numbers. Then nothing is changed, whatever the fault.
+    /// isn't schema 1, or the last number of a table is out of its range. With each fault nothing is changed.
     pub fn migrate(
         alloc: Global,
         conn: Connection<S>,

@@ -7,7 +7,7 @@ use Rattle.desk_rows.specs.Migrating.{HoldsFirst}
 use Rattle.desk_tables.specs.Migrating.{IsOfFirstSchema}
 use Rattle.desk_tables.specs.steps.Counting.{AreCounted}
 use Rattle.desk_tables.proofs.AdoptingLemmas.{stands}
-use Rattle.desk_tables.proofs.MigratingLemmas.{first_tells, free_in_first, looked_at, moved_desk, moved_rows, ready_moved}
+use Rattle.desk_tables.proofs.MigratingLemmas.{first_tells, free_in_first, looked_before, moved_desk, moved_rows, ready_moved}
 use Rattle.desk_tables.proofs.OpeningLemmas.{failed_as, never_exists, never_version, odd_from_stranger, told_once, unavailable_from_even}
 use Rattle.desk_tables.proofs.tables.Tables.migrate.Goals as goal
 
@@ -150,30 +150,16 @@ returns-in-Err-move_tables-clause-in_order g c settings kept is = tt
 
 pub returns-in-Err-move_tables-clause-unavailable : goal.returns-in-Err-move_tables-clause-unavailable
 returns-in-Err-move_tables-clause-unavailable g c settings kept is clean =
-    let mid = λ (clean : HasCleanDisk (state g.S.Store c.move_tables.new.conn)).
-    let e : HasCleanDisk (state g.S.Store c.counted.new.conn) = omega (arith, c.move_tables.ensures.clean, clean) in e in
-    let early = λ (clean : HasCleanDisk (state g.S.Store c.move_tables.new.conn)).
-    let e : HasCleanDisk (state g.S.Store c.first_desk.new.conn) = omega (arith, c.counted.ensures.first.read.clean, mid clean) in e in
-    let looked = λ (clean : HasCleanDisk (state g.S.Store c.move_tables.new.conn)).
-    let same = c.in-Ok.ensures.same (early clean) in
-    looked_at _ _ _ same c.first_desk.ensures.crash (c.first_desk.ensures.settled (early clean) same.0.is_open) (early clean) (mid clean)
-    (c.in-Ok.ensures.desk (early clean)).0 c.in-Ok-counted.ensures.first.read in
-    let at = looked clean in
+    let at = looked_before _ (state g.S.Store c.first_desk.new.conn) _ (state g.S.Store c.move_tables.new.conn)
+    c.in-Ok.ensures.same c.first_desk.ensures.crash c.first_desk.ensures.settled (λ early. (c.in-Ok.ensures.desk early).0) c.in-Ok-counted.ensures.first.read c.move_tables.ensures.clean clean in
     let even = c.in-Err-move_tables.ensures.in_order clean at.same.0.is_open (at.limit ∙ c.requires.unlimited)
     is.in_order.rows (subst (λ d. HoldsFirst d is.in_order.rows) (sym at.same.0.now_is) is.in_order.held) in
     subst IsUnavailability (sym c.store_fault-in-Err-move_tables.ensures) (unavailable_from_even c.in-Err-move_tables.fault (λ odd. true≢false (sym odd ∙ even)))
 
 pub returns-in-Err-move_tables-clause-stranger : goal.returns-in-Err-move_tables-clause-stranger
 returns-in-Err-move_tables-clause-stranger g c clean is schema s tells r first =
-    let mid = λ (clean : HasCleanDisk (state g.S.Store c.move_tables.new.conn)).
-    let e : HasCleanDisk (state g.S.Store c.counted.new.conn) = omega (arith, c.move_tables.ensures.clean, clean) in e in
-    let early = λ (clean : HasCleanDisk (state g.S.Store c.move_tables.new.conn)).
-    let e : HasCleanDisk (state g.S.Store c.first_desk.new.conn) = omega (arith, c.counted.ensures.first.read.clean, mid clean) in e in
-    let looked = λ (clean : HasCleanDisk (state g.S.Store c.move_tables.new.conn)).
-    let same = c.in-Ok.ensures.same (early clean) in
-    looked_at _ _ _ same c.first_desk.ensures.crash (c.first_desk.ensures.settled (early clean) same.0.is_open) (early clean) (mid clean)
-    (c.in-Ok.ensures.desk (early clean)).0 c.in-Ok-counted.ensures.first.read in
-    let at = looked clean in
+    let at = looked_before _ (state g.S.Store c.first_desk.new.conn) _ (state g.S.Store c.move_tables.new.conn)
+    c.in-Ok.ensures.same c.first_desk.ensures.crash c.first_desk.ensures.settled (λ early. (c.in-Ok.ensures.desk early).0) c.in-Ok-counted.ensures.first.read c.move_tables.ensures.clean clean in
     let even = c.in-Err-move_tables.ensures.in_order clean at.same.0.is_open (at.limit ∙ c.requires.unlimited)
     r (subst (λ d. HoldsFirst d r) (sym at.same.0.now_is) first) in
     true≢false (sym (odd_from_stranger c.in-Err-move_tables.fault (sym c.store_fault-in-Err-move_tables.ensures ∙ is)) ∙ even)
@@ -199,35 +185,21 @@ returns-in-Err-move_tables-clause-clean g c = tt
 
 pub returns-in-Err-move_tables-clause-undone : goal.returns-in-Err-move_tables-clause-undone
 returns-in-Err-move_tables-clause-undone g c clean up =
-    let mid = λ (clean : HasCleanDisk (state g.S.Store c.move_tables.new.conn)).
-    let e : HasCleanDisk (state g.S.Store c.counted.new.conn) = omega (arith, c.move_tables.ensures.clean, clean) in e in
-    let early = λ (clean : HasCleanDisk (state g.S.Store c.move_tables.new.conn)).
-    let e : HasCleanDisk (state g.S.Store c.first_desk.new.conn) = omega (arith, c.counted.ensures.first.read.clean, mid clean) in e in
-    let looked = λ (clean : HasCleanDisk (state g.S.Store c.move_tables.new.conn)).
-    let same = c.in-Ok.ensures.same (early clean) in
-    looked_at _ _ _ same c.first_desk.ensures.crash (c.first_desk.ensures.settled (early clean) same.0.is_open) (early clean) (mid clean)
-    (c.in-Ok.ensures.desk (early clean)).0 c.in-Ok-counted.ensures.first.read in
-    let at = looked clean in
+    let at = looked_before _ (state g.S.Store c.first_desk.new.conn) _ (state g.S.Store c.move_tables.new.conn)
+    c.in-Ok.ensures.same c.first_desk.ensures.crash c.first_desk.ensures.settled (λ early. (c.in-Ok.ensures.desk early).0) c.in-Ok-counted.ensures.first.read c.move_tables.ensures.clean clean in
     let was = c.in-Err-move_tables.ensures.neither clean at.same.0.is_open up in
     (was.0 ∙ sym at.settled ∙ at.same.0.now_is, was.1 ∙ at.same.0.committed_is)
 
 pub returns-in-Err-move_tables-clause-given_back : goal.returns-in-Err-move_tables-clause-given_back
 returns-in-Err-move_tables-clause-given_back g c settings kept is =
-    let mid = λ (clean : HasCleanDisk (state g.S.Store c.move_tables.new.conn)).
-    let e : HasCleanDisk (state g.S.Store c.counted.new.conn) = omega (arith, c.move_tables.ensures.clean, clean) in e in
-    let early = λ (clean : HasCleanDisk (state g.S.Store c.move_tables.new.conn)).
-    let e : HasCleanDisk (state g.S.Store c.first_desk.new.conn) = omega (arith, c.counted.ensures.first.read.clean, mid clean) in e in
-    let looked = λ (clean : HasCleanDisk (state g.S.Store c.move_tables.new.conn)).
-    let same = c.in-Ok.ensures.same (early clean) in
-    looked_at _ _ _ same c.first_desk.ensures.crash (c.first_desk.ensures.settled (early clean) same.0.is_open) (early clean) (mid clean)
-    (c.in-Ok.ensures.desk (early clean)).0 c.in-Ok-counted.ensures.first.read in
     let moves = c.in-Err-move_tables.ensures in
     record {
       clean = omega (arith, c.first_desk.ensures.crash.clean, c.counted.ensures.first.read.clean, c.move_tables.ensures.clean);
       undone = returns-in-Err-move_tables-clause-undone g c;
       idle = moves.mode;
       crash = λ clean trees may.
-          let at = looked clean in
+          let at = looked_before _ (state g.S.Store c.first_desk.new.conn) _ (state g.S.Store c.move_tables.new.conn)
+          c.in-Ok.ensures.same c.first_desk.ensures.crash c.first_desk.ensures.settled (λ early. (c.in-Ok.ensures.desk early).0) c.in-Ok-counted.ensures.first.read c.move_tables.ensures.clean clean in
           elim ((moves.crash clean at.same.0.is_open).crash clean trees may) [
             | inl before ↦ inl (at.crash trees before)
             | inr rows ↦ inr (moved_desk settings kept _ _ (subst (IsOfFirstSchema settings kept) (sym at.same.0.now_is) is) rows)
@@ -254,22 +226,17 @@ returns-in-Ok-move_tables-clause-desk g c = rw c.over.ensures (λ sound.
 
 pub returns-in-Ok-move_tables-clause-in_order : goal.returns-in-Ok-move_tables-clause-in_order
 returns-in-Ok-move_tables-clause-in_order g c settings kept is = rw c.over.ensures (λ sound.
-    let mid = λ (clean : HasCleanDisk (state g.S.Store c.move_tables.new.conn)).
-    let e : HasCleanDisk (state g.S.Store c.counted.new.conn) = omega (arith, c.move_tables.ensures.clean, clean) in e in
-    let early = λ (clean : HasCleanDisk (state g.S.Store c.move_tables.new.conn)).
-    let e : HasCleanDisk (state g.S.Store c.first_desk.new.conn) = omega (arith, c.counted.ensures.first.read.clean, mid clean) in e in
-    let looked = λ (clean : HasCleanDisk (state g.S.Store c.move_tables.new.conn)).
-    let same = c.in-Ok.ensures.same (early clean) in
-    looked_at _ _ _ same c.first_desk.ensures.crash (c.first_desk.ensures.settled (early clean) same.0.is_open) (early clean) (mid clean)
-    (c.in-Ok.ensures.desk (early clean)).0 c.in-Ok-counted.ensures.first.read in
-    let at = looked sound in
-    let told = (told_once _ _ _ _ _ (c.in-Ok.ensures.desk (early sound)).1 (first_tells settings kept _ is)).1 in
+    let mid : HasCleanDisk (state g.S.Store c.counted.new.conn) = omega (arith, c.move_tables.ensures.clean, sound) in
+    let early : HasCleanDisk (state g.S.Store c.first_desk.new.conn) = omega (arith, c.counted.ensures.first.read.clean, mid) in
+    let at = looked_before _ (state g.S.Store c.first_desk.new.conn) _ (state g.S.Store c.move_tables.new.conn)
+    c.in-Ok.ensures.same c.first_desk.ensures.crash c.first_desk.ensures.settled (λ early. (c.in-Ok.ensures.desk early).0) c.in-Ok-counted.ensures.first.read c.move_tables.ensures.clean sound in
+    let told = (told_once _ _ _ _ _ (c.in-Ok.ensures.desk early).1 (first_tells settings kept _ is)).1 in
     let first = subst (IsOfFirstSchema settings kept) (sym at.same.0.now_is) is in
     let made = c.in-Ok-move_tables.ensures.made sound at.same.0.is_open in
     let desk = moved_desk settings kept _ _ first made in
     let ready = ready_moved _ _ c.in-Ok-move_tables.ensures sound at.same.0.is_open desk.in_order.rows desk.in_order.held in
-    let same = c.in-Ok.ensures.same (early sound) in
-    let counts = c.in-Ok-counted.ensures.first.told (mid sound) same.0.is_open first.in_order.rows
+    let same = c.in-Ok.ensures.same early in
+    let counts = c.in-Ok-counted.ensures.first.told mid same.0.is_open first.in_order.rows
     (subst (λ d. HoldsFirst d first.in_order.rows) (at.same.0.now_is ∙ sym same.0.now_is) first.in_order.held) tt in
     record {
       configuration = told;
