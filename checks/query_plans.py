@@ -1,23 +1,25 @@
 #!/usr/bin/env python3
 """Asks the real SQLite how it would run each statement of desk_rows: none may look through a table.
 
-    checks/query_plans.py
+    checks/query_plans.py [--program FILE]
 
-It takes the texts of the statements from `crates/desk_rows/src/*.rt`, makes the tables and indexes in a file by the batch of those
-that begin with CREATE, and asks `EXPLAIN QUERY PLAN` of each SELECT and UPDATE. A CREATE beside the batch, as that of a move from
-an older schema, has to be a statement of the batch too. A plan that scans a table or sorts rows fails, but for a look
-at the first row in the order of the rowid, which SQLite calls a scan too and ends after one row, for meta, which has one row, and
-for the sort of a device's uplinks in a range of time. It prints a line for each statement and at the end how many there were, and
-by which key or index.
+It takes the texts of the statements from `crates/desk_rows/src/*.rt`, has the program make a file and hear the day's messages in it,
+and asks `EXPLAIN QUERY PLAN` there of each SELECT and UPDATE. What begins with CREATE has to stand in the file as it is written,
+that of a move from an older schema too. A plan that scans a table or sorts rows fails, but for a look at the first row in the order
+of the rowid, which SQLite calls a scan too and ends after one row, for meta, which has one row, and for the sort of a device's
+uplinks in a range of time. It prints a line for each statement and at the end how many there were, and by which key or index.
 """
 
+import argparse
 import re
 import sqlite3
+import subprocess
 import sys
 import tempfile
 from pathlib import Path
 
-ROOT = Path(__file__).resolve().parent.parent
+from common import ROOT, add_program, reading, ready, wants
+
 SOURCES = ROOT / "crates" / "desk_rows" / "src"
 TEXT = re.compile(r'"((?:SELECT|UPDATE|CREATE) [^"]*)"')
 # A text that goes on in the next line: the blanks that begin it aren't its own.
@@ -43,28 +45,39 @@ def is_bad(text, step):
     return step.startswith("SCAN") or ("TEMP B-TREE" in step and not OF_SESSIONS.match(text))
 
 
+def made(program, file):
+    """A desk in a file, which has heard the examples' messages."""
+    subprocess.run([program, "init", file], check=True)
+    lines = b"".join(path.read_bytes() for path in sorted((ROOT / "examples").glob("*.jsonl")))
+    heard = subprocess.run([program, "hear", file], input=lines, stdout=subprocess.PIPE, check=True)
+    wants(b'"ResultCode":"Success"' in heard.stdout, "the file has heard a message")
+
+
 def main():
+    words = argparse.ArgumentParser(description=__doc__.splitlines()[0])
+    add_program(words)
+    program = ready(words.parse_args().program)
     texts = list(statements())
-    creates = [text for _, text in texts if text.startswith("CREATE")]
-    batch = max(creates, key=len)
-    strange = [text for text in creates if text != batch and text not in batch.split("; ")]
-    asked = [(name, text) for name, text in texts if not text.startswith("CREATE") and name != "tests.rt"]
-    for text in strange:
-        print("FAILED not in the batch |", text)
+    creates = [it for _, text in texts if text.startswith("CREATE") for it in text.split("; ")]
+    asked = [(name, text) for name, text in texts if not text.startswith("CREATE")]
     failed = 0
     ways = {}
     with tempfile.TemporaryDirectory() as folder:
-        conn = sqlite3.connect(Path(folder) / "desk.db")
-        conn.executescript(batch)
-        for name, text in asked:
-            many = len(set(re.findall(r"\?\d", text)))
-            steps = [row[3] for row in conn.execute("EXPLAIN QUERY PLAN " + text, [None] * many)]
-            bad = [step for step in steps if is_bad(text, step)]
-            failed += bool(bad)
-            way = re.sub(r" \(.*", "", "; ".join(steps))
-            ways[way] = ways.get(way, 0) + 1
-            print("FAILED" if bad else "ok", name, "|", text, "|", "; ".join(steps))
-        conn.close()
+        file = Path(folder) / "town.db"
+        made(program, file)
+        with reading(file) as conn:
+            standing = {row[0] for row in conn.execute("SELECT sql FROM sqlite_master WHERE sql IS NOT NULL")}
+            strange = standing ^ set(creates)
+            for text in sorted(strange):
+                print("FAILED in the file or in the sources alone |", text)
+            for name, text in asked:
+                many = len(set(re.findall(r"\?\d", text)))
+                steps = [row[3] for row in conn.execute("EXPLAIN QUERY PLAN " + text, [None] * many)]
+                bad = [step for step in steps if is_bad(text, step)]
+                failed += bool(bad)
+                way = re.sub(r" \(.*", "", "; ".join(steps))
+                ways[way] = ways.get(way, 0) + 1
+                print("FAILED" if bad else "ok", name, "|", text, "|", "; ".join(steps))
     for way, count in sorted(ways.items()):
         print(count, way)
     print(f"SQLite {sqlite3.sqlite_version}: {len(asked) - failed} of {len(asked)} statements look through no table")

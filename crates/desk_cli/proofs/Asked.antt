@@ -10,7 +10,7 @@ use Rattle.desk_cli.specs.CommandLine.{named_by}
 use Rattle.desk_cli.specs.Doing.{AtPaths, DoesAsked}
 use Rattle.desk_cli.specs.Endings.{ending_of}
 use Rattle.desk_cli.specs.Faults.{ending_of_fault, ending_of_result}
-use Rattle.desk_cli.specs.Named.{Asked, Named, TellsNamed, asked_of, bad, names, refused}
+use Rattle.desk_cli.specs.Named.{Asked, Named, TellsNamed, asked_by, bad, names, refused}
 use Rattle.desk_cli.specs.Runs.{AsksFor, Given, IsNamed, Runs}
 use Rattle.desk_cli.specs.declared.commands.Command.{Command}
 use Rattle.desk_cli.specs.declared.endings.Ending.{Ending}
@@ -75,8 +75,8 @@ module _ {S : Type 0} (g : Ghosts S) (paths : AtPaths S) (ports : AtPorts) (back
 
   -- the words name a command, and it was done
   pub runs_command : (words : List Text) (command : Command) (ending : Ending) (r : Result (Unit {0}) Fault) → TellsNamed (named_by words) (Ok command) → ending ≡ ending_of_result r
-      → DoesAsked g paths ports back left rest before after r (asked_of command) → Runs g paths ports back left rest before after (Ok words) ending
-  runs_command words command ending r tells is does = inl (asked_of command, tells, record { result = r; ending_is = is; does = does })
+      → DoesAsked g paths ports back left rest before after r (asked_by command) → Runs g paths ports back left rest before after (Ok words) ending
+  runs_command words command ending r tells is does = inl (asked_by command, tells, record { result = r; ending_is = is; does = does })
 
 -- words that name no command, or weren't read for want of memory
 names_none : (named : Named) (usage : Usage) (ending : Ending) → TellsNamed named (Err usage) → ending ≡ ending_of usage

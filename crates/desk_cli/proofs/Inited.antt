@@ -8,13 +8,13 @@ use Rattle.desk_cli.specs.declared.faults.Fault.{Fault}
 use Rattle.desk_cli.specs.declared.faults.Fault.TheVariants as told
 
 -- that there is something already is told for itself alone
-pub exists_told : {T P : Type 0} (fault : StoreFault) (f : Fault) → f ≡ fault_of_store fault → (fault ≡ store.Exists) ↔ P → (err {T = T} f ≡ Err told.Exists) ↔ P
-exists_told store.Exists f is h = (λ e. h.0 refl, λ p. ap Err is)
-exists_told store.Memory f is h = (λ e. cc, λ p. let e = h.1 p in cc)
-exists_told store.Disk f is h = (λ e. cc, λ p. let e = h.1 p in cc)
-exists_told store.Size f is h = (λ e. cc, λ p. let e = h.1 p in cc)
-exists_told store.NotADesk f is h = (λ e. cc, λ p. let e = h.1 p in cc)
-exists_told store.SchemaVersion f is h = (λ e. cc, λ p. let e = h.1 p in cc)
+pub says_exists : {T P : Type 0} (fault : StoreFault) (f : Fault) → f ≡ fault_of_store fault → (fault ≡ store.Exists) ↔ P → (err {T = T} f ≡ Err told.Exists) ↔ P
+says_exists store.Exists f is h = (λ e. h.0 refl, λ p. ap Err is)
+says_exists store.Memory f is h = (λ e. cc, λ p. let e = h.1 p in cc)
+says_exists store.Disk f is h = (λ e. cc, λ p. let e = h.1 p in cc)
+says_exists store.Size f is h = (λ e. cc, λ p. let e = h.1 p in cc)
+says_exists store.NotADesk f is h = (λ e. cc, λ p. let e = h.1 p in cc)
+says_exists store.SchemaVersion f is h = (λ e. cc, λ p. let e = h.1 p in cc)
 
-pub not_a_desk_told : {T : Type 0} (fault : StoreFault) (f : Fault) → f ≡ fault_of_store fault → fault ≡ store.NotADesk → err {T = T} f ≡ Err told.NotADesk
-not_a_desk_told fault f is same = ap Err (is ∙ ap fault_of_store same)
+pub says_not_a_desk : {T : Type 0} (fault : StoreFault) (f : Fault) → f ≡ fault_of_store fault → fault ≡ store.NotADesk → err {T = T} f ≡ Err told.NotADesk
+says_not_a_desk fault f is same = ap Err (is ∙ ap fault_of_store same)

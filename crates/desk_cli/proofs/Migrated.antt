@@ -15,14 +15,14 @@ told_or_unavailable fault wanted f is (inl same) = inl (ap Err (is ∙ ap fault_
 told_or_unavailable fault wanted f is (inr down) = inr (ap Err (is ∙ is_unavailable fault down))
 
 -- a store's fault is told as one of four
-pub store_told : {T : Type 0} (fault : StoreFault) (f : Fault) → f ≡ fault_of_store fault
+pub says_fault : {T : Type 0} (fault : StoreFault) (f : Fault) → f ≡ fault_of_store fault
     → (err {T = T} f ≡ Err NotADesk) ⊎ ((err {T = T} f ≡ Err Schema) ⊎ ((err {T = T} f ≡ Err Exists) ⊎ (err {T = T} f ≡ Err Unavailable)))
-store_told store.NotADesk f is = inl (ap Err is)
-store_told store.SchemaVersion f is = inr (inl (ap Err is))
-store_told store.Exists f is = inr (inr (inl (ap Err is)))
-store_told store.Memory f is = inr (inr (inr (ap Err is)))
-store_told store.Disk f is = inr (inr (inr (ap Err is)))
-store_told store.Size f is = inr (inr (inr (ap Err is)))
+says_fault store.NotADesk f is = inl (ap Err is)
+says_fault store.SchemaVersion f is = inr (inl (ap Err is))
+says_fault store.Exists f is = inr (inr (inl (ap Err is)))
+says_fault store.Memory f is = inr (inr (inr (ap Err is)))
+says_fault store.Disk f is = inr (inr (inr (ap Err is)))
+says_fault store.Size f is = inr (inr (inr (ap Err is)))
 
 pub exists_of : (fault : StoreFault) (f : Fault) → f ≡ fault_of_store fault → f ≡ Exists → fault ≡ store.Exists
 exists_of store.Exists f is same = refl

@@ -29,21 +29,21 @@ is_unavailable SchemaVersion is = absurd is
 is_unavailable Exists is = absurd is
 
 -- what there is no desk for is told as one of three
-pub opening_told : (fault : StoreFault) (f : Fault) → f ≡ fault_of_store fault → fault ≢ Exists → (f ≡ told.NotADesk) ⊎ ((f ≡ told.Schema) ⊎ (f ≡ told.Unavailable))
-opening_told Memory f is other = inr (inr is)
-opening_told Disk f is other = inr (inr is)
-opening_told Size f is other = inr (inr is)
-opening_told NotADesk f is other = inl is
-opening_told SchemaVersion f is other = inr (inl is)
-opening_told Exists f is other = absurd (other refl)
+pub says_opening : (fault : StoreFault) (f : Fault) → f ≡ fault_of_store fault → fault ≢ Exists → (f ≡ told.NotADesk) ⊎ ((f ≡ told.Schema) ⊎ (f ≡ told.Unavailable))
+says_opening Memory f is other = inr (inr is)
+says_opening Disk f is other = inr (inr is)
+says_opening Size f is other = inr (inr is)
+says_opening NotADesk f is other = inl is
+says_opening SchemaVersion f is other = inr (inl is)
+says_opening Exists f is other = absurd (other refl)
 
-pub schema_told : (fault : StoreFault) (f : Fault) → f ≡ fault_of_store fault → f ≡ told.Schema → fault ≡ SchemaVersion
-schema_told SchemaVersion f is same = refl
-schema_told Memory f is same = cc
-schema_told Disk f is same = cc
-schema_told Size f is same = cc
-schema_told NotADesk f is same = cc
-schema_told Exists f is same = cc
+pub says_schema : (fault : StoreFault) (f : Fault) → f ≡ fault_of_store fault → f ≡ told.Schema → fault ≡ SchemaVersion
+says_schema SchemaVersion f is same = refl
+says_schema Memory f is same = cc
+says_schema Disk f is same = cc
+says_schema Size f is same = cc
+says_schema NotADesk f is same = cc
+says_schema Exists f is same = cc
 
 pub not_a_desk_of : (fault : StoreFault) (f : Fault) → f ≡ fault_of_store fault → f ≡ told.NotADesk → fault ≡ NotADesk
 not_a_desk_of NotADesk f is same = refl

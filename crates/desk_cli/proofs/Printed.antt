@@ -8,7 +8,7 @@ use Rattle.desk_store.specs.Calls.{is_disk}
 use Rattle.desk_engine.specs.declared.report_faults.ReportFault.{ReportFault}
 use Rattle.desk_engine.specs.declared.report_faults.ReportFault.TheVariants.{Time, Owner, Gateway, Unavailable}
 use Rattle.desk_engine.specs.Months.{IsMonth}
-use Rattle.desk_engine.specs.Reporting.{IsGatewayFault, IsOwnerFault, store_fault}
+use Rattle.desk_engine.specs.Reporting.{IsGatewayFault, IsOwnerFault, store_fault_in}
 use Rattle.desk_engine.specs.Reports.{IsBandReport, IsOwnerReport, is_gateway, is_owner}
 use Rattle.desk_http.specs.Reports.{IsBandAnswer}
 use Rattle.desk_cli.proofs.Opened.{err}
@@ -55,7 +55,7 @@ module _ {X : Type 0} (octets : X → List ℕ) (s : State) where
   gateways_bands gateway (Err why) known report fault = record { known = known; report = report; fault = fault }
 
 -- the store is unavailable, or it is kept
-either : (X Kept : Type 0) (fault : Fault) (why : ReportFault) → (is_disk (store_fault {T = X} (Err why)) ≡ false → Kept) → fault ≡ fault_of_report why → (fault ≡ told.Unavailable) ⊎ Kept
+either : (X Kept : Type 0) (fault : Fault) (why : ReportFault) → (is_disk (store_fault_in {T = X} (Err why)) ≡ false → Kept) → fault ≡ fault_of_report why → (fault ≡ told.Unavailable) ⊎ Kept
 either X Kept fault Time kept is = inr (kept refl)
 either X Kept fault Owner kept is = inr (kept refl)
 either X Kept fault Gateway kept is = inr (kept refl)
@@ -69,7 +69,7 @@ either X Kept fault (Unavailable store.Exists) kept is = inr (kept refl)
 module _ (Kept Left : Type 0) (before after : Option (List ℕ)) (IsAnswer : Result (List ℕ) ReportFault → Type 0) {T : Type 0} where
   -- it is printed, or it is told why not
   pub prints : {X : Type 0} (octets : X → List ℕ) (report : Result X ReportFault) (r : Result T Fault) → IsAnswer (shown octets report)
-      → (is_disk (store_fault report) ≡ false → Kept) → Left → IsPrinted octets report before after r → PrintsBy Kept Left before after IsAnswer r
+      → (is_disk (store_fault_in report) ≡ false → Kept) → Left → IsPrinted octets report before after r → PrintsBy Kept Left before after IsAnswer r
   prints octets (Ok text) (Ok x) is kept left printed = record { answer = Ok (octets text); answer_is = is; prints = (printed, kept refl) }
   prints octets (Ok text) (Err fault) is kept left printed = record { answer = Ok (octets text); answer_is = is; prints = (printed, kept refl) }
   prints octets (Err why) (Ok x) is kept left printed = absurd printed

@@ -8,7 +8,8 @@ use Rattle.clap.specs.Walk.{Row, Text}
 use Rattle.clap.specs.declared.error.Error.{Error}
 use Rattle.clap.specs.declared.parser.matches.ArgMatches.{ArgMatches}
 use Rattle.desk_cli.specs.CommandLine.{command_named, desk_app, named_by, named_unless}
-use Rattle.desk_cli.specs.Named.{IsUsageOf, TellsNamed}
+use Rattle.desk_cli.specs.Named.{TellsNamed}
+use Rattle.desk_cli.specs.steps.Usages.{IsUsageOf}
 use Rattle.desk_cli.specs.declared.commands.Command.{Command}
 use Rattle.desk_cli.specs.declared.usage.Usage.{Usage}
 use Rattle.desk_cli.specs.declared.usage.Usage.TheVariants.{Words, Value, NotText, Memory}

@@ -1,11 +1,9 @@
 -- What words name, and which answers tell it.
-use Rattle.std.specs.Prelude.{◌≡◌, ◌≢◌, ℕ, Result, Ok, Err}
+use Rattle.std.specs.Prelude.{◌≡◌, ℕ, Result, Ok, Err}
 use Rattle.clap.specs.Kinds.{Kinds, IsAmong}
 use Rattle.clap.specs.Values.{kind_of}
 use Rattle.clap.specs.Walk.{Text}
-use Rattle.clap.specs.declared.error.Error.{Error}
 use Rattle.clap.specs.declared.error.kind.ErrorKind.{ErrorKind}
-use Rattle.clap.specs.declared.error.kind.ErrorKind.TheVariants.{OutOfMemory}
 use Rattle.registry_core.specs.Settings.{Settings}
 use Rattle.desk_cli.specs.declared.commands.Command.{Command}
 use Rattle.desk_cli.specs.declared.commands.Command.TheVariants.{Lines, Init, Migrate, Hear, Import, Serve, Report, Bands, Check}
@@ -29,16 +27,16 @@ pub data Asked : Type 0 where
   bands : Text → Text → Asked
   check : Text → Asked
 
-abbrev pub asked_of : Command → Asked
-asked_of (Lines config) = lines config
-asked_of (Init file config) = init file.now config
-asked_of (Migrate file) = migrate file.now
-asked_of (Hear file) = hear file.now
-asked_of (Import file sender) = import file.now sender
-asked_of (Serve file port connections) = serve file.now port connections
-asked_of (Report file owner month) = report file.now owner.now month.now
-asked_of (Bands file gateway) = bands file.now gateway.now
-asked_of (Check file) = check file.now
+abbrev pub asked_by : Command → Asked
+asked_by (Lines config) = lines config
+asked_by (Init file config) = init file.now config
+asked_by (Migrate file) = migrate file.now
+asked_by (Hear file) = hear file.now
+asked_by (Import file sender) = import file.now sender
+asked_by (Serve file port connections) = serve file.now port connections
+asked_by (Report file owner month) = report file.now owner.now month.now
+asked_by (Bands file gateway) = bands file.now gateway.now
+asked_by (Check file) = check file.now
 
 -- a command, or a value that is bad, or nothing that clap takes: one of these kinds of error
 pub data Named : Type 0 where
@@ -55,16 +53,9 @@ abbrev pub IsRefusal : ErrorKind → Named → Type 0
 IsRefusal kind (refused kinds) = IsAmong kind kinds
 IsRefusal kind _ = ⊥
 
--- the want of memory is told apart from what is wrong with the words
-abbrev pub IsUsageOf : Error → Usage → Type 0
-IsUsageOf error Memory = kind_of error ≡ OutOfMemory
-IsUsageOf error (Words same) = (same ≡ error) × (kind_of error ≢ OutOfMemory)
-IsUsageOf error (Value value) = ⊥
-IsUsageOf error NotText = ⊥
-
 -- the answer is what the words name, unless memory ran out
 abbrev pub TellsNamed : Named → Result Command Usage → Type 0
-TellsNamed named (Ok command) = named ≡ names (asked_of command)
+TellsNamed named (Ok command) = named ≡ names (asked_by command)
 TellsNamed named (Err (Words error)) = IsRefusal (kind_of error) named
 TellsNamed named (Err (Value value)) = named ≡ bad value
 TellsNamed named (Err NotText) = ⊥

@@ -1,6 +1,5 @@
 -- The values of commands: the words that give them, and how they are read.
 use Rattle.std.specs.Prelude.{ℕ, ◌+◌, ◌^◌, Bool, true, ◌&&◌, List, [], ◌∷◌, Option, Some, None, Result, Ok, Err, codes, nat_le, option_and_then, if◌then◌else◌}
-use Rattle.std.specs.Borrow.{Bor}
 use Rattle.clap.specs.Simple.{App, new_rule, with_rule}
 use Rattle.clap.specs.Walk.{Row, Rule, Text, first_of}
 use Rattle.radio_core.specs.Names.{is_name}
@@ -45,9 +44,9 @@ abbrev pub ◌>>=◌ : {X Y : Type 0} → OrBad X → (X → OrBad Y) → OrBad 
 (Err bad) >>= next = Err bad
 
 -- it has to be there, or else this value is bad
-abbrev pub needs : {X : Type 0} → Option X → BadValue → OrBad X
-needs (Some x) bad = Ok x
-needs None bad = Err bad
+abbrev pub or_bad : {X : Type 0} → Option X → BadValue → OrBad X
+or_bad (Some x) bad = Ok x
+or_bad None bad = Err bad
 
 abbrev pub name_of : Text → Option Text
 name_of text = if is_name text then Some text else None
@@ -56,8 +55,8 @@ name_of text = if is_name text then Some text else None
 abbrev pub is_block : ℕ → ℕ → Bool
 is_block base addresses = nat_le 1 addresses && nat_le (base + addresses) (2 ^ 32)
 
-abbrev pub settings_of : Text → Text → ℕ → ℕ → Option Settings
-settings_of receiver operator base addresses =
+abbrev pub settings_from : Text → Text → ℕ → ℕ → Option Settings
+settings_from receiver operator base addresses =
     if is_block base addresses
     then Some (record { receiver = receiver; operator = operator; base = base; addresses = addresses })
     else None
@@ -68,18 +67,13 @@ value_at form option rows = option_and_then form (first_of option rows)
 
 -- the word in a place. clap takes no words that leave a place empty.
 abbrev pub placed : Text → List Row → OrBad Text
-placed name rows = needs (first_of name rows) Missing
-
--- the text behind a reference
-abbrev pub behind : OrBad (Bor Text) → OrBad Text
-behind (Ok text) = Ok text.now
-behind (Err bad) = Err bad
+placed name rows = or_bad (first_of name rows) Missing
 
 -- the configuration of the four options, or the first of them that is bad
 unfoldable pub config_of : List Row → OrBad Settings
 config_of rows = do
-  receiver ← needs (value_at name_of (codes "receiver") rows) Receiver
-  operator ← needs (value_at name_of (codes "operator") rows) Operator
-  base ← needs (value_at addr_in (codes "base") rows) Base
-  addresses ← needs (value_at count_in (codes "addresses") rows) Addresses
-  needs (settings_of receiver operator base addresses) Block
+  receiver ← or_bad (value_at name_of (codes "receiver") rows) Receiver
+  operator ← or_bad (value_at name_of (codes "operator") rows) Operator
+  base ← or_bad (value_at addr_in (codes "base") rows) Base
+  addresses ← or_bad (value_at count_in (codes "addresses") rows) Addresses
+  or_bad (settings_from receiver operator base addresses) Block

@@ -18,8 +18,6 @@ use Rattle.desk_cli.specs.Named.{Asked, names}
 use Rattle.desk_cli.specs.declared.endings.Ending.{Ending}
 use Rattle.desk_cli.specs.declared.endings.Ending.TheVariants.{Failed, Misused}
 use Rattle.desk_cli.specs.declared.faults.Fault.{Fault}
-use Rattle.desk_cli.specs.declared.usage.Usage.{Usage}
-use Rattle.desk_cli.specs.declared.usage.Usage.TheVariants.{NotText, Memory}
 
 -- the words of the program, its own name first, or why they can't be had
 abbrev pub Given : Type 0
@@ -38,12 +36,6 @@ AsksFor (Err kind) asked = ⊥
 -- some words name the command
 abbrev pub IsNamed : Asked → Type 0
 IsNamed asked = (words : List Text) × (named_by words ≡ names asked)
-
--- why the words can't be had: memory ran out, or else one isn't text
-abbrev pub IsUnread : ErrorKind → Usage → Type 0
-IsUnread kind Memory = kind ≡ OutOfMemory
-IsUnread kind NotText = kind ≢ OutOfMemory
-IsUnread kind _ = ⊥
 
 -- the program ends as failed where there was no memory for its words, and else as misused
 abbrev pub EndsUnread : ErrorKind → Ending → Type 0

@@ -3,4 +3,6 @@ pub mod Checking
 pub mod CommandLine
 pub mod Given
 pub mod Jobs
+pub mod Options
 pub mod Printing
+pub mod Usages

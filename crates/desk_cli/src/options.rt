@@ -8,7 +8,8 @@ ghost use Rattle.desk_wire.specs.Decimals.{count_in};
 ghost use Rattle.desk_wire.specs.Hexadecimal.{addr_in};
 ghost use Rattle.desk_cli.specs.Numbers.{connections_of, port_of};
 ghost use Rattle.desk_cli.specs.steps.CommandLine.{AddsWord, IsCommand};
-ghost use Rattle.desk_cli.specs.Options.{behind, config_of, name_of, needed_rule, option_rule, place_rule, placed, settings_of, value_at, with_settings};
+ghost use Rattle.desk_cli.specs.steps.Options.{behind};
+ghost use Rattle.desk_cli.specs.Options.{config_of, name_of, needed_rule, option_rule, place_rule, placed, settings_from, value_at, with_settings};
 
 use crate::numbers::{connections_of, port_of};
 use crate::usage::BadValue;
@@ -139,7 +140,7 @@ pub(crate) fn config_of(options: &ArgMatches<'_>) -> Result<Config, BadValue>
 }
 
 fn settings_of(receiver: Name, operator: Name, base: u32, addresses: u32) -> Option<Config>
-    ensures { result ≡ settings_of receiver operator base addresses }
+    ensures { result ≡ settings_from receiver operator base addresses }
 {
     Config::new(receiver, operator, base, addresses)
 }

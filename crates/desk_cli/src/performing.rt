@@ -3,7 +3,7 @@ ghost use Rattle.registry_core.specs.Heard.{state_of};
 ghost use Rattle.std.specs.Io.KnownBytes.{Keeps};
 ghost use Rattle.desk_http.specs.Reports.{IsBandAnswer};
 ghost use Rattle.desk_cli.specs.Doing.{DoesAsked, OnDeskFile, OnFile};
-ghost use Rattle.desk_cli.specs.Named.{asked_of};
+ghost use Rattle.desk_cli.specs.Named.{asked_by};
 ghost use Rattle.desk_cli.specs.OnTables.{IsLeft, KeepsHeard};
 ghost use Rattle.desk_cli.specs.Printing.{IsOwnersMonth, PrintsBy};
 ghost use Rattle.desk_cli.specs.Ports.{at_ports};
@@ -55,7 +55,7 @@ pub(crate) fn perform<S: Alter, N: Files<S>, B: Network, R: Read, W: Write>(
     answers: &mut W,
 ) -> Performed<S>
     ensures { DoesAsked S.Store (N.paths files) (at_ports B.ports network.now B.Port.meaning B.Port.Reader.remaining B.Port.Writer.contents) result.1
-        (R.remaining reader.old) (R.remaining reader.new) (W.contents answers.old) (W.contents answers.new) result.0 (asked_of command.now) }
+        (R.remaining reader.old) (R.remaining reader.new) (W.contents answers.old) (W.contents answers.new) result.0 (asked_by command.now) }
 {
     rules_are_kept();
     match command {

@@ -6,8 +6,8 @@ ghost use Rattle.clap.specs.Walk.{texts};
 ghost use Rattle.desk_cli.specs.Doing.{DoesAsked};
 ghost use Rattle.desk_cli.specs.Endings.{ending_of};
 ghost use Rattle.desk_cli.specs.Named.{Asked};
-ghost use Rattle.desk_cli.specs.Runs.{EndsUnread, Given, IsNamed, IsUnread, Runs, given};
-ghost use Rattle.desk_cli.specs.steps.Given.{IsNotGiven};
+ghost use Rattle.desk_cli.specs.Runs.{EndsUnread, Given, IsNamed, Runs, given};
+ghost use Rattle.desk_cli.specs.steps.Given.{IsNotGiven, IsUnread};
 ghost use Rattle.desk_cli.specs.Ports.{at_ports};
 
 use crate::endings::{Ending, ending_of};

@@ -1,7 +1,8 @@
 //! Why words name no command.
 ghost use Rattle.std.specs.Prelude.{◌≡◌, [], ◌∷◌, Err};
 ghost use Rattle.clap.specs.declared.error.kind.ErrorKind.TheVariants.{MissingSubcommand};
-ghost use Rattle.desk_cli.specs.Named.{refused, IsUsageOf, TellsNamed};
+ghost use Rattle.desk_cli.specs.Named.{refused, TellsNamed};
+ghost use Rattle.desk_cli.specs.steps.Usages.{IsUsageOf};
 ghost use Rattle.desk_cli.specs.declared.usage.Usage.TheVariants.{Value};
 
 use clap::error::{Error, ErrorKind};

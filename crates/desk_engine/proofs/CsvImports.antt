@@ -26,7 +26,7 @@ use Rattle.desk_engine.specs.Importing.{AreAnswers, doubt_at_stop, heard_in_orde
 use Rattle.desk_engine.specs.InOrder.{WasInOrder}
 use Rattle.desk_engine.specs.Lines.{line_feed}
 use Rattle.desk_engine.specs.Outcomes.{IsOutcome, is_unavailable}
-use Rattle.desk_engine.specs.Told.{Told, envelope_told, text_of}
+use Rattle.desk_engine.specs.Told.{Told, told_of_envelope, text_of}
 use Rattle.desk_engine.specs.steps.CsvImporting.{HearsEnvelopes, HearsSome, line_of}
 
 -- ---- answers
@@ -41,8 +41,8 @@ told_line told (outcome.Unavailable fault) is answered = absurd (true≢false an
 answers_written : (c : Settings) (heard es : List Envelope) (os : List Outcome) → AreAnswers c heard es os → flat_map line_of os ≡ answer_envelopes c heard es
 answers_written c heard [] [] are = refl
 answers_written c heard (e ∷ es) (o ∷ os) are =
-    ap₂ (λ line rest. line ++ rest) (told_line (envelope_told c heard e) o are.0 are.1) (answers_written c (heard_with c heard e) es os are.2)
-    ∙ append_assoc (text_of (envelope_told c heard e)) (line_feed ∷ []) (answer_envelopes c (heard_with c heard e) es)
+    ap₂ (λ line rest. line ++ rest) (told_line (told_of_envelope c heard e) o are.0 are.1) (answers_written c (heard_with c heard e) es os are.2)
+    ∙ append_assoc (text_of (told_of_envelope c heard e)) (line_feed ∷ []) (answer_envelopes c (heard_with c heard e) es)
 answers_written c heard [] (o ∷ os) are = absurd are
 answers_written c heard (e ∷ es) [] are = absurd are
 

@@ -20,7 +20,7 @@ use Rattle.registry_core.specs.Step.{step}
 use Rattle.desk_wire.specs.declared.faults.WireFault.{WireFault}
 use Rattle.desk_engine.specs.Deliveries.{heard_after, heard_all, heard_read}
 use Rattle.desk_engine.specs.Laws.{AddsNoSender, HeardAgain, KeptAnswersStay, delivered, told_each}
-use Rattle.desk_engine.specs.Told.{envelope_of_text, read_told, reply_told}
+use Rattle.desk_engine.specs.Told.{envelope_of_text, told_of_read, told_of_reply}
 use Rattle.desk_engine.proofs.KeptAfter.{answers_after-push, state_after-push}
 use Rattle.desk_engine.proofs.Places.{cases_option, has_pair-pair_place}
 use Rattle.desk_engine.proofs.Replies.{heard_with-new, reply-known, reply-stranger, unless-again, unless-stranger}
@@ -130,7 +130,7 @@ again same c before after e from_before from_with = elim (cases_Bool (is_sender 
 -- ---- one text again
 
 record TextAgain (c : Settings) (before after : List Envelope) (wanted : Result Envelope WireFault) : Type 0 where
-  told : read_told c after wanted ≡ read_told c before wanted
+  told : told_of_read c after wanted ≡ told_of_read c before wanted
   stays : heard_read false c after wanted ≡ after
 
 text_again : (same : SameMessageTells) (c : Settings) (before after : List Envelope) (wanted : Result Envelope WireFault) → Extends c before after → Extends c (heard_read false c before wanted) after
@@ -138,7 +138,7 @@ text_again : (same : SameMessageTells) (c : Settings) (before after : List Envel
 text_again same c before after (Err fault) from_before from_with = record { told = refl; stays = refl }
 text_again same c before after (Ok e) from_before from_with =
     let one = again same c before after e from_before from_with in
-    record { told = ap (reply_told c e) one.reply; stays = one.stays }
+    record { told = ap (told_of_reply c e) one.reply; stays = one.stays }
 
 read_extends : (stay : SendersStay) (c : Settings) (heard : List Envelope) (wanted : Result Envelope WireFault) → IfOk wanted (λ e. adds_sender e.message ≡ false) → Extends c heard (heard_read false c heard wanted)
 read_extends stay c heard (Err fault) none = itself c heard

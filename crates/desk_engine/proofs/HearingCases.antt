@@ -29,9 +29,9 @@ use Rattle.desk_engine.specs.declared.outcomes.Outcome.{Outcome}
 use Rattle.desk_engine.specs.declared.outcomes.Outcome.TheVariants.{Answered, Refused, Unavailable}
 use Rattle.desk_engine.specs.Deliveries.{heard_unless}
 use Rattle.desk_engine.specs.InOrder.{HasNoRoom, IsInOrder, Survives, entries_of, entry_at, kept_after}
-use Rattle.desk_engine.specs.Outcomes.{IfRefused, IsOutcome, IsUnheardEnvelope, doubt_of, fault_of, is_unavailable}
+use Rattle.desk_engine.specs.Outcomes.{IfRefused, IsOutcome, IsUnheardEnvelope, doubt_of, outcome_fault, is_unavailable}
 use Rattle.desk_engine.specs.steps.Hearing.{HearsNew, IsDecided, Repeats, Says}
-use Rattle.desk_engine.specs.Told.{AnswerText, RefusalText, Told, envelope_told, refusal_told, reply_told}
+use Rattle.desk_engine.specs.Told.{AnswerText, RefusalText, Told, told_of_envelope, told_of_refusal, told_of_reply}
 use Rattle.desk_engine.proofs.KeptAfter.{length-kept_after}
 use Rattle.desk_engine.proofs.Places.{cases_option, entry_of-entries_of, has_pair-pair_place, no_place, same_envelope, stands_for}
 use Rattle.desk_engine.proofs.Replies.{heard_with-new, reply-known, reply-stranger}
@@ -45,10 +45,10 @@ says_outcome told (Unavailable fault) said = subst IsUnavailability (sym said) t
 
 -- an outcome that tells no fault but want of memory
 pub record IsQuiet (o : Outcome) : Type 0 where
-  pub disk : is_disk (fault_of o) ≡ false
-  pub foreign : is_foreign (fault_of o) ≡ false
-  pub size : fault_of o ≡ Some Size → ⊥
-  pub told : IsOfCalls (fault_of o)
+  pub disk : is_disk (outcome_fault o) ≡ false
+  pub foreign : is_foreign (outcome_fault o) ≡ false
+  pub size : outcome_fault o ≡ Some Size → ⊥
+  pub told : IsOfCalls (outcome_fault o)
 
 quiet_memory : IsQuiet (Unavailable Memory)
 quiet_memory = record { disk = refl; foreign = refl; size = λ e. cc; told = tt }
@@ -85,8 +85,8 @@ says_at a b told o same said = subst (λ c. Says (told c) o) same said
 -- ---- a stranger
 
 pub stranger_outcome : (c : Settings) (heard : List Envelope) (e : Envelope) (o : Outcome) → is_sender (state_of c heard) e.sender ≡ false
-    → Says (refusal_told c UnknownSender (Some (head_of_envelope e))) o → IsOutcome (envelope_told c heard e) o
-stranger_outcome c heard e o unknown said = rw (reply-stranger c heard e unknown) (says_outcome (refusal_told c UnknownSender (Some (head_of_envelope e))) o said)
+    → Says (told_of_refusal c UnknownSender (Some (head_of_envelope e))) o → IsOutcome (told_of_envelope c heard e) o
+stranger_outcome c heard e o unknown said = rw (reply-stranger c heard e unknown) (says_outcome (told_of_refusal c UnknownSender (Some (head_of_envelope e))) o said)
 
 -- ---- a pair that was heard
 
@@ -121,7 +121,7 @@ one_text receiver a b back name in_a in_b same =
 
 pub repeat_outcome : (c : Settings) (heard : List Envelope) (e : Envelope) (message answer : List ℕ) (o : Outcome)
     → MessageReadsBack → SameMessageTells → IsName c.receiver → IsEnvelope e → IsHeard c heard → is_sender (state_of c heard) e.sender ≡ true
-    → option_map texts_of (entry_of e (entries_of c heard)) ≡ Some (message, answer) → Repeats c e message answer o → IsOutcome (envelope_told c heard e) o
+    → option_map texts_of (entry_of e (entries_of c heard)) ≡ Some (message, answer) → Repeats c e message answer o → IsOutcome (told_of_envelope c heard e) o
 repeat_outcome c heard e message answer o back tells name in_range list known texts repeats =
     let at = texts_at c heard e message answer texts in
     let there = stands_for c heard e at.0 list at.1 in
@@ -131,7 +131,7 @@ repeat_outcome c heard e message answer o back tells name in_range list known te
   where
     by_outcome : (x : Envelope × Answer) → IsEnvelope x.0 → (e.message ≡ x.0.message → e ≡ x.0) → message_text c.receiver x.0 ≡ message
         → answer_text c.receiver (head_of_envelope x.0) x.1 ≡ answer → (o : Outcome) → Repeats c e message answer o
-        → IsOutcome (reply_told c e (reply_at (Some x) e (step c (state_of c heard) e).1)) o
+        → IsOutcome (told_of_reply c e (reply_at (Some x) e (step c (state_of c heard) e).1)) o
     by_outcome x in_x one texted answered (Answered text) said =
         let same : e ≡ x.0 = one_text c.receiver e x.0 back name in_range in_x (said.0 ∙ sym texted) in
         let tells_same : same_message x.0.message e.message ≡ true = (tells x.0.message e.message).1 (sym (ap (λ (a : Envelope). a.message) same)) in
@@ -147,10 +147,10 @@ repeat_outcome c heard e message answer o back tells name in_range list known te
 -- ---- a new pair
 
 pub new_outcome : {K : Type 0} (m : Meaning K) (c : Settings) (heard : List Envelope) (e : Envelope) (new : K) (o : Outcome)
-    → is_sender (state_of c heard) e.sender ≡ true → entry_of e (entries_of c heard) ≡ None → HearsNew m c heard e new o → IsOutcome (envelope_told c heard e) o
+    → is_sender (state_of c heard) e.sender ≡ true → entry_of e (entries_of c heard) ≡ None → HearsNew m c heard e new o → IsOutcome (told_of_envelope c heard e) o
 new_outcome m c heard e new o known none hears = rw (reply-known c heard e known, no_place c heard e none) (by_outcome o hears)
   where
-    by_outcome : (o : Outcome) → HearsNew m c heard e new o → IsOutcome (reply_told c e (Answers (step c (state_of c heard) e).1)) o
+    by_outcome : (o : Outcome) → HearsNew m c heard e new o → IsOutcome (told_of_reply c e (Answers (step c (state_of c heard) e).1)) o
     by_outcome (Answered text) h = ap AnswerText (sym h.0)
     by_outcome (Refused refusal text) h = absurd h
     by_outcome (Unavailable fault) h = h.0

@@ -12,8 +12,8 @@ use Rattle.desk_engine.specs.declared.outcomes.Outcome.TheVariants.{Answered, Re
 use Rattle.desk_engine.specs.Deliveries.{heard_unless}
 use Rattle.desk_engine.specs.Hearing.{Hears}
 use Rattle.desk_engine.specs.Importing.{AreAnswers, doubt_at_stop, heard_in_order}
-use Rattle.desk_engine.specs.Outcomes.{IsOutcome, doubt_of, fault_of, is_unavailable}
-use Rattle.desk_engine.specs.Told.{envelope_told}
+use Rattle.desk_engine.specs.Outcomes.{IsOutcome, doubt_of, outcome_fault, is_unavailable}
+use Rattle.desk_engine.specs.Told.{told_of_envelope}
 use Rattle.desk_engine.proofs.Hearings.{hears_as, hears_then}
 
 heard_in_order-push : (c : Settings) (heard : List Envelope) (es : List Envelope) (e : Envelope)
@@ -22,7 +22,7 @@ heard_in_order-push c heard [] e = refl
 heard_in_order-push c heard (x ∷ xs) e = heard_in_order-push c (heard_with c heard x) xs e
 
 pub answers-push : (c : Settings) (heard : List Envelope) (es : List Envelope) (os : List Outcome) (e : Envelope) (o : Outcome) → AreAnswers c heard es os
-    → IsOutcome (envelope_told c (heard_in_order c heard es) e) o → is_unavailable o ≡ false → AreAnswers c heard (es ++ e ∷ []) (os ++ o ∷ [])
+    → IsOutcome (told_of_envelope c (heard_in_order c heard es) e) o → is_unavailable o ≡ false → AreAnswers c heard (es ++ e ∷ []) (os ++ o ∷ [])
 answers-push c heard [] [] e o all one is = (one, is, tt)
 answers-push c heard (x ∷ xs) (y ∷ ys) e o all one is = (all.0, all.1, answers-push c (heard_with c heard x) xs ys e o all.2 one is)
 answers-push c heard [] (y ∷ ys) e o all one is = absurd all
@@ -35,7 +35,7 @@ is_answered (Answered text) other = refl
 is_answered (Refused refusal text) other = refl
 is_answered (Unavailable fault) other = absurd (other fault refl)
 
-no_fault : (o : Outcome) → is_unavailable o ≡ false → fault_of o ≡ None
+no_fault : (o : Outcome) → is_unavailable o ≡ false → outcome_fault o ≡ None
 no_fault (Answered text) is = refl
 no_fault (Refused refusal text) is = refl
 no_fault (Unavailable fault) is = cc is
@@ -60,7 +60,7 @@ no_stop (e ∷ es) (o ∷ os) = no_stop es os
 module _ {K : Type 0} (m : Meaning K) where
   pub import_more : (old mid new : K) (es : List Envelope) (e : Envelope) (o : Outcome) → is_unavailable o ≡ false
       → Hears m old mid false false (λ c heard. heard_in_order c heard es) (λ c. None)
-      → Hears m mid new (is_disk (fault_of o)) (is_foreign (fault_of o)) (λ c heard. heard_unless (is_unavailable o) c heard e) (λ c. doubt_of e o)
+      → Hears m mid new (is_disk (outcome_fault o)) (is_foreign (outcome_fault o)) (λ c heard. heard_unless (is_unavailable o) c heard e) (λ c. doubt_of e o)
       → Hears m old new false false (λ c heard. heard_in_order c heard (es ++ e ∷ [])) (λ c. None)
   import_more old mid new es e o answered done more =
       let none = no_fault o answered in

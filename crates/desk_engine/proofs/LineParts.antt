@@ -10,7 +10,7 @@ use Rattle.desk_engine.specs.Deliveries.{heard_read}
 use Rattle.desk_engine.specs.Lines.{line_feed, heard_line, answer_line}
 use Rattle.desk_engine.specs.Outcomes.{doubt_of_text, doubt_read}
 use Rattle.desk_engine.specs.steps.Lines.{line_with, part}
-use Rattle.desk_engine.specs.Told.{longest_message, envelope_of_text, read_told, text_of}
+use Rattle.desk_engine.specs.Told.{longest_message, envelope_of_text, told_of_read, text_of}
 
 -- what is kept with some octets more is what is kept of them all
 pub line_with-part : (line octets : List ℕ) → line_with (part line) octets ≡ part (line ++ octets)
@@ -43,7 +43,7 @@ heard_line-part c heard (x ∷ line) = ap (heard_read false c heard) (envelope_o
 
 pub answer_line-part : (c : Settings) (heard : List Envelope) (line : List ℕ) → answer_line c heard (part line) ≡ answer_line c heard line
 answer_line-part c heard [] = refl
-answer_line-part c heard (x ∷ line) = ap (λ r. text_of (read_told c heard r) ++ line_feed ∷ []) (envelope_of_text-part c (x ∷ line))
+answer_line-part c heard (x ∷ line) = ap (λ r. text_of (told_of_read c heard r) ++ line_feed ∷ []) (envelope_of_text-part c (x ∷ line))
 
 pub doubt_of_text-part : (c : Settings) (line : List ℕ) (outcome : Outcome) → doubt_of_text c (part line) outcome ≡ doubt_of_text c line outcome
 doubt_of_text-part c line outcome = ap (λ r. doubt_read r outcome) (envelope_of_text-part c line)

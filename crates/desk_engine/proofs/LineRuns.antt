@@ -19,8 +19,8 @@ use Rattle.desk_engine.specs.Deliveries.{heard_after, heard_read}
 use Rattle.desk_engine.specs.InOrder.{HasNoRoom, IsInOrder, Survives, doubt_after}
 use Rattle.desk_engine.specs.Lines.{line_feed, has_line_feed, delivery_of_line, whole_lines, last_line, all_lines, heard_line, answer_line, heard_lines, answer_lines, IsBeginning, HasHeardLines, HasAnswered, LinesEndBy}
 use Rattle.desk_engine.specs.Outcomes.{delivery_of, doubt_of_text, doubt_read, is_unavailable}
-use Rattle.desk_engine.specs.steps.Lines.{fault_of_stop, line_with, part, lines_end_of, TakesLine, StandsAt}
-use Rattle.desk_engine.specs.Told.{text_of, text_told, envelope_of_text}
+use Rattle.desk_engine.specs.steps.Lines.{fault_of_stop, line_with, part, lines_end_of, TakesLine, HasReadTo}
+use Rattle.desk_engine.specs.Told.{text_of, told_of_text, envelope_of_text}
 use Rattle.desk_engine.proofs.LineCuts as cuts
 use Rattle.desk_engine.proofs.LineParts as parts
 
@@ -113,7 +113,7 @@ module _ {K : Type 0} (m : Meaning K) (c : Settings) where
 
   -- it was heard, and its answer was written or not
   takes-heard : (T : Type 0) (heard : List Envelope) (old new : K) (w v : Option (List ℕ)) (x : ℕ) (line text : List ℕ) (r : Result T Stop)
-      → text_of (text_told c heard (x ∷ line)) ≡ text → HasHeardLines m c heard old new ((x ∷ line) ∷ []) None
+      → text_of (told_of_text c heard (x ∷ line)) ≡ text → HasHeardLines m c heard old new ((x ∷ line) ∷ []) None
       → OnOk r (Appends w v (text ++ line_feed ∷ [])) → IfErr r (λ stop. stop ≡ Write)
       → TakesLine m c heard old new w v (x ∷ line) r
   takes-heard T heard old new w v x line text (Ok done) told hears written failed = record {
@@ -125,7 +125,7 @@ module _ {K : Type 0} (m : Meaning K) (c : Settings) where
 
   -- it was told this
   pub takes-told : (T : Type 0) (heard : List Envelope) (old new : K) (w v : Option (List ℕ)) (line text : List ℕ) (o : Outcome) (r : Result T Stop)
-      → (length line == 0) ≡ false → is_unavailable o ≡ false → text_of (text_told c heard line) ≡ text → IsInOrder m c new (heard_after c heard (delivery_of_line line))
+      → (length line == 0) ≡ false → is_unavailable o ≡ false → text_of (told_of_text c heard line) ≡ text → IsInOrder m c new (heard_after c heard (delivery_of_line line))
       → ((doubt : Option Envelope) → Survives m c old heard doubt
       → Survives m c new (heard_after c heard (delivery_of_line line)) (doubt_after (m.down old) doubt (doubt_of_text c line o)))
       → OnOk r (Appends w v (text ++ line_feed ∷ [])) → IfErr r (λ stop. stop ≡ Write)
@@ -166,7 +166,7 @@ module _ {K : Type 0} (m : Meaning K) (c : Settings) where
 
   -- the last line was answered
   pub ends-done : (heard : List Envelope) (start mid new : K) (w u v : Option (List ℕ)) (input line slice : List ℕ)
-      → StandsAt m c heard start mid w u input line → slice ≡ line
+      → HasReadTo m c heard start mid w u input line → slice ≡ line
       → HasAnswered m c (heard_lines c heard (whole_lines input)) mid new u v (slice ∷ []) None
       → HasAnswered m c heard start new w v (all_lines input) None
   ends-done heard start mid new w u v input line slice stands same took =
@@ -177,7 +177,7 @@ module _ {K : Type 0} (m : Meaning K) (c : Settings) where
   -- or a run stopped at it
   pub ends-stopped : (T : Type 0) (stop : Stop) (heard : List Envelope) (start mid new : K) (w u v : Option (List ℕ)) (input all line slice : List ℕ)
       → IsBeginning (all_lines input) (all_lines all)
-      → StandsAt m c heard start mid w u input line → slice ≡ line
+      → HasReadTo m c heard start mid w u input line → slice ≡ line
       → TakesLine m c (heard_lines c heard (whole_lines input)) mid new u v {T = T} slice (Err stop)
       → LinesEndBy m c heard start new w v all (lines_end_of stop)
   ends-stopped T Write heard start mid new w u v input all line slice beginning stands same took = record {
@@ -208,9 +208,9 @@ module _ {K : Type 0} (m : Meaning K) (c : Settings) where
   -- an LF was met
   pub goes-ended : (heard : List Envelope) (start mid new : K) (w u v : Option (List ℕ)) (input line slice next : List ℕ)
       → next ≡ [] → m.down new ≡ m.down mid
-      → StandsAt m c heard start mid w u input line → slice ≡ line
+      → HasReadTo m c heard start mid w u input line → slice ≡ line
       → HasAnswered m c (heard_lines c heard (whole_lines input)) mid new u v (slice ∷ []) None
-      → StandsAt m c heard start new w v (input ++ line_feed ∷ []) next
+      → HasReadTo m c heard start new w v (input ++ line_feed ∷ []) next
   goes-ended heard start mid new w u v input line slice next none up stands same took = record {
     up = up ∙ stands.up;
     begun = none ∙ ap part (sym (cuts.last_line-line_feed input));
@@ -219,7 +219,7 @@ module _ {K : Type 0} (m : Meaning K) (c : Settings) where
   }
 
   pub goes-stopped : (T : Type 0) (stop : Stop) (heard : List Envelope) (start mid new : K) (w u v : Option (List ℕ)) (input line slice : List ℕ)
-      → StandsAt m c heard start mid w u input line → slice ≡ line
+      → HasReadTo m c heard start mid w u input line → slice ≡ line
       → TakesLine m c (heard_lines c heard (whole_lines input)) mid new u v {T = T} slice (Err stop)
       → (more : List ℕ) → LinesEndBy m c heard start new w v ((input ++ line_feed ∷ []) ++ more) (lines_end_of stop)
   goes-stopped T stop heard start mid new w u v input line slice stands same took more =
@@ -228,8 +228,8 @@ module _ {K : Type 0} (m : Meaning K) (c : Settings) where
   -- other octets were kept
   pub goes-on : (heard : List Envelope) (start mid : K) (w u : Option (List ℕ)) (input line octets next : List ℕ)
       → has_line_feed octets ≡ false → next ≡ line_with line octets
-      → StandsAt m c heard start mid w u input line
-      → StandsAt m c heard start mid w u (input ++ octets) next
+      → HasReadTo m c heard start mid w u input line
+      → HasReadTo m c heard start mid w u (input ++ octets) next
   goes-on heard start mid w u input line octets next other grown stands = record {
     up = stands.up;
     begun = grown ∙ ap (λ l. line_with l octets) stands.begun ∙ parts.line_with-part (last_line input) octets
@@ -240,7 +240,7 @@ module _ {K : Type 0} (m : Meaning K) (c : Settings) where
   -- there was no memory for them
   pub goes-without : (heard : List Envelope) (start mid : K) (w u : Option (List ℕ)) (input line octets : List ℕ)
       → has_line_feed octets ≡ false → octets ≢ []
-      → StandsAt m c heard start mid w u input line
+      → HasReadTo m c heard start mid w u input line
       → (more : List ℕ) → LinesEndBy m c heard start mid w u ((input ++ octets) ++ more) (lines_end_of (Unavailable Memory))
   goes-without heard start mid w u input line octets other some stands more =
       let next = cuts.next_line (input ++ octets) more in

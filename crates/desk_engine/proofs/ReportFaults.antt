@@ -5,7 +5,7 @@ use Rattle.std.specs.Result.{IfErr, IsErrAnd}
 use Rattle.desk_store.specs.declared.faults.StoreFault.{StoreFault}
 use Rattle.desk_store.specs.Calls.{IsRead}
 use Rattle.desk_store.specs.Meaning.{Meaning}
-use Rattle.desk_engine.specs.Reporting.{store_fault}
+use Rattle.desk_engine.specs.Reporting.{store_fault_in}
 use Rattle.desk_engine.specs.declared.report_faults.ReportFault.{ReportFault}
 use Rattle.desk_engine.specs.declared.report_faults.ReportFault.TheVariants.{Time, Owner, Gateway, Unavailable}
 
@@ -39,14 +39,14 @@ module _ {T : Type 0} where
   pub time_is_known : (result : Result T ReportFault) (Not : Type 0) → ¬ Not → ¬ (result ≡ Err Time) → (result ≡ Err Time) ↔ Not
   time_is_known result Not month other = (λ is. absurd (other is), λ none. absurd (month none))
 
-  pub fault_told : (result : Result T ReportFault) (a : ReportFault) (P : ReportFault → Type 0) → IsErrAnd result (λ told. told ≡ a) → P a → IfErr result P
-  fault_told (Ok x) a P failed so = tt
-  fault_told (Err e) a P failed so = subst P (sym failed) so
+  pub fault_holds : (result : Result T ReportFault) (a : ReportFault) (P : ReportFault → Type 0) → IsErrAnd result (λ told. told ≡ a) → P a → IfErr result P
+  fault_holds (Ok x) a P failed so = tt
+  fault_holds (Err e) a P failed so = subst P (sym failed) so
 
   pub report_fails : {K : Type 0} (m : Meaning K) (old new : K) (fault : StoreFault) (result : Result T ReportFault) → IsErrAnd result (λ told. told ≡ Unavailable fault)
-      → IsRead m old new (Some fault) → IsRead m old new (store_fault result)
+      → IsRead m old new (Some fault) → IsRead m old new (store_fault_in result)
   report_fails m old new fault (Ok x) failed read = absurd failed
-  report_fails m old new fault (Err e) failed read = subst (λ told. IsRead m old new (store_fault (let result : Result T ReportFault = Err told in result))) (sym failed) read
+  report_fails m old new fault (Err e) failed read = subst (λ told. IsRead m old new (store_fault_in (let result : Result T ReportFault = Err told in result))) (sym failed) read
 
 -- what has not the form of a name is nobody's
 pub unnamed : (a b : Bool) → ¬ (IsTrue a) → (a && b) ≡ false

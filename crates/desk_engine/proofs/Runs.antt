@@ -13,8 +13,8 @@ use Rattle.desk_engine.specs.declared.outcomes.Outcome.{Outcome}
 use Rattle.desk_engine.specs.Deliveries.{heard_after, heard_all}
 use Rattle.desk_engine.specs.Hearing.{Hears}
 use Rattle.desk_engine.specs.InOrder.{HasNoRoom, WasInOrder}
-use Rattle.desk_engine.specs.Outcomes.{AreOutcomes, IsOutcome, SizesAreTold, deliveries_of, delivery_of, doubt_of_text, doubt_read, fault_of, first_doubt, has_disk, has_foreign}
-use Rattle.desk_engine.specs.Told.{envelope_of_text, text_told}
+use Rattle.desk_engine.specs.Outcomes.{AreOutcomes, IsOutcome, SizesAreTold, deliveries_of, delivery_of, doubt_of_text, doubt_read, outcome_fault, first_doubt, has_disk, has_foreign}
+use Rattle.desk_engine.specs.Told.{envelope_of_text, told_of_text}
 use Rattle.desk_engine.proofs.Hearings.{hears_as, hears_then, was_before}
 
 heard_all-push : (c : Settings) (heard : List Envelope) (ts : List (List ℕ)) (os : List Outcome) (t : List ℕ) (o : Outcome) → AreOutcomes c heard ts os
@@ -25,7 +25,7 @@ heard_all-push c heard [] (y ∷ ys) t o all = absurd all
 heard_all-push c heard (x ∷ xs) [] t o all = absurd all
 
 outcomes-push : (c : Settings) (heard : List Envelope) (ts : List (List ℕ)) (os : List Outcome) (t : List ℕ) (o : Outcome) → AreOutcomes c heard ts os
-    → IsOutcome (text_told c (heard_all c heard (deliveries_of ts os)) t) o → AreOutcomes c heard (ts ++ t ∷ []) (os ++ o ∷ [])
+    → IsOutcome (told_of_text c (heard_all c heard (deliveries_of ts os)) t) o → AreOutcomes c heard (ts ++ t ∷ []) (os ++ o ∷ [])
 outcomes-push c heard [] [] t o all one = (one, tt)
 outcomes-push c heard (x ∷ xs) (y ∷ ys) t o all one = (all.0, outcomes-push c (heard_after c heard (delivery_of x y)) xs ys t o all.1 one)
 outcomes-push c heard [] (y ∷ ys) t o all one = absurd all
@@ -33,20 +33,20 @@ outcomes-push c heard (x ∷ xs) [] t o all one = absurd all
 
 -- ---- the message in doubt
 
-pub has_disk-push : (os : List Outcome) (o : Outcome) → has_disk (os ++ o ∷ []) ≡ (has_disk os || is_disk (fault_of o))
-has_disk-push [] o = elim (is_disk (fault_of o)) as (λ b. (b || false) ≡ b) [ true ↦ refl | false ↦ refl ]
+pub has_disk-push : (os : List Outcome) (o : Outcome) → has_disk (os ++ o ∷ []) ≡ (has_disk os || is_disk (outcome_fault o))
+has_disk-push [] o = elim (is_disk (outcome_fault o)) as (λ b. (b || false) ≡ b) [ true ↦ refl | false ↦ refl ]
 has_disk-push (y ∷ ys) o =
-    elim (is_disk (fault_of y)) as (λ b. (b || has_disk (ys ++ o ∷ [])) ≡ ((b || has_disk ys) || is_disk (fault_of o))) [ true ↦ refl | false ↦ has_disk-push ys o ]
+    elim (is_disk (outcome_fault y)) as (λ b. (b || has_disk (ys ++ o ∷ [])) ≡ ((b || has_disk ys) || is_disk (outcome_fault o))) [ true ↦ refl | false ↦ has_disk-push ys o ]
 
-one_doubt : (wanted : Result Envelope WireFault) (o : Outcome) → cond (is_disk (fault_of o)) (doubt_read wanted o) None ≡ doubt_read wanted o
-one_doubt (Ok e) o = elim (is_disk (fault_of o)) as (λ b. cond b (cond b (Some e) None) None ≡ cond b (Some e) None) [ true ↦ refl | false ↦ refl ]
-one_doubt (Err fault) o = elim (is_disk (fault_of o)) as (λ b. cond {A = Option Envelope} b None None ≡ None) [ true ↦ refl | false ↦ refl ]
+one_doubt : (wanted : Result Envelope WireFault) (o : Outcome) → cond (is_disk (outcome_fault o)) (doubt_read wanted o) None ≡ doubt_read wanted o
+one_doubt (Ok e) o = elim (is_disk (outcome_fault o)) as (λ b. cond b (cond b (Some e) None) None ≡ cond b (Some e) None) [ true ↦ refl | false ↦ refl ]
+one_doubt (Err fault) o = elim (is_disk (outcome_fault o)) as (λ b. cond {A = Option Envelope} b None None ≡ None) [ true ↦ refl | false ↦ refl ]
 
 first_doubt-push : (c : Settings) (heard : List Envelope) (ts : List (List ℕ)) (os : List Outcome) (t : List ℕ) (o : Outcome) → AreOutcomes c heard ts os
     → first_doubt c (ts ++ t ∷ []) (os ++ o ∷ []) ≡ cond (has_disk os) (first_doubt c ts os) (doubt_of_text c t o)
 first_doubt-push c heard [] [] t o all = one_doubt (envelope_of_text c t) o
 first_doubt-push c heard (x ∷ xs) (y ∷ ys) t o all =
-    elim (is_disk (fault_of y)) as (λ b. cond b (doubt_of_text c x y) (first_doubt c (xs ++ t ∷ []) (ys ++ o ∷ []))
+    elim (is_disk (outcome_fault y)) as (λ b. cond b (doubt_of_text c x y) (first_doubt c (xs ++ t ∷ []) (ys ++ o ∷ []))
     ≡ cond (b || has_disk ys) (cond b (doubt_of_text c x y) (first_doubt c xs ys)) (doubt_of_text c t o)) [
       | true ↦ refl
       | false ↦ first_doubt-push c (heard_after c heard (delivery_of x y)) xs ys t o all.1
@@ -54,10 +54,10 @@ first_doubt-push c heard (x ∷ xs) (y ∷ ys) t o all =
 first_doubt-push c heard [] (y ∷ ys) t o all = absurd all
 first_doubt-push c heard (x ∷ xs) [] t o all = absurd all
 
-has_foreign-push : (os : List Outcome) (o : Outcome) → has_foreign (os ++ o ∷ []) ≡ (has_foreign os || is_foreign (fault_of o))
-has_foreign-push [] o = elim (is_foreign (fault_of o)) as (λ b. (b || false) ≡ b) [ true ↦ refl | false ↦ refl ]
+has_foreign-push : (os : List Outcome) (o : Outcome) → has_foreign (os ++ o ∷ []) ≡ (has_foreign os || is_foreign (outcome_fault o))
+has_foreign-push [] o = elim (is_foreign (outcome_fault o)) as (λ b. (b || false) ≡ b) [ true ↦ refl | false ↦ refl ]
 has_foreign-push (y ∷ ys) o =
-    elim (is_foreign (fault_of y)) as (λ b. (b || has_foreign (ys ++ o ∷ [])) ≡ ((b || has_foreign ys) || is_foreign (fault_of o))) [ true ↦ refl | false ↦ has_foreign-push ys o ]
+    elim (is_foreign (outcome_fault y)) as (λ b. (b || has_foreign (ys ++ o ∷ [])) ≡ ((b || has_foreign ys) || is_foreign (outcome_fault o))) [ true ↦ refl | false ↦ has_foreign-push ys o ]
 
 -- ---- one more
 
@@ -65,7 +65,7 @@ module _ {K : Type 0} (m : Meaning K) where
   pub run_more : (old mid new : K) (ts : List (List ℕ)) (os : List Outcome) (t : List ℕ) (o : Outcome)
       → Hears m old mid (has_disk os) (has_foreign os) (λ c heard. heard_all c heard (deliveries_of ts os)) (λ c. first_doubt c ts os)
       → ((c : Settings) (heard : List Envelope) → WasInOrder m c heard old mid → AreOutcomes c heard ts os)
-      → Hears m mid new (is_disk (fault_of o)) (is_foreign (fault_of o)) (λ c heard. heard_after c heard (delivery_of t o)) (λ c. doubt_of_text c t o)
+      → Hears m mid new (is_disk (outcome_fault o)) (is_foreign (outcome_fault o)) (λ c heard. heard_after c heard (delivery_of t o)) (λ c. doubt_of_text c t o)
       → Hears m old new (has_disk (os ++ o ∷ [])) (has_foreign (os ++ o ∷ []))
       (λ c heard. heard_all c heard (deliveries_of (ts ++ t ∷ []) (os ++ o ∷ []))) (λ c. first_doubt c (ts ++ t ∷ []) (os ++ o ∷ []))
   run_more old mid new ts os t o ran told more =
@@ -76,7 +76,7 @@ module _ {K : Type 0} (m : Meaning K) where
       (λ c heard was. first_doubt-push c heard ts os t o (told c heard (was_before m c heard old mid new more.call.was_sound was))))
 
   sizes-push : (c : Settings) (heard : List Envelope) (ts : List (List ℕ)) (os : List Outcome) (t : List ℕ) (o : Outcome) → AreOutcomes c heard ts os
-      → SizesAreTold m c heard ts os → (fault_of o ≡ Some Size → ((k : K) → ¬ (m.sized k)) → most_heard ≤ length (heard_all c heard (deliveries_of ts os)))
+      → SizesAreTold m c heard ts os → (outcome_fault o ≡ Some Size → ((k : K) → ¬ (m.sized k)) → most_heard ≤ length (heard_all c heard (deliveries_of ts os)))
       → SizesAreTold m c heard (ts ++ t ∷ []) (os ++ o ∷ [])
   sizes-push c heard [] [] t o all told size = (size, tt)
   sizes-push c heard (x ∷ xs) (y ∷ ys) t o all told size = (told.0, sizes-push c (heard_after c heard (delivery_of x y)) xs ys t o all.1 told.1 size)
@@ -89,8 +89,8 @@ module _ {K : Type 0} (m : Meaning K) where
     pub sizes : SizesAreTold m c heard ts os
 
   pub told_more : (c : Settings) (heard : List Envelope) (ts : List (List ℕ)) (os : List Outcome) (t : List ℕ) (o : Outcome) (new : K) → HasTold c heard ts os
-      → IsOutcome (text_told c (heard_all c heard (deliveries_of ts os)) t) o
-      → (fault_of o ≡ Some Size → HasNoRoom m new (heard_all c heard (deliveries_of ts os)))
+      → IsOutcome (told_of_text c (heard_all c heard (deliveries_of ts os)) t) o
+      → (outcome_fault o ≡ Some Size → HasNoRoom m new (heard_all c heard (deliveries_of ts os)))
       → HasTold c heard (ts ++ t ∷ []) (os ++ o ∷ [])
   told_more c heard ts os t o new told outcome size = record {
     outcomes = outcomes-push c heard ts os t o told.outcomes outcome;

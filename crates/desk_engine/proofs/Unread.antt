@@ -11,22 +11,22 @@ use Rattle.desk_engine.specs.declared.outcomes.Outcome.TheVariants.{Unavailable}
 use Rattle.desk_engine.specs.Deliveries.{heard_read}
 use Rattle.desk_engine.specs.Outcomes.{IfRefused, IsOutcome, IsUnheard, is_unavailable}
 use Rattle.desk_engine.specs.steps.Hearing.{RefusesText, Says}
-use Rattle.desk_engine.specs.Told.{fault_told, read_told}
+use Rattle.desk_engine.specs.Told.{told_of_fault, told_of_read}
 use Rattle.desk_engine.proofs.HearingCases.{IsQuiet, says_outcome, says_quiet, says_refused}
 
 -- what follows from such an outcome
 pub record IsUnread (c : Settings) (heard : List Envelope) (wanted : Result Envelope WireFault) (o : Outcome) : Type 0 where
-  pub outcome : IsOutcome (read_told c heard wanted) o
+  pub outcome : IsOutcome (told_of_read c heard wanted) o
   pub stays : heard_read (is_unavailable o) c heard wanted ≡ heard
 
 without_memory : (c : Settings) (heard : List Envelope) (wanted : Result Envelope WireFault) → IsUnread c heard wanted (Unavailable store_faults.Memory)
 without_memory c heard (Ok e) = record { outcome = tt; stays = refl }
 without_memory c heard (Err fault) = record { outcome = tt; stays = refl }
 
-with_fault : (c : Settings) (heard : List Envelope) (wanted : Result Envelope WireFault) (fault : WireFault) (o : Outcome) → wanted ≡ Err fault → Says (fault_told c fault) o
+with_fault : (c : Settings) (heard : List Envelope) (wanted : Result Envelope WireFault) (fault : WireFault) (o : Outcome) → wanted ≡ Err fault → Says (told_of_fault c fault) o
     → IsUnread c heard wanted o
 with_fault c heard wanted fault o is said = subst (λ w. IsUnread c heard w o) (sym is) (record {
-  outcome = says_outcome (fault_told c fault) o said;
+  outcome = says_outcome (told_of_fault c fault) o said;
   stays = refl;
 })
 

@@ -13,12 +13,12 @@ use Rattle.desk_engine.specs.declared.csv_importing.ImportEnd.{ImportEnd}
 use Rattle.desk_engine.specs.declared.csv_importing.ImportEnd.TheVariants.{Done, NoReport, Read, Write, Unavailable}
 use Rattle.desk_engine.specs.Importing.{heard_in_order}
 use Rattle.desk_engine.specs.Lines.{line_feed}
-use Rattle.desk_engine.specs.Told.{envelope_told, text_of}
+use Rattle.desk_engine.specs.Told.{told_of_envelope, text_of}
 
 -- what the envelopes are told, in order, each text with an LF
 abbrev pub answer_envelopes : Settings → List Envelope → List Envelope → List ℕ
 answer_envelopes c heard [] = []
-answer_envelopes c heard (e ∷ es) = text_of (envelope_told c heard e) ++ line_feed ∷ answer_envelopes c (heard_with c heard e) es
+answer_envelopes c heard (e ∷ es) = text_of (told_of_envelope c heard e) ++ line_feed ∷ answer_envelopes c (heard_with c heard e) es
 
 -- why the store was unavailable for a record
 abbrev pub fault_of_import : ImportEnd → Option StoreFault

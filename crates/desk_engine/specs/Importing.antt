@@ -7,7 +7,7 @@ use Rattle.desk_store.specs.declared.faults.StoreFault.{StoreFault}
 use Rattle.desk_store.specs.Calls.{is_disk}
 use Rattle.desk_engine.specs.declared.outcomes.Outcome.{Outcome}
 use Rattle.desk_engine.specs.Outcomes.{IsOutcome, is_unavailable}
-use Rattle.desk_engine.specs.Told.{envelope_told}
+use Rattle.desk_engine.specs.Told.{told_of_envelope}
 
 -- what is heard after the envelopes, one after another
 abbrev pub heard_in_order : Settings → List Envelope → List Envelope → List Envelope
@@ -17,7 +17,7 @@ heard_in_order c heard (e ∷ es) = heard_in_order c (heard_with c heard e) es
 -- each answer is what its envelope is told after the ones before it, and none is Unavailable
 abbrev pub AreAnswers : Settings → List Envelope → List Envelope → List Outcome → Type 0
 AreAnswers c heard [] [] = Unit {0}
-AreAnswers c heard (e ∷ es) (o ∷ os) = IsOutcome (envelope_told c heard e) o × (is_unavailable o ≡ false) × AreAnswers c (heard_with c heard e) es os
+AreAnswers c heard (e ∷ es) (o ∷ os) = IsOutcome (told_of_envelope c heard e) o × (is_unavailable o ≡ false) × AreAnswers c (heard_with c heard e) es os
 AreAnswers c heard [] (o ∷ os) = ⊥
 AreAnswers c heard (e ∷ es) [] = ⊥
 

@@ -11,7 +11,7 @@ use Rattle.desk_store.specs.Calls.{IsRead, is_disk, is_foreign}
 use Rattle.desk_store.specs.Meaning.{Meaning}
 use Rattle.desk_engine.specs.Deliveries.{Delivery, heard_after, heard_all}
 use Rattle.desk_engine.specs.Hearing.{Hears}
-use Rattle.desk_engine.specs.Told.{Told, envelope_of_text, text_told}
+use Rattle.desk_engine.specs.Told.{Told, envelope_of_text, told_of_text}
 
 -- one more delivery leaves a heard list, while there is room
 abbrev pub DeliveriesLeaveHeardLists : Type 0
@@ -56,7 +56,7 @@ delivered text = record { text = text; unavailable = false }
 -- what each text is told, after the ones before it
 abbrev pub told_each : Settings → List Envelope → List (List ℕ) → List Told
 told_each c heard [] = []
-told_each c heard (text ∷ texts) = text_told c heard text ∷ told_each c (heard_after c heard (delivered text)) texts
+told_each c heard (text ∷ texts) = told_of_text c heard text ∷ told_each c (heard_after c heard (delivered text)) texts
 
 -- the text adds no sender
 abbrev pub AddsNoSender : Settings → List ℕ → Type 0

@@ -15,7 +15,7 @@ use Rattle.desk_engine.specs.Deliveries.{Delivery, heard_after}
 use Rattle.desk_engine.specs.Hearing.{StoreLeaves}
 use Rattle.desk_engine.specs.InOrder.{HasNoRoom}
 use Rattle.desk_engine.specs.Outcomes.{doubt_of_text}
-use Rattle.desk_engine.specs.Told.{text_of, text_told}
+use Rattle.desk_engine.specs.Told.{text_of, told_of_text}
 
 -- ---- how an input is cut
 
@@ -73,7 +73,7 @@ heard_line c heard (x ∷ line) = heard_after c heard (delivery_of_line (x ∷ l
 -- what a line is told, and an LF; nothing for a line without octets
 abbrev pub answer_line : Settings → List Envelope → List ℕ → List ℕ
 answer_line c heard [] = []
-answer_line c heard (x ∷ line) = text_of (text_told c heard (x ∷ line)) ++ line_feed ∷ []
+answer_line c heard (x ∷ line) = text_of (told_of_text c heard (x ∷ line)) ++ line_feed ∷ []
 
 -- what is heard after the lines
 abbrev pub heard_lines : Settings → List Envelope → List (List ℕ) → List Envelope

@@ -12,7 +12,7 @@ use Rattle.desk_store.specs.Meaning.{Meaning}
 use Rattle.desk_wire.specs.declared.faults.WireFault.{WireFault}
 use Rattle.desk_engine.specs.declared.outcomes.Outcome.{Outcome}
 use Rattle.desk_engine.specs.declared.outcomes.Outcome.TheVariants.{Answered, Refused, Unavailable}
-use Rattle.desk_engine.specs.Told.{Told, AnswerText, RefusalText, envelope_of_text, text_told}
+use Rattle.desk_engine.specs.Told.{Told, AnswerText, RefusalText, envelope_of_text, told_of_text}
 use Rattle.desk_engine.specs.Deliveries.{Delivery, heard_after}
 
 -- ---- one outcome
@@ -22,9 +22,9 @@ is_unavailable (Unavailable fault) = true
 is_unavailable _ = false
 
 -- why the store was unavailable
-abbrev pub fault_of : Outcome → Option StoreFault
-fault_of (Unavailable fault) = Some fault
-fault_of _ = None
+abbrev pub outcome_fault : Outcome → Option StoreFault
+outcome_fault (Unavailable fault) = Some fault
+outcome_fault _ = None
 
 -- the outcome is what is told, or the store is unavailable
 abbrev pub IsOutcome : Told → Outcome → Type 0
@@ -61,7 +61,7 @@ delivery_of text outcome = record { text = text; unavailable = is_unavailable ou
 
 -- the message that a fault of the disk leaves in doubt
 abbrev pub doubt_of : Envelope → Outcome → Option Envelope
-doubt_of e outcome = if is_disk (fault_of outcome) then Some e else None
+doubt_of e outcome = if is_disk (outcome_fault outcome) then Some e else None
 
 abbrev pub doubt_read : Result Envelope WireFault → Outcome → Option Envelope
 doubt_read (Ok e) outcome = doubt_of e outcome
@@ -76,7 +76,7 @@ doubt_of_text c text outcome = doubt_read (envelope_of_text c text) outcome
 -- each outcome is what its text is told after the ones before it
 abbrev pub AreOutcomes : Settings → List Envelope → List (List ℕ) → List Outcome → Type 0
 AreOutcomes c heard [] [] = Unit {0}
-AreOutcomes c heard (t ∷ ts) (o ∷ os) = IsOutcome (text_told c heard t) o × AreOutcomes c (heard_after c heard (delivery_of t o)) ts os
+AreOutcomes c heard (t ∷ ts) (o ∷ os) = IsOutcome (told_of_text c heard t) o × AreOutcomes c (heard_after c heard (delivery_of t o)) ts os
 AreOutcomes c heard [] (o ∷ os) = ⊥
 AreOutcomes c heard (t ∷ ts) [] = ⊥
 
@@ -89,22 +89,22 @@ deliveries_of (t ∷ ts) [] = []
 -- one of them is Unavailable for a fault of the disk
 abbrev pub has_disk : List Outcome → Bool
 has_disk [] = false
-has_disk (o ∷ os) = is_disk (fault_of o) || has_disk os
+has_disk (o ∷ os) = is_disk (outcome_fault o) || has_disk os
 
 -- or since what is stored is no desk's
 abbrev pub has_foreign : List Outcome → Bool
 has_foreign [] = false
-has_foreign (o ∷ os) = is_foreign (fault_of o) || has_foreign os
+has_foreign (o ∷ os) = is_foreign (outcome_fault o) || has_foreign os
 
 -- Each that is Unavailable for size came when as many were heard as ever may be. Said of stores whose medium has no size of its own:
 -- of others it isn't told which of the two it was.
 abbrev pub SizesAreTold : {K : Type 0} → Meaning K → Settings → List Envelope → List (List ℕ) → List Outcome → Type 0
 SizesAreTold {K} m c heard (t ∷ ts) (o ∷ os) =
-    (fault_of o ≡ Some Size → ((k : K) → ¬ (m.sized k)) → most_heard ≤ length heard) × SizesAreTold m c (heard_after c heard (delivery_of t o)) ts os
+    (outcome_fault o ≡ Some Size → ((k : K) → ¬ (m.sized k)) → most_heard ≤ length heard) × SizesAreTold m c (heard_after c heard (delivery_of t o)) ts os
 SizesAreTold m c heard (t ∷ ts) [] = Unit {0}
 SizesAreTold m c heard [] os = Unit {0}
 
 -- the message in doubt: that of the first fault of the disk
 abbrev pub first_doubt : Settings → List (List ℕ) → List Outcome → Option Envelope
-first_doubt c (t ∷ ts) (o ∷ os) = if is_disk (fault_of o) then doubt_of_text c t o else first_doubt c ts os
+first_doubt c (t ∷ ts) (o ∷ os) = if is_disk (outcome_fault o) then doubt_of_text c t o else first_doubt c ts os
 first_doubt c _ _ = None

@@ -8,9 +8,9 @@ use Rattle.desk_engine.specs.declared.report_faults.ReportFault.TheVariants.{Tim
 use Rattle.desk_engine.specs.Reports.{is_gateway, is_owner}
 
 -- the store's fault, if that is why there is no report
-abbrev pub store_fault : {T : Type 0} → Result T ReportFault → Option StoreFault
-store_fault (Err (Unavailable fault)) = Some fault
-store_fault _ = None
+abbrev pub store_fault_in : {T : Type 0} → Result T ReportFault → Option StoreFault
+store_fault_in (Err (Unavailable fault)) = Some fault
+store_fault_in _ = None
 
 -- why there is no report on an owner, for what is a month
 abbrev pub IsOwnerFault : State → List ℕ → ReportFault → Type 0

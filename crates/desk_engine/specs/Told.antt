@@ -29,27 +29,27 @@ abbrev pub text_of : Told → List ℕ
 text_of (AnswerText text) = text
 text_of (RefusalText refusal text) = text
 
-abbrev pub refusal_told : Settings → Refusal → Option Head → Told
-refusal_told c refusal head = RefusalText refusal (refusal_text c.receiver head refusal)
+abbrev pub told_of_refusal : Settings → Refusal → Option Head → Told
+told_of_refusal c refusal head = RefusalText refusal (refusal_text c.receiver head refusal)
 
 -- a reply as a text
-abbrev pub reply_told : Settings → Envelope → Reply → Told
-reply_told c e Stranger = refusal_told c UnknownSender (Some (head_of_envelope e))
-reply_told c e Reused = refusal_told c TransactionReused (Some (head_of_envelope e))
-reply_told c e (Answers answer) = AnswerText (answer_text c.receiver (head_of_envelope e) answer)
+abbrev pub told_of_reply : Settings → Envelope → Reply → Told
+told_of_reply c e Stranger = told_of_refusal c UnknownSender (Some (head_of_envelope e))
+told_of_reply c e Reused = told_of_refusal c TransactionReused (Some (head_of_envelope e))
+told_of_reply c e (Answers answer) = AnswerText (answer_text c.receiver (head_of_envelope e) answer)
 
 -- why a text is no envelope, as a text; reading tells no want of memory
-abbrev pub fault_told : Settings → WireFault → Told
-fault_told c fault = refusal_told c (unwrap_or (refusal_of_fault fault) Unavailable) (head_of_fault fault)
+abbrev pub told_of_fault : Settings → WireFault → Told
+told_of_fault c fault = told_of_refusal c (unwrap_or (refusal_of_fault fault) Unavailable) (head_of_fault fault)
 
 -- what an envelope is told after these
-abbrev pub envelope_told : Settings → List Envelope → Envelope → Told
-envelope_told c heard e = reply_told c e (reply_to c heard e)
+abbrev pub told_of_envelope : Settings → List Envelope → Envelope → Told
+told_of_envelope c heard e = told_of_reply c e (reply_to c heard e)
 
-abbrev pub read_told : Settings → List Envelope → Result Envelope WireFault → Told
-read_told c heard (Ok e) = envelope_told c heard e
-read_told c heard (Err fault) = fault_told c fault
+abbrev pub told_of_read : Settings → List Envelope → Result Envelope WireFault → Told
+told_of_read c heard (Ok e) = told_of_envelope c heard e
+told_of_read c heard (Err fault) = told_of_fault c fault
 
 -- what a text is told after these
-abbrev pub text_told : Settings → List Envelope → List ℕ → Told
-text_told c heard text = read_told c heard (envelope_of_text c text)
+abbrev pub told_of_text : Settings → List Envelope → List ℕ → Told
+told_of_text c heard text = told_of_read c heard (envelope_of_text c text)

@@ -6,11 +6,7 @@ ghost use Rattle.desk_engine.specs.Reports.{band_columns};
 ghost use Rattle.desk_engine.specs.steps.Uses.{use_shown, use_computed};
 
 use duty_core::{Span, in_order, peak, sweep_peak};
-use radio_core::Band;
 use std::alloc::{AllocError, Global};
-
-/// The bands, in the order of reports.
-pub(crate) const BANDS: [Band; 6] = [Band::B1, Band::B2, Band::B3, Band::B4, Band::B5, Band::B6];
 
 /// How much the air was used: how many times, for how long in all, and the greatest use of any sliding hour, in
 /// microseconds.

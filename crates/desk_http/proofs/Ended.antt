@@ -12,13 +12,13 @@ use Rattle.desk_http.specs.declared.asking.Asked.{Asked}
 use Rattle.desk_http.specs.declared.serving.ServeEnd.{ServeEnd}
 use Rattle.desk_http.specs.declared.serving.ServeEnd.TheVariants.{Done, Closed, Read, Write, Memory}
 use Rattle.desk_http.specs.Heads.{IsWithinLimits}
-use Rattle.desk_http.specs.Requests.{Asks, IsBodyOf, asked_of, head}
+use Rattle.desk_http.specs.Requests.{HeadAsks, IsBodyOf, asked_of, head}
 use Rattle.desk_http.specs.Responses.{Response}
 use Rattle.desk_http.specs.Serving.{ServingEndsBy, Serves, ServesRequest}
 use Rattle.desk_http.specs.Targets.{path_of}
-use Rattle.desk_http.specs.steps.Answering.{Writes}
+use Rattle.desk_http.specs.steps.Answering.{WritesResponse}
 use Rattle.desk_http.specs.steps.Requests.{request_of}
-use Rattle.desk_http.specs.steps.Targets.{named_by}
+use Rattle.desk_http.specs.steps.Targets.{named_in_path}
 use Rattle.desk_http.proofs.Named.{named_is}
 
 -- what serves one way serves another
@@ -32,7 +32,7 @@ ends-more old new P Q A B before after Memory f a h = h
 
 -- a response that was written, or a write of it failed
 pub ends-written : {K : Type 0} (old new : K) (response : Response) (P : Response → Type 0) (A : Type 0) (before after : Option (List ℕ)) (end : ServeEnd)
-    → P response → Writes response before after end → ServingEndsBy old new P A before after end
+    → P response → WritesResponse response before after end → ServingEndsBy old new P A before after end
 ends-written old new response P A before after (Done status) serves h = (response, h.0, serves, h.1)
 ends-written old new response P A before after Closed serves h = absurd h
 ends-written old new response P A before after Read serves h = absurd h
@@ -55,26 +55,26 @@ all_head octets headers spans h at all =
 
 -- what is asked with the parts of a head is what is asked with the head
 asked_is : (octets : List ℕ) (headers : List HeaderSpan) (spans : RequestSpans) (h : RequestHead) → IsRequestAt octets headers spans h
-    → asked_of (named_by (path_of (span_bytes octets spans.path))) (span_bytes octets spans.method) (map (header_bytes octets) (take spans.headers headers))
-    ≡ asked_of (named_by (path_of h.target)) h.method (map name_and_value h.fields)
+    → asked_of (named_in_path (path_of (span_bytes octets spans.path))) (span_bytes octets spans.method) (map (header_bytes octets) (take spans.headers headers))
+    ≡ asked_of (named_in_path (path_of h.target)) h.method (map name_and_value h.fields)
 asked_is octets headers spans h at =
-    ap (λ m. asked_of (named_by (path_of (span_bytes octets spans.path))) m (map (header_bytes octets) (take spans.headers headers))) at.method
-    ∙ ap (λ t. asked_of (named_by (path_of t)) h.method (map (header_bytes octets) (take spans.headers headers))) at.path
-    ∙ ap (λ f. asked_of (named_by (path_of h.target)) h.method f) at.fields
+    ap (λ m. asked_of (named_in_path (path_of (span_bytes octets spans.path))) m (map (header_bytes octets) (take spans.headers headers))) at.method
+    ∙ ap (λ t. asked_of (named_in_path (path_of t)) h.method (map (header_bytes octets) (take spans.headers headers))) at.path
+    ∙ ap (λ f. asked_of (named_in_path (path_of h.target)) h.method f) at.fields
 
 module _ {K : Type 0} (m : Meaning K) (old new : K) where
   -- a head and what came after it
   pub served : (end : ServeEnd) (h : RequestHead) (octets : List ℕ) (headers : List HeaderSpan) (spans : RequestSpans) (asked : Asked) (target : List ℕ) (from mid rest before after : Option (List ℕ))
       → Consumes from mid octets → IsRequestAt octets headers spans h → spans.len ≡ length octets → IsWithinLimits h → target ≡ span_bytes octets spans.path
       → request_of (path_of (span_bytes octets spans.path)) asked
-      ≡ asked_of (named_by (path_of (span_bytes octets spans.path))) (span_bytes octets spans.method) (map (header_bytes octets) (take spans.headers headers))
+      ≡ asked_of (named_in_path (path_of (span_bytes octets spans.path))) (span_bytes octets spans.method) (map (header_bytes octets) (take spans.headers headers))
       → ServingEndsBy old new (λ r. (body : List ℕ) × Consumes mid rest body × IsBodyOf (request_of (path_of target) asked) body rest
       × ServesRequest m old new (request_of (path_of target) asked) body r) ⊥ before after end
       → ServingEndsBy old new (λ r. (input : List ℕ) × Consumes from rest input × Serves m old new input rest r) (Consumes from rest [] × IsAtEnd rest) before after end
   served end h octets headers spans asked target from mid rest before after read at all fits target_is asked_are done =
       let octets_are = all_head octets headers spans h at all in
       let request_is = ap (λ t. request_of (path_of t) asked) target_is ∙ asked_are ∙ asked_is octets headers spans h at in
-      let asks : Asks h (request_of (path_of target) asked) = (named_by (path_of h.target), named_is (path_of h.target), request_is) in
+      let asks : HeadAsks h (request_of (path_of target) asked) = (named_in_path (path_of h.target), named_is (path_of h.target), request_is) in
       ends-more old new _ _ _ _ before after end
       (λ r p. (
         octets ++ p.0,

@@ -5,7 +5,7 @@ use Rattle.std.specs.List.{list_any}
 use Rattle.std.specs.Prelude.{option_map}
 use Rattle.desk_http.specs.declared.targets.Route.TheVariants.{Messages, OwnerReport, BandReport}
 use Rattle.desk_http.specs.Targets.{Resource, messages, reports, bands, IsPathTo, Names, is_part, is_slash, path_to}
-use Rattle.desk_http.specs.steps.Targets.{after_slash, before_slash, follows, is_empty, is_owner_and_month, named_by, names_of, resource_of, route_of}
+use Rattle.desk_http.specs.steps.Targets.{after_slash, before_slash, follows, is_empty, is_owner_and_month, named_in_path, names_of, resource_of, route_of}
 use Rattle.desk_http.proofs.Routes.{drop-one-more, false-if-not, or_false_parts, split, take-one-more}
 
 -- ---- a path with a route has the form of it
@@ -99,37 +99,37 @@ one false x y ea = absurd (true≢false (sym ea))
 
 reports-found : (names owner month : List ℕ) → before_slash names ≡ owner → after_slash names ≡ month
     → is_part owner ≡ true → is_part month ≡ true
-    → named_by (codes "/v1/reports/" ++ names) ≡ Some (reports owner month)
+    → named_in_path (codes "/v1/reports/" ++ names) ≡ Some (reports owner month)
 unfolding route_of
 reports-found names owner month before after owner_part month_part =
     ap (option_map (resource_of (codes "/v1/reports/" ++ names)))
     (both (is_part (before_slash names)) (is_part (after_slash names)) (Some OwnerReport) None (ap is_part before ∙ owner_part) (ap is_part after ∙ month_part))
     ∙ ap (λ text. Some (reports text (after_slash names))) before ∙ ap (λ text. Some (reports owner text)) after
 
-bands-found : (gateway : List ℕ) → is_part gateway ≡ true → named_by (codes "/v1/bands/" ++ gateway) ≡ Some (bands gateway)
+bands-found : (gateway : List ℕ) → is_part gateway ≡ true → named_in_path (codes "/v1/bands/" ++ gateway) ≡ Some (bands gateway)
 unfolding route_of
 bands-found gateway part = ap (option_map (resource_of (codes "/v1/bands/" ++ gateway))) (one (is_part gateway) (Some BandReport) None part)
 
-messages-found : named_by (codes "/v1/messages") ≡ Some messages
+messages-found : named_in_path (codes "/v1/messages") ≡ Some messages
 unfolding route_of
 messages-found = refl
 
-found : (path : List ℕ) (resource : Resource) → IsPathTo path resource → named_by path ≡ Some resource
-found path messages at = ap named_by at.1 ∙ messages-found
+found : (path : List ℕ) (resource : Resource) → IsPathTo path resource → named_in_path path ≡ Some resource
+found path messages at = ap named_in_path at.1 ∙ messages-found
 found path (reports owner month) at =
     let parts = parted owner month (no_slash owner at.0.0) in
-    ap named_by (at.1 ∙ reports-path owner month) ∙ reports-found (owner ++ 47 ∷ month) owner month parts.0 parts.1 at.0.0 at.0.1
-found path (bands gateway) at = ap named_by at.1 ∙ bands-found gateway at.0
+    ap named_in_path (at.1 ∙ reports-path owner month) ∙ reports-found (owner ++ 47 ∷ month) owner month parts.0 parts.1 at.0.0 at.0.1
+found path (bands gateway) at = ap named_in_path at.1 ∙ bands-found gateway at.0
 
 -- ---- so a path names what is found, and nothing else
 
-names-option : (path : List ℕ) (named : Option Resource) → named_by path ≡ named → Names path named
+names-option : (path : List ℕ) (named : Option Resource) → named_in_path path ≡ named → Names path named
 unfolding route_of
 names-option path None e = λ resource at. let none = sym e ∙ found path resource at in cc
 names-option path (Some resource) e = found-at path _ _ _ refl refl refl resource e
 
-pub named_is : (path : List ℕ) → Names path (named_by path)
-named_is path = names-option path (named_by path) refl
+pub named_is : (path : List ℕ) → Names path (named_in_path path)
+named_is path = names-option path (named_in_path path) refl
 
 pub resources_are_one : (path : List ℕ) (first second : Resource) → IsPathTo path first → IsPathTo path second → first ≡ second
 resources_are_one path first second x y = let same = sym (found path first x) ∙ found path second y in cc

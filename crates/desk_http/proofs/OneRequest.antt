@@ -4,7 +4,7 @@ use Rattle.std.proofs.Math.Seq.{take-append_seam}
 use Rattle.httparse.specs.Grammar.{RequestHead, print_request}
 use Rattle.httparse.specs.Spans.{name_and_value}
 use Rattle.desk_http.specs.RequestLaws.{NamedIsOne, RequestsAreOne}
-use Rattle.desk_http.specs.Requests.{Request, refused, message, owner_report, band_report, Asks, IsBodyOf, asked_of, bad_head, head}
+use Rattle.desk_http.specs.Requests.{Request, refused, message, owner_report, band_report, HeadAsks, IsBodyOf, asked_of, bad_head, head}
 use Rattle.desk_http.specs.Targets.{path_of}
 use Rattle.desk_http.proofs.Named.{resources_are_one}
 use Rattle.desk_http.proofs.OneHead.{heads_are_one, no_head_is_none}
@@ -15,7 +15,7 @@ named_is_one path None (Some resource) x y = absurd (x resource y)
 named_is_one path (Some resource) None x y = absurd (y resource x)
 named_is_one path (Some resource) (Some other) x y = ap Some (resources_are_one path resource other x y)
 
-asks-one : (h : RequestHead) (first second : Request) → Asks h first → Asks h second → first ≡ second
+asks-one : (h : RequestHead) (first second : Request) → HeadAsks h first → HeadAsks h second → first ≡ second
 asks-one h first second x y =
     x.2 ∙ ap (λ named. asked_of named h.method (map name_and_value h.fields)) (named_is_one (path_of h.target) x.0 y.0 x.1 y.1) ∙ sym y.2
 
@@ -58,5 +58,5 @@ requests_are_one input left other later request asked body text (head h right fi
     let one = from-head input body left h all in
     let too = e ∙ from-head other text later k all_too in
     let heads = heads_are_one (input ++ left) (body ++ left) (text ++ later) h k (right, one) (right_too, too) in
-    let same = asks-one k request asked (subst (λ x. Asks x request) heads.0 asks) asks_too in
+    let same = asks-one k request asked (subst (λ x. HeadAsks x request) heads.0 asks) asks_too in
     (same, body-one asked body text left later (subst (λ r. IsBodyOf r body (Some left)) same whole) whole_too heads.1)

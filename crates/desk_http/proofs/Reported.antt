@@ -12,7 +12,7 @@ use Rattle.desk_engine.specs.declared.report_faults.ReportFault.{ReportFault}
 use Rattle.desk_engine.specs.declared.report_faults.ReportFault.TheVariants.{Time, Owner, Gateway, Unavailable}
 use Rattle.desk_engine.specs.InOrder.{IsInOrder, WasInOrder, kept_after}
 use Rattle.desk_engine.specs.Months.{IsMonth}
-use Rattle.desk_engine.specs.Reporting.{IsGatewayFault, IsOwnerFault, store_fault}
+use Rattle.desk_engine.specs.Reporting.{IsGatewayFault, IsOwnerFault, store_fault_in}
 use Rattle.desk_engine.specs.Reports.{IsBandReport, IsOwnerReport, is_gateway, is_owner}
 use Rattle.desk_http.specs.Reports.{IsBandAnswer, IsOwnerAnswer}
 use Rattle.desk_http.specs.steps.Answering.{answer_shown}
@@ -20,7 +20,7 @@ use Rattle.desk_http.specs.Responses.{report_response}
 use Rattle.desk_http.specs.Serving.{ServesBandReport, ServesOwnerReport}
 
 module _ {T : Type 0} (octets : T → List ℕ) where
-  same_fault : (r : Result T ReportFault) → store_fault (answer_shown octets r) ≡ store_fault r
+  same_fault : (r : Result T ReportFault) → store_fault_in (answer_shown octets r) ≡ store_fault_in r
   same_fault (Ok text) = refl
   same_fault (Err Time) = refl
   same_fault (Err Owner) = refl
@@ -46,7 +46,7 @@ module _ {T : Type 0} (octets : T → List ℕ) where
     stays : (fault : Option StoreFault) → IsRead m old new fault → (c : Settings) (heard : List Envelope) → WasInOrder m c heard old new → IsInOrder m c new heard
     stays fault read c heard was = record { list = was.order.list; kept = read.held (kept_after c heard) was.sound was.order.kept }
 
-    pub owner_served : (owner month : List ℕ) (r : Result T ReportFault) → IsRead m old new (store_fault r)
+    pub owner_served : (owner month : List ℕ) (r : Result T ReportFault) → IsRead m old new (store_fault_in r)
         → (r ≡ Err Time) ↔ ((from to : ℤ) → ¬ (IsMonth month from to))
         → ForHeld m old new (λ kept. OnOk r (IsTrue (is_owner kept.facts owner)))
         → ForHeld m old new (λ kept. (from to : ℤ) → IsMonth month from to → IfOk r (λ text. IsOwnerReport kept.facts owner from to (octets text)))
@@ -63,7 +63,7 @@ module _ {T : Type 0} (octets : T → List ℕ) where
       order = stays _ read;
     }
 
-    pub band_served : (gateway : List ℕ) (r : Result T ReportFault) → IsRead m old new (store_fault r)
+    pub band_served : (gateway : List ℕ) (r : Result T ReportFault) → IsRead m old new (store_fault_in r)
         → ForHeld m old new (λ kept. OnOk r (IsTrue (is_gateway kept.facts gateway)))
         → ForHeld m old new (λ kept. IfOk r (λ text. IsBandReport kept.facts gateway (octets text)))
         → ForHeld m old new (λ kept. IfErr r (IsGatewayFault kept.facts gateway))

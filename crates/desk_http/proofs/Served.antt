@@ -13,8 +13,8 @@ use Rattle.desk_engine.specs.Deliveries.{Delivery, heard_after, heard_all}
 use Rattle.desk_engine.specs.Hearing.{Hears}
 use Rattle.desk_engine.specs.InOrder.{WasInOrder}
 use Rattle.desk_engine.specs.Laws.{CallsHearInOrder, NoCallHearsNothing, ReadsHearNothing}
-use Rattle.desk_engine.specs.Outcomes.{delivery_of, doubt_of_text, doubt_read, fault_of}
-use Rattle.desk_engine.specs.Reporting.{store_fault}
+use Rattle.desk_engine.specs.Outcomes.{delivery_of, doubt_of_text, doubt_read, outcome_fault}
+use Rattle.desk_engine.specs.Reporting.{store_fault_in}
 use Rattle.desk_engine.specs.Told.{envelope_of_text}
 use Rattle.desk_http.specs.declared.serving.ServeEnd.{ServeEnd}
 use Rattle.desk_http.specs.declared.serving.ServeEnd.TheVariants.{Done, Closed, Read, Write, Memory}
@@ -29,7 +29,7 @@ heard_all-append c heard [] more = refl
 heard_all-append c heard (d ∷ ds) more = heard_all-append c (heard_after c heard d) ds more
 
 -- without a fault of the disk no message is in doubt
-no_doubt : (c : Settings) (text : List ℕ) (outcome : Outcome) → is_disk (fault_of outcome) ≡ false → doubt_of_text c text outcome ≡ None
+no_doubt : (c : Settings) (text : List ℕ) (outcome : Outcome) → is_disk (outcome_fault outcome) ≡ false → doubt_of_text c text outcome ≡ None
 no_doubt c text outcome is = elim (envelope_of_text c text) as (λ wanted. doubt_read wanted outcome ≡ None) [
   | Ok e ↦ ap (λ b. cond b (Some e) None) is
   | Err fault ↦ refl
@@ -87,8 +87,8 @@ module _ {K : Type 0} (m : Meaning K) (in_order : CallsHearInOrder m) (reads : R
   hears_message : (old new : K) (body : List ℕ) (outcome : Outcome) → IsDelivered m old new body outcome → HearsDeliveries m old new
   hears_message old new body outcome delivered = record {
     deliveries = delivery_of body outcome ∷ [];
-    disk = is_disk (fault_of outcome);
-    foreign = is_foreign (fault_of outcome);
+    disk = is_disk (outcome_fault outcome);
+    foreign = is_foreign (outcome_fault outcome);
     doubtful = λ c. doubt_of_text c body outcome;
     undoubted = λ up c. no_doubt c body outcome up;
     hears = delivered.store;
@@ -112,8 +112,8 @@ module _ {K : Type 0} (m : Meaning K) (in_order : CallsHearInOrder m) (reads : R
   request_hears old new (refused wanted) body response served = hears_none old new served.0
   request_hears old new (message count) body response (inl served) = hears_message old new body served.1 served.2
   request_hears old new (message count) body response (inr served) = hears_none old new served.1
-  request_hears old new (owner_report owner month) body response served = hears_reads old new (store_fault served.answer) served.read
-  request_hears old new (band_report gateway) body response served = hears_reads old new (store_fault served.answer) served.read
+  request_hears old new (owner_report owner month) body response served = hears_reads old new (store_fault_in served.answer) served.read
+  request_hears old new (band_report gateway) body response served = hears_reads old new (store_fault_in served.answer) served.read
 
   end_hears : (old new : K) (serves : Response → Type 0) (closed : Type 0) (before after : Option (List ℕ)) (end : ServeEnd)
       → ((response : Response) → serves response → HearsDeliveries m old new)

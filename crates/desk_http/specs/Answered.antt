@@ -10,9 +10,9 @@ use Rattle.desk_engine.specs.declared.report_faults.ReportFault.TheVariants.{Tim
 use Rattle.desk_engine.specs.declared.outcomes.Outcome.{Outcome}
 use Rattle.desk_engine.specs.Deliveries.{Delivery, heard_all}
 use Rattle.desk_engine.specs.Months.{IsMonth}
-use Rattle.desk_engine.specs.Outcomes.{IsOutcome, delivery_of, doubt_of_text, fault_of}
-use Rattle.desk_engine.specs.Reporting.{store_fault}
-use Rattle.desk_engine.specs.Told.{text_told}
+use Rattle.desk_engine.specs.Outcomes.{IsOutcome, delivery_of, doubt_of_text, outcome_fault}
+use Rattle.desk_engine.specs.Reporting.{store_fault_in}
+use Rattle.desk_engine.specs.Told.{told_of_text}
 use Rattle.desk_http.specs.Reports.{IsBandAnswer, IsOwnerAnswer}
 use Rattle.desk_http.specs.Requests.{Request, refused, message, owner_report, band_report}
 use Rattle.desk_http.specs.Responses.{Response, cut_body, outcome_response, report_response}
@@ -30,7 +30,7 @@ none_delivered = record { deliveries = []; disk = false; doubt = None }
 
 -- one text, with this outcome
 abbrev pub one_delivered : Settings → List ℕ → Outcome → Delivered
-one_delivered c text outcome = record { deliveries = delivery_of text outcome ∷ []; disk = is_disk (fault_of outcome); doubt = doubt_of_text c text outcome }
+one_delivered c text outcome = record { deliveries = delivery_of text outcome ∷ []; disk = is_disk (outcome_fault outcome); doubt = doubt_of_text c text outcome }
 
 -- no text: the store was read, and told this fault or none
 abbrev pub only_read : Option StoreFault → Delivered
@@ -49,7 +49,7 @@ and_then first others = record {
 -- of a report that was asked for: the answer, and the response that tells it
 abbrev pub Reports : (Result (List ℕ) ReportFault → Type 0) → Delivered → Delivered → Response → Type 0
 Reports IsAnswer old new response =
-    (answer : Result (List ℕ) ReportFault) × IsAnswer answer × (new ≡ and_then old (only_read (store_fault answer))) × (response ≡ report_response answer)
+    (answer : Result (List ℕ) ReportFault) × IsAnswer answer × (new ≡ and_then old (only_read (store_fault_in answer))) × (response ≡ report_response answer)
 
 -- what had been heard before the first connection
 module _ (c : Settings) (heard : List Envelope) where
@@ -57,7 +57,7 @@ module _ (c : Settings) (heard : List Envelope) where
   -- cut off, and nothing was delivered.
   abbrev pub AnswersMessage : ℕ → List ℕ → Delivered → Delivered → Response → Type 0
   AnswersMessage count body old new response =
-      ((length body ≡ count) × (outcome : Outcome) × IsOutcome (text_told c (heard_all c heard old.deliveries) body) outcome
+      ((length body ≡ count) × (outcome : Outcome) × IsOutcome (told_of_text c (heard_all c heard old.deliveries) body) outcome
       × (new ≡ and_then old (one_delivered c body outcome)) × (response ≡ outcome_response outcome))
       ⊎ ((length body < count) × (new ≡ old) × (response ≡ cut_body))
 

@@ -42,8 +42,8 @@ asked_of (Some resource) method fields =
     if bytes_eq method (method_of resource) then asked_by_resource resource fields else refused (other_method (method_of resource))
 
 -- the head asks for this
-abbrev pub Asks : RequestHead → Request → Type 0
-Asks h request = (named : Option Resource) × Names (path_of h.target) named × (request ≡ asked_of named h.method (map name_and_value h.fields))
+abbrev pub HeadAsks : RequestHead → Request → Type 0
+HeadAsks h request = (named : Option Resource) × Names (path_of h.target) named × (request ≡ asked_of named h.method (map name_and_value h.fields))
 
 -- what is read after the head: of a message all its octets, or the input ended before; and else nothing
 abbrev pub IsBodyOf : Request → List ℕ → Option (List ℕ) → Type 0
@@ -53,5 +53,5 @@ IsBodyOf _ body rest = body ≡ []
 -- What was read is this request with this body: no head; or a head, and after it no more than the body that it asks for. This may be left of the input.
 pub data IsReadAs (input : List ℕ) (rest : Option (List ℕ)) (request : Request) (body : List ℕ) : Type 0 where
   bad_head : IsNoHead input rest → request ≡ refused no_head → body ≡ [] → IsReadAs input rest request body
-  head : (h : RequestHead) → IsRequestHead h → IsWithinLimits h → Asks h request → input ≡ print_request h ++ body → IsBodyOf request body rest
+  head : (h : RequestHead) → IsRequestHead h → IsWithinLimits h → HeadAsks h request → input ≡ print_request h ++ body → IsBodyOf request body rest
       → IsReadAs input rest request body

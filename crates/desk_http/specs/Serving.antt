@@ -14,9 +14,9 @@ use Rattle.desk_engine.specs.Deliveries.{heard_after}
 use Rattle.desk_engine.specs.Hearing.{Hears}
 use Rattle.desk_engine.specs.InOrder.{HasNoRoom, IsInOrder, WasInOrder}
 use Rattle.desk_engine.specs.Months.{IsMonth}
-use Rattle.desk_engine.specs.Outcomes.{IfRefused, IsOutcome, IsUnheard, delivery_of, doubt_of_text, fault_of}
-use Rattle.desk_engine.specs.Reporting.{store_fault}
-use Rattle.desk_engine.specs.Told.{text_told}
+use Rattle.desk_engine.specs.Outcomes.{IfRefused, IsOutcome, IsUnheard, delivery_of, doubt_of_text, outcome_fault}
+use Rattle.desk_engine.specs.Reporting.{store_fault_in}
+use Rattle.desk_engine.specs.Told.{told_of_text}
 use Rattle.desk_http.specs.declared.serving.ServeEnd.{ServeEnd}
 use Rattle.desk_http.specs.declared.serving.ServeEnd.TheVariants.{Done, Closed, Read, Write, Memory}
 use Rattle.desk_http.specs.Reports.{IsBandAnswer, IsOwnerAnswer}
@@ -26,12 +26,12 @@ use Rattle.desk_http.specs.Responses.{Response, response_text, cut_body, outcome
 module _ {K : Type 0} (m : Meaning K) (old new : K) where
   -- The body was delivered once, with this outcome: it is what the text is told, and the store is in order for what is heard with it.
   pub record IsDelivered (body : List ℕ) (outcome : Outcome) : Type 0 where
-    pub store : Hears m old new (is_disk (fault_of outcome)) (is_foreign (fault_of outcome))
+    pub store : Hears m old new (is_disk (outcome_fault outcome)) (is_foreign (outcome_fault outcome))
         (λ c heard. heard_after c heard (delivery_of body outcome)) (λ c. doubt_of_text c body outcome)
-    pub told : (c : Settings) (heard : List Envelope) → WasInOrder m c heard old new → IsOutcome (text_told c heard body) outcome
+    pub told : (c : Settings) (heard : List Envelope) → WasInOrder m c heard old new → IsOutcome (told_of_text c heard body) outcome
     pub refused : IfRefused outcome IsUnheard
-    pub fault : IsOfCalls (fault_of outcome)
-    pub size : (c : Settings) (heard : List Envelope) → WasInOrder m c heard old new → fault_of outcome ≡ Some Size → HasNoRoom m new heard
+    pub fault : IsOfCalls (outcome_fault outcome)
+    pub size : (c : Settings) (heard : List Envelope) → WasInOrder m c heard old new → outcome_fault outcome ≡ Some Size → HasNoRoom m new heard
 
   -- A body of so many octets was delivered once; or it is cut off, and the store stands as before.
   abbrev pub ServesMessage : ℕ → List ℕ → Response → Type 0
@@ -43,7 +43,7 @@ module _ {K : Type 0} (m : Meaning K) (old new : K) where
   pub record ServesOwnerReport (owner month : List ℕ) (response : Response) : Type 0 where
     pub answer : Result (List ℕ) ReportFault
     pub response_is : response ≡ report_response answer
-    pub read : IsRead m old new (store_fault answer)
+    pub read : IsRead m old new (store_fault_in answer)
     pub time : (answer ≡ Err Time) ↔ ((from to : ℤ) → ¬ (IsMonth month from to))
     pub told : (c : Settings) (heard : List Envelope) → WasInOrder m c heard old new → IsOwnerAnswer (state_of c heard) owner month answer
     pub order : (c : Settings) (heard : List Envelope) → WasInOrder m c heard old new → IsInOrder m c new heard
@@ -52,7 +52,7 @@ module _ {K : Type 0} (m : Meaning K) (old new : K) where
   pub record ServesBandReport (gateway : List ℕ) (response : Response) : Type 0 where
     pub answer : Result (List ℕ) ReportFault
     pub response_is : response ≡ report_response answer
-    pub read : IsRead m old new (store_fault answer)
+    pub read : IsRead m old new (store_fault_in answer)
     pub told : (c : Settings) (heard : List Envelope) → WasInOrder m c heard old new → IsBandAnswer (state_of c heard) gateway answer
     pub order : (c : Settings) (heard : List Envelope) → WasInOrder m c heard old new → IsInOrder m c new heard
 

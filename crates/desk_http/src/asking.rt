@@ -5,7 +5,7 @@ ghost use Rattle.httparse.specs.Spans.{IsHeaderWithin, header_bytes};
 ghost use Rattle.desk_http.specs.Requests.{asked_by_resource, asked_of, asked_of_messages};
 ghost use Rattle.desk_http.specs.Targets.{path_of};
 ghost use Rattle.desk_http.specs.steps.Requests.{request_of};
-ghost use Rattle.desk_http.specs.steps.Targets.{named_by, resource_of};
+ghost use Rattle.desk_http.specs.steps.Targets.{named_in_path, resource_of};
 
 use crate::fields::{BodyLength, body_length, has_transfer_encoding};
 use crate::targets::{Route, method_of, path_of, route_of};
@@ -40,7 +40,7 @@ pub(crate) fn asked_of(
 ) -> Result<Asked, InsertError>
     requires { All (IsHeaderWithin (length octets.now)) headers.now }
     ensures { IfOk result (λ asked. request_of (path_of target.now) asked
-        ≡ asked_of (named_by (path_of target.now)) method.now (map (header_bytes octets.now) headers.now)) }
+        ≡ asked_of (named_in_path (path_of target.now)) method.now (map (header_bytes octets.now) headers.now)) }
 {
     let Some(route) = route_of(alloc, path_of(target))? else {
         return Ok(Asked::NoRoute);

@@ -9,7 +9,7 @@ use Rattle.sqlite.specs.Held.{Held, state}
 use Rattle.sqlite.specs.State.{Begins, HasCleanDisk, IsUnchanged, Survives, CommitsShowing}
 use Rattle.sqlite.proofs.Callers.{begun_plain, given_begin, unchanged_then}
 use Rattle.sqlite.proofs.StateLemmas.{survives_then}
-use Rattle.desk_rows.specs.Faults.{fault_of, IsEven}
+use Rattle.desk_rows.specs.Faults.{row_fault, IsEven}
 use Rattle.desk_rows.specs.steps.Errors.{Decodes}
 use Rattle.desk_rows.specs.steps.Queries.{AreRead, EndsIn, FindsAll, IsGiving}
 use Rattle.desk_rows.specs.declared.faults.RowFault.{RowFault}
@@ -73,7 +73,7 @@ module _ {S : Type 0} (g : Ghosts S) (sql : List ℕ) (params : Row) (first : He
             );
       }
 
-      pub fails : (e : Error) (fault : RowFault) → fault ≡ fault_of e → (HasCleanDisk (state g new) → FailsToAdvance g mid new e) → Ends new (Err fault)
+      pub fails : (e : Error) (fault : RowFault) → fault ≡ row_fault e → (HasCleanDisk (state g new) → FailsToAdvance g mid new e) → Ends new (Err fault)
       fails e fault is next = record {
         mode = λ idle. mode (at.mode idle);
         survives = survives_on mid new at.survives survives;

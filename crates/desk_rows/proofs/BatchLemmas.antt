@@ -7,7 +7,7 @@ use Rattle.sqlite.specs.State.{ExecutesIn, EndsScope}
 use Rattle.sqlite.specs.Held.{Held, state}
 use Rattle.sqlite.specs.Batch.{RunInTurn, first_len}
 use Rattle.sqlite.specs.declared.error.Error.{Error}
-use Rattle.desk_rows.specs.Faults.{fault_of}
+use Rattle.desk_rows.specs.Faults.{row_fault}
 use Rattle.desk_rows.specs.Making.{IsEmptied}
 use Rattle.desk_rows.specs.declared.faults.RowFault.TheVariants.{Refused}
 use Rattle.desk_rows.proofs.BatchSteps.{CreatesOne, Leads}
@@ -63,7 +63,7 @@ starts text first rest before mid after begins leads later S g most old new has 
 -- run in turn inside a transaction, from empty tables of the schema, none is told as Refused
 abbrev pub IsNeverRefused : List ℕ → Schema → Type 1
 IsNeverRefused text before = (S : Type 0) (g : Ghosts S) (most : ℕ) (old new : Held S) (e : Error) → (state g old).now.schema ≡ before → IsEmptied (state g old).now
-    → IsTrue old.in_transaction → fault_of e ≡ Refused → RunInTurn g (Some 0) most text old new (Err e) → ⊥
+    → IsTrue old.in_transaction → row_fault e ≡ Refused → RunInTurn g (Some 0) most text old new (Err e) → ⊥
 
 pub none_refused : (schema : Schema) → IsNeverRefused [] schema
 none_refused schema S g most old new e has empty inside told h = let failed = h.0 in cc
@@ -73,7 +73,7 @@ first_spared [] first rest before mid begins step later S g most old new e has e
 first_spared (b ∷ more) first rest before mid begins step later S g zero old new e has empty inside told h = h
 first_spared (b ∷ more) first rest before mid begins step later S g (suc most) old new e has empty inside told (inl (why, failed, inl ran)) =
     let same : e ≡ why = cc in
-    step.spared.runs (state g old) (state g new) why has empty (ap fault_of (sym same) ∙ told)
+    step.spared.runs (state g old) (state g new) why has empty (ap row_fault (sym same) ∙ told)
     (subst (λ t. ExecutesIn true t [] (state g old) (state g new) (Err why)) begins.first_is ran.runs)
 first_spared (b ∷ more) first rest before mid begins step later S g (suc most) old new e has empty inside told (inl (why, failed, inr (is, inl ends))) =
     step.spared.stays (state g old) has (subst (λ t. EndsScope 0 t [] (state g old)) begins.first_is ends.0)

@@ -18,7 +18,7 @@ use Rattle.sqlite.specs.Clock.{timed}
 use Rattle.sqlite.specs.State.{State, Runs, ExecutesIn, EndsScope, text_of, shows_rows, mode_of}
 use Rattle.sqlite.specs.declared.error.Error.{Error}
 use Rattle.sqlite.proofs.Callers.{IsPlain, command_of, statement_of}
-use Rattle.desk_rows.specs.Faults.{fault_of}
+use Rattle.desk_rows.specs.Faults.{row_fault}
 use Rattle.desk_rows.specs.Making.{IsEmptied}
 use Rattle.desk_rows.specs.declared.faults.RowFault.TheVariants.{Refused}
 use Rattle.desk_rows.proofs.CreateRefusals.{accepts_table, accepts_index, no_table, no_index}
@@ -116,7 +116,7 @@ index_leads sql before at table index is there plain means old new count has emp
 
 -- over empty tables of the schema, it fails neither for what it says nor for where it stands
 pub record IsSpared (sql : List ℕ) (before : Schema) : Type 1 where
-  pub runs : (old new : State) (e : Error) → old.now.schema ≡ before → IsEmptied old.now → fault_of e ≡ Refused → ExecutesIn true sql [] old new (Err e) → ⊥
+  pub runs : (old new : State) (e : Error) → old.now.schema ≡ before → IsEmptied old.now → row_fault e ≡ Refused → ExecutesIn true sql [] old new (Err e) → ⊥
   pub stays : (old : State) → old.now.schema ≡ before → EndsScope 0 sql [] old → ⊥
 
 -- over this schema the text is this command alone, with no parameter

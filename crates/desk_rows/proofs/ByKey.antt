@@ -29,18 +29,19 @@ use Rattle.registry_core.specs.Numbered.{first_that, item_at}
 use Rattle.duty_core.specs.Range.{IsStart}
 use Rattle.registry_core.specs.Ranges.{IsEui, IsName}
 use Rattle.registry_core.specs.Wholes.{IsWhole}
-use Rattle.desk_rows.specs.Rows.{Rows, Holds, SenderRow, ReplyRow, DeviceRow, SessionRow, CopyRow, BookingRow, LimitRow, IsDevice, IsSession, IsUplink, IsCopy, IsBooking, sender_cells, reply_cells, name_cells, device_cells, session_cells, uplink_cells, copy_cells, booking_cells, limit_cells, number, eui, or_null, role_number, kind_number, standing_number, is_sender, is_reply, is_device, is_session, is_uplink, is_copy, is_limit}
+use Rattle.desk_rows.specs.Rows.{Rows, Holds, SenderRow, ReplyRow, DeviceRow, SessionRow, CopyRow, BookingRow, LimitRow, IsDevice, IsSession, IsUplink, IsCopy, IsBooking, sender_cells, reply_cells, name_cells, device_cells, session_cells, uplink_cells, copy_cells, booking_cells, limit_cells, number, eui, or_null, role_number, kind_number, standing_number, is_sender_named, is_reply, is_device, is_session, is_uplink, is_copy, is_limit}
 use Rattle.desk_rows.specs.Calls.{Reads}
 use Rattle.desk_rows.specs.order.Facts.{limit_found}
 use Rattle.desk_rows.specs.steps.Queries.{Finds, Knows}
-use Rattle.desk_rows.specs.Replies.{texts_shown, reply_texts}
+use Rattle.desk_rows.specs.Replies.{kept_texts, reply_texts}
 use Rattle.desk_rows.specs.steps.Shown.{uplink_shown, copy_shown, booking_shown}
 use Rattle.desk_rows.specs.declared.faults.RowFault.{RowFault}
 use Rattle.desk_rows.specs.declared.replies.Texts.{Texts}
 use Rattle.desk_rows.proofs.Lookups.{IsLookup, known_by, found_by, says_so}
-use Rattle.desk_rows.proofs.Ordered.{by_rowid, every, zip_from, found_any, found_row, found_number, found_first, found_same, zip_all, map_same, map_twice}
+use Rattle.desk_rows.proofs.Ordered.{by_rowid, every, zip_from, found_any, found_row, found_number, found_same, zip_all, map_same, map_twice}
 use Rattle.desk_rows.proofs.ReadLemmas.{truth_again}
 use Rattle.desk_rows.proofs.Terms.{is, same, and_true, text_equal, number_equal, eui_equal}
+use Rattle.desk_rows.proofs.OrderLemmas.Looking.{first_zipped}
 
 -- ---- one, two or three columns are the parameters
 
@@ -89,18 +90,18 @@ unfolding understood everything
 gateway_lookup = record { names = _; compiled = _; means = refl; command = refl; plain = (refl, refl); whole = omega arith; given = refl; unlisted = refl }
 
 module _ {old new : State} (name : List ℕ) where
-  pub role_told : {result : Result (Option Role) RowFault} → Finds role_text (Text name ∷ []) old new (λ role. role) (λ role. number (role_number role) ∷ []) (λ role. Unit {0}) result
-      → Reads old new result (λ r role. role ≡ option_map (λ (s : SenderRow). s.role) (find (is_sender name) r.senders))
-  role_told found = of_row (λ (s : SenderRow). s.role) (is_sender name) (λ r. r.senders)
-      (found_by role_lookup (Text name ∷ []) refl refl sender_cells (λ r. r.senders) (λ r has. has.ten.sender) (λ b. is_sender name b.1) (λ b. one_is _ _ (text_equal b.1.name name))
+  pub reads_role : {result : Result (Option Role) RowFault} → Finds role_text (Text name ∷ []) old new (λ role. role) (λ role. number (role_number role) ∷ []) (λ role. Unit {0}) result
+      → Reads old new result (λ r role. role ≡ option_map (λ (s : SenderRow). s.role) (find (is_sender_named name) r.senders))
+  reads_role found = of_row (λ (s : SenderRow). s.role) (is_sender_named name) (λ r. r.senders)
+      (found_by role_lookup (Text name ∷ []) refl refl sender_cells (λ r. r.senders) (λ r has. has.ten.sender) (λ b. is_sender_named name b.1) (λ b. one_is _ _ (text_equal b.1.name name))
       (λ _. Unit {0}) (λ r has. every r.senders) found (λ b. b.1.role) (λ b. refl) (λ b fits. tt))
 
-  pub owner_told : {result : Result Bool RowFault} → Knows owner_text (Text name ∷ []) old new result → Reads old new result (λ r known. known ≡ list_any (λ owner. bytes_eq owner name) r.owners)
-  owner_told knew = says_so (known_by owner_lookup (Text name ∷ []) refl refl name_cells (λ r. r.owners) (λ r has. has.ten.owner) (λ b. bytes_eq b.1 name) (λ b. one_is _ _ (text_equal b.1 name)) knew)
+  pub reads_owner : {result : Result Bool RowFault} → Knows owner_text (Text name ∷ []) old new result → Reads old new result (λ r known. known ≡ list_any (λ owner. bytes_eq owner name) r.owners)
+  reads_owner knew = says_so (known_by owner_lookup (Text name ∷ []) refl refl name_cells (λ r. r.owners) (λ r has. has.ten.owner) (λ b. bytes_eq b.1 name) (λ b. one_is _ _ (text_equal b.1 name)) knew)
       (λ r has known is. is ∙ found_any (λ owner. bytes_eq owner name) 1 r.owners)
 
-  pub gateway_told : {result : Result Bool RowFault} → Knows gateway_text (Text name ∷ []) old new result → Reads old new result (λ r known. known ≡ list_any (λ gateway. bytes_eq gateway name) r.gateways)
-  gateway_told knew = says_so (known_by gateway_lookup (Text name ∷ []) refl refl name_cells (λ r. r.gateways) (λ r has. has.ten.gateway) (λ b. bytes_eq b.1 name) (λ b. one_is _ _ (text_equal b.1 name)) knew)
+  pub reads_gateway : {result : Result Bool RowFault} → Knows gateway_text (Text name ∷ []) old new result → Reads old new result (λ r known. known ≡ list_any (λ gateway. bytes_eq gateway name) r.gateways)
+  reads_gateway knew = says_so (known_by gateway_lookup (Text name ∷ []) refl refl name_cells (λ r. r.gateways) (λ r has. has.ten.gateway) (λ b. bytes_eq b.1 name) (λ b. one_is _ _ (text_equal b.1 name)) knew)
       (λ r has known is. is ∙ found_any (λ gateway. bytes_eq gateway name) 1 r.gateways)
 
 -- ---- replies
@@ -113,9 +114,9 @@ unfolding understood everything
 reply_lookup = record { names = _; compiled = _; means = refl; command = refl; plain = (refl, refl); whole = omega arith; given = refl; unlisted = refl }
 
 module _ {old new : State} (sender : List ℕ) (n : ℕ) where
-  pub texts_told : {result : Result (Option Texts) RowFault} → Finds reply_text (Text sender ∷ number n ∷ []) old new texts_shown (λ t. Blob t.0 ∷ Blob t.1 ∷ []) (λ t. Unit {0}) result
-      → Reads old new result (λ r texts. option_map texts_shown texts ≡ option_map reply_texts (find (is_reply sender n) r.replies))
-  texts_told found = says_so
+  pub reads_texts : {result : Result (Option Texts) RowFault} → Finds reply_text (Text sender ∷ number n ∷ []) old new kept_texts (λ t. Blob t.0 ∷ Blob t.1 ∷ []) (λ t. Unit {0}) result
+      → Reads old new result (λ r texts. option_map kept_texts texts ≡ option_map reply_texts (find (is_reply sender n) r.replies))
+  reads_texts found = says_so
       (found_by reply_lookup (Text sender ∷ number n ∷ []) refl refl reply_cells (λ r. r.replies) (λ r has. has.ten.reply) (λ b. is_reply sender n b.1)
       (λ b. two_are _ _ _ _ (text_equal b.1.sender sender) (number_equal b.1.number n)) (λ _. Unit {0}) (λ r has. every r.replies) found (λ b. reply_texts b.1) (λ b. refl) (λ b fits. tt))
       (λ r has x is. is ∙ sym (map_twice reply_texts (λ (b : ℕ × ReplyRow). b.1) (find (λ b. is_reply sender n b.1) (zip_from 1 r.replies))) ∙ ap (option_map reply_texts) (found_row (is_reply sender n) 1 r.replies))
@@ -144,16 +145,16 @@ by_eui : (dev_eui : ℕ) → IsEui dev_eui → (db : Database) (r : Rows) → Ho
 by_eui dev_eui in_range db r has = found_same IsDevice (has_eui dev_eui) (is_device dev_eui) (λ d d_in_range. eui_equal d.dev_eui dev_eui d_in_range.dev_eui in_range) r.devices has.ten.in_range.devices
 
 module _ {old new : State} (dev_eui : ℕ) (in_range : IsEui dev_eui) where
-  pub device_told : {result : Result (Option Device) RowFault} → Finds device_text (eui dev_eui ∷ []) old new (λ device. device) (λ (device : Device). eui device.join_eui ∷ Text device.owner ∷ []) (λ (device : Device). IsEui device.join_eui × IsName device.owner) result
+  pub reads_device : {result : Result (Option Device) RowFault} → Finds device_text (eui dev_eui ∷ []) old new (λ device. device) (λ (device : Device). eui device.join_eui ∷ Text device.owner ∷ []) (λ (device : Device). IsEui device.join_eui × IsName device.owner) result
       → Reads old new result (λ r device. device ≡ option_map (λ (d : DeviceRow). d.device) (find (is_device dev_eui) r.devices))
-  device_told found = says_so (of_row (λ (d : DeviceRow). d.device) (has_eui dev_eui) (λ r. r.devices)
+  reads_device found = says_so (of_row (λ (d : DeviceRow). d.device) (has_eui dev_eui) (λ r. r.devices)
       (found_by device_lookup (eui dev_eui ∷ []) refl refl device_cells (λ r. r.devices) (λ r has. has.ten.device) (λ b. has_eui dev_eui b.1) (λ b. one_is (eui b.1.dev_eui) (eui dev_eui) refl)
       IsDevice (λ r has. has.ten.in_range.devices) found (λ b. b.1.device) (λ b. refl) (λ b fits. (fits.join_eui, fits.owner))))
       (λ r has x is. is ∙ ap (option_map (λ (d : DeviceRow). d.device)) (by_eui dev_eui in_range old.now r has))
 
-  pub floor_told : {result : Result (Option (Option ℕ)) RowFault} → Finds floor_text (eui dev_eui ∷ []) old new (λ n. n) (λ (n : Option ℕ). or_null number n ∷ []) (λ n. Unit {0}) result
+  pub reads_floor : {result : Result (Option (Option ℕ)) RowFault} → Finds floor_text (eui dev_eui ∷ []) old new (λ n. n) (λ (n : Option ℕ). or_null number n ∷ []) (λ n. Unit {0}) result
       → Reads old new result (λ r floor. floor ≡ option_map (λ (d : DeviceRow). d.floor) (find (is_device dev_eui) r.devices))
-  floor_told found = says_so (of_row (λ (d : DeviceRow). d.floor) (has_eui dev_eui) (λ r. r.devices)
+  reads_floor found = says_so (of_row (λ (d : DeviceRow). d.floor) (has_eui dev_eui) (λ r. r.devices)
       (found_by floor_lookup (eui dev_eui ∷ []) refl refl device_cells (λ r. r.devices) (λ r has. has.ten.device) (λ b. has_eui dev_eui b.1) (λ b. one_is (eui b.1.dev_eui) (eui dev_eui) refl)
       IsDevice (λ r has. has.ten.in_range.devices) found (λ b. b.1.floor) (λ b. refl) (λ b fits. tt)))
       (λ r has x is. is ∙ ap (option_map (λ (d : DeviceRow). d.floor)) (by_eui dev_eui in_range old.now r has))
@@ -182,15 +183,15 @@ unfolding understood everything
 nonce_lookup = record { names = _; compiled = _; means = refl; command = refl; plain = (refl, refl); whole = omega arith; given = refl; unlisted = refl }
 
 module _ {old new : State} (n : ℕ) where
-  pub session_told : {result : Result (Option Session) RowFault} → Finds session_text (number n ∷ []) old new (λ session. session) (λ (session : Session). eui session.device ∷ number session.nonce ∷ []) (λ (session : Session). IsEui session.device × (session.nonce < 2 ^ 16)) result
+  pub reads_session : {result : Result (Option Session) RowFault} → Finds session_text (number n ∷ []) old new (λ session. session) (λ (session : Session). eui session.device ∷ number session.nonce ∷ []) (λ (session : Session). IsEui session.device × (session.nonce < 2 ^ 16)) result
       → Reads old new result (λ r session. session ≡ option_map (λ (s : SessionRow). s.session) (item_at r.sessions n))
-  session_told found = of_number (λ (s : SessionRow). s.session) n (λ r. r.sessions)
+  reads_session found = of_number (λ (s : SessionRow). s.session) n (λ r. r.sessions)
       (found_by session_lookup (number n ∷ []) refl refl session_cells (λ r. r.sessions) (λ r has. has.ten.session) (λ b. b.0 == n) (λ b. one_is _ _ (number_equal b.0 n))
       IsSession (λ r has. has.ten.in_range.sessions) found (λ b. b.1.session) (λ b. refl) (λ b fits. (fits.device, fits.nonce)))
 
-  pub next_down_told : {result : Result (Option ℕ) RowFault} → Finds next_down_text (number n ∷ []) old new (λ k. k) (λ k. number k ∷ []) (λ k. Unit {0}) result
+  pub reads_next_down : {result : Result (Option ℕ) RowFault} → Finds next_down_text (number n ∷ []) old new (λ k. k) (λ k. number k ∷ []) (λ k. Unit {0}) result
       → Reads old new result (λ r counter. counter ≡ option_map (λ (s : SessionRow). s.next_down) (item_at r.sessions n))
-  next_down_told found = of_number (λ (s : SessionRow). s.next_down) n (λ r. r.sessions)
+  reads_next_down found = of_number (λ (s : SessionRow). s.next_down) n (λ r. r.sessions)
       (found_by next_down_lookup (number n ∷ []) refl refl session_cells (λ r. r.sessions) (λ r has. has.ten.session) (λ b. b.0 == n) (λ b. one_is _ _ (number_equal b.0 n))
       (λ _. Unit {0}) (λ r has. every r.sessions) found (λ b. b.1.next_down) (λ b. refl) (λ b fits. tt))
 
@@ -198,14 +199,14 @@ abbrev has_nonce : ℕ → ℕ → SessionRow → Bool
 has_nonce device nonce s = same (eui s.session.device) (eui device) && s.session.nonce == nonce
 
 module _ {old new : State} (device nonce : ℕ) (in_range : IsEui device) where
-  pub nonce_told : {result : Result (Option ℕ) RowFault} → Finds nonce_text (eui device ∷ number nonce ∷ []) old new (λ k. k) (λ k. number k ∷ []) (λ k. Unit {0}) result
+  pub reads_nonce : {result : Result (Option ℕ) RowFault} → Finds nonce_text (eui device ∷ number nonce ∷ []) old new (λ k. k) (λ k. number k ∷ []) (λ k. Unit {0}) result
       → Reads old new result (λ r n. n ≡ option_map (λ (found : ℕ × SessionRow). found.0) (first_that (is_session device nonce) r.sessions))
-  nonce_told found = says_so
+  reads_nonce found = says_so
       (found_by nonce_lookup (eui device ∷ number nonce ∷ []) refl refl session_cells (λ r. r.sessions) (λ r has. has.ten.session) (λ b. has_nonce device nonce b.1)
       (λ b. two_are (eui b.1.session.device) (eui device) _ _ refl (number_equal b.1.session.nonce nonce)) (λ _. Unit {0}) (λ r has. every r.sessions) found (λ b. b.0) (λ b. refl) (λ b fits. tt))
       (λ r has x is. sym (map_same x) ∙ is ∙ ap (option_map (λ (b : ℕ × SessionRow). b.0))
       (found_same (λ (b : ℕ × SessionRow). IsSession b.1) (λ b. has_nonce device nonce b.1) (λ b. is_session device nonce b.1) (λ b fits. ap (λ t. t && b.1.session.nonce == nonce) (eui_equal b.1.session.device device fits.device in_range))
-      (zip_from 1 r.sessions) (zip_all IsSession 1 r.sessions has.ten.in_range.sessions) ∙ found_first (is_session device nonce) 1 r.sessions))
+      (zip_from 1 r.sessions) (zip_all IsSession 1 r.sessions has.ten.in_range.sessions) ∙ first_zipped (is_session device nonce) 1 r.sessions))
 
 -- ---- uplinks
 
@@ -224,21 +225,21 @@ unfolding understood everything
 counter_lookup = record { names = _; compiled = _; means = refl; command = refl; plain = (refl, refl); whole = omega arith; given = refl; unlisted = refl }
 
 module _ {old new : State} where
-  pub uplink_told : (n : ℕ) {result : Result (Option (ℕ × Uplink)) RowFault} → Finds uplink_text (number n ∷ []) old new (λ found. found) uplink_shown (λ found. IsUplink found.1) result
+  pub reads_uplink : (n : ℕ) {result : Result (Option (ℕ × Uplink)) RowFault} → Finds uplink_text (number n ∷ []) old new (λ found. found) uplink_shown (λ found. IsUplink found.1) result
       → Reads old new result (λ r found. found ≡ option_map (λ uplink. (n, uplink)) (item_at r.uplinks n))
-  uplink_told n found = says_so
+  reads_uplink n found = says_so
       (found_by uplink_lookup (number n ∷ []) refl refl uplink_cells (λ r. r.uplinks) (λ r has. has.ten.uplink) (λ b. b.0 == n) (λ b. one_is _ _ (number_equal b.0 n))
       IsUplink (λ r has. has.ten.in_range.uplinks) found (λ b. b) (λ b. refl) (λ b fits. fits))
       (λ r has x is. sym (map_same x) ∙ is ∙ map_same _ ∙ found_number n r.uplinks)
 
-  pub counter_told : (session : ℕ) (kind : Kind) (counter : ℕ) {result : Result (Option (ℕ × Uplink)) RowFault}
+  pub reads_counter : (session : ℕ) (kind : Kind) (counter : ℕ) {result : Result (Option (ℕ × Uplink)) RowFault}
       → Finds counter_text (number session ∷ number (kind_number kind) ∷ number counter ∷ []) old new (λ found. found) uplink_shown (λ found. IsUplink found.1) result
       → Reads old new result (λ r found. found ≡ first_that (is_uplink session kind counter) r.uplinks)
-  counter_told session kind counter found = says_so
+  reads_counter session kind counter found = says_so
       (found_by counter_lookup (number session ∷ number (kind_number kind) ∷ number counter ∷ []) refl refl uplink_cells (λ r. r.uplinks) (λ r has. has.ten.uplink) (λ b. is_uplink session kind counter b.1)
       (λ b. three_are _ _ _ _ _ _ (number_equal b.1.session session) (number_equal (kind_number b.1.kind) (kind_number kind)) (number_equal b.1.counter counter))
       IsUplink (λ r has. has.ten.in_range.uplinks) found (λ b. b) (λ b. refl) (λ b fits. fits))
-      (λ r has x is. sym (map_same x) ∙ is ∙ map_same _ ∙ found_first (is_uplink session kind counter) 1 r.uplinks)
+      (λ r has x is. sym (map_same x) ∙ is ∙ map_same _ ∙ first_zipped (is_uplink session kind counter) 1 r.uplinks)
 
 -- ---- copies
 
@@ -250,9 +251,9 @@ unfolding understood everything
 copy_lookup = record { names = _; compiled = _; means = refl; command = refl; plain = (refl, refl); whole = omega arith; given = refl; unlisted = refl }
 
 module _ {old new : State} (uplink : ℕ) (gateway : List ℕ) where
-  pub copy_told : {result : Result (Option Reception) RowFault} → Finds copy_text (number uplink ∷ Text gateway ∷ []) old new (λ copy. copy) copy_shown (λ (copy : Reception). IsWhole copy.end × (copy.rate.freq < 2 ^ 32)) result
+  pub reads_copy : {result : Result (Option Reception) RowFault} → Finds copy_text (number uplink ∷ Text gateway ∷ []) old new (λ copy. copy) copy_shown (λ (copy : Reception). IsWhole copy.end × (copy.rate.freq < 2 ^ 32)) result
       → Reads old new result (λ r copy. copy ≡ option_map (λ (c : CopyRow). c.reception) (find (is_copy uplink gateway) r.copies))
-  copy_told found = of_row (λ (c : CopyRow). c.reception) (is_copy uplink gateway) (λ r. r.copies)
+  reads_copy found = of_row (λ (c : CopyRow). c.reception) (is_copy uplink gateway) (λ r. r.copies)
       (found_by copy_lookup (number uplink ∷ Text gateway ∷ []) refl refl copy_cells (λ r. r.copies) (λ r has. has.ten.copy) (λ b. is_copy uplink gateway b.1)
       (λ b. two_are _ _ _ _ (number_equal b.1.uplink uplink) (text_equal b.1.gateway gateway)) IsCopy (λ r has. has.ten.in_range.copies) found (λ b. b.1.reception) (λ b. refl) (λ b fits. (fits.end, fits.freq)))
 
@@ -282,15 +283,15 @@ unfolding understood everything
 answer_lookup = record { names = _; compiled = _; means = refl; command = refl; plain = (refl, refl); whole = omega arith; given = refl; unlisted = refl }
 
 module _ {old new : State} where
-  pub booking_told : (n : ℕ) {result : Result (Option Booking) RowFault} → Finds booking_text (number n ∷ []) old new (λ booking. booking) booking_shown (λ (booking : Booking). IsName booking.gateway × IsStart booking.span.start × (booking.span.len < 2 ^ 32)) result
+  pub reads_booking : (n : ℕ) {result : Result (Option Booking) RowFault} → Finds booking_text (number n ∷ []) old new (λ booking. booking) booking_shown (λ (booking : Booking). IsName booking.gateway × IsStart booking.span.start × (booking.span.len < 2 ^ 32)) result
       → Reads old new result (λ r booking. booking ≡ option_map (λ (b : BookingRow). b.booking) (item_at r.bookings n))
-  booking_told n found = of_number (λ (b : BookingRow). b.booking) n (λ r. r.bookings)
+  reads_booking n found = of_number (λ (b : BookingRow). b.booking) n (λ r. r.bookings)
       (found_by booking_lookup (number n ∷ []) refl refl booking_cells (λ r. r.bookings) (λ r has. has.ten.booking) (λ b. b.0 == n) (λ b. one_is _ _ (number_equal b.0 n))
       IsBooking (λ r has. has.ten.in_range.bookings) found (λ b. b.1.booking) (λ b. refl) (λ b fits. (fits.gateway, fits.start, fits.len)))
 
-  pub answer_told : (uplink : ℕ) {result : Result Bool RowFault} → Knows answer_text (number uplink ∷ []) old new result
+  pub reads_answer : (uplink : ℕ) {result : Result Bool RowFault} → Knows answer_text (number uplink ∷ []) old new result
       → Reads old new result (λ r answered. answered ≡ list_any (λ (b : BookingRow). is_answer_to uplink b.booking) r.bookings)
-  answer_told uplink knew = says_so
+  reads_answer uplink knew = says_so
       (known_by answer_lookup (number uplink ∷ []) refl refl booking_cells (λ r. r.bookings) (λ r has. has.ten.booking) (λ b. is_answer_to uplink b.1.booking)
       (λ b. ap₂ (λ s t. s && t) (number_equal b.1.booking.uplink uplink) (and_true _ ∙ stands b.1.booking.standing)) knew)
       (λ r has answered is. is ∙ found_any (λ (b : BookingRow). is_answer_to uplink b.booking) 1 r.bookings)
@@ -305,9 +306,9 @@ unfolding understood everything
 limit_lookup = record { names = _; compiled = _; means = refl; command = refl; plain = (refl, refl); whole = omega arith; given = refl; unlisted = refl }
 
 module _ {old new : State} (gateway : List ℕ) (band : ℕ) where
-  pub limit_told : {result : Result (Option ℕ) RowFault} → Finds limit_text (Text gateway ∷ number band ∷ []) old new (λ n. n) (λ n. number n ∷ []) (λ n. Unit {0}) result
+  pub reads_limit : {result : Result (Option ℕ) RowFault} → Finds limit_text (Text gateway ∷ number band ∷ []) old new (λ n. n) (λ n. number n ∷ []) (λ n. Unit {0}) result
       → Reads old new result (λ r limit. limit ≡ limit_found r.limits gateway band)
-  limit_told found = of_row (λ (l : LimitRow). l.limit.most) (is_limit gateway band) (λ r. r.limits)
+  reads_limit found = of_row (λ (l : LimitRow). l.limit.most) (is_limit gateway band) (λ r. r.limits)
       (found_by limit_lookup (Text gateway ∷ number band ∷ []) refl refl limit_cells (λ r. r.limits) (λ r has. has.limit) (λ b. is_limit gateway band b.1)
       (λ b. two_are _ _ _ _ (text_equal b.1.gateway gateway) (number_equal (band_number b.1.limit.band) band)) (λ _. Unit {0}) (λ r has. every r.limits) found
       (λ b. b.1.limit.most) (λ b. refl) (λ b fits. tt))

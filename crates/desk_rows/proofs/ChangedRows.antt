@@ -13,7 +13,7 @@ use Rattle.sqlite_rules.specs.Lists.{Has}
 use Rattle.sqlite_rules.proofs.ListLemmas.{has_filtered}
 use Rattle.sqlite_keyed.specs.Lists.{update_where}
 use Rattle.registry_core.specs.Numbered.{item_changed, place_changed}
-use Rattle.desk_rows.specs.Rows.{numbered_from}
+use Rattle.desk_rows.specs.Rows.{rowids_from}
 use Rattle.desk_rows.proofs.NumberedLemmas.{ints_rise}
 use Rattle.desk_rows.proofs.Ordered.{apart_above, apart_below, encode, zip_from}
 
@@ -30,7 +30,7 @@ zip_high n (x ∷ xs) b (inl first) = let is : b.0 ≡ n = ap (λ (c : ℕ × _)
 zip_high n (x ∷ xs) b (inr later) = let low = zip_high (n + 1) xs b later in omega (arith, low)
 
 pub zip_stands : {X : Type 0} (cells : X → Row) (n : ℕ) (xs : List X) (b : ℕ × X) → Has (zip_from n xs) b
-    → Has (numbered_from n (map cells xs)) (encode cells b)
+    → Has (rowids_from n (map cells xs)) (encode cells b)
 zip_stands cells n [] b h = absurd h
 zip_stands cells n (x ∷ xs) b (inl first) = inl (ap (encode cells) first)
 zip_stands cells n (x ∷ xs) b (inr later) = inr (zip_stands cells (n + 1) xs b later)
@@ -40,18 +40,18 @@ zip_stands cells n (x ∷ xs) b (inr later) = inr (zip_stands cells (n + 1) xs b
 ints_fall : (n m : ℕ) → n < m → value_cmp (Int (pos m)) (Int (pos n)) ≡ Greater
 ints_fall n m low = value_cmp-Int (pos m) (pos n) ∙ (let a : nat_lt m n ≡ false = search rules in let b : nat_lt n m ≡ true = search rules in rw (a, b))
 
-gone_below : (n m : ℕ) (xs : List Row) → n < m → without_rowid (pos n) (numbered_from m xs) ≡ numbered_from m xs
+gone_below : (n m : ℕ) (xs : List Row) → n < m → without_rowid (pos n) (rowids_from m xs) ≡ rowids_from m xs
 gone_below n m [] low = refl
 gone_below n m (x ∷ xs) low =
-    let left = without_rowid (pos n) (numbered_from (m + 1) xs) in
+    let left = without_rowid (pos n) (rowids_from (m + 1) xs) in
     ap (λ o. cond (not (is_eq o)) ((Int (pos m) ∷ x) ∷ left) left) (ints_fall n m low)
     ∙ ap (λ l. (Int (pos m) ∷ x) ∷ l) (gone_below n (m + 1) xs (omega (arith, low)))
 
-put_front : (n m : ℕ) (xs : List Row) (c : Row) → n < m → put_row (Int (pos n) ∷ c) (numbered_from m xs) ≡ (Int (pos n) ∷ c) ∷ numbered_from m xs
+put_front : (n m : ℕ) (xs : List Row) (c : Row) → n < m → put_row (Int (pos n) ∷ c) (rowids_from m xs) ≡ (Int (pos n) ∷ c) ∷ rowids_from m xs
 put_front n m [] c low = refl
 put_front n m (x ∷ xs) c low =
     let new = Int (pos n) ∷ c in
-    let rest = numbered_from (m + 1) xs in
+    let rest = rowids_from (m + 1) xs in
     ap (λ o. match_ordering o ((Int (pos m) ∷ x) ∷ put_row new rest) (new ∷ rest) (new ∷ (Int (pos m) ∷ x) ∷ rest)) (ints_fall n m low)
 
 module _ {X : Type 0} (p : ℕ × X → Bool) (f : X → X) where
@@ -73,15 +73,15 @@ module _ {X : Type 0} (p : ℕ × X → Bool) (f : X → X) where
       go false is later = ap (λ l. x ∷ l) (later is)
 
   pub put_changed : (cells : X → Row) (n : ℕ) (xs : List X) (b : ℕ × X) → passing n xs ≡ b ∷ []
-      → put_row (encode cells (b.0, f b.1)) (without_rowid (pos b.0) (numbered_from n (map cells xs))) ≡ numbered_from n (map cells (numbered_changed n xs))
+      → put_row (encode cells (b.0, f b.1)) (without_rowid (pos b.0) (rowids_from n (map cells xs))) ≡ rowids_from n (map cells (numbered_changed n xs))
   put_changed cells n [] b one = cc
   put_changed cells n (x ∷ xs) b one = go (p (n, x)) one (put_changed cells (n + 1) xs b)
     where
       rest : List Row
-      rest = numbered_from (n + 1) (map cells xs)
+      rest = rowids_from (n + 1) (map cells xs)
 
       after : List Row
-      after = numbered_from (n + 1) (map cells (numbered_changed (n + 1) xs))
+      after = rowids_from (n + 1) (map cells (numbered_changed (n + 1) xs))
 
       -- the row b put again where the first row stands too
       Puts : ℕ × X → X → Type 0
@@ -97,7 +97,7 @@ module _ {X : Type 0} (p : ℕ × X → Bool) (f : X → X) where
           subst (λ c. Puts c (f x)) (sym first) (
           ap (λ o. put_row new (cond (not (is_eq o)) (encode cells (n, x) ∷ left) left)) (tied_itself value_cmp_total (Int (pos n)))
           ∙ ap (put_row new) (gone_below n (n + 1) (map cells xs) (omega arith)) ∙ put_front n (n + 1) (map cells xs) (cells (f x)) (omega arith)
-          ∙ ap (λ l. new ∷ numbered_from (n + 1) (map cells l)) (sym (none_changed (n + 1) xs none)))
+          ∙ ap (λ l. new ∷ rowids_from (n + 1) (map cells l)) (sym (none_changed (n + 1) xs none)))
       go false is later =
           let low : n + 1 ≤ b.0 = zip_low (n + 1) xs b (has_filtered p (zip_from (n + 1) xs) b (subst (λ l. Has l b) (sym is) (inl refl))).0 in
           let before : n < b.0 = omega (arith, low) in

@@ -38,11 +38,11 @@ use Rattle.sqlite.specs.State.{State, Executes, ExecutesInside, text_of}
 use Rattle.sqlite.proofs.Callers.{IsPlain, command_of}
 use Rattle.desk_rows.specs.Schema.{desk_schema, desk_tables}
 use Rattle.desk_rows.specs.steps.Change.{KeepsOthers}
-use Rattle.desk_rows.specs.Rows.{Rows, Holds, InRange, numbered_from, table_of}
+use Rattle.desk_rows.specs.Rows.{Rows, Holds, InRange, rowids_from, table_of}
 use Rattle.desk_rows.specs.Calls.{Changes}
 use Rattle.desk_rows.specs.steps.Statements.{HasWritten}
 use Rattle.desk_rows.proofs.Tables.{tables, with_table, holds_with}
-use Rattle.desk_rows.specs.Faults.{IsEven, fault_of}
+use Rattle.desk_rows.specs.Faults.{IsEven, row_fault}
 use Rattle.desk_rows.specs.declared.faults.RowFault.{RowFault}
 use Rattle.desk_rows.proofs.InsertLemmas.{uncounted, inserted}
 use Rattle.desk_rows.proofs.NumberedLemmas.{ints_rise, next_is, put_next}
@@ -70,7 +70,7 @@ module _ {sql : List ℕ} {many at : ℕ} {terms : List Term} {width : ℕ} (tex
       let did = inserted sql params old new has at terms width (ap command_of text.means ∙ text.command) (subst IsPlain (sym text.means) text.plain) bare there source one count ran in
       let put = λ (cells_now : Row) (rows : List Row). put_row (with_rowid Chosen rows cells_now) rows in (
         did.0,
-        did.1 ∙ ap₂ put casts stored ∙ put_next (map cells xs) (cells x) ∙ ap (numbered_from 1) (sym (map-append cells xs (x ∷ []))),
+        did.1 ∙ ap₂ put casts stored ∙ put_next (map cells xs) (cells x) ∙ ap (rowids_from 1) (sym (map-append cells xs (x ∷ []))),
         did.3,
         did.4,
       )
@@ -85,9 +85,39 @@ schema_kept {sql} {many} {at} {terms} {width} text params old new has bare there
 -- ---- keys
 
 pub apart : IsAscending (λ (a b : Table). a.tree ≡ b.tree → ⊥) desk_tables
-apart = ((λ e. omega (arith, e), (λ e. omega (arith, e), (λ e. omega (arith, e), (λ e. omega (arith, e), (λ e. omega (arith, e), (λ e. omega (arith, e), (λ e. omega (arith, e), (λ e. omega (arith, e), (λ e. omega (arith, e), (λ e. omega (arith, e), tt)))))))))), ((λ e. omega (arith, e), (λ e. omega (arith, e), (λ e. omega (arith, e), (λ e. omega (arith, e), (λ e. omega (arith, e), (λ e. omega (arith, e), (λ e. omega (arith, e), (λ e. omega (arith, e), (λ e. omega (arith, e), tt))))))))), ((λ e. omega (arith, e), (λ e. omega (arith, e), (λ e. omega (arith, e), (λ e. omega (arith, e), (λ e. omega (arith, e), (λ e. omega (arith, e), (λ e. omega (arith, e), (λ e. omega (arith, e), tt)))))))), ((λ e. omega (arith, e), (λ e. omega (arith, e), (λ e. omega (arith, e), (λ e. omega (arith, e), (λ e. omega (arith, e), (λ e. omega (arith, e), (λ e. omega (arith, e), tt))))))), ((λ e. omega (arith, e), (λ e. omega (arith, e), (λ e. omega (arith, e), (λ e. omega (arith, e), (λ e. omega (arith, e), (λ e. omega (arith, e), tt)))))), ((λ e. omega (arith, e), (λ e. omega (arith, e), (λ e. omega (arith, e), (λ e. omega (arith, e), (λ e. omega (arith, e), tt))))), ((λ e. omega (arith, e), (λ e. omega (arith, e), (λ e. omega (arith, e), (λ e. omega (arith, e), tt)))), ((λ e. omega (arith, e), (λ e. omega (arith, e), (λ e. omega (arith, e), tt))), ((λ e. omega (arith, e), (λ e. omega (arith, e), tt)), ((λ e. omega (arith, e), tt), (tt, tt)))))))))))
+apart = (
+  (λ e. omega (arith, e), (λ e. omega (arith, e), (λ e. omega (arith, e), (λ e. omega (arith, e), (λ e. omega (arith, e), (λ e. omega (arith, e), (λ e. omega (arith, e), (λ e. omega (arith, e), (λ e. omega (arith, e), (λ e. omega (arith, e), tt)))))))))),
+  (
+    (λ e. omega (arith, e), (λ e. omega (arith, e), (λ e. omega (arith, e), (λ e. omega (arith, e), (λ e. omega (arith, e), (λ e. omega (arith, e), (λ e. omega (arith, e), (λ e. omega (arith, e), (λ e. omega (arith, e), tt))))))))),
+    (
+      (λ e. omega (arith, e), (λ e. omega (arith, e), (λ e. omega (arith, e), (λ e. omega (arith, e), (λ e. omega (arith, e), (λ e. omega (arith, e), (λ e. omega (arith, e), (λ e. omega (arith, e), tt)))))))),
+      (
+        (λ e. omega (arith, e), (λ e. omega (arith, e), (λ e. omega (arith, e), (λ e. omega (arith, e), (λ e. omega (arith, e), (λ e. omega (arith, e), (λ e. omega (arith, e), tt))))))),
+        (
+          (λ e. omega (arith, e), (λ e. omega (arith, e), (λ e. omega (arith, e), (λ e. omega (arith, e), (λ e. omega (arith, e), (λ e. omega (arith, e), tt)))))),
+          (
+            (λ e. omega (arith, e), (λ e. omega (arith, e), (λ e. omega (arith, e), (λ e. omega (arith, e), (λ e. omega (arith, e), tt))))),
+            (
+              (λ e. omega (arith, e), (λ e. omega (arith, e), (λ e. omega (arith, e), (λ e. omega (arith, e), tt)))),
+              (
+                (λ e. omega (arith, e), (λ e. omega (arith, e), (λ e. omega (arith, e), tt))),
+                (
+                  (λ e. omega (arith, e), (λ e. omega (arith, e), tt)),
+                  (
+                    (λ e. omega (arith, e), tt),
+                    (tt, tt),
+                  ),
+                ),
+              ),
+            ),
+          ),
+        ),
+      ),
+    ),
+  ),
+)
 
-not_taken : (n m : ℕ) (xs : List Row) (cells : Row) → n + length xs ≤ m → is_taken (numbered_from n xs) (Int (pos m) ∷ cells) ≡ false
+not_taken : (n m : ℕ) (xs : List Row) (cells : Row) → n + length xs ≤ m → is_taken (rowids_from n xs) (Int (pos m) ∷ cells) ≡ false
 not_taken n m [] cells low = refl
 not_taken n m (x ∷ xs) cells low = ap₂ (λ o b. is_eq o || b) (ints_rise n m (omega (arith, low))) (not_taken (n + 1) m xs cells (omega (arith, low)))
 
@@ -109,7 +139,7 @@ other_tree db tree rows t other = rw (false_from_ne_true _ (λ e. other (eqb-tru
 -- no row but the new one has its key
 module _ {X : Type 0} (cells : X → Row) (key : List ℕ) (x : X) (P : X → Type 0) (same : X → Bool) (agrees : (n m : ℕ) (y : X) → P y → agree plain key (Int (pos n) ∷ cells y) key (Int (pos m) ∷ cells x) ≡ same y) where
   no_clash : (n m : ℕ) (xs : List X) → AllByRecursion P xs → list_any same xs ≡ false → m ≡ n + length xs
-      → clashes plain key (numbered_from n (map cells (xs ++ x ∷ []))) (Int (pos m) ∷ cells x) ≡ false
+      → clashes plain key (rowids_from n (map cells (xs ++ x ∷ []))) (Int (pos m) ∷ cells x) ≡ false
   no_clash n m [] all absent is =
       ap (λ b. (agree plain key (Int (pos n) ∷ cells x) key (Int (pos m) ∷ cells x) && b) || false) (ap (λ k. differ (Int (pos n)) (Int (pos k))) (let e : m ≡ n = omega (arith, is) in e) ∙ differ_same n)
       ∙ ap (λ b. b || false) (and_false (agree plain key (Int (pos n) ∷ cells x) key (Int (pos m) ∷ cells x)))
@@ -141,7 +171,7 @@ module _ (db : Trees) (table : Table) (listed : Has desk_tables table) {X : Type
 
   pub put_is : put_row new_row (db table.tree) ≡ table_of cells (xs ++ x ∷ [])
   put_is = ap (put_row new_row) held ∙ ap (λ n. put_row (Int n ∷ cells x) (table_of cells xs)) (sym (next_is (map cells xs)))
-      ∙ put_next (map cells xs) (cells x) ∙ ap (numbered_from 1) (sym (map-append cells xs (x ∷ [])))
+      ∙ put_next (map cells xs) (cells x) ∙ ap (rowids_from 1) (sym (map-append cells xs (x ∷ [])))
 
   fits : SFits w64 (pos m)
   fits = let is : m ≡ 1 + length xs = ap (λ n. 1 + n) (length-map _ _) in omega (ints, arith, is, small)
@@ -199,7 +229,7 @@ module _ {sql : List ℕ} {many at : ℕ} {terms : List Term} {width : ℕ} (tex
 
   -- where no key is taken, it is never refused
   pub insert_in_order : Passes old.now.trees (uncounted bare) listed cells xs x stored keeps small → (r : Result (Unit {0}) RowFault)
-      → IfErr r (λ fault. (e : Error) × (fault ≡ fault_of e) × ExecutesInside 0 sql params old new (Err e)) → IfErr r IsEven
+      → IfErr r (λ fault. (e : Error) × (fault ≡ row_fault e) × ExecutesInside 0 sql params old new (Err e)) → IfErr r IsEven
   insert_in_order passes =
       in_order_unless sql params old new has (Insert at (Values terms width)) (insert_writes at (Values terms width)) text.compiled text.means text.command
       text.plain text.whole (many_is ∙ text.given) (λ e turned.
@@ -233,5 +263,5 @@ module _ {sql : List ℕ} {many at : ℕ} {terms : List Term} {width : ℕ} (tex
     in_order = λ sure inside unlimited fits r has free.
         insert_in_order text params old new has.ten.schema has.ten.sound bare there listed source one typed many_is unlimited cells (xs r) x (stored r has) casts free.1
         (obeys r has free.0 (stored r has) (keeps text params old new has.ten.schema has.ten.sound bare there listed source one typed many_is unlimited cells (xs r) x (stored r has) casts free.1) free.1)
-        result (subst (λ p. IfErr result (λ fault. (e : Error) × (fault ≡ fault_of e) × ExecutesInside 0 sql p old new (Err e))) (are fits) (wrote.fails sure inside));
+        result (subst (λ p. IfErr result (λ fault. (e : Error) × (fault ≡ row_fault e) × ExecutesInside 0 sql p old new (Err e))) (are fits) (wrote.fails sure inside));
   }

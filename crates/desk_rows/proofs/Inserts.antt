@@ -11,7 +11,7 @@ use Rattle.radio_core.specs.Bands.{band_number}
 use Rattle.radio_core.specs.DataRates.{dr_number}
 use Rattle.registry_core.specs.declared.facts.Uplink.{Uplink}
 use Rattle.desk_rows.specs.Schema.{sender_table, reply_table, owner_table, gateway_table, device_table, session_table, uplink_table, copy_table, booking_table, limit_table}
-use Rattle.desk_rows.specs.Rows.{SenderRow, ReplyRow, DeviceRow, SessionRow, CopyRow, BookingRow, LimitRow, IsDevice, IsSession, IsUplink, IsCopy, IsBooking, sender_cells, reply_cells, name_cells, device_cells, session_cells, uplink_cells, copy_cells, booking_cells, limit_cells, number, eui, role_number, kind_number, standing_number, is_sender, is_reply, is_device, is_session, is_uplink, is_copy, is_limit}
+use Rattle.desk_rows.specs.Rows.{SenderRow, ReplyRow, DeviceRow, SessionRow, CopyRow, BookingRow, LimitRow, IsDevice, IsSession, IsUplink, IsCopy, IsBooking, sender_cells, reply_cells, name_cells, device_cells, session_cells, uplink_cells, copy_cells, booking_cells, limit_cells, number, eui, role_number, kind_number, standing_number, is_sender_named, is_reply, is_device, is_session, is_uplink, is_copy, is_limit}
 use Rattle.desk_rows.specs.Calls.{Changes}
 use Rattle.desk_rows.specs.steps.Statements.{HasWritten}
 use Rattle.desk_rows.specs.declared.faults.RowFault.{RowFault}
@@ -32,7 +32,7 @@ sender_insert = record { compiled = _; means = refl; command = refl; plain = (re
 
 module _ {old new : State} (x : SenderRow) where
   pub sender_added : {result : Result (Unit {0}) RowFault} → HasWritten sender_text (Text x.name ∷ number (role_number x.role) ∷ []) old new result
-      → Changes old new result (Unit {0}) (λ r. (list_any (is_sender x.name) r.senders ≡ false) × (1 + length r.senders < 2 ^ 63)) (λ r. record r { senders = r.senders ++ x ∷ [] })
+      → Changes old new result (Unit {0}) (λ r. (list_any (is_sender_named x.name) r.senders ≡ false) × (1 + length r.senders < 2 ^ 63)) (λ r. record r { senders = r.senders ++ x ∷ [] })
   sender_added = changed_by sender_insert _ old new sender_table refl (inr (inl refl)) (Null ∷ sender_cells x) refl refl refl sender_cells (λ r. r.senders) x
       (λ i. cast_null i ∷ Text x.name ∷ cast_int (pos (role_number x.role)) i ∷ []) (λ r has. has.ten.sender) _ (λ r. refl)
       (λ r h. record { devices = h.devices; sessions = h.sessions; uplinks = h.uplinks; copies = h.copies; bookings = h.bookings }) _
@@ -42,7 +42,7 @@ module _ {old new : State} (x : SenderRow) where
         check = refl;
         keyed = refl;
         referred = refl;
-        unique = rw (key_free sender_cells (1 ∷ []) x (λ _. Unit {0}) (is_sender x.name) (λ n m y in_range. one_key _ _ ∙ text_equal y.name x.name) r.senders (every r.senders) free) refl;
+        unique = rw (key_free sender_cells (1 ∷ []) x (λ _. Unit {0}) (is_sender_named x.name) (λ n m y in_range. one_key _ _ ∙ text_equal y.name x.name) r.senders (every r.senders) free) refl;
       }) _ (_, refl) (Unit {0}) (λ fits. refl)
 
 -- ---- replies

@@ -232,39 +232,39 @@ any (Some n) = tt
 module _ {desk : Schema} (Have : Database → Rows → Type 0) (schema : (db : Database) (r : Rows) → Have db r → db.schema ≡ desk)
     {sql : List ℕ} {tree : ℕ} (text : IsLookupOf desk sql 0 (last_of tree)) (typed : accepts_program desk [] (query_of (last_of tree)) [] ≡ true)
     {X : Type 0} (cells : X → Row) (xs : Rows → List X) {old new : State} (stored : (r : Rows) → Have old.now r → overlay old.now.trees [] tree ≡ table_of cells (xs r)) where
-  last_told : {result : Result (Option ℕ) RowFault} → Finds sql [] old new (λ n. n) (λ n. number n ∷ []) (λ n. Unit {0}) result → ReadsOf desk Have old new result (λ r n. n ≡ last_number (xs r))
-  last_told found = says_so
+  reads_last : {result : Result (Option ℕ) RowFault} → Finds sql [] old new (λ n. n) (λ n. number n ∷ []) (λ n. Unit {0}) result → ReadsOf desk Have old new result (λ r n. n ≡ last_number (xs r))
+  reads_last found = says_so
       (greatest_found Have schema text [] refl typed cells xs stored (λ b. true) (λ b. refl) (λ b. b.0) (λ b. refl)
       (λ b c. ap (λ o. ordering_then o Equal) (value_cmp-Int (pos c.0) (pos b.0)) ∙ once b.0 c.0) (λ _. Unit {0}) (λ r has. any _) found)
       (λ r has n is. is ∙ last_is (xs r))
 
 module _ {old new : State} {result : Result (Option ℕ) RowFault} where
-  pub last_sender_told : Finds last_sender_text [] old new (λ n. n) (λ n. number n ∷ []) (λ n. Unit {0}) result → Reads old new result (λ r n. n ≡ last_number r.senders)
-  last_sender_told = last_told Holds has_schema last_sender_lookup refl sender_cells (λ r. r.senders) (λ r has. has.ten.sender)
+  pub reads_last_sender : Finds last_sender_text [] old new (λ n. n) (λ n. number n ∷ []) (λ n. Unit {0}) result → Reads old new result (λ r n. n ≡ last_number r.senders)
+  reads_last_sender = reads_last Holds has_schema last_sender_lookup refl sender_cells (λ r. r.senders) (λ r has. has.ten.sender)
 
-  pub last_reply_told : Finds last_reply_text [] old new (λ n. n) (λ n. number n ∷ []) (λ n. Unit {0}) result → Reads old new result (λ r n. n ≡ last_number r.replies)
-  last_reply_told = last_told Holds has_schema last_reply_lookup refl reply_cells (λ r. r.replies) (λ r has. has.ten.reply)
+  pub reads_last_reply : Finds last_reply_text [] old new (λ n. n) (λ n. number n ∷ []) (λ n. Unit {0}) result → Reads old new result (λ r n. n ≡ last_number r.replies)
+  reads_last_reply = reads_last Holds has_schema last_reply_lookup refl reply_cells (λ r. r.replies) (λ r has. has.ten.reply)
 
-  pub last_owner_told : Finds last_owner_text [] old new (λ n. n) (λ n. number n ∷ []) (λ n. Unit {0}) result → Reads old new result (λ r n. n ≡ last_number r.owners)
-  last_owner_told = last_told Holds has_schema last_owner_lookup refl name_cells (λ r. r.owners) (λ r has. has.ten.owner)
+  pub reads_last_owner : Finds last_owner_text [] old new (λ n. n) (λ n. number n ∷ []) (λ n. Unit {0}) result → Reads old new result (λ r n. n ≡ last_number r.owners)
+  reads_last_owner = reads_last Holds has_schema last_owner_lookup refl name_cells (λ r. r.owners) (λ r has. has.ten.owner)
 
-  pub last_gateway_told : Finds last_gateway_text [] old new (λ n. n) (λ n. number n ∷ []) (λ n. Unit {0}) result → Reads old new result (λ r n. n ≡ last_number r.gateways)
-  last_gateway_told = last_told Holds has_schema last_gateway_lookup refl name_cells (λ r. r.gateways) (λ r has. has.ten.gateway)
+  pub reads_last_gateway : Finds last_gateway_text [] old new (λ n. n) (λ n. number n ∷ []) (λ n. Unit {0}) result → Reads old new result (λ r n. n ≡ last_number r.gateways)
+  reads_last_gateway = reads_last Holds has_schema last_gateway_lookup refl name_cells (λ r. r.gateways) (λ r has. has.ten.gateway)
 
-  pub last_device_told : Finds last_device_text [] old new (λ n. n) (λ n. number n ∷ []) (λ n. Unit {0}) result → Reads old new result (λ r n. n ≡ last_number r.devices)
-  last_device_told = last_told Holds has_schema last_device_lookup refl device_cells (λ r. r.devices) (λ r has. has.ten.device)
+  pub reads_last_device : Finds last_device_text [] old new (λ n. n) (λ n. number n ∷ []) (λ n. Unit {0}) result → Reads old new result (λ r n. n ≡ last_number r.devices)
+  reads_last_device = reads_last Holds has_schema last_device_lookup refl device_cells (λ r. r.devices) (λ r has. has.ten.device)
 
-  pub last_session_told : Finds last_session_text [] old new (λ n. n) (λ n. number n ∷ []) (λ n. Unit {0}) result → Reads old new result (λ r n. n ≡ last_number r.sessions)
-  last_session_told = last_told Holds has_schema last_session_lookup refl session_cells (λ r. r.sessions) (λ r has. has.ten.session)
+  pub reads_last_session : Finds last_session_text [] old new (λ n. n) (λ n. number n ∷ []) (λ n. Unit {0}) result → Reads old new result (λ r n. n ≡ last_number r.sessions)
+  reads_last_session = reads_last Holds has_schema last_session_lookup refl session_cells (λ r. r.sessions) (λ r has. has.ten.session)
 
-  pub last_uplink_told : Finds last_uplink_text [] old new (λ n. n) (λ n. number n ∷ []) (λ n. Unit {0}) result → Reads old new result (λ r n. n ≡ last_number r.uplinks)
-  last_uplink_told = last_told Holds has_schema last_uplink_lookup refl uplink_cells (λ r. r.uplinks) (λ r has. has.ten.uplink)
+  pub reads_last_uplink : Finds last_uplink_text [] old new (λ n. n) (λ n. number n ∷ []) (λ n. Unit {0}) result → Reads old new result (λ r n. n ≡ last_number r.uplinks)
+  reads_last_uplink = reads_last Holds has_schema last_uplink_lookup refl uplink_cells (λ r. r.uplinks) (λ r has. has.ten.uplink)
 
-  pub last_booking_told : Finds last_booking_text [] old new (λ n. n) (λ n. number n ∷ []) (λ n. Unit {0}) result → Reads old new result (λ r n. n ≡ last_number r.bookings)
-  last_booking_told = last_told Holds has_schema last_booking_lookup refl booking_cells (λ r. r.bookings) (λ r has. has.ten.booking)
+  pub reads_last_booking : Finds last_booking_text [] old new (λ n. n) (λ n. number n ∷ []) (λ n. Unit {0}) result → Reads old new result (λ r n. n ≡ last_number r.bookings)
+  reads_last_booking = reads_last Holds has_schema last_booking_lookup refl booking_cells (λ r. r.bookings) (λ r has. has.ten.booking)
 
-  pub last_limit_told : Finds last_limit_text [] old new (λ n. n) (λ n. number n ∷ []) (λ n. Unit {0}) result → Reads old new result (λ r n. n ≡ last_number r.limits)
-  last_limit_told = last_told Holds has_schema last_limit_lookup refl limit_cells (λ r. r.limits) (λ r has. has.limit)
+  pub reads_last_limit : Finds last_limit_text [] old new (λ n. n) (λ n. number n ∷ []) (λ n. Unit {0}) result → Reads old new result (λ r n. n ≡ last_number r.limits)
+  reads_last_limit = reads_last Holds has_schema last_limit_lookup refl limit_cells (λ r. r.limits) (λ r has. has.limit)
 
 -- ---- the same four over tables of schema 1
 
@@ -288,17 +288,17 @@ unfolding understood everything
 first_booking_lookup = record { names = _; compiled = _; means = refl; command = refl; plain = (refl, refl); whole = omega arith; given = refl; unlisted = refl }
 
 module _ {old new : State} {result : Result (Option ℕ) RowFault} where
-  pub first_reply_told : Finds last_reply_text [] old new (λ n. n) (λ n. number n ∷ []) (λ n. Unit {0}) result → ReadsFirst old new result (λ r n. n ≡ last_number r.replies)
-  first_reply_told = last_told HoldsFirst first_has_schema first_reply_lookup refl reply_cells (λ r. r.replies) (λ r has. has.ten.reply)
+  pub reads_first_reply : Finds last_reply_text [] old new (λ n. n) (λ n. number n ∷ []) (λ n. Unit {0}) result → ReadsFirst old new result (λ r n. n ≡ last_number r.replies)
+  reads_first_reply = reads_last HoldsFirst first_has_schema first_reply_lookup refl reply_cells (λ r. r.replies) (λ r has. has.ten.reply)
 
-  pub first_session_told : Finds last_session_text [] old new (λ n. n) (λ n. number n ∷ []) (λ n. Unit {0}) result → ReadsFirst old new result (λ r n. n ≡ last_number r.sessions)
-  first_session_told = last_told HoldsFirst first_has_schema first_session_lookup refl session_cells (λ r. r.sessions) (λ r has. has.ten.session)
+  pub reads_first_session : Finds last_session_text [] old new (λ n. n) (λ n. number n ∷ []) (λ n. Unit {0}) result → ReadsFirst old new result (λ r n. n ≡ last_number r.sessions)
+  reads_first_session = reads_last HoldsFirst first_has_schema first_session_lookup refl session_cells (λ r. r.sessions) (λ r has. has.ten.session)
 
-  pub first_uplink_told : Finds last_uplink_text [] old new (λ n. n) (λ n. number n ∷ []) (λ n. Unit {0}) result → ReadsFirst old new result (λ r n. n ≡ last_number r.uplinks)
-  first_uplink_told = last_told HoldsFirst first_has_schema first_uplink_lookup refl uplink_cells (λ r. r.uplinks) (λ r has. has.ten.uplink)
+  pub reads_first_uplink : Finds last_uplink_text [] old new (λ n. n) (λ n. number n ∷ []) (λ n. Unit {0}) result → ReadsFirst old new result (λ r n. n ≡ last_number r.uplinks)
+  reads_first_uplink = reads_last HoldsFirst first_has_schema first_uplink_lookup refl uplink_cells (λ r. r.uplinks) (λ r has. has.ten.uplink)
 
-  pub first_booking_told : Finds last_booking_text [] old new (λ n. n) (λ n. number n ∷ []) (λ n. Unit {0}) result → ReadsFirst old new result (λ r n. n ≡ last_number r.bookings)
-  first_booking_told = last_told HoldsFirst first_has_schema first_booking_lookup refl booking_cells (λ r. r.bookings) (λ r has. has.ten.booking)
+  pub reads_first_booking : Finds last_booking_text [] old new (λ n. n) (λ n. number n ∷ []) (λ n. Unit {0}) result → ReadsFirst old new result (λ r n. n ≡ last_number r.bookings)
+  reads_first_booking = reads_last HoldsFirst first_has_schema first_booking_lookup refl booking_cells (λ r. r.bookings) (λ r has. has.ten.booking)
 
 -- ---- the last nonce of a device, the last counter of a session
 
@@ -334,9 +334,9 @@ abbrev of_device : ℕ → SessionRow → Bool
 of_device device s = same (eui s.session.device) (eui device)
 
 module _ {old new : State} where
-  pub last_nonce_told : (device : ℕ) → IsEui device → {result : Result (Option ℕ) RowFault} → Finds last_nonce_text (eui device ∷ []) old new (λ n. n) (λ n. number n ∷ []) (λ n. n < 2 ^ 16) result
+  pub reads_last_nonce : (device : ℕ) → IsEui device → {result : Result (Option ℕ) RowFault} → Finds last_nonce_text (eui device ∷ []) old new (λ n. n) (λ n. number n ∷ []) (λ n. n < 2 ^ 16) result
       → Reads old new result (λ r nonce. nonce ≡ greatest (map (λ (s : SessionRow). s.session.nonce) (filter (λ (s : SessionRow). s.session.device == device) r.sessions)))
-  last_nonce_told device in_range found = says_so
+  reads_last_nonce device in_range found = says_so
       (greatest_found Holds has_schema last_nonce_lookup (eui device ∷ []) refl refl session_cells (λ r. r.sessions) (λ r has. has.ten.session) (λ b. of_device device b.1) (λ b. and_true (of_device device b.1)) (λ b. b.1.session.nonce) (λ b. refl)
       (λ b c. ap₂ (λ u v. ordering_then u (ordering_then v Equal)) (value_cmp-Int (pos c.1.session.nonce) (pos b.1.session.nonce)) (value_cmp-Int (pos c.0) (pos b.0))) (λ n. n < 2 ^ 16)
       (λ r has. subst (λ o. IfSome o (λ n. n < 2 ^ 16)) (sym (ap greatest (unnumbered (λ (s : SessionRow). s.session.nonce) (of_device device) 1 r.sessions)))
@@ -344,9 +344,9 @@ module _ {old new : State} where
       (λ r has n is. is ∙ ap greatest (unnumbered (λ (s : SessionRow). s.session.nonce) (of_device device) 1 r.sessions
       ∙ ap (map (λ (s : SessionRow). s.session.nonce)) (filter_alike IsSession (of_device device) (λ s. s.session.device == device) (λ s fits. eui_equal s.session.device device fits.device in_range) r.sessions has.ten.in_range.sessions)))
 
-  pub last_counter_told : (session : ℕ) → {result : Result (Option ℕ) RowFault} → Finds last_counter_text (number session ∷ []) old new (λ n. n) (λ n. number n ∷ []) (λ n. n < 2 ^ 32) result
+  pub reads_last_counter : (session : ℕ) → {result : Result (Option ℕ) RowFault} → Finds last_counter_text (number session ∷ []) old new (λ n. n) (λ n. number n ∷ []) (λ n. n < 2 ^ 32) result
       → Reads old new result (λ r counter. counter ≡ last_counter r.uplinks session)
-  last_counter_told session found = says_so
+  reads_last_counter session found = says_so
       (greatest_found Holds has_schema last_counter_lookup (number session ∷ []) refl refl uplink_cells (λ r. r.uplinks) (λ r has. has.ten.uplink) (λ b. of_session session b.1)
       (λ b. ap₂ (λ s t. s && (t && true)) (number_equal b.1.session session) (number_equal (kind_number b.1.kind) 1 ∙ data_kind b.1.kind) ∙ ap (λ t. (b.1.session == session) && t) (and_true (is_data b.1.kind))) (λ b. b.1.counter) (λ b. refl)
       (λ b c. ap₂ (λ u v. ordering_then u (ordering_then v Equal)) (value_cmp-Int (pos c.1.counter) (pos b.1.counter)) (value_cmp-Int (pos c.0) (pos b.0))) (λ n. n < 2 ^ 32)

@@ -29,7 +29,7 @@ use Rattle.desk_rows.specs.steps.Queries.{HasRun, IsReadOf, Finds, Knows}
 use Rattle.desk_rows.specs.CallLaws.{read_weaker}
 use Rattle.desk_rows.proofs.Ordered.{Asked, joined, query_of, by_rowid, head, zip_from, encode, first_by_rowid, some_map, map_twice, found_holds, zip_all, mapped_holds}
 use Rattle.desk_rows.specs.Calls.{IsReadingCallOf, Reads, ReadsOf}
-use Rattle.desk_rows.specs.Faults.{is_odd, IsEven, fault_of}
+use Rattle.desk_rows.specs.Faults.{is_odd, IsEven, row_fault}
 use Rattle.desk_rows.specs.steps.Errors.{found_of, known_of}
 use Rattle.desk_rows.specs.declared.faults.RowFault.{RowFault}
 use Rattle.desk_rows.specs.declared.faults.RowFault.TheVariants.{Memory, Disk, Size, Row as OutOfShape, Refused}
@@ -108,10 +108,10 @@ module _ {desk : Schema} {sql : List ℕ} {many : ℕ} {trees : List ℕ} {a : A
 
   -- with parameters of the right types and no limit on steps it is never refused
   pub never_refused : many ≡ length params → accepts_program desk [] (query_of a) params ≡ true → old.step_limit ≡ None
-      → (e : Error) → fault_of e ≡ Refused → FailsToQuery sql params old new e → ⊥
+      → (e : Error) → row_fault e ≡ Refused → FailsToQuery sql params old new e → ⊥
   unfolding FailsToQuery IsNotRun
   never_refused many_is typed unlimited e told (inl (inl h)) = no_statement many_is e h.0
-  never_refused many_is typed unlimited e told (inl (inr h)) = told_else h.0 (ap fault_of (sym h.1) ∙ told)
+  never_refused many_is typed unlimited e told (inl (inr h)) = told_else h.0 (ap row_fault (sym h.1) ∙ told)
   never_refused many_is typed unlimited e told (inr h) =
       let both : ◌≡◌ {A = Result Compiled CompileError} (Ok h.0) (Ok text.compiled) = sym h.1.is ∙ ap (λ s. understood s sql) has ∙ text.means in
       let same : h.0 ≡ text.compiled = cc in
@@ -134,9 +134,9 @@ module _ {desk : Schema} {sql : List ℕ} {many : ℕ} {trees : List ℕ} {a : A
   unfolding QueriesRow
   found_in_order many_is typed unlimited (Ok row) h = tt
   found_in_order many_is typed unlimited (Err QueryReturnedNoRows) h = tt
-  found_in_order many_is typed unlimited (Err (SqliteFailure code)) (inl h) = even (fault_of (SqliteFailure code)) refl
+  found_in_order many_is typed unlimited (Err (SqliteFailure code)) (inl h) = even (row_fault (SqliteFailure code)) refl
     where
-      even : (f : RowFault) → fault_of (SqliteFailure code) ≡ f → is_odd f ≡ false
+      even : (f : RowFault) → row_fault (SqliteFailure code) ≡ f → is_odd f ≡ false
       even Memory is = refl
       even Disk is = refl
       even Size is = refl

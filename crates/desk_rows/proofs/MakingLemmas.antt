@@ -17,7 +17,7 @@ use Rattle.sqlite.specs.State.{State, HasCleanDisk, Executes}
 use Rattle.sqlite_tied.specs.Compute.{everything}
 use Rattle.registry_core.specs.Settings.{Settings}
 use Rattle.std.specs.Prelude.{IsTrue}
-use Rattle.desk_rows.specs.Faults.{IsEven, fault_of}
+use Rattle.desk_rows.specs.Faults.{IsEven, row_fault}
 use Rattle.desk_rows.specs.Making.{IsBare, IsEmptied, settings_rows}
 use Rattle.desk_rows.specs.Rows.{Holds, meta_cells, number}
 use Rattle.desk_rows.specs.Schema.{desk_tables, meta_table, no_schema}
@@ -36,7 +36,7 @@ tables_made {S} g old new ran has =
     (record { schema = all.0; sound = all.2; empty = all.1 }, all.3)
 
 pub tables_refused : {S : Type 0} (g : Ghosts S) (old new : Held S) (e : Error) → ExecutesAllInside g 0 from_meta old new (Err e) → (state g old).now.schema ≡ no_schema
-    → IsTrue old.in_transaction → IsEven (fault_of e)
+    → IsTrue old.in_transaction → IsEven (row_fault e)
 unfolding ExecutesAllInside
 tables_refused {S} g old new e ran has inside =
     let none : IsEmptied (state g old).now = subst (λ (s : Schema). AllByRecursion (λ t. (state g old).now.trees t.tree ≡ []) s.tables) (sym has) tt in

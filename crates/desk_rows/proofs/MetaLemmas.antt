@@ -25,7 +25,7 @@ use Rattle.desk_rows.specs.declared.faults.RowFault.TheVariants.{Memory, Disk, S
 use Rattle.desk_rows.specs.declared.faults.RowFault.{RowFault}
 use Rattle.desk_rows.proofs.FaultLemmas.{not_row}
 use Rattle.desk_rows.specs.Schema.{meta_table}
-use Rattle.desk_rows.specs.Faults.{is_odd, fault_of}
+use Rattle.desk_rows.specs.Faults.{is_odd, row_fault}
 use Rattle.desk_rows.specs.Meta.{HasMeta, TellsMeta}
 use Rattle.desk_rows.specs.steps.Meta.{TellsRow}
 use Rattle.desk_rows.proofs.MetaTexts.{find_text, find_query, find_is, find_plain, find_whole, find_typed, names, beside}
@@ -115,17 +115,17 @@ module _ (old new : State) (has : HasMeta old.now.schema) where
       never None e h = let x = h in cc
       never (Some n) e h = cc
 
-  pub unrefused : old.step_limit ≡ None → (e : Error) → fault_of e ≡ Refused → FailsToQuery find_text [] old new e → ⊥
+  pub unrefused : old.step_limit ≡ None → (e : Error) → row_fault e ≡ Refused → FailsToQuery find_text [] old new e → ⊥
   unrefused unlimited e told h =
       let w = find_whole rest indexes in
       not_refused find_text [] old new (beside rest indexes) is w.0 w.1 w.2 w.3 w.4
       (λ e time db source fault. refuses unlimited e db (subst (λ b. IsSourceOf b old.now db) (ap (λ s. reads_listing s find_text) is ∙ (find_is rest indexes).1) source)
       (let a = subst (λ (k : Command). RefusesToRead old.step_limit k db (timed [] w.0.formats time) e) w.5 fault in rw w.2.1 at a)) e told h
 
-  pub never_odd : old.step_limit ≡ None → (e : Error) → is_odd (fault_of e) ≡ true → FailsToQuery find_text [] old new e → ⊥
-  never_odd unlimited e odd h = go (fault_of e) refl odd
+  pub never_odd : old.step_limit ≡ None → (e : Error) → is_odd (row_fault e) ≡ true → FailsToQuery find_text [] old new e → ⊥
+  never_odd unlimited e odd h = go (row_fault e) refl odd
     where
-      go : (fault : RowFault) → fault_of e ≡ fault → is_odd fault ≡ true → ⊥
+      go : (fault : RowFault) → row_fault e ≡ fault → is_odd fault ≡ true → ⊥
       go Memory told odd = true≢false (sym odd)
       go Disk told odd = true≢false (sym odd)
       go Size told odd = true≢false (sym odd)

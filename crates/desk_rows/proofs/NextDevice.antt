@@ -114,9 +114,9 @@ rising_first owner after r all = first_holds (λ (b : ℕ × DeviceRow). is_afte
     (λ d fits done. (and_parts (bytes_eq d.device.owner owner) (is_after after d.dev_eui) done).1) r.devices all)
 
 module _ {old new : State} (owner : List ℕ) where
-  pub first_told : {result : Result (Option ℕ) RowFault} → Finds first_text (Text owner ∷ []) old new (λ n. n) (λ n. eui n ∷ []) IsEui result
+  pub reads_first : {result : Result (Option ℕ) RowFault} → Finds first_text (Text owner ∷ []) old new (λ n. n) (λ n. eui n ∷ []) IsEui result
       → Reads old new result (λ r next. next ≡ first_by (λ d. d.dev_eui) by_eui (is_next_of owner None) r.devices)
-  first_told {result} found = says_so (finds first_lookup (Text owner ∷ []) old new found.answer found.run refl refl result found.is_read
+  reads_first {result} found = says_so (finds first_lookup (Text owner ∷ []) old new found.answer found.run refl refl result found.is_read
       (first_of (is_next_of owner None))
       (λ r has. (
         in_range (is_next_of owner None) r has.ten.in_range.devices,
@@ -130,9 +130,9 @@ module _ {old new : State} (owner : List ℕ) where
       (λ r has next is. sym (map_same next) ∙ is)
 
   module _ (after : ℕ) (low : IsEui after) where
-    pub after_told : {result : Result (Option ℕ) RowFault} → Finds after_text (Text owner ∷ eui after ∷ []) old new (λ n. n) (λ n. eui n ∷ []) IsEui result
+    pub reads_after : {result : Result (Option ℕ) RowFault} → Finds after_text (Text owner ∷ eui after ∷ []) old new (λ n. n) (λ n. eui n ∷ []) IsEui result
         → Reads old new result (λ r next. next ≡ first_by (λ d. d.dev_eui) by_eui (is_next_of owner (Some after)) r.devices)
-    after_told {result} found = says_so (finds after_lookup (Text owner ∷ eui after ∷ []) old new found.answer found.run refl refl result found.is_read
+    reads_after {result} found = says_so (finds after_lookup (Text owner ∷ eui after ∷ []) old new found.answer found.run refl refl result found.is_read
         (first_of (passes owner after))
         (λ r has. (
           in_range (passes owner after) r has.ten.in_range.devices,
@@ -147,10 +147,10 @@ module _ {old new : State} (owner : List ℕ) where
         (λ r has next is. sym (map_same next) ∙ is ∙ ap (λ l. option_map (λ (b : ℕ × DeviceRow). b.1.dev_eui) (slice_get l 0))
         (rows_alike by_eui IsDevice (passes owner after) (is_next_of owner (Some after)) (same_pass owner after low) r.devices has.ten.in_range.devices))
 
-  pub above_told : (after : Option ℕ) {found result : Result (Option ℕ) RowFault} → result ≡ above_only after found
+  pub reads_above : (after : Option ℕ) {found result : Result (Option ℕ) RowFault} → result ≡ above_only after found
       → Reads old new found (λ r next. next ≡ first_by (λ d. d.dev_eui) by_eui (is_next_of owner after) r.devices)
       → Reads old new result (λ r next. next ≡ first_by (λ d. d.dev_eui) by_eui (is_next_of owner after) r.devices)
-  above_told after {found} is reads = rw is (record {
+  reads_above after {found} is reads = rw is (record {
     read = read_weaker old new (is_ok found) (is_ok (above_only after found)) (stays found) reads.read;
     told = λ sure r has. still r has found (reads.told sure r has);
     in_order = λ sure unlimited r has. even r has found (reads.told sure r has) (reads.in_order sure unlimited r has);

@@ -5,7 +5,7 @@ use Rattle.std.specs.Prelude.{IfSome, is_some}
 use Rattle.std.specs.Ordering.{ordering_then}
 use Rattle.std.proofs.lemmas.Bool.{eq-eqb, false_from_ne_true}
 use Rattle.std.proofs.lemmas.Int.{ints}
-use Rattle.registry_core.specs.Numbered.{item_at, first_from}
+use Rattle.registry_core.specs.Numbered.{item_at}
 use Rattle.sqlite_value.specs.declared.value.Value.TheVariants.{Int}
 use Rattle.sqlite_value.specs.declared.keys.Collation.TheVariants.{Binary}
 use Rattle.sqlite_value.specs.declared.keys.Key.{Key}
@@ -17,7 +17,7 @@ use Rattle.sqlite_sql.specs.Query.{Query, Join, inner, end, IsAnswer, output, ou
 use Rattle.sqlite_keyed.specs.Keyed.{IsKeyedBy}
 use Rattle.sqlite_keyed.specs.Lists.{sort_by}
 use Rattle.sqlite_typed.proofs.AnswerLemmas.{Source, IsNoTie, at_end, last_table, answer_by_keys, answer_sorted}
-use Rattle.desk_rows.specs.Rows.{numbered_from, table_of}
+use Rattle.desk_rows.specs.Rows.{rowids_from, table_of}
 pub use Rattle.desk_rows.specs.order.LookUps.{zip_from}
 
 -- ---- queries
@@ -81,7 +81,7 @@ encode cells b = Int (pos b.0) ∷ cells b.1
 abbrev pub number_of : {A : Type 0} → ℕ × A → ℤ
 number_of b = pos b.0
 
-pub encoded : {X : Type 0} (cells : X → Row) (n : ℕ) (xs : List X) → numbered_from n (map cells xs) ≡ map (encode cells) (zip_from n xs)
+pub encoded : {X : Type 0} (cells : X → Row) (n : ℕ) (xs : List X) → rowids_from n (map cells xs) ≡ map (encode cells) (zip_from n xs)
 encoded cells n [] = refl
 encoded cells n (x ∷ xs) = ap (λ l. encode cells (n, x) ∷ l) (encoded cells (n + 1) xs)
 
@@ -212,15 +212,6 @@ found_number (suc k) xs = at 1 (suc k) k xs (omega arith)
     at m n k [] is = refl
     at m n zero (x ∷ xs) is = let same : m ≡ n = omega (arith, is) in rw (eq-eqb m n same) (ap (λ j. Some (j, x)) same)
     at m n (suc k) (x ∷ xs) is = rw (apart_above n m (omega (arith, is))) (at (m + 1) n k xs (omega (arith, is)))
-
--- the first that passes
-pub found_first : {X : Type 0} (p : X → Bool) (n : ℕ) (xs : List X) → find (λ (b : ℕ × X). p b.1) (zip_from n xs) ≡ first_from n p xs
-found_first p n [] = refl
-found_first p n (x ∷ xs) = go (p x) (found_first p (n + 1) xs)
-  where
-    go : (b : Bool) → find (λ b. p b.1) (zip_from (n + 1) xs) ≡ first_from (n + 1) p xs → cond b (Some (n, x)) (find (λ b. p b.1) (zip_from (n + 1) xs)) ≡ cond b (Some (n, x)) (first_from (n + 1) p xs)
-    go true later = refl
-    go false later = later
 
 -- two tests that tell the rows of a list alike find the same
 pub found_same : {X : Type 0} (P : X → Type 0) (p q : X → Bool) → ((x : X) → P x → p x ≡ q x) → (xs : List X) → AllByRecursion P xs → find p xs ≡ find q xs

@@ -24,7 +24,7 @@ use Rattle.sqlite.proofs.StateLemmas.{survives_weaker}
 use Rattle.duty_core.specs.Range.{IsStart}
 use Rattle.duty_core.specs.Use.{Interval}
 use Rattle.desk_rows.specs.Calls.{StaysOrRollsBack, Reads}
-use Rattle.desk_rows.specs.Faults.{fault_of, is_odd, IsEven}
+use Rattle.desk_rows.specs.Faults.{row_fault, is_odd, IsEven}
 use Rattle.desk_rows.specs.Rows.{Rows, Holds, table_of}
 use Rattle.desk_rows.specs.Schema.{desk_schema}
 use Rattle.desk_rows.specs.order.Arranged.{by_start, spans_by}
@@ -85,7 +85,7 @@ module _ {sql : List ℕ} {many : ℕ} {trees : List ℕ} {a : Asked trees} (tex
     told (Err fault) h = tt
 
     module _ (many_is : many ≡ length params) (typed : accepts_program desk_schema [] (query_of a) params ≡ true) (unlimited : old.step_limit ≡ None) where
-      even_error : (e : Error) → FailsToQuery sql params old new e → (f : RowFault) → fault_of e ≡ f → is_odd f ≡ false
+      even_error : (e : Error) → FailsToQuery sql params old new e → (f : RowFault) → row_fault e ≡ f → is_odd f ≡ false
       even_error e fails Memory is = refl
       even_error e fails Disk is = refl
       even_error e fails Size is = refl
@@ -102,13 +102,13 @@ module _ {sql : List ℕ} {many : ℕ} {trees : List ℕ} {a : Asked trees} (tex
           let shown = shown_among seen shows Fits want up.0 up.1 got.0 are.0 (are.1 _ got.1) in
           up.3 shown.0 shown.1 shown.2
 
-pub all_told : {sql : List ℕ} {many : ℕ} {trees : List ℕ} {a : Asked trees} (text : IsLookup sql many a) (params : Row) {old new : State} → many ≡ length params
+pub reads_all : {sql : List ℕ} {many : ℕ} {trees : List ℕ} {a : Asked trees} (text : IsLookup sql many a) (params : Row) {old new : State} → many ≡ length params
     → accepts_program desk_schema [] (query_of a) params ≡ true
     → {T Seen : Type 0} {seen : T → Seen} {shows : Seen → Row} {Fits : Seen → Type 0} {result : Result (Vec T Global) RowFault}
     → FindsAll sql params old new seen shows Fits result
     → (want : Rows → List Seen) → ((r : Rows) → Holds old.now r → AreAll a params (overlay old.now.trees []) shows Fits (want r)) → Reads old new result
     (λ r all. map seen all.items ≡ want r)
-all_told {sql} text params {old} {new} many_is typed {seen = seen} {shows = shows} {Fits = Fits} {result = result} found want are = record {
+reads_all {sql} text params {old} {new} many_is typed {seen = seen} {shows = shows} {Fits = Fits} {result = result} found want are = record {
   read = record {
     clean = found.survives.clean;
     mode = found.mode;
@@ -157,9 +157,9 @@ module _ {sql : List ℕ} {many tree : ℕ} {terms project : List Term} {order :
     (output (query_of (all_by (tree ∷ []) terms project order)) (params ∷ encode cells b ∷ []))
     (output (query_of (all_by (tree ∷ []) terms project order)) (params ∷ encode cells c ∷ [])) ≡ by_start (λ x. (span x).start) b c)
     (P : X → Type 0) (ranges : (r : Rows) → Holds old.now r → AllByRecursion P (xs r)) (fits : (x : X) → P x → IsSpan (span x)) where
-  pub spans_told : {result : Result (Vec Interval Global) RowFault} → FindsAll sql params old new (λ s. s) span_shown IsSpan result
+  pub reads_spans : {result : Result (Vec Interval Global) RowFault} → FindsAll sql params old new (λ s. s) span_shown IsSpan result
       → Reads old new result (λ r spans. spans.items ≡ spans_by span (by_start (λ x. (span x).start)) p (xs r))
-  spans_told found = says_so (all_told text params many_is typed found (λ r. spans_by span (by_start (λ x. (span x).start)) p (xs r))
+  reads_spans found = says_so (reads_all text params many_is typed found (λ r. spans_by span (by_start (λ x. (span x).start)) p (xs r))
       (λ r has. (
         all_map (λ (b : ℕ × X). P b.1) IsSpan (λ b. span b.1) (λ b. fits b.1) _
             (rows_all P P (by_start (λ x. (span x).start)) p (λ x fit passes. fit) (xs r) (ranges r has)),

@@ -27,7 +27,7 @@ use Rattle.sqlite.specs.declared.error.Error.{Error}
 use Rattle.sqlite.specs.Listing.{understood}
 use Rattle.sqlite.specs.State.{State, mode_of, ExecutesInside}
 use Rattle.desk_rows.specs.Schema.{desk_schema, desk_tables}
-use Rattle.desk_rows.specs.Faults.{IsEven, fault_of}
+use Rattle.desk_rows.specs.Faults.{IsEven, row_fault}
 use Rattle.desk_rows.specs.declared.faults.RowFault.{RowFault}
 use Rattle.desk_rows.specs.declared.faults.RowFault.TheVariants.{Memory, Disk, Size, Row as OutOfShape, Refused}
 use Rattle.desk_rows.proofs.FaultLemmas.{not_row}
@@ -66,13 +66,13 @@ module _ {schema : Schema} (sql : List ℕ) (params : Row) (old new : State) (ha
   abbrev pub IsTurnedDown : Error → Type 0
   IsTurnedDown = turned.IsTurnedDown false schema sql params old new has command writes compiled means is plain whole many
 
-  turned_down : (e : Error) → fault_of e ≡ Refused → ExecutesInside 0 sql params old new (Err e) → IsTurnedDown e
+  turned_down : (e : Error) → row_fault e ≡ Refused → ExecutesInside 0 sql params old new (Err e) → IsTurnedDown e
   turned_down e told (inl ran) = turned.executed false schema sql params old new has command writes compiled means is plain whole many e told ran.0
   turned_down e told (inr ends) = absurd (turned.not_ended false schema sql params old new has command writes compiled means is plain whole many ends.0)
 
   -- where the database never refuses it, it fails only for memory, the disk or a size
   pub in_order_unless : ((e : Error) → IsTurnedDown e → ⊥) → (r : Result (Unit {0}) RowFault)
-      → IfErr r (λ fault. (e : Error) × (fault ≡ fault_of e) × ExecutesInside 0 sql params old new (Err e)) → IfErr r IsEven
+      → IfErr r (λ fault. (e : Error) × (fault ≡ row_fault e) × ExecutesInside 0 sql params old new (Err e)) → IfErr r IsEven
   in_order_unless never (Ok done) h = tt
   in_order_unless never (Err Memory) h = refl
   in_order_unless never (Err Disk) h = refl

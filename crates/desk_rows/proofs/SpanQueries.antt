@@ -31,7 +31,7 @@ use Rattle.desk_rows.proofs.ByKey.{undropped, stands}
 use Rattle.desk_rows.proofs.Lookups.{IsLookup, says_so}
 use Rattle.desk_rows.proofs.OrderLemmas.Orders.{not_both}
 use Rattle.desk_rows.proofs.Ordered.{rising}
-use Rattle.desk_rows.proofs.Ranges.{IsSpan, all_by, rows_alike, spans_told}
+use Rattle.desk_rows.proofs.Ranges.{IsSpan, all_by, rows_alike, reads_spans}
 use Rattle.desk_rows.proofs.ReadLemmas.{truth_again}
 use Rattle.desk_rows.proofs.Terms.{is, and_true, text_equal, number_equal}
 
@@ -57,11 +57,11 @@ moved true false false = refl
 moved false b c = refl
 
 module _ {old new : State} (gateway : List ℕ) where
-  pub of_told : (band : Band) {result : Result (Vec Interval Global) RowFault} → FindsAll of_text (Text gateway ∷ number (band_number band) ∷ []) old new
+  pub reads_band : (band : Band) {result : Result (Vec Interval Global) RowFault} → FindsAll of_text (Text gateway ∷ number (band_number band) ∷ []) old new
       (λ s. s) span_shown IsSpan result
       → Reads old new result (λ r spans. spans.items ≡ spans_by booking_span (by_start (λ (b : BookingRow). (booking_span b).start))
       (λ b. stands_in gateway band b.booking) r.bookings)
-  of_told band found = spans_told of_lookup (Text gateway ∷ number (band_number band) ∷ []) refl refl booking_cells (λ r. r.bookings) (λ r has. has.ten.booking)
+  reads_band band found = reads_spans of_lookup (Text gateway ∷ number (band_number band) ∷ []) refl refl booking_cells (λ r. r.bookings) (λ r has. has.ten.booking)
       (λ b. stands_in gateway band b.booking)
       (λ b. ap₂ (λ s t. s && t) (text_equal b.1.booking.gateway gateway)
       (ap₂ (λ s t. s && t) (number_equal (band_number b.1.booking.band) (band_number band)) (and_true _ ∙ stands b.1.booking.standing))
@@ -136,7 +136,7 @@ module _ {old new : State} (gateway : List ℕ) (after before : ℤ) where
       (λ s. s) span_shown IsSpan result
       → Reads old new result (λ r spans. spans.items ≡ spans_by booking_span (by_start (λ (b : BookingRow). (booking_span b).start))
       (λ b. stands_at gateway b.booking && starts_between after before (booking_span b)) r.bookings)
-  all_near found = spans_told all_lookup (Text gateway ∷ Int after ∷ Int before ∷ []) refl refl booking_cells (λ r. r.bookings) (λ r has. has.ten.booking)
+  all_near found = reads_spans all_lookup (Text gateway ∷ Int after ∷ Int before ∷ []) refl refl booking_cells (λ r. r.bookings) (λ r has. has.ten.booking)
       (λ b. stands_at gateway b.booking && starts_between after before (booking_span b))
       (λ b. ap₂ (λ s t. s && t) (text_equal b.1.booking.gateway gateway) (ap₂ (λ s t. s && t) (int_above (booking_span b.1).start after)
       (ap₂ (λ s t. s && t) (int_below (booking_span b.1).start before) (and_true _ ∙ stands b.1.booking.standing)))
@@ -151,7 +151,7 @@ module _ {old new : State} (gateway : List ℕ) (after before : ℤ) where
       → FindsAll one_text (Text gateway ∷ Int after ∷ Int before ∷ number (band_number band) ∷ []) old new (λ s. s) span_shown IsSpan result
       → Reads old new result (λ r spans. spans.items ≡ spans_by booking_span (by_start (λ (b : BookingRow). (booking_span b).start))
       (λ b. stands_in gateway band b.booking && starts_between after before (booking_span b)) r.bookings)
-  one_near band found = spans_told one_lookup (Text gateway ∷ Int after ∷ Int before ∷ number (band_number band) ∷ []) refl refl booking_cells
+  one_near band found = reads_spans one_lookup (Text gateway ∷ Int after ∷ Int before ∷ number (band_number band) ∷ []) refl refl booking_cells
       (λ r. r.bookings) (λ r has. has.ten.booking)
       (λ b. stands_in gateway band b.booking && starts_between after before (booking_span b))
       (λ b. ap₂ (λ s t. s && t) (text_equal b.1.booking.gateway gateway) (ap₂ (λ s t. s && t) (int_above (booking_span b.1).start after)
@@ -165,13 +165,13 @@ module _ {old new : State} (gateway : List ℕ) (after before : ℤ) where
       IsBooking (λ r has. has.ten.in_range.bookings) (λ b fits. (fits.start, fits.len)) found
 
 -- what lies between the two starts is what is near the one
-pub near_told : {old new : State} (after before start : ℤ) → ((a : Interval) → IsStart a.start → is_near start a ≡ starts_between after before a) →
+pub reads_near : {old new : State} (after before start : ℤ) → ((a : Interval) → IsStart a.start → is_near start a ≡ starts_between after before a) →
     (test : BookingRow → Bool) {result : Result (Vec Interval Global) RowFault}
     → Reads old new result (λ r spans. spans.items ≡ spans_by booking_span (by_start (λ (b : BookingRow). (booking_span b).start))
     (λ b. test b && starts_between after before (booking_span b)) r.bookings)
     → Reads old new result (λ r spans. spans.items ≡ spans_by booking_span (by_start (λ (b : BookingRow). (booking_span b).start))
     (λ b. test b && is_near start (booking_span b)) r.bookings)
-near_told after before start near test reads = says_so reads
+reads_near after before start near test reads = says_so reads
     (λ r has spans is. is ∙ ap (map (λ (row : ℕ × BookingRow). booking_span row.1))
     (rows_alike (by_start (λ (b : BookingRow). (booking_span b).start)) IsBooking
     (λ b. test b && starts_between after before (booking_span b)) (λ b. test b && is_near start (booking_span b))

@@ -16,7 +16,7 @@ use Rattle.sqlite.specs.declared.error.Error.TheVariants.{ExecuteReturnedResults
 use Rattle.sqlite.specs.Listing.{understood}
 use Rattle.sqlite.specs.Clock.{timed}
 use Rattle.sqlite.specs.State.{State, mode_of, ExecutesIn, EndsScope, Escapes, IsMisplaced, IsNoStatement, IsNotRun, IsUnchanged, RunsCommand, is_pragma, text_of, shows_rows}
-use Rattle.desk_rows.specs.Faults.{fault_of}
+use Rattle.desk_rows.specs.Faults.{row_fault}
 use Rattle.desk_rows.specs.declared.faults.RowFault.TheVariants.{Refused}
 use Rattle.desk_rows.proofs.FaultLemmas.{told_else}
 
@@ -75,8 +75,8 @@ module _ (in_batch : Bool) (schema : Schema) (sql : List ℕ) (params : Row) (ol
   abbrev pub IsTurnedDown : Error → Type 0
   IsTurnedDown e = Does old.step_limit (mode_of old) params (record old.now { schema = schema }) (text_of sql compiled) None command (Err (Some e))
 
-  runs : (e : Error) → fault_of e ≡ Refused → (c : Compiled) → c ≡ compiled → RunsCommand old new sql c params (Err e) → IsTurnedDown e
-  runs e told c same (inr fails) = absurd (told_else fails.0 (ap fault_of (sym fails.1) ∙ told))
+  runs : (e : Error) → row_fault e ≡ Refused → (c : Compiled) → c ≡ compiled → RunsCommand old new sql c params (Err e) → IsTurnedDown e
+  runs e told c same (inr fails) = absurd (told_else fails.0 (ap row_fault (sym fails.1) ∙ told))
   runs e told c same (inl (inl misplaced, unchanged)) =
       absurd (writes.placed old e (subst (λ k. IsMisplaced old k e) (ap (λ (x : Compiled). x.command) same ∙ is) misplaced))
   runs e told c same (inl (inr wrote, unchanged)) =
@@ -99,10 +99,10 @@ module _ (in_batch : Bool) (schema : Schema) (sql : List ℕ) (params : Row) (ol
         | inr (inr clock) ↦ clock.0 (ap (λ (c : Compiled). c.formats) same ∙ plain.1)
       ]
 
-  pub executed : (e : Error) → fault_of e ≡ Refused → ExecutesIn in_batch sql params old new (Err e) → IsTurnedDown e
+  pub executed : (e : Error) → row_fault e ≡ Refused → ExecutesIn in_batch sql params old new (Err e) → IsTurnedDown e
   unfolding ExecutesIn IsNotRun
   executed e told (inl (inl h)) = absurd (no_statement e h.0)
-  executed e told (inl (inr h)) = absurd (told_else h.0 (ap fault_of (sym h.1) ∙ told))
+  executed e told (inl (inr h)) = absurd (told_else h.0 (ap row_fault (sym h.1) ∙ told))
   executed e told (inr h) =
       let same : h.0 ≡ compiled = known h.0 h.1.is in
       let cmd : h.0.command ≡ command = ap (λ (x : Compiled). x.command) same ∙ is in

@@ -10,7 +10,7 @@ use Rattle.sqlite.specs.Listing.{understood, reads_listing, IsSourceOf}
 use Rattle.sqlite.specs.State.{State, FailsToQuery, FailsToShow, IsNotRun, IsNoStatement}
 use Rattle.sqlite.specs.Clock.{timed}
 use Rattle.desk_rows.specs.declared.faults.RowFault.TheVariants.{Refused}
-use Rattle.desk_rows.specs.Faults.{fault_of}
+use Rattle.desk_rows.specs.Faults.{row_fault}
 use Rattle.desk_rows.proofs.FaultLemmas.{told_else}
 
 module _ (sql : List ℕ) (params : Row) (old new : State) (schema : Schema) (has : old.now.schema ≡ schema) (compiled : Compiled) (means : understood schema sql ≡ Ok compiled)
@@ -27,10 +27,10 @@ module _ (sql : List ℕ) (params : Row) (old new : State) (schema : Schema) (ha
       ]
 
   pub not_refused : ((e : Error) (time : ℕ) (db : Database) → IsSourceOf (reads_listing old.now.schema sql) old.now db → RefusesToRead old.step_limit compiled.command db (timed params compiled.formats time) e → ⊥)
-      → (e : Error) → fault_of e ≡ Refused → FailsToQuery sql params old new e → ⊥
+      → (e : Error) → row_fault e ≡ Refused → FailsToQuery sql params old new e → ⊥
   unfolding FailsToQuery IsNotRun
   not_refused reads e told (inl (inl h)) = no_statement e h.0
-  not_refused reads e told (inl (inr h)) = told_else h.0 (ap fault_of (sym h.1) ∙ told)
+  not_refused reads e told (inl (inr h)) = told_else h.0 (ap row_fault (sym h.1) ∙ told)
   not_refused reads e told (inr h) =
       let both : ◌≡◌ {A = Result Compiled CompileError} (Ok h.0) (Ok compiled) = sym h.1.is ∙ ap (λ s. understood s sql) has ∙ means in
       let same : h.0 ≡ compiled = cc in

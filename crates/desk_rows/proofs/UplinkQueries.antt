@@ -40,7 +40,7 @@ use Rattle.desk_rows.proofs.Joined.{joined_sorted}
 use Rattle.desk_rows.proofs.Lookups.{IsLookup, says_so}
 use Rattle.desk_rows.proofs.OrderLemmas.Each.{all_at, all_map}
 use Rattle.desk_rows.proofs.Ordered.{Asked, rising, zip_from}
-use Rattle.desk_rows.proofs.Ranges.{IsSpan, all_by, all_told, rows_all, untied}
+use Rattle.desk_rows.proofs.Ranges.{IsSpan, all_by, reads_all, rows_all, untied}
 use Rattle.desk_rows.proofs.ReadLemmas.{truth_again}
 use Rattle.desk_rows.proofs.SpanQueries.{int_below}
 use Rattle.desk_rows.proofs.Terms.{and_true, eui_equal, number_equal, same}
@@ -101,10 +101,10 @@ module _ (dev_eui : ℕ) (low : IsEui dev_eui) (band : Band) (from to : ℤ) whe
   abbrev order : ℕ × Uplink → ℕ × Uplink → Ordering
   order = by_start (λ (u : Uplink). (interval_of u).start)
 
-  pub uplinks_told : {old new : State} {result : Result (Vec Interval Global) RowFault}
+  pub reads_uplinks : {old new : State} {result : Result (Vec Interval Global) RowFault}
       → FindsAll text (eui dev_eui ∷ Int from ∷ Int to ∷ number (band_number band) ∷ []) old new (λ s. s) span_shown IsSpan result
       → Reads old new result (λ r spans. spans.items ≡ spans_by interval_of order (is_uplink_of r.sessions dev_eui band from to) r.uplinks)
-  uplinks_told {old} {new} found = says_so (all_told lookup (eui dev_eui ∷ Int from ∷ Int to ∷ number (band_number band) ∷ []) refl refl found
+  reads_uplinks {old} {new} found = says_so (reads_all lookup (eui dev_eui ∷ Int from ∷ Int to ∷ number (band_number band) ∷ []) refl refl found
       (λ r. spans_by interval_of order (is_uplink_of r.sessions dev_eui band from to) r.uplinks)
       (λ r has. (
         all_map (λ (b : ℕ × Uplink). IsUplink b.1) IsSpan (λ b. interval_of b.1) (λ b fits. (whole_start b.1.start fits.start, fits.airtime)) _

@@ -23,7 +23,7 @@ use Rattle.sqlite_value.specs.declared.value.Value.TheVariants.{Int}
 use Rattle.sqlite_value.specs.Order.{Row, column, bytes}
 use Rattle.sqlite_trees.specs.Tree.{Trees}
 use Rattle.sqlite.specs.Effect.{Database}
-use Rattle.desk_rows.specs.Rows.{SenderRow, ReplyRow, DeviceRow, SessionRow, CopyRow, BookingRow, LimitRow, IsDevice, IsSession, Rows, Holds, role_number, kind_number, standing_number, numbered_from, table_of, sender_cells, reply_cells, name_cells, device_cells, session_cells, uplink_cells, copy_cells, booking_cells, limit_cells, or_null, number}
+use Rattle.desk_rows.specs.Rows.{SenderRow, ReplyRow, DeviceRow, SessionRow, CopyRow, BookingRow, LimitRow, IsDevice, IsSession, Rows, Holds, role_number, kind_number, standing_number, rowids_from, table_of, sender_cells, reply_cells, name_cells, device_cells, session_cells, uplink_cells, copy_cells, booking_cells, limit_cells, or_null, number}
 
 -- ---- values
 
@@ -39,8 +39,8 @@ abbrev pub option_in : Value → Option ℕ
 option_in (Int (pos n)) = Some n
 option_in _ = None
 
-abbrev pub eui_in : Value → ℕ
-eui_in v = from_be_bytes w64 (bytes v)
+abbrev pub eui_from : Value → ℕ
+eui_from v = from_be_bytes w64 (bytes v)
 
 abbrev pub role_in : Value → Role
 role_in v = if nat_in v == 0 then Operator else Radio
@@ -109,10 +109,10 @@ abbrev pub name_in : Row → List ℕ
 name_in r = bytes (column r 1)
 
 abbrev pub device_in : Row → DeviceRow
-device_in r = record { dev_eui = eui_in (column r 1); device = record { join_eui = eui_in (column r 2); owner = bytes (column r 3) }; floor = option_in (column r 4) }
+device_in r = record { dev_eui = eui_from (column r 1); device = record { join_eui = eui_from (column r 2); owner = bytes (column r 3) }; floor = option_in (column r 4) }
 
 abbrev pub session_in : Row → SessionRow
-session_in r = record { session = record { device = eui_in (column r 2); nonce = nat_in (column r 3) }; next_down = nat_in (column r 4) }
+session_in r = record { session = record { device = eui_from (column r 2); nonce = nat_in (column r 3) }; next_down = nat_in (column r 4) }
 
 abbrev pub uplink_in : Row → Uplink
 uplink_in r = record {
@@ -150,19 +150,19 @@ limit_in r = record { gateway = bytes (column r 1); limit = record { band = band
 
 -- ---- tables
 
-decoded : {X : Type 0} (P : X → Type 0) (cells : X → Row) (of : Row → X) → ((n : ℕ) (x : X) → P x → of (Int (pos n) ∷ cells x) ≡ x)
-    → (n : ℕ) (xs : List X) → AllByRecursion P xs → map of (numbered_from n (map cells xs)) ≡ xs
-decoded P cells of back n [] all = refl
-decoded P cells of back n (x ∷ xs) all = ap₂ (λ y ys. y ∷ ys) (back n x all.0) (decoded P cells of back (n + 1) xs all.1)
+all_decoded : {X : Type 0} (P : X → Type 0) (cells : X → Row) (of : Row → X) → ((n : ℕ) (x : X) → P x → of (Int (pos n) ∷ cells x) ≡ x)
+    → (n : ℕ) (xs : List X) → AllByRecursion P xs → map of (rowids_from n (map cells xs)) ≡ xs
+all_decoded P cells of back n [] all = refl
+all_decoded P cells of back n (x ∷ xs) all = ap₂ (λ y ys. y ∷ ys) (back n x all.0) (all_decoded P cells of back (n + 1) xs all.1)
 
 every : {X : Type 0} (xs : List X) → AllByRecursion (λ x. Unit {0}) xs
 every [] = tt
 every (x ∷ xs) = (tt, every xs)
 
--- what a table holds, where each row is decoded
+-- what a table holds, where each row is all_decoded
 abbrev again : {X : Type 0} (P : X → Type 0) (cells : X → Row) (of : Row → X) → ((n : ℕ) (x : X) → P x → of (Int (pos n) ∷ cells x) ≡ x)
     → (xs : List X) → AllByRecursion P xs → (rows : List Row) → rows ≡ table_of cells xs → xs ≡ map of rows
-again P cells of back xs all rows is = sym (decoded P cells of back 1 xs all) ∙ ap (map of) (sym is)
+again P cells of back xs all rows is = sym (all_decoded P cells of back 1 xs all) ∙ ap (map of) (sym is)
 
 abbrev pub first_of : List Settings → Settings
 first_of [] = record { receiver = []; operator = []; base = 0; addresses = 0 }

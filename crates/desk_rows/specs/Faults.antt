@@ -7,14 +7,14 @@ use Rattle.desk_rows.specs.declared.faults.RowFault.{RowFault}
 use Rattle.desk_rows.specs.declared.faults.RowFault.TheVariants.{Memory, Disk, Size, Refused, Row as OutOfRange}
 
 -- what the code of an error tells: memory, the disk, a size, or any other cause
-abbrev pub fault_of : Error → RowFault
-fault_of (SqliteFailure code.OutOfMemory) = Memory
-fault_of (SqliteFailure code.SystemIoFailure) = Disk
-fault_of (SqliteFailure code.DatabaseCorrupt) = Disk
-fault_of (SqliteFailure code.DiskFull) = Disk
-fault_of (SqliteFailure code.Closed) = Disk
-fault_of (SqliteFailure code.TooBig) = Size
-fault_of _ = Refused
+abbrev pub row_fault : Error → RowFault
+row_fault (SqliteFailure code.OutOfMemory) = Memory
+row_fault (SqliteFailure code.SystemIoFailure) = Disk
+row_fault (SqliteFailure code.DatabaseCorrupt) = Disk
+row_fault (SqliteFailure code.DiskFull) = Disk
+row_fault (SqliteFailure code.Closed) = Disk
+row_fault (SqliteFailure code.TooBig) = Size
+row_fault _ = Refused
 
 abbrev pub is_odd : RowFault → Bool
 is_odd OutOfRange = true

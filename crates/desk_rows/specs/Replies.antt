@@ -3,8 +3,8 @@ use Rattle.std.specs.Prelude.{ℕ, List}
 use Rattle.desk_rows.specs.Rows.{ReplyRow}
 use Rattle.desk_rows.specs.declared.replies.Texts.{Texts}
 
-abbrev pub texts_shown : Texts → List ℕ × List ℕ
-texts_shown t = (t.message.items, t.answer.items)
+abbrev pub kept_texts : Texts → List ℕ × List ℕ
+kept_texts t = (t.message.items, t.answer.items)
 
 abbrev pub reply_texts : ReplyRow → List ℕ × List ℕ
 reply_texts r = (r.message, r.answer)

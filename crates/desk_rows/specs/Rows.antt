@@ -109,8 +109,8 @@ pub record Rows : Type 0 where
 
 -- ---- keys
 
-abbrev pub is_sender : List ℕ → SenderRow → Bool
-is_sender name s = bytes_eq s.name name
+abbrev pub is_sender_named : List ℕ → SenderRow → Bool
+is_sender_named name s = bytes_eq s.name name
 
 abbrev pub is_reply : List ℕ → ℕ → ReplyRow → Bool
 is_reply sender number r = bytes_eq r.sender sender && r.number == number
@@ -169,12 +169,12 @@ limit_cells l = Text l.gateway ∷ number (band_number l.limit.band) ∷ number 
 -- ---- tables
 
 -- rows with the rowids from a number on, in order
-abbrev pub numbered_from : ℕ → List Row → List Row
-numbered_from n [] = []
-numbered_from n (cells ∷ more) = (Int (pos n) ∷ cells) ∷ numbered_from (n + 1) more
+abbrev pub rowids_from : ℕ → List Row → List Row
+rowids_from n [] = []
+rowids_from n (cells ∷ more) = (Int (pos n) ∷ cells) ∷ rowids_from (n + 1) more
 
 abbrev pub table_of : {X : Type 0} → (X → Row) → List X → List Row
-table_of cells rows = numbered_from 1 (map cells rows)
+table_of cells rows = rowids_from 1 (map cells rows)
 
 -- the number of the last row
 abbrev pub last_number : {X : Type 0} → List X → Option ℕ

@@ -4,7 +4,7 @@ ghost use Rattle.std.specs.List.{list_any};
 ghost use Rattle.sqlite.specs.Held.{state};
 ghost use Rattle.desk_rows.specs.Calls.{Changes, Reads, ReadsFirst};
 ghost use Rattle.sqlite_value.specs.declared.value.Value.TheVariants.{Blob};
-ghost use Rattle.desk_rows.specs.Replies.{reply_texts, texts_shown};
+ghost use Rattle.desk_rows.specs.Replies.{reply_texts, kept_texts};
 ghost use Rattle.desk_rows.specs.Rows.{is_reply, last_number};
 
 use crate::columns::octets_at;
@@ -25,7 +25,7 @@ pub struct Texts {
 impl FromRow for Texts {
     ghost Seen = { List ℕ × List ℕ };
 
-    ghost seen = { texts_shown };
+    ghost seen = { kept_texts };
 
     ghost shows = { λ t. Blob t.0 ∷ Blob t.1 ∷ [] };
 
@@ -45,7 +45,7 @@ pub fn texts_of<S: Alter>(
     number: u32,
 ) -> Result<Option<Texts>, RowFault>
     ensures { Reads (state S.Store conn.old) (state S.Store conn.new) result
-        (λ r texts. option_map texts_shown texts ≡ option_map reply_texts (find (is_reply sender.now number) r.replies)) }
+        (λ r texts. option_map kept_texts texts ≡ option_map reply_texts (find (is_reply sender.now number) r.replies)) }
 {
     find(
         conn,

@@ -3,7 +3,7 @@ ghost use Rattle.std.specs.Prelude.{◌≡◌, ◌+◌, ◌<◌, ◌^◌, ◌++�
 ghost use Rattle.std.specs.List.{list_any};
 ghost use Rattle.sqlite.specs.Held.{state};
 ghost use Rattle.desk_rows.specs.Calls.{Changes, Reads};
-ghost use Rattle.desk_rows.specs.Rows.{is_sender, last_number, number, role_number};
+ghost use Rattle.desk_rows.specs.Rows.{is_sender_named, last_number, number, role_number};
 ghost use Rattle.registry_core.specs.declared.messages.Role.{Role};
 
 use crate::columns::role_at;
@@ -31,7 +31,7 @@ impl FromRow for Role {
 
 /// The role of the sender of this name, if there is one.
 pub fn role_of<S: Alter>(conn: &mut Connection<S>, name: &Name) -> Result<Option<Role>, RowFault>
-    ensures { Reads (state S.Store conn.old) (state S.Store conn.new) result (λ r role. role ≡ option_map (λ sender. sender.role) (find (is_sender name.now) r.senders)) }
+    ensures { Reads (state S.Store conn.old) (state S.Store conn.new) result (λ r role. role ≡ option_map (λ sender. sender.role) (find (is_sender_named name.now) r.senders)) }
 {
     find(
         conn,
@@ -59,7 +59,7 @@ pub fn insert_sender<S: Alter>(
 ) -> Result<(), RowFault>
     ensures same_reference { tx.new.conn.ghost_name ≡ tx.old.conn.ghost_name }
     ensures changes { Changes (state S.Store tx.old.conn.now) (state S.Store tx.new.conn.now) result (Unit {0})
-        (λ r. (list_any (is_sender name.now) r.senders ≡ false) × (1 + length r.senders < 2 ^ 63))
+        (λ r. (list_any (is_sender_named name.now) r.senders ≡ false) × (1 + length r.senders < 2 ^ 63))
         (λ r. record r { senders = r.senders ++ record { name = name.now; role = has } ∷ [] }) }
 {
     write(

@@ -11,7 +11,7 @@ use Rattle.registry_core.specs.Numbered.{item_at, item_changed}
 use Rattle.registry_core.specs.State.{ended}
 use Rattle.desk_store.specs.declared.answers.Answers.{Answers}
 use Rattle.desk_store.specs.steps.Answers.{is_naming, AreCounted}
-use Rattle.desk_store.specs.steps.Tally.{count_in}
+use Rattle.desk_store.specs.steps.Tally.{tallied}
 use Rattle.desk_store.proofs.Counted.{count_changed, count_has, set_is}
 
 byte_is : (b : Bool) → bool_byte b ≡ cond b 1 0
@@ -51,12 +51,12 @@ module _ (bookings : List Booking) (number : ℕ) (booking : Booking) (sent : Bo
 
   pub ended_counted : (old new : Answers) → AreCounted bookings old → new.named ≡ old.named
       → (one another others count : ℕ) → length bookings < 2 ^ 63 → one ≡ bool_byte (not (is_dropped booking.standing)) → another ≡ bool_byte sent
-      → others ≡ count_in old.standing booking.uplink - one → count ≡ min (others + another) 18446744073709551615
-      → ((uplink : ℕ) → count_in new.standing uplink ≡ cond (booking.uplink == uplink) count (count_in old.standing uplink))
+      → others ≡ tallied old.standing booking.uplink - one → count ≡ min (others + another) 18446744073709551615
+      → ((uplink : ℕ) → tallied new.standing uplink ≡ cond (booking.uplink == uplink) count (tallied old.standing uplink))
       → AreCounted (item_changed (ended sent) bookings number) new
   ended_counted old new was named one another others count few one_is another_is others_are is set = record {
-    named = λ uplink. ap (λ tally. count_in tally uplink) named ∙ was.named uplink ∙ named_same uplink;
-    standing = set_is (count_in old.standing) (count_in new.standing) (λ uplink. count_by (is_answer_to uplink) (item_changed (ended sent) bookings number)) booking.uplink count set
+    named = λ uplink. ap (λ tally. tallied tally uplink) named ∙ was.named uplink ∙ named_same uplink;
+    standing = set_is (tallied old.standing) (tallied new.standing) (λ uplink. count_by (is_answer_to uplink) (item_changed (ended sent) bookings number)) booking.uplink count set
         (standing_here one another others count few one_is another_is (others_are ∙ ap (λ n. n - one) (was.standing booking.uplink)) is)
         (λ uplink apart. was.standing uplink ∙ standing_other uplink apart);
   }

@@ -12,7 +12,7 @@ use Rattle.registry_core.specs.Numbered.{item_at, item_changed}
 use Rattle.registry_core.specs.State.{ended}
 use Rattle.desk_store.specs.declared.tally.Tally.{Tally}
 use Rattle.desk_store.specs.steps.Answers.{is_naming}
-use Rattle.desk_store.specs.steps.Tally.{count_in}
+use Rattle.desk_store.specs.steps.Tally.{tallied}
 use Rattle.desk_store.specs.steps.Traffic.{AreDowns}
 use Rattle.desk_store.proofs.Counted.{count_cons, count_same}
 use Rattle.desk_store.proofs.Linked.{item_at-append, item_at_last, item_at_past}
@@ -87,16 +87,16 @@ grown_by false old new more was now count few within same is grown = omega arith
 
 module _ (uplinks : List Uplink) (bookings : List Booking) (old new : Tally) (few : length bookings < 2 ^ 63) (were : AreDowns uplinks bookings old) where
   pub uplink_counted : (uplink : Uplink) (naming : ℕ) → naming ≡ count_by (is_naming (length uplinks + 1)) bookings
-      → ((session : ℕ) → count_in new session ≡ cond (is_data_of session uplink) (min (count_in old session + naming) 18446744073709551615) (count_in old session))
+      → ((session : ℕ) → tallied new session ≡ cond (is_data_of session uplink) (min (tallied old session + naming) 18446744073709551615) (tallied old session))
       → AreDowns (uplinks ++ uplink ∷ []) bookings new
   uplink_counted uplink naming named grown = record {
-    counts = λ session. grown_by (is_data_of session uplink) (count_in old session) (count_in new session) naming (next_down bookings uplinks session)
+    counts = λ session. grown_by (is_data_of session uplink) (tallied old session) (tallied new session) naming (next_down bookings uplinks session)
         (next_down bookings (uplinks ++ uplink ∷ []) session) (length bookings) few (count_by-le-length (is_down_of (uplinks ++ uplink ∷ []) session) bookings) (were.counts session)
         (downs_more uplinks uplink session bookings ∙ ap (λ n. next_down bookings uplinks session + cond (is_data_of session uplink) n 0) (sym named)) (grown session);
   }
 
 -- where an uplink isn't added, nothing changes
-pub downs_same : (uplinks same : List Uplink) (bookings : List Booking) (old new : Tally) → same ≡ uplinks → ((session : ℕ) → count_in new session ≡ count_in old session)
+pub downs_same : (uplinks same : List Uplink) (bookings : List Booking) (old new : Tally) → same ≡ uplinks → ((session : ℕ) → tallied new session ≡ tallied old session)
     → AreDowns uplinks bookings old → AreDowns same bookings new
 downs_same uplinks same bookings old new is counted were = record {
   counts = λ session. counted session ∙ were.counts session ∙ ap (λ us. next_down bookings us session) (sym is);

@@ -9,7 +9,7 @@ use Rattle.registry_core.specs.declared.facts.Session.{Session}
 use Rattle.registry_core.specs.Derived.{is_of_device, is_session_of, last_nonce}
 use Rattle.registry_core.specs.Numbered.{item_at}
 use Rattle.desk_store.specs.declared.sessions.Link.{Link}
-use Rattle.desk_store.specs.Sessions.{sessions_of}
+use Rattle.desk_store.specs.steps.Sessions.{sessions_of}
 use Rattle.desk_store.specs.steps.Sessions.{greatest_below, latest_before, latest_of, same_before, AreLinked}
 use Rattle.desk_store.proofs.Greatest.{greatest-append}
 
@@ -101,37 +101,37 @@ module _ (links : List Link) (link : Link) where
   as_many = length-map links (λ (l : Link). l.session)
 
   module _ (latest nonces : ℕ → Option ℕ) (was : AreLinked links latest nonces) (before : link.before ≡ unwrap_or (latest link.session.device) 0) where
-    before_told : ℕ → Type 0
-    before_told n = option_map_or (λ (l : Link). l.before) (item_at (links ++ link ∷ []) n) 0 ≡ same_before (sessions_of links ++ link.session ∷ []) n
+    links_before : ℕ → Type 0
+    links_before n = option_map_or (λ (l : Link). l.before) (item_at (links ++ link ∷ []) n) 0 ≡ same_before (sessions_of links ++ link.session ∷ []) n
 
-    before_within : (n : ℕ) → n ≤ length links → before_told n
-    unfolding before_told
+    before_within : (n : ℕ) → n ≤ length links → links_before n
+    unfolding links_before
     before_within n within =
         let fewer : n ≤ length (sessions_of links) = omega (arith, as_many) in
         ap (λ found. option_map_or (λ (l : Link). l.before) found 0) (item_at-append links link n within)
         ∙ was.before n ∙ sym (same_before-append (sessions_of links) link.session n fewer)
 
-    before_last : before_told (suc (length links))
-    unfolding before_told
+    before_last : links_before (suc (length links))
+    unfolding links_before
     before_last =
         let many : suc (length (sessions_of links)) ≡ suc (length links) = omega (arith, as_many) in
         ap (λ found. option_map_or (λ (l : Link). l.before) found 0) (item_at_last links link)
         ∙ before ∙ was.last link.session.device ∙ sym (same_before_last (sessions_of links) link.session)
         ∙ ap (same_before (sessions_of links ++ link.session ∷ [])) many
 
-    before_past : (n : ℕ) → suc (length links) < n → before_told n
-    unfolding before_told
+    before_past : (n : ℕ) → suc (length links) < n → links_before n
+    unfolding links_before
     before_past n past =
         let far : length (links ++ link ∷ []) < n = omega (arith, length-append links (link ∷ [])) in
         let many : suc (length (sessions_of links)) < n = omega (arith, as_many) in
         ap (λ found. option_map_or (λ (l : Link). l.before) found 0) (item_at_past (links ++ link ∷ []) n far)
         ∙ sym (same_before_past (sessions_of links) link.session n many)
 
-    before_each : (n : ℕ) → before_told n
+    before_each : (n : ℕ) → links_before n
     before_each n = elim (cases_lt (length links) n) [
       | inl more ↦ elim (cases_lt (suc (length links)) n) [
         | inl past ↦ before_past n past
-        | inr last ↦ let same : suc (length links) ≡ n = omega arith in let P : ℕ → Type 0 = before_told in subst P same before_last
+        | inr last ↦ let same : suc (length links) ≡ n = omega arith in let P : ℕ → Type 0 = links_before in subst P same before_last
       ]
       | inr within ↦ before_within n within
     ]
@@ -150,7 +150,7 @@ module _ (links : List Link) (link : Link) where
         → ((dev_eui : ℕ) → latest' dev_eui ≡ cond (nat_eq link.session.device dev_eui) (Some (length links + 1)) (latest dev_eui))
         → ((dev_eui : ℕ) → nonces' dev_eui ≡ cond (nat_eq link.session.device dev_eui) (Some (option_map_or (max link.session.nonce) (nonces link.session.device) link.session.nonce)) (nonces dev_eui))
         → AreLinked (links ++ link ∷ []) latest' nonces'
-    unfolding before_told
+    unfolding links_before
     linked_more latest' nonces' last nonce = record {
       before = λ n. before_each n ∙ ap (λ sessions. same_before sessions n) (sym sessions_of-append);
       last = λ dev_eui. ap (λ found. unwrap_or found 0) (last dev_eui) ∙ last_by dev_eui (link.session.device == dev_eui)

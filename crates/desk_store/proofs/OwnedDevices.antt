@@ -19,16 +19,16 @@ and_true : (b : Bool) → (b && true) ≡ b
 and_true true = refl
 and_true false = refl
 
-same_pair : (a b : Owned) → is_eq (owned_cmp a b) ≡ (bytes_eq a.owner b.owner && nat_eq a.dev_eui b.dev_eui)
-same_pair a b = sym (both_tied _ _ _ _ (texts_ties a.owner b.owner) (unsigned_ties a.dev_eui b.dev_eui))
+owned_alike : (a b : Owned) → is_eq (owned_cmp a b) ≡ (bytes_eq a.owner b.owner && nat_eq a.dev_eui b.dev_eui)
+owned_alike a b = sym (both_tied _ _ _ _ (texts_ties a.owner b.owner) (unsigned_ties a.dev_eui b.dev_eui))
 
 -- pairs of two devices are two
 apart_pair : (a b : Owned) → nat_eq a.dev_eui b.dev_eui ≡ false → is_eq (owned_cmp a b) ≡ false
-apart_pair a b apart = same_pair a b ∙ ap (λ d. bytes_eq a.owner b.owner && d) apart ∙ and_false (bytes_eq a.owner b.owner)
+apart_pair a b apart = owned_alike a b ∙ ap (λ d. bytes_eq a.owner b.owner && d) apart ∙ and_false (bytes_eq a.owner b.owner)
 
 -- pairs of one device are one where their owners are
 owners_pair : (a b : Owned) → nat_eq a.dev_eui b.dev_eui ≡ true → is_eq (owned_cmp a b) ≡ bytes_eq a.owner b.owner
-owners_pair a b same = same_pair a b ∙ ap (λ d. bytes_eq a.owner b.owner && d) same ∙ and_true (bytes_eq a.owner b.owner)
+owners_pair a b same = owned_alike a b ∙ ap (λ d. bytes_eq a.owner b.owner && d) same ∙ and_true (bytes_eq a.owner b.owner)
 
 or_nothing : (b : Bool) → cond b true false ≡ b
 or_nothing true = refl

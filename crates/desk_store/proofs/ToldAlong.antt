@@ -4,8 +4,8 @@ use Rattle.std.specs.List.{filter_map}
 use Rattle.std.proofs.lemmas.List.{at_drop_all}
 
 module _ {X Y : Type 0} (f : X → Option Y) where
-  first_told : (x : X) (xs : List X) (y : Y) → f x ≡ Some y → filter_map f (x ∷ xs) ≡ y ∷ filter_map f xs
-  first_told x xs y is = rw is refl
+  first_mapped : (x : X) (xs : List X) (y : Y) → f x ≡ Some y → filter_map f (x ∷ xs) ≡ y ∷ filter_map f xs
+  first_mapped x xs y is = rw is refl
 
   first_untold : (x : X) (xs : List X) → f x ≡ None → filter_map f (x ∷ xs) ≡ filter_map f xs
   first_untold x xs is = rw is refl
@@ -15,7 +15,7 @@ module _ {X Y : Type 0} (f : X → Option Y) where
       → told ++ filter_map f (drop i xs) ≡ all → (told ++ y ∷ []) ++ filter_map f (drop (i + 1) xs) ≡ all
   told_on told all xs i d y within is so =
       let next : drop i xs ≡ get_or xs i d ∷ drop (i + 1) xs = rw (add-one, drop-cons xs i d) refl in
-      rw append_assoc (ap (λ rest. told ++ rest) (sym (ap (filter_map f) next ∙ first_told _ _ y is)) ∙ so)
+      rw append_assoc (ap (λ rest. told ++ rest) (sym (ap (filter_map f) next ∙ first_mapped _ _ y is)) ∙ so)
 
   -- one tells nothing
   pub untold_on : (told all : List Y) (xs : List X) (i : ℕ) (d : X) → i < length xs → f (get_or xs i d) ≡ None
@@ -25,5 +25,5 @@ module _ {X Y : Type 0} (f : X → Option Y) where
       ap (λ rest. told ++ rest) (sym (ap (filter_map f) next ∙ first_untold _ _ is)) ∙ so
 
   -- nothing is left to tell
-  pub all_told : (told all : List Y) (xs : List X) (i : ℕ) → length xs ≤ i → told ++ filter_map f (drop i xs) ≡ all → told ≡ all
-  all_told told all xs i past so = sym (ap (λ rest. told ++ rest) (at_drop_all (filter_map f) xs i past) ∙ append-nil told) ∙ so
+  pub all_mapped : (told all : List Y) (xs : List X) (i : ℕ) → length xs ≤ i → told ++ filter_map f (drop i xs) ≡ all → told ≡ all
+  all_mapped told all xs i past so = sym (ap (λ rest. told ++ rest) (at_drop_all (filter_map f) xs i past) ∙ append-nil told) ∙ so

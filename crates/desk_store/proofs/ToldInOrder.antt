@@ -114,8 +114,8 @@ module _ {X : Type 0} (start : X → ℤ) where
           by true = told_by n true (test (start n.1)) found
           by false = refl
 
-      all_told : AllByRecursion (λ (n : ℕ × X). option_and_then told_at (place_of start owns n) ≡ span_if n.1) (in_order start_of (numbered_from 1 xs))
-      all_told = all_weaker (λ (n : ℕ × X). item_at xs n.0 ≡ Some n.1) _ told_is (in_order start_of (numbered_from 1 xs))
+      all_in_order : AllByRecursion (λ (n : ℕ × X). option_and_then told_at (place_of start owns n) ≡ span_if n.1) (in_order start_of (numbered_from 1 xs))
+      all_in_order = all_weaker (λ (n : ℕ × X). item_at xs n.0 ≡ Some n.1) _ told_is (in_order start_of (numbered_from 1 xs))
           (recursion_from_All _ _ (All-permutation (λ (n : ℕ × X). item_at xs n.0 ≡ Some n.1) (numbered_from 1 xs) (in_order start_of (numbered_from 1 xs))
           (in_order_permutation start_of (numbered_from 1 xs)) (All-from_recursion _ _ (numbered_found xs))))
 
@@ -125,7 +125,7 @@ module _ {X : Type 0} (start : X → ℤ) where
           ∙ ap (filter_map told) (filter_kept (λ (p : Place). test p.start) (filter_map (place_of start owns) (in_order start_of (numbered_from 1 xs))))
           ∙ shown_twice (passing (λ (p : Place). test p.start)) told (filter_map (place_of start owns) (in_order start_of (numbered_from 1 xs)))
           ∙ shown_twice (place_of start owns) told_at (in_order start_of (numbered_from 1 xs))
-          ∙ shown_same _ (λ (n : ℕ × X). span_if n.1) (in_order start_of (numbered_from 1 xs)) all_told
+          ∙ shown_same _ (λ (n : ℕ × X). span_if n.1) (in_order start_of (numbered_from 1 xs)) all_in_order
           ∙ in_order_shown start_of (λ (a : Interval). a.start) (λ (n : ℕ × X). span_if n.1) span_start (numbered_from 1 xs)
           ∙ ap (in_order (λ (a : Interval). a.start)) (shown_of_numbered span_if 1 xs)
 

@@ -24,8 +24,8 @@ use Rattle.desk_store.proofs.ToldInOrder.{all_kept, by_start_from, filter_kept, 
 use Rattle.desk_store.proofs.DeviceSessions.{later_all, later_none, later_step}
 
 -- pairs that are equal are one
-pub pair_told : (a b : ℕ × ℕ) → same_numbers a b ≡ true → a ≡ b
-pair_told a b same =
+pub pair_alike : (a b : ℕ × ℕ) → same_numbers a b ≡ true → a ≡ b
+pair_alike a b same =
     let first : a.0 ≡ b.0 = eqb-true a.0 b.0 (first_so (a.0 == b.0) (a.1 == b.1) same) in
     let second : a.1 ≡ b.1 = eqb-true a.1 b.1 (second_so (a.0 == b.0) (a.1 == b.1) same) in
     λ i. (first i, second i)
@@ -195,9 +195,9 @@ module _ (uplinks : List Uplink) (sessions : List Session) (dev_eui : ℕ) (band
   spans_sent [] = refl
   spans_sent (u ∷ us) = ap (cons_option (span_sent u)) (spans_sent us) ∙ sent_by u us (is_uplink_from sessions dev_eui from to u) (is_in_band band u) refl
 
-  pub uplinks_told : (spans : List Interval) → spans ≡ filter_map (uplink_span_at uplinks) (places_from uplinks sessions dev_eui band from to)
+  pub uplinks_listed : (spans : List Interval) → spans ≡ filter_map (uplink_span_at uplinks) (places_from uplinks sessions dev_eui band from to)
       → IsByStart (in_band band (uplinks_from uplinks sessions dev_eui from to)) spans
-  uplinks_told spans is =
+  uplinks_listed spans is =
       by_start_from (in_band band (uplinks_from uplinks sessions dev_eui from to)) spans
       (is ∙ ap (filter_map (uplink_span_at uplinks)) (sym (all_kept (places_from uplinks sessions dev_eui band from to)))
       ∙ told_in_order started (is_sent_from sessions dev_eui band from to) own_span own_start (λ s. true) uplinks

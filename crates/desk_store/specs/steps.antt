@@ -4,6 +4,7 @@ pub mod BookingPlaces
 pub mod ByKey
 pub mod Devices
 pub mod Downlinks
+pub mod Growing
 pub mod Parts
 pub mod Sessions
 pub mod StartIndex

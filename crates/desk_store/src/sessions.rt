@@ -29,14 +29,14 @@ pub(crate) struct Sessions {
 
 impl Model for Sessions {
     ghost use Rattle.registry_core.specs.declared.facts.Session.{Session as SessionValue};
-    ghost use Rattle.desk_store.specs.Growing.{Growing};
+    ghost use Rattle.desk_store.specs.steps.Growing.{Growing};
 
     ghost Value = { Growing SessionValue };
 
     ghost use Rattle.std.specs.Prelude.{◌-◌, min, nat_eq};
     ghost use Rattle.std.specs.Vec.{vec_len, vec_capacity};
     ghost use Rattle.indexmap.specs.IndexMap.{get, spare};
-    ghost use Rattle.desk_store.specs.Sessions.{sessions_of};
+    ghost use Rattle.desk_store.specs.steps.Sessions.{sessions_of};
     ghost use Rattle.desk_store.specs.steps.Sessions.{AreLinked};
 
     ghost view = { λ s. record { items = sessions_of s.links.items; room = min (vec_capacity s.links - vec_len s.links) (min (spare s.latest) (spare s.nonces)) } };

@@ -6,7 +6,7 @@ ghost use Rattle.registry_core.specs.Bookings.{next_down};
 ghost use Rattle.registry_core.specs.Derived.{is_data_of};
 ghost use Rattle.registry_core.specs.Numbered.{item_changed};
 ghost use Rattle.registry_core.specs.State.{ended};
-ghost use Rattle.desk_store.specs.steps.Tally.{count_in};
+ghost use Rattle.desk_store.specs.steps.Tally.{tallied};
 
 use crate::bookings::Bookings;
 use crate::tally::Tally;
@@ -25,7 +25,7 @@ pub(crate) struct Traffic {
 }
 
 impl Model for Traffic {
-    ghost use Rattle.desk_store.specs.Traffic.{TrafficSeen};
+    ghost use Rattle.desk_store.specs.steps.Traffic.{TrafficSeen};
     ghost use Rattle.desk_store.specs.steps.Traffic.{AreDowns};
 
     ghost Value = { TrafficSeen };
@@ -109,10 +109,10 @@ impl Traffic {
 
 /// So many bookings more answer the uplink: its session counts them, if it is a data uplink.
 fn grow(downs: &mut Tally, uplink: &Uplink, more: u64) -> Result<(), AllocError>
-    ensures ok { OnOk result ((session : ℕ) → count_in downs.new session
+    ensures ok { OnOk result ((session : ℕ) → tallied downs.new session
         ≡ (if is_data_of session uplink.now
-        then min (count_in downs.old session + more) u64.MAX
-        else count_in downs.old session)) }
+        then min (tallied downs.old session + more) u64.MAX
+        else tallied downs.old session)) }
     ensures succeeds { 1 ≤ spare downs.old.counts → IsOk result }
 {
     if uplink.kind != Kind::Data {

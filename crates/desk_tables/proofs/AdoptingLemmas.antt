@@ -16,7 +16,7 @@ use Rattle.desk_tables.specs.Store.{IsSettled, Stands}
 use Rattle.desk_tables.specs.declared.tables.Tables.{Tables}
 use Rattle.desk_tables.specs.steps.Adopting.{IsAdopted, IsNotAdopted, IsStoreOver}
 use Rattle.desk_tables.specs.steps.Calls.{IsReady}
-use Rattle.desk_tables.specs.steps.Counting.{AreCounted}
+use Rattle.desk_tables.specs.steps.Counting.{AreRowsCounted}
 
 module _ {S : Type 0} (g : Ghosts S) (conn : Held S) (config : Settings) where
   pub if_adopted : (P : Tables S → Type 0) (result : Result (Tables S) (StoreFault × Held S)) → IsAdopted g conn config result
@@ -39,7 +39,7 @@ ready_again old new same schema settled = record {
 
 -- a store over settled tables of a desk, with what they hold counted
 pub stands : {S : Type 0} (g : Ghosts S) (t : Tables S) (c : Settings) (kept : Kept) (db : Database) → IsSettled (state g t.conn) → t.config ≡ c → (state g t.conn).now ≡ db
-    → (is : IsOfDesk c kept db) → AreCounted is.in_order.rows (t.heard, t.counts) → Stands g t kept
+    → (is : IsOfDesk c kept db) → AreRowsCounted is.in_order.rows (t.heard, t.counts) → Stands g t kept
 stands g t c kept db settled config same is told =
     let r = is.in_order.rows in
     record {

@@ -15,7 +15,7 @@ use Rattle.desk_rows.specs.Rows.{Holds, ReplyRow, Rows, is_reply}
 use Rattle.desk_rows.specs.order.Changes.{RowsFollowFacts, rows_with}
 use Rattle.desk_rows.specs.order.Keys.{ChangedRowsAreThere, KeysAreFree}
 use Rattle.desk_rows.specs.order.RowsOf.{AreRowsOf}
-use Rattle.desk_tables.specs.InOrder.{IsInOrder, entry_in}
+use Rattle.desk_tables.specs.InOrder.{AreInOrder, entry_in}
 use Rattle.desk_tables.specs.steps.Effects.{IsOpenToBoth, reply_row}
 use Rattle.desk_tables.proofs.CountLemmas.{as_many}
 use Rattle.desk_tables.proofs.Entries.{entry_found}
@@ -44,7 +44,7 @@ module _ (e : Envelope) (message : List ℕ) (effect : Effect) (answer : List �
     (are : AreRowsOf c kept.facts r) (entries : kept.entries ≡ map entry_in r.replies) where
   -- rows with the effect and the reply are those of what is held with the effect and the entry
   pub rows_in_order : RowsFollowFacts → Fits effect kept.facts → (db : Database) → Holds db (rows_with effect (reply_row e message answer) r)
-      → IsInOrder c db (with_entry kept e message effect answer)
+      → AreInOrder c db (with_entry kept e message effect answer)
   rows_in_order follow fits db held = record {
     rows = rows_with effect (reply_row e message answer) r;
     held = held;

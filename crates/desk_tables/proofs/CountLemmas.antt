@@ -12,7 +12,7 @@ use Rattle.desk_store.specs.declared.looks.Counts.{Counts}
 use Rattle.desk_rows.specs.Rows.{BookingRow, Rows, SessionRow}
 use Rattle.desk_rows.specs.order.RowsOf.{AreRowsOf}
 use Rattle.desk_tables.specs.InOrder.{entry_in}
-use Rattle.desk_tables.specs.steps.Keeping.{AreFew}
+use Rattle.desk_tables.specs.steps.Keeper.{AreFew}
 
 pub one_longer : {X : Type 0} (xs : List X) (x : X) (n : ℕ) → n ≡ length xs → n + 1 ≡ length (xs ++ x ∷ [])
 one_longer xs x n is = omega (arith, is, length-append xs (x ∷ []))

@@ -11,7 +11,7 @@ use Rattle.desk_store.specs.declared.faults.StoreFault.{StoreFault}
 use Rattle.desk_store.specs.declared.looks.Counts.{Counts}
 use Rattle.desk_rows.specs.Rows.{DeviceRow, LimitRow, Rows, SenderRow, last_number}
 use Rattle.desk_rows.specs.order.RowsOf.{limit_key, same_band}
-use Rattle.desk_tables.specs.Totals.{AreTotals, HaveIt, has_limit}
+use Rattle.desk_tables.specs.Totals.{AreTotals, HaveIt, is_limit_set}
 use Rattle.desk_tables.specs.declared.totals.Totals.{Totals}
 use Rattle.desk_tables.specs.steps.LookUps.{RowsTell}
 
@@ -20,8 +20,8 @@ many_rows : {X : Type 0} (xs : List X) → unwrap_or (last_number xs) 0 ≡ leng
 many_rows [] = refl
 many_rows (x ∷ xs) = omega arith
 
-pub many_told : {X : Type 0} (xs : List X) {last : Option ℕ} {n : ℕ} → last ≡ last_number xs → n ≡ unwrap_or last 0 → n ≡ length xs
-many_told xs is shown = shown ∙ ap (λ o. unwrap_or o 0) is ∙ many_rows xs
+pub many_are : {X : Type 0} (xs : List X) {last : Option ℕ} {n : ℕ} → last ≡ last_number xs → n ≡ unwrap_or last 0 → n ≡ length xs
+many_are xs is shown = shown ∙ ap (λ o. unwrap_or o 0) is ∙ many_rows xs
 
 -- a row with the key is there
 module _ {X Y V : Type 0} (key : X → Y) (show : X → V) (is : Y → Bool) where
@@ -41,7 +41,7 @@ senders_many r c kept last n tell is shown = record {
   each_once = tell.are.keyed.senders;
   are_all = λ name. ap (λ (s : State). is_some (s.senders name)) tell.are.is
       ∙ found_any (λ (s : SenderRow). s.name) (λ (s : SenderRow). s.role) (λ other. bytes_eq other name) r.senders;
-  many = many_told r.senders is shown ∙ sym (length-map r.senders (λ (s : SenderRow). s.name));
+  many = many_are r.senders is shown ∙ sym (length-map r.senders (λ (s : SenderRow). s.name));
 }
 
 pub owners_many : (r : Rows) (c : Settings) (kept : Kept) (last : Option ℕ) (n : ℕ) → RowsTell c kept r → last ≡ last_number r.owners → n ≡ unwrap_or last 0
@@ -50,7 +50,7 @@ owners_many r c kept last n tell is shown = record {
   all = r.owners;
   each_once = tell.are.keyed.owners;
   are_all = λ name. ap (λ (s : State). s.owners name) tell.are.is;
-  many = many_told r.owners is shown;
+  many = many_are r.owners is shown;
 }
 
 pub gateways_many : (r : Rows) (c : Settings) (kept : Kept) (last : Option ℕ) (n : ℕ) → RowsTell c kept r → last ≡ last_number r.gateways → n ≡ unwrap_or last 0
@@ -59,7 +59,7 @@ gateways_many r c kept last n tell is shown = record {
   all = r.gateways;
   each_once = tell.are.keyed.gateways;
   are_all = λ name. ap (λ (s : State). s.gateways name) tell.are.is;
-  many = many_told r.gateways is shown;
+  many = many_are r.gateways is shown;
 }
 
 pub devices_many : (r : Rows) (c : Settings) (kept : Kept) (last : Option ℕ) (n : ℕ) → RowsTell c kept r → last ≡ last_number r.devices → n ≡ unwrap_or last 0
@@ -69,22 +69,22 @@ devices_many r c kept last n tell is shown = record {
   each_once = tell.are.keyed.devices;
   are_all = λ dev_eui. ap (λ (s : State). is_some (s.devices dev_eui)) tell.are.is
       ∙ found_any (λ (d : DeviceRow). d.dev_eui) (λ (d : DeviceRow). d.device) (λ other. nat_eq other dev_eui) r.devices;
-  many = many_told r.devices is shown ∙ sym (length-map r.devices (λ (d : DeviceRow). d.dev_eui));
+  many = many_are r.devices is shown ∙ sym (length-map r.devices (λ (d : DeviceRow). d.dev_eui));
 }
 
 pub limits_many : (r : Rows) (c : Settings) (kept : Kept) (last : Option ℕ) (n : ℕ) → RowsTell c kept r → last ≡ last_number r.limits → n ≡ unwrap_or last 0
-    → HaveIt same_band (has_limit kept) n
+    → HaveIt same_band (is_limit_set kept) n
 limits_many r c kept last n tell is shown = record {
   all = map limit_key r.limits;
   each_once = tell.are.keyed.limits;
   are_all = λ band. ap (λ (s : State). is_some (s.limits band.0 band.1)) tell.are.is
       ∙ found_any limit_key (λ (l : LimitRow). l.limit.most) (λ other. same_band other band) r.limits;
-  many = many_told r.limits is shown ∙ sym (length-map r.limits limit_key);
+  many = many_are r.limits is shown ∙ sym (length-map r.limits limit_key);
 }
 
 -- what is told of counts that are those of what is held
-pub totals_told : (kept : Kept) (result : Result Totals StoreFault) {numbered : Counts} {replies : ℕ} → AreCounts kept.facts numbered
+pub totals_are : (kept : Kept) (result : Result Totals StoreFault) {numbered : Counts} {replies : ℕ} → AreCounts kept.facts numbered
     → replies ≡ length kept.entries
     → IfOk result (λ totals. AreCounts kept.facts numbered → replies ≡ length kept.entries → AreTotals kept totals) → IfOk result (AreTotals kept)
-totals_told kept (Ok totals) counts heard told = told counts heard
-totals_told kept (Err fault) counts heard told = tt
+totals_are kept (Ok totals) counts heard told = told counts heard
+totals_are kept (Err fault) counts heard told = tt

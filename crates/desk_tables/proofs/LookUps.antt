@@ -89,12 +89,12 @@ module _ {S : Type 0} (g : Ghosts S) (old : Tables S) (conn : Held S) (down fore
 
 -- ---- faults
 
-even_told : (fault : RowFault) → IsEven fault → IsUnavailability (store_fault (reading_fault fault))
-even_told Memory even = tt
-even_told Disk even = tt
-even_told Size even = tt
-even_told OutOfRange even = absurd (true≢false even)
-even_told Refused even = absurd (true≢false even)
+is_unavailable_reading : (fault : RowFault) → IsEven fault → IsUnavailability (store_fault (reading_fault fault))
+is_unavailable_reading Memory even = tt
+is_unavailable_reading Disk even = tt
+is_unavailable_reading Size even = tt
+is_unavailable_reading OutOfRange even = absurd (true≢false even)
+is_unavailable_reading Refused even = absurd (true≢false even)
 
 pub disk_or_as : (told other : StoreFault) (P : StoreFault → Type 0) → P told_as.Disk → P other → (is_disk (Some told) ≡ false → told ≡ other) → P told
 disk_or_as told_as.Disk other P disk same not = disk
@@ -175,7 +175,7 @@ module _ {S : Type 0} (g : Ghosts S) (old : Tables S) (mid : Held S) (up : old.d
       unavailable = λ kept clean holds.
           let stands = holds up in
           let even = in_order (early clean) stands.settled.open_still stands.settled.unlimited stands.desk.in_order.rows stands.desk.in_order.held in
-          disk_or_as told (store_fault (reading_fault fault)) IsUnavailability tt (even_told fault even) settles.same;
+          disk_or_as told (store_fault (reading_fault fault)) IsUnavailability tt (is_unavailable_reading fault even) settles.same;
     }
 
 -- ---- what a look-up of a store tells, and what several in a row do
@@ -201,15 +201,15 @@ module _ {S T : Type 0} (g : Ghosts S) (old : Tables S) (mid : Held S) (new : Ta
       (says old.config kept (record { are = stands.desk.in_order.are; entries = stands.desk.in_order.entries; in_range = stands.desk.in_order.held.ten.in_range; few = stands.desk.few }))
   kept_asked (Err fault) result P up asks (t, is, fails) = λ kept clean holds. subst (λ r. IfOk r (P kept)) (sym is) tt
 
-  pub read_told : (answer : Result T RowFault) (result : Result T StoreFault) (Says : Rows → T → Type 0) → old.down ≡ false
+  pub answered_by_rows : (answer : Result T RowFault) (result : Result T StoreFault) (Says : Rows → T → Type 0) → old.down ≡ false
       → Reads (state g old.conn) (state g mid) answer Says → IsTold g (record old { conn = mid }) new answer result
       → calls.IsRead (meaning_of g) old new (fault_in result)
-  read_told answer result Says up reads told = read_asked answer result Says up (asks_one reads) told
+  answered_by_rows answer result Says up reads told = read_asked answer result Says up (asks_one reads) told
 
-  pub kept_told : (answer : Result T RowFault) (result : Result T StoreFault) (P : Kept → T → Type 0) → old.down ≡ false
+  pub answered_by_kept : (answer : Result T RowFault) (result : Result T StoreFault) (P : Kept → T → Type 0) → old.down ≡ false
       → Reads (state g old.conn) (state g mid) answer (OfKept P) → IsTold g (record old { conn = mid }) new answer result
       → Tells (meaning_of g) old new result P
-  kept_told answer result P up reads told = kept_asked answer result P up (asks_one reads) told
+  answered_by_kept answer result P up reads told = kept_asked answer result P up (asks_one reads) told
 
 -- ---- a store that is down is asked nothing
 

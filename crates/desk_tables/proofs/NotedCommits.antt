@@ -27,7 +27,7 @@ use Rattle.desk_tables.specs.declared.tables.Tables.{Tables}
 use Rattle.desk_tables.specs.steps.Calls.{Commits, IsReady}
 use Rattle.desk_tables.specs.steps.Effects.{IsOpenToBoth, reply_row}
 use Rattle.desk_tables.specs.steps.Faults.{store_fault}
-use Rattle.desk_tables.specs.steps.Keeping.{CountsWith, IsCommit, IsNoted}
+use Rattle.desk_tables.specs.steps.Keeper.{CountsWith, IsCommit, IsNoted}
 use Rattle.desk_tables.specs.steps.Settling.{Settles, is_size}
 use Rattle.desk_tables.proofs.CommitLemmas.{rows_in_order, rows_open}
 use Rattle.desk_tables.proofs.CountLemmas.{are_few, one_longer}
@@ -35,12 +35,12 @@ use Rattle.desk_tables.proofs.LookUps.{disk_or_as}
 
 -- ---- faults
 
-even_told : (fault : RowFault) → IsEven fault → IsUnavailability (store_fault fault)
-even_told Memory even = tt
-even_told Disk even = tt
-even_told Size even = tt
-even_told OutOfRange even = absurd (true≢false even)
-even_told Refused even = absurd (true≢false even)
+is_unavailable_writing : (fault : RowFault) → IsEven fault → IsUnavailability (store_fault fault)
+is_unavailable_writing Memory even = tt
+is_unavailable_writing Disk even = tt
+is_unavailable_writing Size even = tt
+is_unavailable_writing OutOfRange even = absurd (true≢false even)
+is_unavailable_writing Refused even = absurd (true≢false even)
 
 of_calls : (fault : RowFault) → IsOfCalls (Some (store_fault fault))
 of_calls Memory = tt
@@ -184,7 +184,7 @@ module _ {S : Type 0} (g : Ghosts S) (old : Tables S) (e : Envelope) (message : 
           let r = it.desk.in_order.rows in
           let open_to = rows_open e message effect answer old.config kept r it.desk.in_order.are it.desk.in_order.entries keys changed (few kept it) can in
           let even = commits.in_order (early clean) (ready kept it) it.settled.unlimited r it.desk.in_order.held (there kept it can.effect_fits) open_to in
-          disk_or_as told (store_fault fault) IsUnavailability tt (even_told fault even) settles.same;
+          disk_or_as told (store_fault fault) IsUnavailability tt (is_unavailable_writing fault even) settles.same;
       size = λ kept clean holds is. inr (let named : told ≡ NoRoom = cc in ap is_size named);
       no_room = λ kept clean holds was most. let less = few kept (holds up) in absurd (omega (arith, most, less));
       doubt = λ kept clean holds can was is. leaves_either kept clean holds can;

@@ -81,8 +81,8 @@ pub failed_so : {X : Type 0} (P : StoreFault → Type 0) (fault : StoreFault) (r
 failed_so P fault (Ok x) failed so = tt
 failed_so P fault (Err told) failed so = subst P (sym failed) so
 
-pub fault_told : {X : Type 0} (fault told : StoreFault) (result : Result X StoreFault) → IsErrAnd result (λ f. f ≡ fault) → result ≡ Err told → fault ≡ told
-fault_told fault told result failed is = sym (subst (λ r. IsErrAnd r (λ f. f ≡ fault)) is failed)
+pub fault_is : {X : Type 0} (fault told : StoreFault) (result : Result X StoreFault) → IsErrAnd result (λ f. f ≡ fault) → result ≡ Err told → fault ≡ told
+fault_is fault told result failed is = sym (subst (λ r. IsErrAnd r (λ f. f ≡ fault)) is failed)
 
 pub version_or_unavailable : (fault : StoreFault) → fault ≢ NotADesk → fault ≢ Exists → (fault ≡ SchemaVersion) ⊎ IsUnavailability fault
 version_or_unavailable told_as.Memory known new = inr tt

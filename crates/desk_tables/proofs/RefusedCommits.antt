@@ -15,7 +15,7 @@ use Rattle.desk_rows.specs.declared.faults.RowFault.TheVariants.{Refused}
 use Rattle.desk_tables.specs.Store.{HoldsKept, meaning_of, own_law}
 use Rattle.desk_tables.specs.declared.tables.Tables.{Tables}
 use Rattle.desk_tables.specs.steps.Faults.{store_fault}
-use Rattle.desk_tables.specs.steps.Keeping.{IsCommit}
+use Rattle.desk_tables.specs.steps.Keeper.{IsCommit}
 use Rattle.desk_tables.specs.steps.Settling.{Fails, Settles}
 use Rattle.desk_tables.proofs.LookUps.{disk_or_as}
 

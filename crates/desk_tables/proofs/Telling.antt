@@ -11,11 +11,11 @@ use Rattle.desk_rows.specs.order.Facts.{sessions_in}
 use Rattle.desk_rows.specs.order.LookUps.{is_row_of_device, row_at}
 
 -- the nonces of a device
-pub nonces_told : (dev_eui : ℕ) (rows : List SessionRow)
+pub nonces_tell : (dev_eui : ℕ) (rows : List SessionRow)
     → map (λ (s : SessionRow). s.session.nonce) (filter (is_row_of_device dev_eui) rows)
     ≡ map (λ session. session.nonce) (filter (is_session_of dev_eui) (sessions_in rows))
-nonces_told dev_eui [] = refl
-nonces_told dev_eui (x ∷ xs) = go (is_row_of_device dev_eui x) (nonces_told dev_eui xs)
+nonces_tell dev_eui [] = refl
+nonces_tell dev_eui (x ∷ xs) = go (is_row_of_device dev_eui x) (nonces_tell dev_eui xs)
   where
     go : (b : Bool)
         → map (λ (s : SessionRow). s.session.nonce) (filter (is_row_of_device dev_eui) xs)
@@ -39,9 +39,9 @@ beside n None = refl
 beside n (Some x) = refl
 
 -- the floor of a device's row, if there is one
-pub floor_told : (o : Option DeviceRow) → option_and_then (λ floor. floor) (option_map (λ (d : DeviceRow). d.floor) o) ≡ option_and_then (λ (d : DeviceRow). d.floor) o
-floor_told None = refl
-floor_told (Some d) = refl
+pub floor_joined : (o : Option DeviceRow) → option_and_then (λ floor. floor) (option_map (λ (d : DeviceRow). d.floor) o) ≡ option_and_then (λ (d : DeviceRow). d.floor) o
+floor_joined None = refl
+floor_joined (Some d) = refl
 
 -- the DevEUIs are those of 64 bits
 pub euis_in : (devices : List DeviceRow) → AllByRecursion IsDevice devices → AllByRecursion (λ (d : DeviceRow). IsEui d.dev_eui) devices

@@ -21,7 +21,7 @@ kept_in r = record { facts = facts_in r; entries = map entry_in r.replies }
 -- ---- whichever schema says what rows a database holds
 
 -- the database holds these facts and entries under this configuration, and nothing else
-pub record IsInOrderBy (Has : Database → Rows → Type 0) (c : Settings) (db : Database) (kept : Kept) : Type 0 where
+pub record AreInOrderBy (Has : Database → Rows → Type 0) (c : Settings) (db : Database) (kept : Kept) : Type 0 where
   pub rows : Rows
   pub held : Has db rows
   pub are : AreRowsOf c kept.facts rows
@@ -29,14 +29,14 @@ pub record IsInOrderBy (Has : Database → Rows → Type 0) (c : Settings) (db :
 
 -- the database's tables are in order for this, the configuration is one that a desk can have, and no more was heard than may be
 pub record IsOfDeskBy (Has : Database → Rows → Type 0) (c : Settings) (kept : Kept) (db : Database) : Type 0 where
-  pub in_order : IsInOrderBy Has c db kept
+  pub in_order : AreInOrderBy Has c db kept
   pub config : IsConfig c
   pub few : length kept.entries ≤ most_heard
 
 -- ---- the eleven tables of schema 2
 
-abbrev pub IsInOrder : Settings → Database → Kept → Type 0
-IsInOrder = IsInOrderBy Holds
+abbrev pub AreInOrder : Settings → Database → Kept → Type 0
+AreInOrder = AreInOrderBy Holds
 
 abbrev pub IsOfDesk : Settings → Kept → Database → Type 0
 IsOfDesk = IsOfDeskBy Holds

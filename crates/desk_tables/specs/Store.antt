@@ -15,7 +15,7 @@ use Rattle.desk_store.specs.Parts.{AreCounts}
 use Rattle.desk_rows.specs.Rows.{Rows}
 use Rattle.desk_rows.specs.Schema.{desk_schema}
 use Rattle.desk_rows.specs.Decode.{held_again}
-use Rattle.desk_tables.specs.InOrder.{AreOfDesk, IsInOrder, IsOfDesk, kept_in}
+use Rattle.desk_tables.specs.InOrder.{AreOfDesk, AreInOrder, IsOfDesk, kept_in}
 use Rattle.desk_tables.specs.declared.tables.Tables.{Tables}
 
 -- a connection between two calls: it is open, and all is committed
@@ -60,7 +60,7 @@ meaning_of g = record {
 -- ---- laws
 
 -- a database holds one thing
-pub one_kept : (c : Settings) (db : Database) (a b : Kept) → IsInOrder c db a → IsInOrder c db b → a ≡ b
+pub one_kept : (c : Settings) (db : Database) (a b : Kept) → AreInOrder c db a → AreInOrder c db b → a ≡ b
 one_kept c db a b h i =
     told a h.rows h.are.is h.entries ∙ ap kept_in (held_again db h.rows h.held ∙ sym (held_again db i.rows i.held)) ∙ sym (told b i.rows i.are.is i.entries)
   where

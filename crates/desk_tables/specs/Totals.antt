@@ -14,14 +14,14 @@ pub record HaveIt {X : Type 0} (same : X → X → Bool) (has : X → Bool) (n :
   pub many : n ≡ length all
 
 -- whether a limit was set for this gateway's band, by the band's number
-abbrev pub has_limit : Kept → List ℕ × ℕ → Bool
-has_limit kept band = is_some (kept.facts.limits band.0 band.1)
+abbrev pub is_limit_set : Kept → List ℕ × ℕ → Bool
+is_limit_set kept band = is_some (kept.facts.limits band.0 band.1)
 
 pub record AreTotals (kept : Kept) (t : Totals) : Type 0 where
   pub senders : HaveIt bytes_eq (λ name. is_some (kept.facts.senders name)) t.senders
   pub owners : HaveIt bytes_eq kept.facts.owners t.owners
   pub gateways : HaveIt bytes_eq kept.facts.gateways t.gateways
   pub devices : HaveIt nat_eq (λ dev_eui. is_some (kept.facts.devices dev_eui)) t.devices
-  pub limits : HaveIt same_band (has_limit kept) t.limits
+  pub limits : HaveIt same_band (is_limit_set kept) t.limits
   pub numbered : AreCounts kept.facts t.numbered
   pub replies : t.replies ≡ length kept.entries

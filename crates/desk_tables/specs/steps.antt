@@ -4,7 +4,7 @@ pub mod Calls
 pub mod Counting
 pub mod Effects
 pub mod Faults
-pub mod Keeping
+pub mod Keeper
 pub mod LookUps
 pub mod Migrating
 pub mod Settling

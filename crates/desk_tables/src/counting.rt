@@ -2,7 +2,7 @@
 ghost use Rattle.std.specs.Prelude.{◌≡◌, unwrap_or};
 ghost use Rattle.sqlite.specs.Held.{state};
 ghost use Rattle.desk_tables.specs.steps.Calls.{Asks, AsksFirst};
-ghost use Rattle.desk_tables.specs.steps.Counting.{AreCounted};
+ghost use Rattle.desk_tables.specs.steps.Counting.{AreRowsCounted};
 
 use desk_rows::{RowFault, last_booking, last_reply, last_session, last_uplink};
 use desk_store::Counts;
@@ -17,8 +17,8 @@ pub(crate) fn or_none(last: Option<u64>) -> u64
 
 /// How many messages were heard, and how many there are of what is numbered, in tables of either schema.
 pub(crate) fn counted<S: Alter>(conn: &mut Connection<S>) -> Result<(u64, Counts), RowFault>
-    ensures second { Asks (state S.Store conn.old) (state S.Store conn.new) result (λ r. Unit {0}) (λ r. Unit {0}) AreCounted }
-    ensures first { AsksFirst (state S.Store conn.old) (state S.Store conn.new) result (λ r. Unit {0}) (λ r. Unit {0}) AreCounted }
+    ensures second { Asks (state S.Store conn.old) (state S.Store conn.new) result (λ r. Unit {0}) (λ r. Unit {0}) AreRowsCounted }
+    ensures first { AsksFirst (state S.Store conn.old) (state S.Store conn.new) result (λ r. Unit {0}) (λ r. Unit {0}) AreRowsCounted }
 {
     let replies = last_reply(conn)?;
     let sessions = last_session(conn)?;

@@ -7,7 +7,7 @@ mod counting;
 mod desk_shape;
 mod effects;
 mod faults;
-mod keeping;
+mod keeper;
 mod looks;
 mod making;
 mod migrating;

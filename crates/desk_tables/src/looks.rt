@@ -16,7 +16,7 @@ use registry_core::{Booking, Config, Device, Envelope, Reception, Role, Session,
 use sqlite::Alter;
 use std::alloc::Global;
 
-#[tactic(auto, using(crate::proofs::LookUps::read_told, crate::proofs::LookUps::kept_told))]
+#[tactic(auto, using(crate::proofs::LookUps::answered_by_rows, crate::proofs::LookUps::answered_by_kept))]
 impl<S: Alter> Looks for Tables<S> {
     ghost meaning = { meaning_of S.Store };
 

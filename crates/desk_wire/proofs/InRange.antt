@@ -9,8 +9,9 @@ use Rattle.radio_core.specs.Names.{is_name}
 use Rattle.registry_core.specs.declared.messages.Message.{Message}
 use Rattle.registry_core.specs.Limits.{IsLimit}
 use Rattle.registry_core.specs.Ranges.{IsName, IsOctets, IsEui, IsReport, IsMessage, IsEnvelope}
+use Rattle.registry_core.specs.Wholes.{whole_limit}
 use Rattle.desk_wire.specs.Bodies.{sender_add_of, owner_add_of, gateway_add_of, device_add_of, device_move_of, join_heard_of, frame_heard_of, down_book_of, down_done_of, limit_set_of}
-use Rattle.desk_wire.specs.Members.{text_at, name_at, unsigned_at, whole_at, is_null_at, whole_or_null_at, data_rate_at, octets_at, type_name_at, eui_at, role_at, join_verdict_at, window_at, band_at, limit_at, boolean_at}
+use Rattle.desk_wire.specs.Members.{text_at, name_at, unsigned_at, whole_at, is_null_at, whole_or_null_at, data_rate_at, octets_at, type_name_at, eui_at, role_at, join_verdict_at, window_at, band_named_at, limit_at, boolean_at}
 use Rattle.desk_wire.specs.Reading.{reads_value, value_of, envelope_of, common_members_of, envelope_addressed, message_of, with_message}
 use Rattle.desk_wire.specs.Reports.{rate_of, report_of}
 use Rattle.desk_wire.specs.Laws.{ReadsInRange}
@@ -75,7 +76,7 @@ report_kept : (value : Data) → Keeps IsReport (report_of value)
 unfolding report_of
 report_kept value =
     after _ (name_kept (codes "Gateway") value) (λ gateway g.
-    after _ (whole_kept (codes "Time") (2 ^ 53) value) (λ time t.
+    after _ (whole_kept (codes "Time") whole_limit value) (λ time t.
     after _ (rate_kept value) (λ rate r.
     after _ (octets_at_kept (codes "PHYPayload") value) (λ octets o.
     made (record { gateway = g; time = omega arith; freq = r; octets = o })))))
@@ -129,7 +130,7 @@ frame_heard_kept value =
 down_book_kept : (value : Data) → Keeps IsMessage (down_book_of value)
 unfolding down_book_of
 down_book_kept value =
-    after _ (whole_kept (codes "Uplink") (2 ^ 53) value) (λ uplink u.
+    after _ (whole_kept (codes "Uplink") whole_limit value) (λ uplink u.
     after _ (name_kept (codes "Gateway") value) (λ gateway g.
     after _ (any (window_at (codes "Window") value)) (λ window _.
     after _ (octets_at_kept (codes "PHYPayload") value) (λ octets o.
@@ -138,7 +139,7 @@ down_book_kept value =
 down_done_kept : (value : Data) → Keeps IsMessage (down_done_of value)
 unfolding down_done_of
 down_done_kept value =
-    after _ (whole_kept (codes "Booking") (2 ^ 53) value) (λ booking b.
+    after _ (whole_kept (codes "Booking") whole_limit value) (λ booking b.
     after _ (any (boolean_at (codes "Sent") value)) (λ sent _.
     made (omega (arith, b))))
 
@@ -153,7 +154,7 @@ limit_set_kept : (value : Data) → Keeps IsMessage (limit_set_of value)
 unfolding limit_set_of
 limit_set_kept value =
     after _ (name_kept (codes "Gateway") value) (λ gateway g.
-    after _ (any (band_at (codes "Band") value)) (λ band _.
+    after _ (any (band_named_at (codes "Band") value)) (λ band _.
     after _ (limit_at_kept (codes "Limit") band value) (λ limit l.
     made (g, l))))
 

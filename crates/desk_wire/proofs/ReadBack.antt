@@ -25,7 +25,7 @@ use Rattle.registry_core.specs.declared.windows.Window.{Window}
 use Rattle.registry_core.specs.declared.windows.Window.TheVariants.{First, Second}
 use Rattle.registry_core.specs.Limits.{IsLimit, Limit}
 use Rattle.registry_core.specs.Ranges.{IsName, IsReport, IsMessage}
-use Rattle.registry_core.specs.Wholes.{IsWhole}
+use Rattle.registry_core.specs.Wholes.{whole_limit, IsWhole}
 use Rattle.desk_wire.specs.Bands.{band_name, band_named}
 use Rattle.desk_wire.specs.Bodies.{sender_add_of, owner_add_of, gateway_add_of, device_add_of, device_move_of, join_heard_of, frame_heard_of, down_book_of, down_done_of, limit_set_of}
 use Rattle.desk_wire.specs.Hexadecimal.{octet_digits, eui_digits}
@@ -259,8 +259,8 @@ band_named-band_name B4 = refl
 band_named-band_name B5 = refl
 band_named-band_name B6 = refl
 
-whole_below : (n : ℕ) → IsWhole n → nat_lt n (2 ^ 53) ≡ true
-whole_below n h = lt-ltb n (2 ^ 53) (omega (arith, h))
+whole_below : (n : ℕ) → IsWhole n → nat_lt n whole_limit ≡ true
+whole_below n h = lt-ltb n whole_limit (omega (arith, h))
 
 whole_or_null_at-verdict : (receiver sender : List ℕ) (n : ℕ) (report : Report) (verdict : Option ℕ) → IfSome verdict (λ counter. counter < 2 ^ 32)
     → whole_or_null_at (codes "Verdict") (2 ^ 32) (message_value receiver sender n (FrameHeard report verdict)) ≡ Some verdict

@@ -3,7 +3,8 @@ use Rattle.std.specs.Prelude.{◌^◌, Option, Some, codes}
 use Rattle.serde_json.specs.Data.{Data}
 use Rattle.registry_core.specs.declared.messages.Message.{Message}
 use Rattle.registry_core.specs.declared.messages.Message.TheVariants.{SenderAdd, OwnerAdd, GatewayAdd, DeviceAdd, DeviceMove, JoinHeard, FrameHeard, DownBook, DownDone, LimitSet}
-use Rattle.desk_wire.specs.Members.{name_at, whole_at, whole_or_null_at, octets_at, eui_at, role_at, join_verdict_at, window_at, band_at, limit_at, boolean_at}
+use Rattle.registry_core.specs.Wholes.{whole_limit}
+use Rattle.desk_wire.specs.Members.{name_at, whole_at, whole_or_null_at, octets_at, eui_at, role_at, join_verdict_at, window_at, band_named_at, limit_at, boolean_at}
 use Rattle.desk_wire.specs.Optional.{◌>>=◌}
 use Rattle.desk_wire.specs.Reports.{report_of}
 
@@ -52,7 +53,7 @@ frame_heard_of value = do
 
 unfoldable pub down_book_of : Data → Option Message
 down_book_of value = do
-  uplink ← whole_at (codes "Uplink") (2 ^ 53) value
+  uplink ← whole_at (codes "Uplink") whole_limit value
   gateway ← name_at (codes "Gateway") value
   window ← window_at (codes "Window") value
   octets ← octets_at (codes "PHYPayload") value
@@ -60,13 +61,13 @@ down_book_of value = do
 
 unfoldable pub down_done_of : Data → Option Message
 down_done_of value = do
-  booking ← whole_at (codes "Booking") (2 ^ 53) value
+  booking ← whole_at (codes "Booking") whole_limit value
   sent ← boolean_at (codes "Sent") value
   Some (DownDone booking sent)
 
 unfoldable pub limit_set_of : Data → Option Message
 limit_set_of value = do
   gateway ← name_at (codes "Gateway") value
-  band ← band_at (codes "Band") value
+  band ← band_named_at (codes "Band") value
   limit ← limit_at (codes "Limit") band value
   Some (LimitSet gateway limit)

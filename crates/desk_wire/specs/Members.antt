@@ -73,8 +73,8 @@ abbrev pub window_at : List ℕ → Data → Option Window
 window_at member value = unsigned_at member value >>= window_numbered
 
 -- `B1` to `B6`
-abbrev pub band_at : List ℕ → Data → Option Band
-band_at member value = text_at member value >>= band_named
+abbrev pub band_named_at : List ℕ → Data → Option Band
+band_named_at member value = text_at member value >>= band_named
 
 -- a whole number up to the band's own limit
 abbrev pub limit_within : Band → ℕ → Option Limit

@@ -3,6 +3,7 @@ use Rattle.std.specs.Prelude.{◌^◌, Option, Some, codes}
 use Rattle.serde_json.specs.Data.{Data}
 use Rattle.radio_core.specs.declared.data_rates.Rate.{Rate}
 use Rattle.registry_core.specs.declared.messages.Report.{Report}
+use Rattle.registry_core.specs.Wholes.{whole_limit}
 use Rattle.desk_wire.specs.Members.{name_at, whole_at, data_rate_at, octets_at}
 use Rattle.desk_wire.specs.Optional.{◌>>=◌}
 
@@ -19,7 +20,7 @@ rate_of value = do
 unfoldable pub report_of : Data → Option Report
 report_of value = do
   gateway ← name_at (codes "Gateway") value
-  time ← whole_at (codes "Time") (2 ^ 53) value
+  time ← whole_at (codes "Time") whole_limit value
   rate ← rate_of value
   octets ← octets_at (codes "PHYPayload") value
   Some (record { gateway = gateway; time = time; rate = rate; octets = octets })

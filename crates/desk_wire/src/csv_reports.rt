@@ -1,8 +1,8 @@
 //! A gateway's report in CSV, read as envelopes.
-ghost use Rattle.std.specs.Prelude.{◌≡◌, ◌∷◌, ◌++◌, ℕ, [], suc, IfOk, IfErr, OnOk, true, if◌then◌else◌};
+ghost use Rattle.std.specs.Prelude.{◌≡◌, ◌∷◌, ◌++◌, ◌+◌, ℕ, [], suc, IfOk, IfErr, OnOk, true, if◌then◌else◌};
 ghost use Rattle.csv.specs.Records.{fields_of};
-ghost use Rattle.desk_wire.specs.CsvReports.{counter_or_none, envelope_in, envelopes_from, has_field, heard_in, is_header, reads_report, report_in, report_of_records, IsReportUnlessMemory};
-ghost use Rattle.desk_wire.specs.steps.CsvReports.{data_rate_at, name_at, octets_at, rows_left, u32_at, whole_at, IsReading};
+ghost use Rattle.desk_wire.specs.CsvReports.{counter_or_none, envelope_in, envelopes_from, has_field, heard_in, is_header, most_records, reads_report, report_in, report_of_records, IsReportUnlessMemory};
+ghost use Rattle.desk_wire.specs.steps.CsvReports.{data_rate_field, name_field, octets_field, rows_left, u32_field, whole_field, IsReading};
 
 use crate::csv_faults::CsvFault;
 use crate::decimals::{decimal_of, u32_of};
@@ -30,31 +30,31 @@ fn counter_or_none_of(text: &[u8]) -> Option<Option<u32>>
 }
 
 fn name_at(row: &ByteRecord, place: usize) -> Option<Name>
-    ensures { result ≡ name_at place (fields_of row.now) }
+    ensures { result ≡ name_field place (fields_of row.now) }
 {
     Name::new(row.get(place)?)
 }
 
 fn whole_at(row: &ByteRecord, place: usize) -> Option<Whole>
-    ensures { result ≡ whole_at place (fields_of row.now) }
+    ensures { result ≡ whole_field place (fields_of row.now) }
 {
     Whole::new(decimal_of(row.get(place)?)?)
 }
 
 fn u32_at(row: &ByteRecord, place: usize) -> Option<u32>
-    ensures { result ≡ u32_at place (fields_of row.now) }
+    ensures { result ≡ u32_field place (fields_of row.now) }
 {
     u32_of(row.get(place)?)
 }
 
 fn data_rate_at(row: &ByteRecord, place: usize) -> Option<DataRate>
-    ensures { result ≡ data_rate_at place (fields_of row.now) }
+    ensures { result ≡ data_rate_field place (fields_of row.now) }
 {
     DataRate::new(u8::try_from(decimal_of(row.get(place)?)?).ok()?)
 }
 
 fn octets_at(row: &ByteRecord, place: usize) -> Option<Octets>
-    ensures { result ≡ octets_at place (fields_of row.now) }
+    ensures { result ≡ octets_field place (fields_of row.now) }
 {
     octets_of(row.get(place)?)
 }
@@ -176,9 +176,9 @@ fn envelopes_of(
     sender: &Name,
 ) -> Result<Vec<Envelope>, CsvFault>
     ensures ok { IsReading rows.old
-        → IfOk result (λ envelopes. envelopes_from sender.now 2 (rows_left 100001 rows.old) ≡ Ok envelopes.items) }
+        → IfOk result (λ envelopes. envelopes_from sender.now 2 (rows_left (most_records + 1) rows.old) ≡ Ok envelopes.items) }
     ensures err { IsReading rows.old
-        → IfErr result (λ fault. IsReportUnlessMemory fault (envelopes_from sender.now 2 (rows_left 100001 rows.old))) }
+        → IfErr result (λ fault. IsReportUnlessMemory fault (envelopes_from sender.now 2 (rows_left (most_records + 1) rows.old))) }
 {
     let mut envelopes = Vec::new(alloc);
     for number in 2..MOST_RECORDS + 2 {

@@ -2,8 +2,9 @@
 ghost use Rattle.std.specs.Prelude.{◌≡◌, ◌^◌, OnOk, option_map};
 ghost use Rattle.serde_json.specs.Data.{string, put};
 ghost use Rattle.serde_json.specs.View.{view, members_view};
+ghost use Rattle.registry_core.specs.Wholes.{whole_limit};
 ghost use Rattle.desk_wire.specs.Hexadecimal.{octet_digits, eui_digits, addr_digits};
-ghost use Rattle.desk_wire.specs.Members.{text_at, name_at, type_name_at, whole_at, is_null_at, whole_or_null_at, data_rate_at, octets_at, eui_at, role_at, join_verdict_at, window_at, band_at, limit_at, boolean_at, whole_or_null};
+ghost use Rattle.desk_wire.specs.Members.{text_at, name_at, type_name_at, whole_at, is_null_at, whole_or_null_at, data_rate_at, octets_at, eui_at, role_at, join_verdict_at, window_at, band_named_at, limit_at, boolean_at, whole_or_null};
 ghost use Rattle.desk_wire.specs.steps.Putting.{with_envelope};
 
 use crate::bands::band_named;
@@ -60,7 +61,7 @@ pub(crate) fn u32_or_null_at(value: &Value, member: &str) -> Option<Option<u32>>
 }
 
 pub(crate) fn whole_at(value: &Value, member: &str) -> Option<Whole>
-    ensures { result ≡ whole_at member.now (2 ^ 53) (view value.now) }
+    ensures { result ≡ whole_at member.now whole_limit (view value.now) }
 {
     Whole::new(value.get(member)?.as_u64()?)
 }
@@ -102,7 +103,7 @@ pub(crate) fn window_at(value: &Value, member: &str) -> Option<Window>
 }
 
 pub(crate) fn band_at(value: &Value, member: &str) -> Option<Band>
-    ensures { result ≡ band_at member.now (view value.now) }
+    ensures { result ≡ band_named_at member.now (view value.now) }
 {
     band_named(text_at(value, member)?)
 }

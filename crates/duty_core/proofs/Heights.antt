@@ -9,7 +9,7 @@ use borrow.Author.Differences.{up, down}
 use Rattle.duty_core.specs.Use.{Interval, end_of, count_between, shared_count, hour, hour_from, use_of}
 use Rattle.duty_core.specs.declared.marks.Edge.{Edge}
 use Rattle.duty_core.specs.declared.marks.Edge.TheVariants.{Start, End}
-use Rattle.duty_core.specs.steps.Marks.{edge_of, IsRising, first_place, place_of, height_of, IsMark, IsWhole}
+use Rattle.duty_core.specs.steps.Marks.{edge_of, IsRising, first_place, distance_to, height_of, IsMark, HasPassedAll}
 use Rattle.duty_core.proofs.Counting.{lap_is, between_is}
 use Rattle.duty_core.proofs.Edges.{use_cons}
 
@@ -29,28 +29,28 @@ use_from_heights (a ∷ l) t =
 
 -- ---- a mark gives a height
 
-placed : (z x : ℤ) → first_place ≤ℤ z → z ≤ℤ x → count_between z x + place_of z ≡ place_of x
+placed : (z x : ℤ) → first_place ≤ℤ z → z ≤ℤ x → count_between z x + distance_to z ≡ distance_to x
 placed z x h k = omega (arith, ints, between_is z x, between_is first_place z, between_is first_place x)
 
 -- over the first k edges
 pub height_of_passed : (edge : Edge) (l : List Interval) (x : ℤ) (d : Interval) (p k : ℕ) → k ≤ p → p ≤ length l
     → ((k : ℕ) (d : Interval) → k < p → first_place ≤ℤ edge_of edge (get_or l k d))
     → ((k : ℕ) (d : Interval) → k < p → edge_of edge (get_or l k d) ≤ℤ x)
-    → height_of edge (take k l) x + sum_by (λ a. place_of (edge_of edge a)) (take k l) ≡ k * place_of x
+    → height_of edge (take k l) x + sum_by (λ a. distance_to (edge_of edge a)) (take k l) ≡ k * distance_to x
 height_of_passed edge l x d p zero h w least most = omega arith
 height_of_passed edge l x d p (suc k) h w least most =
     omega (
       arith,
       ap (λ n. height_of edge (take n l) x) (add-one k),
-      ap (λ n. sum_by (λ a. place_of (edge_of edge a)) (take n l)) (add-one k),
+      ap (λ n. sum_by (λ a. distance_to (edge_of edge a)) (take n l)) (add-one k),
       sum_by_more (λ a. count_between (edge_of edge a) x) l k d (omega (arith, h, w)),
-      sum_by_more (λ a. place_of (edge_of edge a)) l k d (omega (arith, h, w)),
+      sum_by_more (λ a. distance_to (edge_of edge a)) l k d (omega (arith, h, w)),
       placed (edge_of edge (get_or l k d)) x (least k d (omega (arith, h))) (most k d (omega (arith, h))),
       height_of_passed edge l x d p k (omega (arith, h)) w least most,
     )
 
 after : (edge : Edge) (l : List Interval) (x : ℤ) (d : Interval) (p n : ℕ) → p + n < length l
-    → IsWhole edge l p x → IsRising edge l
+    → HasPassedAll edge l p x → IsRising edge l
     → x <ℤ edge_of edge (get_or l (p + n) d)
 after edge l x d p zero h stop rising = rw add-zero (stop d (omega (arith, h)))
 after edge l x d p (suc n) h stop rising =
@@ -62,7 +62,7 @@ none_before z x h = omega (arith, ints, between_is z x)
 
 -- the others have none
 pub height_of_others : (edge : Edge) (l : List Interval) (x : ℤ) (d : Interval) (p n : ℕ) → p + n ≤ length l
-    → IsWhole edge l p x → IsRising edge l
+    → HasPassedAll edge l p x → IsRising edge l
     → height_of edge (take (p + n) l) x ≡ height_of edge (take p l) x
 height_of_others edge l x d p zero h stop rising = ap (λ n. height_of edge (take n l) x) (add-zero p)
 height_of_others edge l x d p (suc n) h stop rising =
@@ -79,8 +79,8 @@ some = record { start = pos 0; len = 0 }
 
 -- a mark that stops there gives the height
 pub height_from_mark : (edge : Edge) (l : List Interval) (passed sum : ℕ) (x : ℤ) → IsMark edge l passed sum x
-    → IsWhole edge l passed x → IsRising edge l
-    → height_of edge l x + sum ≡ passed * place_of x
+    → HasPassedAll edge l passed x → IsRising edge l
+    → height_of edge l x + sum ≡ passed * distance_to x
 height_from_mark edge l passed sum x mark stop rising =
     omega (
       arith,
@@ -90,18 +90,18 @@ height_from_mark edge l passed sum x mark stop rising =
       ap (λ k. height_of edge k x) (take_all (passed + (length l - passed)) l (omega (arith, mark.within))),
     )
 
-pub sum_of_mark-le : (edge : Edge) (l : List Interval) (passed sum : ℕ) (x : ℤ) → IsMark edge l passed sum x → sum ≤ passed * place_of x
+pub sum_of_mark-le : (edge : Edge) (l : List Interval) (passed sum : ℕ) (x : ℤ) → IsMark edge l passed sum x → sum ≤ passed * distance_to x
 sum_of_mark-le edge l passed sum x mark =
     omega (arith, mark.total, height_of_passed edge l x some passed passed (omega arith) mark.within mark.least mark.most)
 
 -- ---- the mark moves on
 
 pub mark_more : (edge : Edge) (l : List Interval) (passed sum : ℕ) (x : ℤ) (a : Interval) (z : ℤ) (s : ℕ)
-    → IsMark edge l passed sum x → passed < length l → a ≡ get_or l passed a → z ≡ edge_of edge a → first_place ≤ℤ z → z ≤ℤ x → s ≡ place_of z
+    → IsMark edge l passed sum x → passed < length l → a ≡ get_or l passed a → z ≡ edge_of edge a → first_place ≤ℤ z → z ≤ℤ x → s ≡ distance_to z
     → IsMark edge l (passed + 1) (sum + s) x
 mark_more edge l passed sum x a z s mark within read same least most place = record {
   within = omega (arith, within);
-  total = omega (arith, mark.total, place, ap place_of (same ∙ ap (edge_of edge) read), sum_by_more (λ a. place_of (edge_of edge a)) l passed a within);
+  total = omega (arith, mark.total, place, ap distance_to (same ∙ ap (edge_of edge) read), sum_by_more (λ a. distance_to (edge_of edge a)) l passed a within);
   least = λ k d h. below_more (λ k. (d : Interval) → first_place ≤ℤ edge_of edge (get_or l k d)) passed (λ k h d. mark.least k d h) (λ d. subst (λ z. first_place ≤ℤ z) (here d) least) k h d;
   most = λ k d h. below_more (λ k. (d : Interval) → edge_of edge (get_or l k d) ≤ℤ x) passed (λ k h d. mark.most k d h) (λ d. subst (λ z. z ≤ℤ x) (here d) most) k h d;
 }
@@ -117,7 +117,7 @@ mark_later edge l passed sum x y mark h = record {
   most = λ k d b. omega (arith, ints, mark.most k d b, h);
 }
 
-pub place_lt : (x : ℤ) → x <ℤ pos (2 ^ 63) → place_of x < 2 ^ 64
+pub place_lt : (x : ℤ) → x <ℤ pos (2 ^ 63) → distance_to x < 2 ^ 64
 place_lt x h = omega (arith, ints, between_is first_place x)
 
 -- sums and heights fit

@@ -9,7 +9,7 @@
 //! A mark for x is also one for what comes later, so it only moves forward.
 
 ghost use Rattle.std.specs.Prelude.{◌≡◌, ◌↔◌, ◌^◌, ◌<◌, IsTrue};
-ghost use Rattle.duty_core.specs.steps.Marks.{edge_of, IsRising, place_of, height_of, IsMark, IsWhole};
+ghost use Rattle.duty_core.specs.steps.Marks.{edge_of, IsRising, distance_to, height_of, IsMark, HasPassedAll};
 
 use crate::interval::Span;
 
@@ -68,7 +68,7 @@ pub(crate) fn climb(spans: &[Span], edge: Edge, from: Mark, x: i64) -> (Mark, u1
 fn forward(spans: &[Span], edge: Edge, from: Mark, x: i64) -> Mark
     requires { IsMark edge spans.now from.passed from.sum x }
     ensures mark { IsMark edge spans.now result.passed result.sum x }
-    ensures stop { IsWhole edge spans.now result.passed x }
+    ensures stop { HasPassedAll edge spans.now result.passed x }
 {
     let mut passed = from.passed;
     let mut sum = from.sum;
@@ -86,7 +86,7 @@ fn forward(spans: &[Span], edge: Edge, from: Mark, x: i64) -> Mark
 /// How far the edges that lie before x do so, added up: no edge after the mark does.
 fn height(spans: &[Span], edge: Edge, at: Mark, x: i64) -> u128
     requires mark { IsMark edge spans.now at.passed at.sum x }
-    requires stop { IsWhole edge spans.now at.passed x }
+    requires stop { HasPassedAll edge spans.now at.passed x }
     requires rising { IsRising edge spans.now }
     ensures same { result ≡ height_of edge spans.now x }
     ensures small { result < 2 ^ 127 }
@@ -96,7 +96,7 @@ fn height(spans: &[Span], edge: Edge, at: Mark, x: i64) -> u128
 
 /// How far x lies after the first place, the least `i64`.
 fn place(x: i64) -> u128
-    ensures { result ≡ place_of x }
+    ensures { result ≡ distance_to x }
 {
     (i128::from(x) - i128::from(i64::MIN)) as u128
 }

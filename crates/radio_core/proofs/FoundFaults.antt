@@ -5,7 +5,7 @@ use Rattle.std.proofs.lemmas.Bool.{eqb-true, eqb-false, eq-eqb, ne_eqb, leb-true
 use Rattle.radio_core.specs.declared.frames.FrameFault.{FrameFault}
 use Rattle.radio_core.specs.declared.frames.FrameFault.TheVariants.{Empty, Major, Kind, Length}
 use Rattle.radio_core.specs.declared.frames.Phy.{Phy}
-use Rattle.radio_core.specs.Frames.{IsFault, IsFrame, body_of, frame_of, fault_of, read_of, FaultIsFound}
+use Rattle.radio_core.specs.Frames.{IsFault, IsFrame, body_of, frame_of, frame_fault, read_of, FaultIsFound}
 use Rattle.radio_core.proofs.FoundFrames.{frame_is_found}
 
 -- what is read is a frame where one is found, and else a fault
@@ -24,7 +24,7 @@ none_there (Some x) h = absurd (h x refl)
 -- a frame is read exactly where there is one
 pub frame_is_read : (text : List ℕ) (phy : Phy) → (read_of text ≡ Ok phy) ↔ IsFrame text phy
 frame_is_read text phy =
-    let r : (ok_or (frame_of text) (fault_of text) ≡ Ok phy) ↔ (frame_of text ≡ Some phy) = read_ok (frame_of text) (fault_of text) phy in
+    let r : (ok_or (frame_of text) (frame_fault text) ≡ Ok phy) ↔ (frame_of text ≡ Some phy) = read_ok (frame_of text) (frame_fault text) phy in
     let f : (frame_of text ≡ Some phy) ↔ IsFrame text phy = frame_is_found text phy in
     (λ e. f.0 (r.0 e), λ i. r.1 (f.1 i))
 
@@ -44,7 +44,7 @@ unfolding frame_of
 read_behind text mhdr body r e h k = rw (e, eq-eqb (mhdr % 4) 0 h) k
 
 -- the first fault is one, where no frame is found
-first_is : (text : List ℕ) → ((phy : Phy) → ¬ IsFrame text phy) → IsFault text (fault_of text)
+first_is : (text : List ℕ) → ((phy : Phy) → ¬ IsFrame text phy) → IsFault text (frame_fault text)
 first_is [] none = refl
 first_is (mhdr ∷ body) none = by_major (mhdr % 4 == 0) refl
   where
@@ -60,7 +60,7 @@ first_is (mhdr ∷ body) none = by_major (mhdr % 4 == 0) refl
 
 found_is : (text : List ℕ) (fault : FrameFault) → read_of text ≡ Err fault → IsFault text fault
 found_is text fault e =
-    let r : (frame_of text ≡ None) × (fault_of text ≡ fault) = read_err (frame_of text) (fault_of text) fault e in
+    let r : (frame_of text ≡ None) × (frame_fault text ≡ fault) = read_err (frame_of text) (frame_fault text) fault e in
     subst (IsFault text) r.1 (first_is text (λ phy i. let f : frame_of text ≡ Some phy = (frame_is_found text phy).1 i in let n : frame_of text ≡ None = r.0 in cc))
 
 -- no frame is of a type above 5

@@ -7,7 +7,7 @@ use Rattle.std.proofs.lemmas.List.{append_assoc, length-append, length-take, len
 use Rattle.std.proofs.lemmas.Option.{cond_some, same_Some}
 use Rattle.radio_core.specs.declared.frames.Phy.{Phy}
 use Rattle.radio_core.specs.declared.frames.Phy.TheVariants.{Join, Accept, Up, Down}
-use Rattle.radio_core.specs.Frames.{little_endian, IsHeader, IsJoin, IsData, IsFrame, join_of, accept_of, fields_of, data_of, body_of, frame_of, FrameIsFound, NoTextIsTwoFrames}
+use Rattle.radio_core.specs.Frames.{little_endian, IsHeader, IsJoin, IsData, IsFrame, join_frame, accept_of, fields_of, data_of, body_of, frame_of, FrameIsFound, NoTextIsTwoFrames}
 
 -- what a test let through
 guard : {X : Type 0} (b : Bool) (x : Option X) (y : X) → cond b x None ≡ Some y → (b ≡ true) × (x ≡ Some y)
@@ -28,7 +28,7 @@ drop_front n xs ys e = subst (λ n. drop n (xs ++ ys) ≡ ys) e (drop-append_sea
 -- ---- join requests
 
 join_found : (a b c d : List ℕ) → length a ≡ 8 → length b ≡ 8 → length c ≡ 2 → length d ≡ 4
-    → join_of (a ++ b ++ c ++ d) ≡ Some (Join (little_endian a) (little_endian b) (little_endian c))
+    → join_frame (a ++ b ++ c ++ d) ≡ Some (Join (little_endian a) (little_endian b) (little_endian c))
 join_found a b c d la lb lc ld = rw (eq-eqb (length (a ++ b ++ c ++ d)) 22 size, first, second, third)
   where
     size : length (a ++ b ++ c ++ d) ≡ 22
@@ -49,7 +49,7 @@ join_found a b c d la lb lc ld = rw (eq-eqb (length (a ++ b ++ c ++ d)) 22 size,
     third : take 2 (drop 16 (a ++ b ++ c ++ d)) ≡ c
     third = ap (λ l. take 2 (drop 16 l)) (append_assoc (a ++ b) c d) ∙ ap (take 2) (drop_front 16 (a ++ b) (c ++ d) two) ∙ take_front 2 c d lc
 
-join_is : (mhdr : ℕ) (body : List ℕ) (phy : Phy) → IsHeader 0 mhdr → join_of body ≡ Some phy → IsFrame (mhdr ∷ body) phy
+join_is : (mhdr : ℕ) (body : List ℕ) (phy : Phy) → IsHeader 0 mhdr → join_frame body ≡ Some phy → IsFrame (mhdr ∷ body) phy
 join_is mhdr body phy h e =
     let g : ((length body == 22) ≡ true) × (Join (little_endian (take 8 body)) (little_endian (take 8 (drop 8 body))) (little_endian (take 2 (drop 16 body))) ≡ phy) = cond_some _ _ phy e in
     subst (IsFrame (mhdr ∷ body)) g.1 (parted (eqb-true (length body) 22 g.0))

@@ -83,8 +83,8 @@ IsFault text Length =
 
 -- ---- the same, to be computed: the frame that the octets are, if they are one
 
-abbrev pub join_of : List ℕ → Option Phy
-join_of body =
+abbrev pub join_frame : List ℕ → Option Phy
+join_frame body =
     if length body == 22
     then Some (Join (little_endian (take 8 body)) (little_endian (take 8 (drop 8 body)))
     (little_endian (take 2 (drop 16 body))))
@@ -106,7 +106,7 @@ data_of frame body = option_map (λ fields. frame fields.0 fields.1) (fields_of 
 
 -- what stands behind the MHDR, by the frame type
 abbrev pub body_of : ℕ → List ℕ → Option Phy
-body_of zero body = join_of body
+body_of zero body = join_frame body
 body_of (suc zero) body = accept_of body
 body_of (suc (suc zero)) body = data_of (Up false) body
 body_of (suc (suc (suc zero))) body = data_of (Down false) body
@@ -119,14 +119,14 @@ frame_of [] = None
 frame_of (mhdr ∷ body) = if mhdr % 4 == 0 then body_of (mhdr / 32) body else None
 
 -- the first fault that applies, where there is no frame
-abbrev pub fault_of : List ℕ → FrameFault
-fault_of [] = Empty
-fault_of (mhdr ∷ body) =
+abbrev pub frame_fault : List ℕ → FrameFault
+frame_fault [] = Empty
+frame_fault (mhdr ∷ body) =
     if not (mhdr % 4 == 0) then Major else (if nat_le 6 (mhdr / 32) then Kind else Length)
 
 -- the frame, or why there is none
 abbrev pub read_of : List ℕ → Result Phy FrameFault
-read_of text = ok_or (frame_of text) (fault_of text)
+read_of text = ok_or (frame_of text) (frame_fault text)
 
 -- the frame that is found is the one that the octets are
 abbrev pub FrameIsFound : Type 0

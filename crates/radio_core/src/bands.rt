@@ -69,7 +69,8 @@ impl Band {
     }
 }
 
-const BANDS: [Band; 6] = [Band::B1, Band::B2, Band::B3, Band::B4, Band::B5, Band::B6];
+/// The bands, in the order of their numbers.
+pub const BANDS: [Band; 6] = [Band::B1, Band::B2, Band::B3, Band::B4, Band::B5, Band::B6];
 
 /// Half the bandwidth, in hertz.
 fn half_width(dr: DataRate) -> u32

@@ -3,7 +3,7 @@ ghost use Rattle.std.specs.Prelude.{◌≡◌, ◌<◌, ◌↔◌, Err, if◌the
 ghost use Rattle.radio_core.specs.declared.frames.FrameFault.{FrameFault};
 ghost use Rattle.radio_core.specs.declared.frames.FrameFault.TheVariants.{Kind, Length};
 ghost use Rattle.radio_core.specs.declared.frames.Phy.{Phy};
-ghost use Rattle.radio_core.specs.Frames.{IsFault, IsFrame, accept_of, body_of, data_of, fields_of, join_of, read_of};
+ghost use Rattle.radio_core.specs.Frames.{IsFault, IsFrame, accept_of, body_of, data_of, fields_of, join_frame, read_of};
 
 use crate::identifiers::{DevAddr, Eui};
 
@@ -47,7 +47,7 @@ pub enum FrameFault {
 
 /// What a join request has behind its MHDR: JoinEUI, DevEUI, DevNonce, MIC.
 fn join_request(body: &[u8]) -> Option<Phy>
-    ensures { result ≡ join_of body.now }
+    ensures { result ≡ join_frame body.now }
 {
     let (join_eui, rest) = body.split_first_chunk::<8>()?;
     let (dev_eui, rest) = rest.split_first_chunk::<8>()?;

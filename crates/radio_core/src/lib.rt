@@ -13,7 +13,7 @@ mod padding;
 mod payloads;
 mod time_on_air;
 
-pub use bands::{Band, band_of, limit};
+pub use bands::{BANDS, Band, band_of, limit};
 pub use counters::rebuild;
 pub use data_rates::{DataRate, Rate, max_phy};
 pub use frames::{FrameFault, Phy, read_phy};

@@ -34,7 +34,7 @@ use Rattle.registry_core.specs.Frames.{counts_as, downlink_to, frame_at, goes_to
 use Rattle.registry_core.specs.Numbered.{item_at}
 use Rattle.registry_core.specs.Settings.{Settings}
 use Rattle.registry_core.specs.State.{State}
-use Rattle.registry_core.specs.Viewed.{IsView, answered_for, booking_for, gateway_known, in_band_for, limit_at, limit_for, near_for, near_in, next_down_for, uplink_for, view_of_uplink}
+use Rattle.registry_core.specs.Viewed.{IsView, answered_for, booking_for, gateway_known, in_band_for, limit_in_window, limit_for, near_for, near_in, next_down_for, uplink_for, view_of_uplink}
 use Rattle.registry_core.specs.Windows.{delay, rate_in, window_of}
 use Rattle.registry_core.proofs.BookedHours.{AreShort, IsKept}
 use Rattle.registry_core.proofs.Decisions.{carried_down}
@@ -73,7 +73,7 @@ near_banded s gateway start rate band near is moved = subst (λ found. IsPermuta
 -- from the band on
 banded_same : (clear : IsClearByNearOnes) (hours : HoursWithinByNearOnes) (s : State) (v : View) (number : ℕ) (gateway : List ℕ) (start : ℕ) (rate : Rate) (octets : List ℕ) (found : Option Band) → IsKept s
     → (on_air start rate octets).len ≤ greatest_length → v.bookings ≡ length s.bookings → IsPermutation (near_ones (pos start) (downlinks s.bookings gateway)) v.near.items
-    → band_at rate.freq rate.dr ≡ found → IsPermutation (near_in s gateway (start, rate)) v.in_band.items → v.limit ≡ limit_at s gateway (start, rate)
+    → band_at rate.freq rate.dr ≡ found → IsPermutation (near_in s gateway (start, rate)) v.in_band.items → v.limit ≡ limit_in_window s gateway (start, rate)
     → (do
       band ← needs found OutOfBand
       down_added_by v number gateway band start (on_air start rate octets))
@@ -91,7 +91,7 @@ framed_same : (bounded : AirtimeIsBounded) (clear : IsClearByNearOnes) (hours : 
     → IsKept s → downlink_to uplink.kind (frame_at rate.dr octets) ≡ told → v.base ≡ c.base → v.answered ≡ is_answered s.bookings number
     → v.next_down ≡ next_down s.bookings s.uplinks uplink.session → v.bookings ≡ length s.bookings
     → IsPermutation (near_ones (pos start) (downlinks s.bookings gateway)) v.near.items → IsPermutation (near_in s gateway (start, rate)) v.in_band.items
-    → v.limit ≡ limit_at s gateway (start, rate)
+    → v.limit ≡ limit_in_window s gateway (start, rate)
     → (do
       down ← needs told BadFrame
       wants (goes_to (address_by v uplink.session) down) UnknownDevAddr
@@ -133,7 +133,7 @@ record Shows (s : State) (v : View) (number : ℕ) (gateway : List ℕ) (window 
   next_down : v.next_down ≡ option_map_or (λ (u : Uplink). next_down s.bookings s.uplinks u.session) uplink 0
   near : IsPermutation (option_map_or (λ (opens : ℕ × Rate). near_ones (pos opens.0) (downlinks s.bookings gateway)) (opens_at window uplink copy) []) v.near.items
   in_band : IsPermutation (option_map_or (near_in s gateway) (opens_at window uplink copy) []) v.in_band.items
-  limit : v.limit ≡ option_map_or (limit_at s gateway) (opens_at window uplink copy) 0
+  limit : v.limit ≡ option_map_or (limit_in_window s gateway) (opens_at window uplink copy) 0
 
 -- from the uplink on
 uplinked_same : (bounded : AirtimeIsBounded) (clear : IsClearByNearOnes) (hours : HoursWithinByNearOnes) (c : Settings) (s : State) (v : View) (number : ℕ)

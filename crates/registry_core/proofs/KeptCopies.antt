@@ -23,7 +23,7 @@ use Rattle.registry_core.specs.declared.messages.Role.{Role}
 use Rattle.registry_core.specs.declared.windows.Window.{Window}
 use Rattle.registry_core.specs.Administration.{sender_add, owner_add, gateway_add, device_add, device_move, limit_set}
 use Rattle.registry_core.specs.Checks.{Checked, ◌>>=◌, ◌>>◌, wants, needs, unless}
-use Rattle.registry_core.specs.CopyLaws.{CopiesAddOneAtMost, CopiesStay, KeepsCopy, copied_uplink, report_in}
+use Rattle.registry_core.specs.CopyLaws.{CopiesAddOneAtMost, CopiesStay, KeepsCopy, copied_uplink, report_heard}
 use Rattle.registry_core.specs.DataFrames.{data_added, data_copied, frame_heard, original_data}
 use Rattle.registry_core.specs.Decision.{Decision, decision_or_refusal}
 use Rattle.registry_core.specs.Derived.{is_data_with, is_join_with, session_with}
@@ -209,7 +209,7 @@ limit_tells_none s e gateway limit = search rules
 
 abbrev KeepsOne : State → Message → Checked Decision → Type 0
 KeepsOne s m checked = (number : ℕ) → copied_uplink (decision_or_refusal checked).1 ≡ Some number
-    → (report : Report) × (report_in m ≡ Some report) × KeepsCopy report number s (state_with s (decision_or_refusal checked).0)
+    → (report : Report) × (report_heard m ≡ Some report) × KeepsCopy report number s (state_with s (decision_or_refusal checked).0)
 
 never : (s : State) (m : Message) (checked : Checked Decision) → TellsNone checked → KeepsOne s m checked
 never s m checked none = λ number e. let both : None ≡ Some number = sym none ∙ e in cc

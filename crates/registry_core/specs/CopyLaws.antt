@@ -22,10 +22,10 @@ CopiesStay = (c : Settings) (heard : List Envelope) (e : Envelope) (number : ℕ
     s.copies number gateway ≡ Some copy → (step c s e).0.copies number gateway ≡ Some copy
 
 -- what a gateway reports by the message
-abbrev pub report_in : Message → Option Report
-report_in (JoinHeard report verdict) = Some report
-report_in (FrameHeard report verdict) = Some report
-report_in _ = None
+abbrev pub report_heard : Message → Option Report
+report_heard (JoinHeard report verdict) = Some report
+report_heard (FrameHeard report verdict) = Some report
+report_heard _ = None
 
 -- the number of the uplink that the answer tells to be known already
 abbrev pub copied_uplink : Answer → Option ℕ
@@ -56,4 +56,4 @@ pub record KeepsCopy (report : Report) (number : ℕ) (before after : State) : T
 abbrev pub CopiesAddOneAtMost : Type 0
 CopiesAddOneAtMost = (c : Settings) (s : State) (e : Envelope) (number : ℕ)
     → copied_uplink (step c s e).1 ≡ Some number
-    → (report : Report) × (report_in e.message ≡ Some report) × KeepsCopy report number s (step c s e).0
+    → (report : Report) × (report_heard e.message ≡ Some report) × KeepsCopy report number s (step c s e).0

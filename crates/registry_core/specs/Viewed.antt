@@ -142,11 +142,11 @@ in_band_for s (LimitSet gateway limit) = downlinks_in s.bookings gateway limit.b
 in_band_for s m = option_map_or (near_in s (gateway_for m)) (window_for s m) []
 
 -- the limit of its gateway's band
-abbrev pub limit_at : State → List ℕ → ℕ × Rate → ℕ
-limit_at s gateway opens = option_map_or (limit_standing s gateway) (band_at opens.1.freq opens.1.dr) 0
+abbrev pub limit_in_window : State → List ℕ → ℕ × Rate → ℕ
+limit_in_window s gateway opens = option_map_or (limit_standing s gateway) (band_at opens.1.freq opens.1.dr) 0
 
 abbrev pub limit_for : State → Message → ℕ
-limit_for s m = option_map_or (limit_at s (gateway_for m)) (window_for s m) 0
+limit_for s m = option_map_or (limit_in_window s (gateway_for m)) (window_for s m) 0
 
 -- ---- the view
 

@@ -3,7 +3,7 @@ use Rattle.std.specs.Prelude.{List, Ok, codes, ℕ, Option, Result, Err, ⊤}
 use Rattle.clap.specs.Simple.{App, new_app, with_rule}
 use Rattle.clap.specs.Walk.{Row}
 use Rattle.desk_cli.specs.Named.{Named, import, named_as}
-use Rattle.desk_cli.specs.Options.{◌>>=◌, name_of, needed_rule, needs, place_rule, placed, value_at}
+use Rattle.desk_cli.specs.Options.{◌>>=◌, name_of, needed_rule, or_bad, place_rule, placed, value_at}
 use Rattle.desk_cli.specs.declared.usage.BadValue.TheVariants.{Sender}
 use Rattle.std.specs.Io.KnownBytes.{Appends}
 use Rattle.registry_core.specs.declared.messages.Envelope.{Envelope}
@@ -24,7 +24,7 @@ import_app =
 abbrev pub import_named : List Row → Named
 import_named rows = named_as do
   file ← placed (codes "file") rows
-  sender ← needs (value_at name_of (codes "sender") rows) Sender
+  sender ← or_bad (value_at name_of (codes "sender") rows) Sender
   Ok (import file sender)
 
 -- What it has done, by how it ended. What had been heard, and by whom the report is; what says that these are kept, and that these

@@ -6,7 +6,7 @@ use Rattle.clap.specs.Simple.{App, new_app, with_rule}
 use Rattle.clap.specs.Walk.{Row}
 use Rattle.desk_cli.specs.Named.{Named, named_as, serve}
 use Rattle.desk_cli.specs.Numbers.{connections_of, port_of}
-use Rattle.desk_cli.specs.Options.{◌>>=◌, needed_rule, needs, place_rule, placed, value_at}
+use Rattle.desk_cli.specs.Options.{◌>>=◌, needed_rule, or_bad, place_rule, placed, value_at}
 use Rattle.registry_core.specs.declared.messages.Envelope.{Envelope}
 use Rattle.registry_core.specs.Settings.{Settings}
 use Rattle.desk_engine.specs.Deliveries.{heard_all}
@@ -29,8 +29,8 @@ serve_app =
 abbrev pub serve_named : List Row → Named
 serve_named rows = named_as do
   file ← placed (codes "file") rows
-  port ← needs (value_at port_of (codes "port") rows) Port
-  connections ← needs (value_at connections_of (codes "count") rows) Connections
+  port ← or_bad (value_at port_of (codes "port") rows) Port
+  connections ← or_bad (value_at connections_of (codes "count") rows) Connections
   Ok (serve file port connections)
 
 -- ---- what it does

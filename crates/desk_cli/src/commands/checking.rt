@@ -9,7 +9,7 @@ ghost use Rattle.sqlite.specs.State.{HasCleanDisk};
 ghost use Rattle.registry_core.specs.declared.messages.Envelope.{Envelope};
 ghost use Rattle.registry_core.specs.Settings.{Settings};
 ghost use Rattle.desk_store.specs.Calls.{IsRead, Tells, fault_in};
-ghost use Rattle.desk_engine.specs.Reporting.{store_fault};
+ghost use Rattle.desk_engine.specs.Reporting.{store_fault_in};
 ghost use Rattle.desk_tables.specs.Store.{meaning_of};
 ghost use Rattle.desk_cli.specs.Named.{TellsNamed};
 ghost use Rattle.desk_cli.specs.steps.CommandLine.{IsCommand};
@@ -84,7 +84,7 @@ pub fn check_command<S: Alter, W: Write>(
 
 /// What is printed of the desk.
 fn text_of<S: Alter>(alloc: Global, tables: &mut Tables<S>) -> Result<Vec<u8>, ReportFault>
-    ensures read { IsRead (meaning_of S.Store) tables.old tables.new (store_fault result) }
+    ensures read { IsRead (meaning_of S.Store) tables.old tables.new (store_fault_in result) }
     ensures told { IsCheckOf (meaning_of S.Store) tables.old tables.new (λ text. text.items) result }
 {
     Ok(checked(alloc, tables)?)

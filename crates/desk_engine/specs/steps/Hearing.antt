@@ -17,7 +17,7 @@ use Rattle.desk_wire.specs.Faults.{head_of_fault, refusal_of_fault}
 use Rattle.desk_engine.specs.Outcomes.{doubt_of}
 use Rattle.desk_engine.specs.declared.outcomes.Outcome.{Outcome}
 use Rattle.desk_engine.specs.declared.outcomes.Outcome.TheVariants.{Answered, Refused, Unavailable}
-use Rattle.desk_engine.specs.Told.{Told, AnswerText, RefusalText, refusal_told}
+use Rattle.desk_engine.specs.Told.{Told, AnswerText, RefusalText, told_of_refusal}
 use Rattle.desk_engine.specs.InOrder.{IsInOrder, Survives, kept_after}
 
 -- the outcome is what is told, or memory ran out
@@ -28,13 +28,13 @@ Says told (Unavailable fault) = fault ≡ Memory
 
 -- the outcome is why the text is no envelope; where memory ran out before that was known, it is Unavailable
 abbrev pub RefusesText : Settings → WireFault → Outcome → Type 0
-RefusesText c fault outcome = MatchOption (refusal_of_fault fault) (outcome ≡ Unavailable Memory) (λ refusal. Says (refusal_told c refusal (head_of_fault fault)) outcome)
+RefusesText c fault outcome = MatchOption (refusal_of_fault fault) (outcome ≡ Unavailable Memory) (λ refusal. Says (told_of_refusal c refusal (head_of_fault fault)) outcome)
 
 -- a repeat of the message with that text gets that answer, and another message is refused
 abbrev pub Repeats : Settings → Envelope → List ℕ → List ℕ → Outcome → Type 0
 Repeats c e message answer (Answered text) = (message_text c.receiver e ≡ message) × (text.items ≡ answer)
 Repeats c e message answer (Refused refusal text) =
-    (message_text c.receiver e ≢ message) × (refusal_told c TransactionReused (Some (head_of_envelope e)) ≡ RefusalText refusal text.items)
+    (message_text c.receiver e ≢ message) × (told_of_refusal c TransactionReused (Some (head_of_envelope e)) ≡ RefusalText refusal text.items)
 Repeats c e message answer (Unavailable fault) = fault ≡ Memory
 
 -- The effect and the texts are what is kept of a message whose pair is new, and can be kept.

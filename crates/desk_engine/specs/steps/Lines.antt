@@ -43,12 +43,12 @@ module _ {K : Type 0} (m : Meaning K) (c : Settings) (heard : List Envelope) (ol
       × (fault ≡ Size → HasNoRoom m new heard)
 
   -- The lines of this input are answered, and this is kept of the line that stands after them.
-  pub record StandsAt (input line : List ℕ) : Type 0 where
+  pub record HasReadTo (input line : List ℕ) : Type 0 where
     pub up : m.down new ≡ m.down old
     pub begun : line ≡ part (last_line input)
     pub answered : HasAnswered m c heard old new before after (whole_lines input) None
 
   -- it stands at the end of this input, or has stopped in it, whatever follows
   abbrev pub GoesTo : {T : Type 0} → List ℕ → List ℕ → Result T Stop → Type 0
-  GoesTo input line (Ok done) = StandsAt input line
+  GoesTo input line (Ok done) = HasReadTo input line
   GoesTo input line (Err stop) = (more : List ℕ) → LinesEndBy m c heard old new before after (input ++ more) (lines_end_of stop)

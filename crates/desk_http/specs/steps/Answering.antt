@@ -7,10 +7,10 @@ use Rattle.desk_http.specs.Responses.{Response, response_text}
 use Rattle.desk_engine.specs.declared.report_faults.ReportFault.{ReportFault}
 
 -- the response was written whole, or a write failed
-abbrev pub Writes : Response → Option (List ℕ) → Option (List ℕ) → ServeEnd → Type 0
-Writes response before after (Done status) = (status ≡ response.status) × Appends before after (response_text response)
-Writes response before after Write = Unit {0}
-Writes response before after _ = ⊥
+abbrev pub WritesResponse : Response → Option (List ℕ) → Option (List ℕ) → ServeEnd → Type 0
+WritesResponse response before after (Done status) = (status ≡ response.status) × Appends before after (response_text response)
+WritesResponse response before after Write = Unit {0}
+WritesResponse response before after _ = ⊥
 
 -- an answer as the engine gives it, with its octets alone
 abbrev pub answer_shown : {T : Type 0} → (T → List ℕ) → Result T ReportFault → Result (List ℕ) ReportFault

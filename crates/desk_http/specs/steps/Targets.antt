@@ -42,5 +42,5 @@ resource_of path Messages = messages
 resource_of path OwnerReport = reports (before_slash (names_of path)) (after_slash (names_of path))
 resource_of path BandReport = bands (names_of path)
 
-abbrev pub named_by : List ℕ → Option Resource
-named_by path = option_map (resource_of path) (route_of path)
+abbrev pub named_in_path : List ℕ → Option Resource
+named_in_path path = option_map (resource_of path) (route_of path)

@@ -30,7 +30,7 @@ use Rattle.desk_rows.proofs.OrderLemmas.Keys.{devices_with, named_once_with, sen
 use Rattle.desk_rows.proofs.OrderLemmas.Limits.{limits_keyed}
 use Rattle.desk_rows.proofs.OrderLemmas.Named.{HasDevice, copies_with, device_changed, device_with, session_kept, session_new, session_there}
 use Rattle.desk_rows.proofs.OrderLemmas.Numbering.{item_end, item_past, item_there, item_with}
-use Rattle.desk_rows.proofs.OrderLemmas.Telling.{counted_shown, device_told, facts_with, there_changed}
+use Rattle.desk_rows.proofs.OrderLemmas.Telling.{counted_shown, device_found, facts_with, there_changed}
 
 sessions_more : (sessions : List SessionRow) (session : Session) → sessions_in (sessions ++ session_row session ∷ []) ≡ sessions_in sessions ++ session ∷ []
 sessions_more sessions session = map-append (λ (s : SessionRow). s.session) sessions (session_row session ∷ [])
@@ -38,7 +38,7 @@ sessions_more sessions session = map-append (λ (s : SessionRow). s.session) ses
 -- ---- counters
 
 -- a device that isn't there has no data uplink
-pub no_floor : (r : Rows) → NamesRows r → (dev_eui : ℕ) → device_told r.devices dev_eui ≡ None → None ≡ floor_of r.uplinks (sessions_in r.sessions) dev_eui
+pub no_floor : (r : Rows) → NamesRows r → (dev_eui : ℕ) → device_found r.devices dev_eui ≡ None → None ≡ floor_of r.uplinks (sessions_in r.sessions) dev_eui
 no_floor r names dev_eui free = sym (ap (λ us. greatest (map (λ (u : Uplink). u.session) us))
     (filter_none (is_data_from sessions dev_eui) r.uplinks
     (all_so (IsOfSession sessions) (λ u. is_data_from sessions dev_eui u ≡ false) not_own r.uplinks names.uplinks)))
@@ -51,7 +51,7 @@ no_floor r names dev_eui free = sym (ap (λ us. greatest (map (λ (u : Uplink). 
         let has : HasDevice r.devices of.session = all_at (HasDevice r.devices) sessions u.session of.session of.there names.sessions in
         and_right (is_data u.kind) _ (ap (λ found. option_map_or (is_session_of dev_eui) found false) of.there
         ∙ ne_eqb of.session.device dev_eui
-        (λ same. both_ways (is_some (device_told r.devices of.session.device)) (ap is_some (ap (device_told r.devices) same ∙ free)) has))
+        (λ same. both_ways (is_some (device_found r.devices of.session.device)) (ap is_some (ap (device_found r.devices) same ∙ free)) has))
 
 moved_floors : (r : Rows) (dev_eui : ℕ) (owner : List ℕ) → IsCounted r
     → AllByRecursion (HasFloor r.uplinks (sessions_in r.sessions)) (update_where (is_device dev_eui) (moved owner) r.devices)

@@ -13,7 +13,7 @@ use Rattle.registry_core.specs.declared.facts.Uplink.{Uplink}
 use Rattle.registry_core.specs.Derived.{is_above, is_data, is_data_of, last_counter}
 use Rattle.registry_core.specs.Fits.{Fits}
 use Rattle.registry_core.specs.Heard.{most_heard}
-use Rattle.desk_rows.specs.Rows.{Rows, CopyRow, DeviceRow, LimitRow, SenderRow, SessionRow, kind_number, is_copy, is_device, is_limit, is_sender, is_uplink}
+use Rattle.desk_rows.specs.Rows.{Rows, CopyRow, DeviceRow, LimitRow, SenderRow, SessionRow, kind_number, is_copy, is_device, is_limit, is_sender_named, is_uplink}
 use Rattle.desk_rows.specs.order.Facts.{facts_in, sessions_in}
 use Rattle.desk_rows.specs.order.Keys.{HasRowid, IsFreeFor, KeysAreFree}
 use Rattle.desk_rows.specs.order.RowsOf.{IsFew, IsOfSession, same_join}
@@ -72,7 +72,7 @@ free_for : (r : Rows) (effect : Effect) → AllByRecursion (IsOfSession (session
     → length r.replies < most_heard → IsFreeFor effect r
 free_for r Nothing named few fits below = tt
 free_for r (AddsSender name role) named few fits below =
-    record { key = none_has (λ (s : SenderRow). s.role) (is_sender name) r.senders fits; room = room r.senders r.replies few.senders below }
+    record { key = none_has (λ (s : SenderRow). s.role) (is_sender_named name) r.senders fits; room = room r.senders r.replies few.senders below }
 free_for r (AddsOwner name) named few fits below = record { key = fits; room = room r.owners r.replies (omega (arith, few.owners)) below }
 free_for r (AddsGateway name) named few fits below = record { key = fits; room = room r.gateways r.replies (omega (arith, few.gateways)) below }
 free_for r (AddsDevice dev_eui device) named few fits below = record {

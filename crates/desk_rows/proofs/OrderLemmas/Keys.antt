@@ -6,13 +6,13 @@ use Rattle.std.proofs.lemmas.Bool.{and_right, ne_eqb}
 use Rattle.std.proofs.lemmas.List.{map-append}
 use Rattle.registry_core.specs.declared.facts.Session.{Session}
 use Rattle.registry_core.specs.Derived.{is_above, is_session_of, last_nonce}
-use Rattle.desk_rows.specs.Rows.{DeviceRow, SenderRow, is_device, is_sender}
+use Rattle.desk_rows.specs.Rows.{DeviceRow, SenderRow, is_device, is_sender_named}
 use Rattle.desk_rows.specs.order.Facts.{is_name_row}
 use Rattle.desk_rows.specs.order.RowsOf.{same_join}
 use Rattle.desk_rows.proofs.OrderLemmas.Counting.{above_each}
 use Rattle.desk_rows.proofs.OrderLemmas.Each.{all_map, all_so, distinct_with, none_found, none_of}
 use Rattle.desk_rows.proofs.OrderLemmas.Finding.{none_shown}
-use Rattle.desk_rows.proofs.OrderLemmas.Telling.{device_told, role_told}
+use Rattle.desk_rows.proofs.OrderLemmas.Telling.{device_found, role_found}
 
 abbrev pub sender_names : List SenderRow → List (List ℕ)
 sender_names senders = map (λ (s : SenderRow). s.name) senders
@@ -21,18 +21,18 @@ pub named_once_with : (names : List (List ℕ)) (name : List ℕ) → list_any (
     → IsDistinct bytes_eq (names ++ name ∷ [])
 named_once_with names name free apart = distinct_with bytes_eq names name apart (none_of (is_name_row name) names free)
 
-pub senders_with : (senders : List SenderRow) (new : SenderRow) → role_told senders new.name ≡ None → IsDistinct bytes_eq (sender_names senders)
+pub senders_with : (senders : List SenderRow) (new : SenderRow) → role_found senders new.name ≡ None → IsDistinct bytes_eq (sender_names senders)
     → IsDistinct bytes_eq (sender_names (senders ++ new ∷ []))
 senders_with senders new free apart =
     subst (IsDistinct bytes_eq) (sym (map-append (λ (s : SenderRow). s.name) senders (new ∷ [])))
     (distinct_with bytes_eq (sender_names senders) new.name apart
-    (all_map (λ s. is_sender new.name s ≡ false) (λ name. bytes_eq name new.name ≡ false) (λ (s : SenderRow). s.name) (λ s no. no) senders
-    (none_found (is_sender new.name) senders (none_shown (λ (s : SenderRow). s.role) _ free))))
+    (all_map (λ s. is_sender_named new.name s ≡ false) (λ name. bytes_eq name new.name ≡ false) (λ (s : SenderRow). s.name) (λ s no. no) senders
+    (none_found (is_sender_named new.name) senders (none_shown (λ (s : SenderRow). s.role) _ free))))
 
 abbrev pub euis : List DeviceRow → List ℕ
 euis devices = map (λ (d : DeviceRow). d.dev_eui) devices
 
-pub devices_with : (devices : List DeviceRow) (new : DeviceRow) → device_told devices new.dev_eui ≡ None → IsDistinct nat_eq (euis devices)
+pub devices_with : (devices : List DeviceRow) (new : DeviceRow) → device_found devices new.dev_eui ≡ None → IsDistinct nat_eq (euis devices)
     → IsDistinct nat_eq (euis (devices ++ new ∷ []))
 devices_with devices new free apart =
     subst (IsDistinct nat_eq) (sym (map-append (λ (d : DeviceRow). d.dev_eui) devices (new ∷ [])))

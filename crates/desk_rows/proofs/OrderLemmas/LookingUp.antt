@@ -43,8 +43,8 @@ module _ (c : Settings) (facts : State) (r : Rows) (are : AreRowsOf c facts r) w
       all_found (HasFloor r.uplinks (sessions_in r.sessions)) (is_device dev_eui) r.devices d is are.counted.floors
       ∙ ap (floor_of r.uplinks (sessions_in r.sessions)) (eqb-true d.dev_eui dev_eui (found_passes (is_device dev_eui) r.devices d is))
 
-  floor_told : (dev_eui n : ℕ) → is_below n (floor_in r.devices dev_eui) ≡ is_below_floor r.uplinks (sessions_in r.sessions) dev_eui n
-  floor_told dev_eui n = ap (is_below n) (floor_by dev_eui (find (is_device dev_eui) r.devices) refl)
+  floor_tells : (dev_eui n : ℕ) → is_below n (floor_in r.devices dev_eui) ≡ is_below_floor r.uplinks (sessions_in r.sessions) dev_eui n
+  floor_tells dev_eui n = ap (is_below n) (floor_by dev_eui (find (is_device dev_eui) r.devices) refl)
       ∙ below_floor r.uplinks (sessions_in r.sessions) dev_eui n
 
   next_down_by : (n : ℕ) (found : Option SessionRow) → item_at r.sessions n ≡ found
@@ -59,7 +59,7 @@ module _ (c : Settings) (facts : State) (r : Rows) (are : AreRowsOf c facts r) w
   counters_tell : CountersTell facts r
   counters_tell = subst (λ s. CountersTell s r) (sym are.is)
       (record {
-        floor = floor_told;
+        floor = floor_tells;
         next_down = λ n. ap (λ found. option_map_or (λ (s : SessionRow). s.next_down) found 0) (row_numbered n r.sessions)
             ∙ next_down_by n (item_at r.sessions n) refl;
       })

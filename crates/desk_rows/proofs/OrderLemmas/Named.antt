@@ -13,19 +13,19 @@ use Rattle.desk_rows.specs.order.RowsOf.{IsOfSession, IsOfUplink}
 use Rattle.desk_rows.proofs.OrderLemmas.Each.{all_so, all_with}
 use Rattle.desk_rows.proofs.OrderLemmas.Numbering.{item_end, item_kept}
 use Rattle.desk_rows.proofs.OrderLemmas.Finding.{still_shown}
-use Rattle.desk_rows.proofs.OrderLemmas.Telling.{device_told}
+use Rattle.desk_rows.proofs.OrderLemmas.Telling.{device_found}
 
 -- ---- devices of sessions
 
 abbrev pub HasDevice : List DeviceRow → Session → Type 0
-HasDevice devices s = IsTrue (is_some (device_told devices s.device))
+HasDevice devices s = IsTrue (is_some (device_found devices s.device))
 
 pub device_with : (devices more : List DeviceRow) (sessions : List Session) → AllByRecursion (HasDevice devices) sessions
     → AllByRecursion (HasDevice (devices ++ more)) sessions
 device_with devices more sessions each =
     all_so (HasDevice devices) (HasDevice (devices ++ more)) (λ s has. still_shown (λ (d : DeviceRow). d.device) _ devices more has) sessions each
 
-pub device_changed : (old new : List DeviceRow) → ((dev_eui : ℕ) → is_some (device_told new dev_eui) ≡ is_some (device_told old dev_eui))
+pub device_changed : (old new : List DeviceRow) → ((dev_eui : ℕ) → is_some (device_found new dev_eui) ≡ is_some (device_found old dev_eui))
     → (sessions : List Session)
     → AllByRecursion (HasDevice old) sessions → AllByRecursion (HasDevice new) sessions
 device_changed old new same sessions each = all_so (HasDevice old) (HasDevice new) (λ s has. same s.device ∙ has) sessions each

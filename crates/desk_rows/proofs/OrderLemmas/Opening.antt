@@ -15,9 +15,9 @@ one_sender : (operator name : List ℕ) (b : Bool)
 one_sender operator name true = refl
 one_sender operator name false = refl
 
-pub opening_told : OpeningRowsTell
+pub opening_tells : OpeningRowsTell
 unfolding IsDistinct
-opening_told c = record {
+opening_tells c = record {
   settings = refl;
   is = λ i. record (facts_in (opening_rows c)) {
     senders = λ name. (ap (λ b. cond b (Some Operator) None) (nat_list_eq_equiv.symm name c.operator)

@@ -19,7 +19,7 @@ use Rattle.registry_core.specs.Derived.{is_of_device}
 use Rattle.registry_core.specs.Fits.{Fits}
 use Rattle.registry_core.specs.State.{at_name, at_number, copies_with, devices_with_move, ended, owned_by, state_with}
 use Rattle.sqlite_keyed.specs.Lists.{update_where}
-use Rattle.desk_rows.specs.Rows.{Rows, SenderRow, ReplyRow, DeviceRow, SessionRow, CopyRow, BookingRow, is_copy, is_device, is_sender}
+use Rattle.desk_rows.specs.Rows.{Rows, SenderRow, ReplyRow, DeviceRow, SessionRow, CopyRow, BookingRow, is_copy, is_device, is_sender_named}
 use Rattle.desk_rows.specs.order.Changes.{booking_row, copy_row, counted_down, device_row, ended_row, kind_at, moved, raised, rows_with, sender_row, session_at, session_row, sessions_counted}
 use Rattle.desk_rows.specs.order.Facts.{facts_in, is_name_row, sessions_in}
 use Rattle.desk_rows.proofs.OrderLemmas.Finding.{find-map, found_passes, key_by, none_shown, shown_with}
@@ -31,15 +31,15 @@ use Rattle.desk_rows.proofs.OrderLemmas.Numbering.{map-item_changed, map_unchang
 same_name : (a b : List ℕ) → bytes_eq a b ≡ true → a ≡ b
 same_name a b is = (bytes_eq-Decides a b).0 is
 
-abbrev pub role_told : List SenderRow → List ℕ → Option Role
-role_told senders name = option_map (λ (s : SenderRow). s.role) (find (is_sender name) senders)
+abbrev pub role_found : List SenderRow → List ℕ → Option Role
+role_found senders name = option_map (λ (s : SenderRow). s.role) (find (is_sender_named name) senders)
 
-sender_with : (senders : List SenderRow) (name : List ℕ) (role : Role) → role_told senders name ≡ None → (other : List ℕ)
-    → at_name (role_told senders) name (Some role) other ≡ role_told (senders ++ sender_row name role ∷ []) other
+sender_with : (senders : List SenderRow) (name : List ℕ) (role : Role) → role_found senders name ≡ None → (other : List ℕ)
+    → at_name (role_found senders) name (Some role) other ≡ role_found (senders ++ sender_row name role ∷ []) other
 sender_with senders name role free other =
-    ap (λ b. cond b (Some role) (role_told senders other)) (nat_list_eq_equiv.symm other name)
-    ∙ sym (shown_with (λ (s : SenderRow). s.role) (is_sender other) senders (sender_row name role)
-    (λ same. none_shown (λ (s : SenderRow). s.role) _ (subst (λ n. role_told senders n ≡ None) (same_name name other same) free)))
+    ap (λ b. cond b (Some role) (role_found senders other)) (nat_list_eq_equiv.symm other name)
+    ∙ sym (shown_with (λ (s : SenderRow). s.role) (is_sender_named other) senders (sender_row name role)
+    (λ same. none_shown (λ (s : SenderRow). s.role) _ (subst (λ n. role_found senders n ≡ None) (same_name name other same) free)))
 
 pub known_with : (names : List (List ℕ)) (name other : List ℕ)
     → at_name (λ n. list_any (is_name_row n) names) name true other ≡ list_any (is_name_row other) (names ++ name ∷ [])
@@ -55,15 +55,15 @@ known_with names name other =
 
 -- ---- devices
 
-abbrev pub device_told : List DeviceRow → ℕ → Option Device
-device_told devices dev_eui = option_map (λ (d : DeviceRow). d.device) (find (is_device dev_eui) devices)
+abbrev pub device_found : List DeviceRow → ℕ → Option Device
+device_found devices dev_eui = option_map (λ (d : DeviceRow). d.device) (find (is_device dev_eui) devices)
 
-device_with : (devices : List DeviceRow) (dev_eui : ℕ) (device : Device) → device_told devices dev_eui ≡ None → (other : ℕ)
-    → at_number (device_told devices) dev_eui (Some device) other ≡ device_told (devices ++ device_row dev_eui device ∷ []) other
+device_with : (devices : List DeviceRow) (dev_eui : ℕ) (device : Device) → device_found devices dev_eui ≡ None → (other : ℕ)
+    → at_number (device_found devices) dev_eui (Some device) other ≡ device_found (devices ++ device_row dev_eui device ∷ []) other
 device_with devices dev_eui device free other =
-    ap (λ b. cond b (Some device) (device_told devices other)) (nat_eq_equiv.symm other dev_eui)
+    ap (λ b. cond b (Some device) (device_found devices other)) (nat_eq_equiv.symm other dev_eui)
     ∙ sym (shown_with (λ (d : DeviceRow). d.device) (is_device other) devices (device_row dev_eui device)
-    (λ same. none_shown (λ (d : DeviceRow). d.device) _ (subst (λ n. device_told devices n ≡ None) (eqb-true dev_eui other same) free)))
+    (λ same. none_shown (λ (d : DeviceRow). d.device) _ (subst (λ n. device_found devices n ≡ None) (eqb-true dev_eui other same) free)))
 
 -- a change of those that pass a test, which leaves the DevEUI
 module _ (test : DeviceRow → Bool) (change : DeviceRow → DeviceRow) (stays : (d : DeviceRow) → (change d).dev_eui ≡ d.dev_eui) where
@@ -78,10 +78,10 @@ module _ (devices : List DeviceRow) (dev_eui : ℕ) (owner : List ℕ) where
   moved_at d false is = ap (λ b. (cond b (moved owner d) d).device) is
 
   moved_found : (other : ℕ) (found : Option DeviceRow) → find (is_device other) devices ≡ found → (b : Bool) → (other == dev_eui) ≡ b
-      → cond b (option_map (owned_by owner) (device_told devices dev_eui)) (option_map (λ (d : DeviceRow). d.device) found)
+      → cond b (option_map (owned_by owner) (device_found devices dev_eui)) (option_map (λ (d : DeviceRow). d.device) found)
       ≡ option_map (λ (d : DeviceRow). d.device) (option_map (λ d. cond (is_device dev_eui d) (moved owner d) d) found)
   moved_found other found is true same =
-      ap (λ n. option_map (owned_by owner) (device_told devices n)) (sym (eqb-true other dev_eui same))
+      ap (λ n. option_map (owned_by owner) (device_found devices n)) (sym (eqb-true other dev_eui same))
       ∙ ap (λ o. option_map (owned_by owner) (option_map (λ (d : DeviceRow). d.device) o)) is ∙ here found is
     where
       here : (o : Option DeviceRow) → find (is_device other) devices ≡ o → option_map (owned_by owner) (option_map (λ (d : DeviceRow). d.device) o)
@@ -94,7 +94,7 @@ module _ (devices : List DeviceRow) (dev_eui : ℕ) (owner : List ℕ) where
       ap Some (sym (moved_at d false (ap (λ n. n == dev_eui) (eqb-true d.dev_eui other (found_passes (is_device other) devices d is)) ∙ apart)))
 
   move_with : (other : ℕ)
-      → devices_with_move (device_told devices) dev_eui owner other ≡ device_told (update_where (is_device dev_eui) (moved owner) devices) other
+      → devices_with_move (device_found devices) dev_eui owner other ≡ device_found (update_where (is_device dev_eui) (moved owner) devices) other
   move_with other =
       moved_found other (find (is_device other) devices) refl (other == dev_eui) refl
       ∙ sym (ap (option_map (λ (d : DeviceRow). d.device)) (found_changed (is_device dev_eui) (moved owner) (λ d. refl) other devices))
@@ -102,7 +102,7 @@ module _ (devices : List DeviceRow) (dev_eui : ℕ) (owner : List ℕ) where
 -- no device comes or goes
 pub there_changed : (test : DeviceRow → Bool) (change : DeviceRow → DeviceRow) → ((d : DeviceRow) → (change d).dev_eui ≡ d.dev_eui)
     → (devices : List DeviceRow) (other : ℕ)
-    → is_some (device_told (update_where test change devices) other) ≡ is_some (device_told devices other)
+    → is_some (device_found (update_where test change devices) other) ≡ is_some (device_found devices other)
 there_changed test change stays devices other =
     ap (λ found. is_some (option_map (λ (d : DeviceRow). d.device) found)) (found_changed test change stays other devices)
     ∙ same (find (is_device other) devices)
@@ -115,7 +115,7 @@ there_changed test change stays devices other =
 
 -- a raised floor changes no fact
 pub raised_with : (test : DeviceRow → Bool) (number : ℕ) (devices : List DeviceRow) (other : ℕ)
-    → device_told devices other ≡ device_told (update_where test (raised number) devices) other
+    → device_found devices other ≡ device_found (update_where test (raised number) devices) other
 raised_with test number devices other =
     same (find (is_device other) devices)
     ∙ sym (ap (option_map (λ (d : DeviceRow). d.device)) (found_changed test (raised number) (λ d. refl) other devices))
@@ -131,8 +131,8 @@ raised_with test number devices other =
 
 -- ---- copies
 
-abbrev copy_told : List CopyRow → ℕ → List ℕ → Option Reception
-copy_told copies number gateway = option_map (λ (c : CopyRow). c.reception) (find (is_copy number gateway) copies)
+abbrev copy_found : List CopyRow → ℕ → List ℕ → Option Reception
+copy_found copies number gateway = option_map (λ (c : CopyRow). c.reception) (find (is_copy number gateway) copies)
 
 copy_key : (copies : ℕ → List ℕ → Option Reception) (number : ℕ) (gateway : List ℕ) (reception : Reception) (n : ℕ) (at : List ℕ) (b : Bool)
     → (n == number) ≡ b
@@ -141,15 +141,15 @@ copy_key copies number gateway reception n at true is = rw (eqb-true n number is
     (ap (λ b. cond b (Some reception) (copies number at)) (nat_list_eq_equiv.symm gateway at))
 copy_key copies number gateway reception n at false is = rw (nat_eq_equiv.symm number n, is) refl
 
-copy_with : (copies : List CopyRow) (number : ℕ) (gateway : List ℕ) (reception : Reception) → copy_told copies number gateway ≡ None → (n : ℕ) (at : List ℕ)
-    → copies_with (copy_told copies) number gateway reception n at ≡ copy_told (copies ++ copy_row number gateway reception ∷ []) n at
+copy_with : (copies : List CopyRow) (number : ℕ) (gateway : List ℕ) (reception : Reception) → copy_found copies number gateway ≡ None → (n : ℕ) (at : List ℕ)
+    → copies_with (copy_found copies) number gateway reception n at ≡ copy_found (copies ++ copy_row number gateway reception ∷ []) n at
 copy_with copies number gateway reception free n at =
-    sym (copy_key (copy_told copies) number gateway reception n at (n == number) refl)
+    sym (copy_key (copy_found copies) number gateway reception n at (n == number) refl)
     ∙ sym (shown_with (λ (c : CopyRow). c.reception) (is_copy n at) copies (copy_row number gateway reception) (λ same.
     let parts = and_parts (number == n) (bytes_eq gateway at) same in
     none_shown (λ (c : CopyRow). c.reception) _
-    (subst (λ m. copy_told copies m at ≡ None) (eqb-true number n parts.0)
-    (subst (λ g. copy_told copies number g ≡ None) (same_name gateway at parts.1) free))))
+    (subst (λ m. copy_found copies m at ≡ None) (eqb-true number n parts.0)
+    (subst (λ g. copy_found copies number g ≡ None) (same_name gateway at parts.1) free))))
 
 -- ---- sessions
 

@@ -31,7 +31,7 @@ use Rattle.desk_rows.proofs.OrderLemmas.Free.{none_has}
 use Rattle.desk_rows.proofs.OrderLemmas.Limits.{key_is, same_other_way}
 use Rattle.desk_rows.proofs.OrderLemmas.Named.{HasDevice}
 use Rattle.desk_rows.proofs.OrderLemmas.Numbering.{item_changed_as, item_changed_none, item_there, row_there}
-use Rattle.desk_rows.proofs.OrderLemmas.Telling.{device_told}
+use Rattle.desk_rows.proofs.OrderLemmas.Telling.{device_found}
 
 -- ---- the only row with a key
 
@@ -85,7 +85,7 @@ shown_some show None some = some
 shown_some show (Some x) some = refl
 
 only_device : (devices : List DeviceRow) (dev_eui : ℕ) → IsDistinct nat_eq (map (λ (d : DeviceRow). d.dev_eui) devices)
-    → is_some (device_told devices dev_eui) ≡ true
+    → is_some (device_found devices dev_eui) ≡ true
     → HasOnly (is_device dev_eui) devices
 only_device devices dev_eui apart some =
     let at =
@@ -147,7 +147,7 @@ module _ (c : Settings) (facts : State) (r : Rows) (are : AreRowsOf c facts r) w
       let row = row_there (λ (s : SessionRow). s.session) r.sessions uplink.session found.0 found.1 in
       let has : HasDevice r.devices found.0 = all_at (HasDevice r.devices) (sessions_in r.sessions) uplink.session found.0 found.1 are.names.sessions in
       let device : HasOnly (is_device row.0.session.device) r.devices =
-      only_device r.devices row.0.session.device are.keyed.devices (ap (λ (s : Session). is_some (device_told r.devices s.device)) row.2 ∙ has) in
+      only_device r.devices row.0.session.device are.keyed.devices (ap (λ (s : Session). is_some (device_found r.devices s.device)) row.2 ∙ has) in
       let raises : devices_raised r.sessions uplink.session r.devices ≡ update_where (is_device row.0.session.device) (raised uplink.session) r.devices =
       ap (λ test. update_where test (raised uplink.session) r.devices) (same_test uplink.session row.0 found.0 found.1 row.2) in
       record {

@@ -4,7 +4,7 @@ use Rattle.std.specs.List.{list_any}
 use Rattle.registry_core.specs.declared.facts.Booking.{Booking}
 use Rattle.registry_core.specs.declared.facts.Session.{Session}
 use Rattle.registry_core.specs.State.{State}
-use Rattle.desk_rows.specs.Rows.{Rows, SenderRow, DeviceRow, SessionRow, CopyRow, BookingRow, LimitRow, is_copy, is_device, is_limit, is_sender}
+use Rattle.desk_rows.specs.Rows.{Rows, SenderRow, DeviceRow, SessionRow, CopyRow, BookingRow, LimitRow, is_copy, is_device, is_limit, is_sender_named}
 
 -- ---- the row with a key
 
@@ -26,7 +26,7 @@ limit_found limits gateway band = option_map (λ (l : LimitRow). l.limit.most) (
 -- the facts: what has a key is what its row tells, and nothing else is there
 abbrev pub facts_in : Rows → State
 facts_in r = record {
-  senders = λ name. option_map (λ (s : SenderRow). s.role) (find (is_sender name) r.senders);
+  senders = λ name. option_map (λ (s : SenderRow). s.role) (find (is_sender_named name) r.senders);
   owners = λ name. list_any (is_name_row name) r.owners;
   gateways = λ name. list_any (is_name_row name) r.gateways;
   devices = λ dev_eui. option_map (λ (d : DeviceRow). d.device) (find (is_device dev_eui) r.devices);

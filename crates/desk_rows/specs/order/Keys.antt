@@ -16,7 +16,7 @@ use Rattle.registry_core.specs.Numbered.{item_at, item_changed}
 use Rattle.registry_core.specs.Settings.{Settings}
 use Rattle.registry_core.specs.State.{State}
 use Rattle.sqlite_keyed.specs.Lists.{update_where}
-use Rattle.desk_rows.specs.Rows.{Rows, BookingRow, DeviceRow, SessionRow, is_copy, is_device, is_limit, is_sender, is_session, is_uplink}
+use Rattle.desk_rows.specs.Rows.{Rows, BookingRow, DeviceRow, SessionRow, is_copy, is_device, is_limit, is_sender_named, is_session, is_uplink}
 use Rattle.desk_rows.specs.order.Changes.{booking_row, devices_raised, kind_at, limit_row, limited, limits_set, session_at, sessions_counted}
 use Rattle.desk_rows.specs.order.Facts.{is_name_row, limit_found}
 use Rattle.desk_rows.specs.order.RowsOf.{AreRowsOf}
@@ -39,7 +39,7 @@ IsFreeForLimit gateway limit r = limit_found r.limits gateway (band_number limit
 -- each row that the effect adds can be added
 abbrev pub IsFreeFor : Effect → Rows → Type 0
 IsFreeFor Nothing r = Unit {0}
-IsFreeFor (AddsSender name role) r = IsFree (is_sender name) r.senders
+IsFreeFor (AddsSender name role) r = IsFree (is_sender_named name) r.senders
 IsFreeFor (AddsOwner name) r = IsFree (is_name_row name) r.owners
 IsFreeFor (AddsGateway name) r = IsFree (is_name_row name) r.gateways
 IsFreeFor (AddsDevice dev_eui device) r = IsFree (is_device dev_eui) r.devices

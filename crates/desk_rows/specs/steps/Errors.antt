@@ -1,6 +1,6 @@
 -- What a query showed, and what is read of a row.
 use Rattle.std.specs.Prelude.{◌≡◌, ◌<◌, ℕ, length, Option, Some, None, Result, Ok, Err, Bool, true, false}
-use Rattle.desk_rows.specs.Faults.{IsEven, fault_of}
+use Rattle.desk_rows.specs.Faults.{IsEven, row_fault}
 use Rattle.sqlite_value.specs.Order.{Row, column}
 use Rattle.sqlite_value.specs.declared.value.Value.{Value}
 use Rattle.sqlite.specs.declared.error.Error.{Error}
@@ -13,7 +13,7 @@ use Rattle.desk_rows.specs.declared.faults.RowFault.TheVariants.{Memory, Row as 
 abbrev pub found_of : Result Row Error → Result (Option Row) RowFault
 found_of (Ok row) = Ok (Some row)
 found_of (Err QueryReturnedNoRows) = Ok None
-found_of (Err e) = Err (fault_of e)
+found_of (Err e) = Err (row_fault e)
 
 -- whether a row was found
 abbrev pub known_of : Result (Option Row) RowFault → Result Bool RowFault

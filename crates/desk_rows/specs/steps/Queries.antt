@@ -11,7 +11,7 @@ use Rattle.sqlite.specs.Given.{HasGiven, IsPlain}
 use Rattle.sqlite.specs.Held.{Held, state}
 use Rattle.sqlite.specs.Listing.{understood}
 use Rattle.sqlite.specs.State.{State, HasCleanDisk, IsUnchanged, Survives, Begins, CommitsShowing, FailsToQuery, QueriesRow, Shown}
-use Rattle.desk_rows.specs.Faults.{fault_of, IsEven}
+use Rattle.desk_rows.specs.Faults.{row_fault, IsEven}
 use Rattle.desk_rows.specs.steps.Errors.{Decodes, found_of, known_of}
 use Rattle.registry_core.specs.Reports.{is_after}
 use Rattle.desk_rows.specs.declared.faults.RowFault.{RowFault}
@@ -59,7 +59,7 @@ AreRead seen shows InRange _ _ = ⊥
 
 -- the query failed, at its beginning or at a row
 abbrev pub HasFailed : List ℕ → Row → State → State → RowFault → Type 0
-HasFailed sql params old new fault = (error : Error) × (fault ≡ fault_of error) × FailsToQuery sql params old new error
+HasFailed sql params old new fault = (error : Error) × (fault ≡ row_fault error) × FailsToQuery sql params old new error
 
 -- Memory was short, or the last of the rows that were given isn't read. Nothing had changed.
 abbrev pub IsGivenUp : {Seen : Type 0} → List ℕ → Row → State → State → (Seen → Row) → (Seen → Type 0) → RowFault → Type 0

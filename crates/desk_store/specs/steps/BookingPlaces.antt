@@ -23,9 +23,9 @@ abbrev pub is_on_air : Option Band → Booking → Bool
 is_on_air None booking = not (is_dropped booking.standing)
 is_on_air (Some band) booking = not (is_dropped booking.standing) && band_number booking.band == band_number band
 
-abbrev pub span_shown : Option Band → Booking → Option Interval
-span_shown band booking = if is_on_air band booking then Some booking.span else None
+abbrev pub span_on_air : Option Band → Booking → Option Interval
+span_on_air band booking = if is_on_air band booking then Some booking.span else None
 
 -- and that of the booking that stands there
 abbrev pub booking_span_at : List Booking → Option Band → Place → Option Interval
-booking_span_at bookings band place = option_and_then (span_shown band) (item_at bookings place.number)
+booking_span_at bookings band place = option_and_then (span_on_air band) (item_at bookings place.number)

@@ -1,11 +1,14 @@
 -- The sessions of a device, from its latest to its first.
-use Rattle.std.specs.Prelude.{if◌then◌else◌, ◌≡◌, ℕ, zero, suc, ◌+◌, Bool, List, length, Option, nat_lt, ◌&&◌}
+use Rattle.std.specs.Prelude.{if◌then◌else◌, ◌≡◌, ℕ, zero, suc, ◌+◌, Bool, List, length, map, Option, nat_lt, ◌&&◌}
 use Rattle.std.specs.Option.{option_map_or, unwrap_or}
 use Rattle.registry_core.specs.declared.facts.Session.{Session}
 use Rattle.registry_core.specs.Derived.{is_of_device, last_nonce}
 use Rattle.registry_core.specs.Numbered.{item_at}
-use Rattle.desk_store.specs.Sessions.{sessions_of}
 use Rattle.desk_store.specs.declared.sessions.Link.{Link}
+
+-- the sessions of the links that an index keeps
+abbrev pub sessions_of : List Link → List Session
+sessions_of links = map (λ link. link.session) links
 
 -- the greatest number below n that passes the test, 0 where none does
 abbrev pub greatest_below : (ℕ → Bool) → ℕ → ℕ

@@ -5,5 +5,5 @@ use Rattle.indexmap.specs.IndexMap.{get}
 use Rattle.desk_store.specs.declared.tally.Tally.{Tally}
 
 -- the number's count: 0 where none is told
-abbrev pub count_in : Tally → ℕ → ℕ
-count_in tally number = unwrap_or (get nat_eq tally.counts number) 0
+abbrev pub tallied : Tally → ℕ → ℕ
+tallied tally number = unwrap_or (get nat_eq tally.counts number) 0

@@ -7,5 +7,5 @@ abbrev pub AreCountsIn : Rows → Counts → Type 0
 AreCountsIn r v = (v.sessions ≡ length r.sessions) × (v.uplinks ≡ length r.uplinks) × (v.bookings ≡ length r.bookings)
 
 -- so many messages were heard, and there are so many of what is numbered
-abbrev pub AreCounted : Rows → ℕ × Counts → Type 0
-AreCounted r told = (told.0 ≡ length r.replies) × AreCountsIn r told.1
+abbrev pub AreRowsCounted : Rows → ℕ × Counts → Type 0
+AreRowsCounted r told = (told.0 ≡ length r.replies) × AreCountsIn r told.1

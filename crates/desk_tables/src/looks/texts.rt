@@ -13,7 +13,7 @@ use registry_core::Envelope;
 use sqlite::{Alter, Connection};
 
 fn shown(found: Option<desk_rows::Texts>) -> Option<Texts>
-    ensures { option_map store.texts_shown result ≡ option_map rows.texts_shown found }
+    ensures { option_map store.texts_shown result ≡ option_map rows.kept_texts found }
 {
     let texts = found?;
     Some(Texts {

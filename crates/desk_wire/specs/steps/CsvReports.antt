@@ -8,6 +8,7 @@ use Rattle.csv.specs.declared.reader.Reader.{Reader}
 use Rattle.csv.specs.declared.reader.Trim.TheVariants as trim
 use Rattle.radio_core.specs.declared.data_rates.DataRate.{DataRate}
 use Rattle.radio_core.specs.Names.{is_name}
+use Rattle.registry_core.specs.Wholes.{whole_limit}
 use Rattle.desk_wire.specs.Decimals.{decimal_below, decimal_in}
 use Rattle.desk_wire.specs.DataRates.{data_rate_numbered}
 use Rattle.desk_wire.specs.Hexadecimal.{octets_in}
@@ -15,20 +16,20 @@ use Rattle.desk_wire.specs.Optional.{◌>>=◌, only_if}
 
 -- ---- the field at this place, from 0, in its form
 
-abbrev pub name_at : ℕ → List (List ℕ) → Option (List ℕ)
-name_at place fields = field_at fields place >>= only_if is_name
+abbrev pub name_field : ℕ → List (List ℕ) → Option (List ℕ)
+name_field place fields = field_at fields place >>= only_if is_name
 
-abbrev pub whole_at : ℕ → List (List ℕ) → Option ℕ
-whole_at place fields = field_at fields place >>= decimal_below (2 ^ 53)
+abbrev pub whole_field : ℕ → List (List ℕ) → Option ℕ
+whole_field place fields = field_at fields place >>= decimal_below whole_limit
 
-abbrev pub u32_at : ℕ → List (List ℕ) → Option ℕ
-u32_at place fields = field_at fields place >>= decimal_below (2 ^ 32)
+abbrev pub u32_field : ℕ → List (List ℕ) → Option ℕ
+u32_field place fields = field_at fields place >>= decimal_below (2 ^ 32)
 
-abbrev pub data_rate_at : ℕ → List (List ℕ) → Option DataRate
-data_rate_at place fields = field_at fields place >>= decimal_in >>= data_rate_numbered
+abbrev pub data_rate_field : ℕ → List (List ℕ) → Option DataRate
+data_rate_field place fields = field_at fields place >>= decimal_in >>= data_rate_numbered
 
-abbrev pub octets_at : ℕ → List (List ℕ) → Option (List ℕ)
-octets_at place fields = field_at fields place >>= octets_in
+abbrev pub octets_field : ℕ → List (List ℕ) → Option (List ℕ)
+octets_field place fields = field_at fields place >>= octets_in
 
 -- ---- the records
 

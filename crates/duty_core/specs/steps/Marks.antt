@@ -23,16 +23,16 @@ abbrev pub first_place : ℤ
 first_place = neg_ℤ (pos (2 ^ 63))
 
 -- how far x lies after it
-abbrev pub place_of : ℤ → ℕ
-place_of x = count_between first_place x
+abbrev pub distance_to : ℤ → ℕ
+distance_to x = count_between first_place x
 
 -- the first edges of the list, none after x, and their places added up
 pub record IsMark (edge : Edge) (l : List Interval) (passed sum : ℕ) (x : ℤ) : Type 0 where
   pub within : passed ≤ length l
-  pub total : sum ≡ sum_by (λ a. place_of (edge_of edge a)) (take passed l)
+  pub total : sum ≡ sum_by (λ a. distance_to (edge_of edge a)) (take passed l)
   pub least : (k : ℕ) (d : Interval) → k < passed → first_place ≤ℤ edge_of edge (slice_index_or l k d)
   pub most : (k : ℕ) (d : Interval) → k < passed → edge_of edge (slice_index_or l k d) ≤ℤ x
 
 -- and no others are: the next edge, if there is one, is after x
-abbrev pub IsWhole : Edge → List Interval → ℕ → ℤ → Type 0
-IsWhole edge l passed x = (d : Interval) → passed < length l → x <ℤ edge_of edge (slice_index_or l passed d)
+abbrev pub HasPassedAll : Edge → List Interval → ℕ → ℤ → Type 0
+HasPassedAll edge l passed x = (d : Interval) → passed < length l → x <ℤ edge_of edge (slice_index_or l passed d)

@@ -1,6 +1,6 @@
 use Rattle.std.proofs.Common.{◌∙◌}
 use Rattle.desk_engine.specs.InOrder.{kept_after}
-use Rattle.desk_cli.proofs.Opened.{is_unavailable, left_as_it_was, not_a_desk_of, opening_told, schema_told}
+use Rattle.desk_cli.proofs.Opened.{is_unavailable, left_as_it_was, not_a_desk_of, says_opening, says_schema}
 use Rattle.desk_cli.proofs.opening.opened.Goals as goal
 
 pub returns-in-Ok-clause-desk : goal.returns-in-Ok-clause-desk
@@ -20,8 +20,8 @@ returns-in-Ok-clause-never g c = λ sound none.
 
 pub returns-in-Err-clause-refused : goal.returns-in-Err-clause-refused
 returns-in-Err-clause-refused g c = λ clean. record {
-  told = opening_told c.in-Err.fault c.into.result c.into.ensures c.in-Err.ensures.never;
-  version = λ is. c.in-Err.ensures.version clean (schema_told c.in-Err.fault c.into.result c.into.ensures is);
+  told = says_opening c.in-Err.fault c.into.result c.into.ensures c.in-Err.ensures.never;
+  version = λ is. c.in-Err.ensures.version clean (says_schema c.in-Err.fault c.into.result c.into.ensures is);
   other_version = λ other is. c.in-Err.ensures.other_version other.0 other.1.0 other.1.1 other.1.2 other.1.3 clean (not_a_desk_of c.in-Err.fault c.into.result c.into.ensures is);
   given_back = c.in-Err.ensures.given_back;
 }

@@ -6,7 +6,7 @@ use Rattle.std.proofs.lemmas.Result.{IfOk-from_err}
 use Rattle.desk_engine.specs.Reports.{is_owner}
 use Rattle.desk_engine.proofs.Hearings.{reads_none}
 use Rattle.desk_engine.proofs.Readings.{read_then}
-use Rattle.desk_engine.proofs.ReportFaults.{fault_told, no_other, owner_is_no_gateway, owner_is_no_time, report_fails, report_is_no_fault, store_is_no_gateway, store_is_no_time, time_is_known, time_is_no_gateway, told_apart, unnamed}
+use Rattle.desk_engine.proofs.ReportFaults.{fault_holds, no_other, owner_is_no_gateway, owner_is_no_time, report_fails, report_is_no_fault, store_is_no_gateway, store_is_no_time, time_is_known, time_is_no_gateway, told_apart, unnamed}
 use Rattle.desk_engine.proofs.owner_reports.owner_report.Goals as goal
 
 pub returns-in_default-clause-time : goal.returns-in_default-clause-time
@@ -61,7 +61,7 @@ pub returns-in_err-has_owner-clause-report : goal.returns-in_err-has_owner-claus
 returns-in_err-has_owner-clause-report g c = λ kept sound held from to is. IfOk-from_err c.from_residual.result _ c.from_residual.ensures.0
 
 pub returns-in_err-has_owner-clause-fault : goal.returns-in_err-has_owner-clause-fault
-returns-in_err-has_owner-clause-fault g c = λ kept sound held from to is. fault_told c.from_residual.result _ _ c.from_residual.ensures.1 (c.in_err-has_owner.ensures.read.unavailable kept sound held)
+returns-in_err-has_owner-clause-fault g c = λ kept sound held from to is. fault_holds c.from_residual.result _ _ c.from_residual.ensures.1 (c.in_err-has_owner.ensures.read.unavailable kept sound held)
 
 pub returns-in_err-has_owner-clause-no_gateway : goal.returns-in_err-has_owner-clause-no_gateway
 returns-in_err-has_owner-clause-no_gateway g c = no_other c.from_residual.result _ _ (store_is_no_gateway _) c.from_residual.ensures.1
@@ -88,7 +88,7 @@ pub returns-in_err-owner_text-clause-report : goal.returns-in_err-owner_text-cla
 returns-in_err-owner_text-clause-report g c = λ kept sound held from to is. IfOk-from_err c.from_residual-in_err-owner_text.result _ c.from_residual-in_err-owner_text.ensures.0
 
 pub returns-in_err-owner_text-clause-fault : goal.returns-in_err-owner_text-clause-fault
-returns-in_err-owner_text-clause-fault g c = λ kept sound held from to is. fault_told c.from_residual-in_err-owner_text.result _ _ c.from_residual-in_err-owner_text.ensures.1 ((read_then g.K.Looks.meaning _ _ _ _ c.in_ok-has_owner.ensures.read c.in_err-owner_text.ensures.read).unavailable kept sound held)
+returns-in_err-owner_text-clause-fault g c = λ kept sound held from to is. fault_holds c.from_residual-in_err-owner_text.result _ _ c.from_residual-in_err-owner_text.ensures.1 ((read_then g.K.Looks.meaning _ _ _ _ c.in_ok-has_owner.ensures.read c.in_err-owner_text.ensures.read).unavailable kept sound held)
 
 pub returns-in_err-owner_text-clause-no_gateway : goal.returns-in_err-owner_text-clause-no_gateway
 returns-in_err-owner_text-clause-no_gateway g c = no_other c.from_residual-in_err-owner_text.result _ _ (store_is_no_gateway _) c.from_residual-in_err-owner_text.ensures.1

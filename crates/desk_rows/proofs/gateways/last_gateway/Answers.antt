@@ -1,5 +1,5 @@
-use Rattle.desk_rows.proofs.Latest.{last_gateway_told}
+use Rattle.desk_rows.proofs.Latest.{reads_last_gateway}
 use Rattle.desk_rows.proofs.gateways.last_gateway.Goals as goal
 
 pub returns : goal.returns
-returns g c = last_gateway_told c.find.ensures
+returns g c = reads_last_gateway c.find.ensures

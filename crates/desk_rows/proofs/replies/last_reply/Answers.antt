@@ -1,8 +1,8 @@
-use Rattle.desk_rows.proofs.Latest.{first_reply_told, last_reply_told}
+use Rattle.desk_rows.proofs.Latest.{reads_first_reply, reads_last_reply}
 use Rattle.desk_rows.proofs.replies.last_reply.Goals as goal
 
 pub returns-clause-second : goal.returns-clause-second
-returns-clause-second g c = last_reply_told c.find.ensures
+returns-clause-second g c = reads_last_reply c.find.ensures
 
 pub returns-clause-first : goal.returns-clause-first
-returns-clause-first g c = first_reply_told c.find.ensures
+returns-clause-first g c = reads_first_reply c.find.ensures

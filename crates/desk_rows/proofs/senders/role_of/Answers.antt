@@ -1,5 +1,5 @@
-use Rattle.desk_rows.proofs.ByKey.{role_told}
+use Rattle.desk_rows.proofs.ByKey.{reads_role}
 use Rattle.desk_rows.proofs.senders.role_of.Goals as goal
 
 pub returns : goal.returns
-returns g c = role_told c.args.name.now (rw (c.text.ensures.same) at c.find.ensures)
+returns g c = reads_role c.args.name.now (rw (c.text.ensures.same) at c.find.ensures)

@@ -2,7 +2,7 @@ use Rattle.std.proofs.Common.{◌≡◌, ◌∙◌, ◌+◌, ◌++◌, List, dro
 use Rattle.std.specs.List.{filter_map}
 use Rattle.duty_core.specs.declared.interval.Span.{Span}
 use Rattle.desk_store.specs.steps.BookingPlaces.{booking_span_at}
-use Rattle.desk_store.proofs.ToldAlong.{all_told, told_on, untold_on}
+use Rattle.desk_store.proofs.ToldAlong.{all_mapped, told_on, untold_on}
 use Rattle.desk_store.proofs.bookings.spans_at.Goals as goal
 use Rattle.desk_store.proofs.bookings.spans_at.Goals.{in-Some+in_ok-push, in_default}
 
@@ -18,4 +18,4 @@ loop-place-preserved c =
     ]
 
 pub returns : goal.returns
-returns c = all_told (booking_span_at c.args.bookings.now c.args.band) _ _ _ _ c.loop-place-test.false c.loop-place.invariant
+returns c = all_mapped (booking_span_at c.args.bookings.now c.args.band) _ _ _ _ c.loop-place-test.false c.loop-place.invariant

@@ -6,7 +6,7 @@ use Rattle.std.proofs.lemmas.Result.{IfOk-weaker}
 use Rattle.registry_core.specs.declared.facts.Uplink.{Uplink}
 use Rattle.desk_store.specs.steps.UplinkPlaces.{is_sent_from, places_from, uplink_span_at}
 use Rattle.desk_store.proofs.PlaceOrder.{places_sorted}
-use Rattle.desk_store.proofs.UplinksTold.{uplinks_told}
+use Rattle.desk_store.proofs.UplinksTold.{uplinks_listed}
 use Rattle.desk_store.proofs.reports.uplinks_in.Goals as goal
 
 pub returns : goal.returns
@@ -20,5 +20,5 @@ returns c =
     (IsPermutation-trans (places_from uplinks sessions c.args.device c.args.band from to) c.in_ok-places.places.items c.sort_unstable.new.self.items
     c.in_ok-places.ensures c.sort_unstable.ensures.permutation) in
     IfOk-weaker c.spans_at.result _ _
-    (λ spans is. uplinks_told uplinks sessions c.args.device c.args.band from to spans.items (is ∙ ap (filter_map (uplink_span_at uplinks)) (c.deref.ensures.value ∙ places)))
+    (λ spans is. uplinks_listed uplinks sessions c.args.device c.args.band from to spans.items (is ∙ ap (filter_map (uplink_span_at uplinks)) (c.deref.ensures.value ∙ places)))
     c.spans_at.ensures

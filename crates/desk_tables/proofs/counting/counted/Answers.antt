@@ -1,5 +1,5 @@
 use Rattle.desk_tables.proofs.CallLemmas.{asks_also, asks_also_of, asks_as, asks_failed, asks_one, failed_with, first_has_schema}
-use Rattle.desk_tables.proofs.HaveItLemmas.{many_told}
+use Rattle.desk_tables.proofs.HaveItLemmas.{many_are}
 use Rattle.desk_tables.proofs.counting.counted.Goals as goal
 
 pub returns-in_err-replies-clause-second : goal.returns-in_err-replies-clause-second
@@ -22,11 +22,11 @@ pub returns-clause-second : goal.returns-clause-second
 returns-clause-second g c = asks_as _
     (asks_also (asks_also (asks_also (asks_one c.in_ok-replies.ensures.second) (asks_one c.in_ok-sessions.ensures.second)) (asks_one c.in_ok-uplinks.ensures.second)) (asks_one c.in_ok-bookings.ensures.second)) (λ r of. of)
     (λ r of told. (
-      many_told r.replies told.0.0.0 c.or_none-4.ensures,
+      many_are r.replies told.0.0.0 c.or_none-4.ensures,
       (
-        many_told r.sessions told.0.0.1 c.or_none.ensures,
-        many_told r.uplinks told.0.1 c.or_none-2.ensures,
-        many_told r.bookings told.1 c.or_none-3.ensures,
+        many_are r.sessions told.0.0.1 c.or_none.ensures,
+        many_are r.uplinks told.0.1 c.or_none-2.ensures,
+        many_are r.bookings told.1 c.or_none-3.ensures,
       ),
     )) (λ r of may told. tt)
 
@@ -50,10 +50,10 @@ pub returns-clause-first : goal.returns-clause-first
 returns-clause-first g c = asks_as _
     (asks_also_of first_has_schema (asks_also_of first_has_schema (asks_also_of first_has_schema (asks_one c.in_ok-replies.ensures.first) (asks_one c.in_ok-sessions.ensures.first)) (asks_one c.in_ok-uplinks.ensures.first)) (asks_one c.in_ok-bookings.ensures.first)) (λ r of. of)
     (λ r of told. (
-      many_told r.replies told.0.0.0 c.or_none-4.ensures,
+      many_are r.replies told.0.0.0 c.or_none-4.ensures,
       (
-        many_told r.sessions told.0.0.1 c.or_none.ensures,
-        many_told r.uplinks told.0.1 c.or_none-2.ensures,
-        many_told r.bookings told.1 c.or_none-3.ensures,
+        many_are r.sessions told.0.0.1 c.or_none.ensures,
+        many_are r.uplinks told.0.1 c.or_none-2.ensures,
+        many_are r.bookings told.1 c.or_none-3.ensures,
       ),
     )) (λ r of may told. tt)

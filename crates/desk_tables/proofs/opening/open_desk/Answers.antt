@@ -3,7 +3,7 @@ use Rattle.sqlite.specs.Held.{state}
 use Rattle.desk_store.specs.Calls.{IsUnavailability}
 use Rattle.desk_store.specs.declared.faults.StoreFault.TheVariants.{NotADesk}
 use Rattle.desk_rows.specs.Schema.{desk_schema}
-use Rattle.desk_tables.proofs.OpeningLemmas.{desk_has_meta, failed_so, fault_told, meta_tells}
+use Rattle.desk_tables.proofs.OpeningLemmas.{desk_has_meta, failed_so, fault_is, meta_tells}
 use Rattle.desk_tables.proofs.opening.open_desk.Goals as goal
 
 pub returns-in_err-config-clause-unavailable : goal.returns-in_err-config-clause-unavailable
@@ -14,10 +14,10 @@ returns-in_err-config-clause-unavailable g c clean r has config =
 
 pub returns-in_err-config-clause-stranger : goal.returns-in_err-config-clause-stranger
 returns-in_err-config-clause-stranger g c clean is schema s tells =
-    let told : c.in_err-config.field-0.0 ≡ NotADesk = fault_told _ NotADesk c.from_residual.result c.from_residual.ensures.1 is in
+    let told : c.in_err-config.field-0.0 ≡ NotADesk = fault_is _ NotADesk c.from_residual.result c.from_residual.ensures.1 is in
     c.in_err-config.ensures.stranger clean (cc) (desk_has_meta _ schema) (pos 2) s tells
 
 pub returns-in_err-config-clause-other_version : goal.returns-in_err-config-clause-other_version
 returns-in_err-config-clause-other_version g c clean meta version s tells other is =
-    let told : c.in_err-config.field-0.0 ≡ NotADesk = fault_told _ NotADesk c.from_residual.result c.from_residual.ensures.1 is in
+    let told : c.in_err-config.field-0.0 ≡ NotADesk = fault_is _ NotADesk c.from_residual.result c.from_residual.ensures.1 is in
     c.in_err-config.ensures.stranger clean (cc) meta version s tells

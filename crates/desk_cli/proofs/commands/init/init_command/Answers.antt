@@ -1,5 +1,5 @@
 use Rattle.std.proofs.Common.{[], Err, refl, ap, ◌∙◌}
-use Rattle.desk_cli.proofs.Inited.{exists_told, not_a_desk_told}
+use Rattle.desk_cli.proofs.Inited.{says_exists, says_not_a_desk}
 use Rattle.desk_cli.proofs.OnTables.{keeps, was_in_order, was_new}
 use Rattle.desk_cli.proofs.Opened.{is_unavailable}
 use Rattle.desk_engine.specs.Stays.{stays}
@@ -23,8 +23,8 @@ pub returns-in-Err : goal.returns-in-Err
 returns-in-Err g c = record {
   made = tt;
   blank = tt;
-  exists = exists_told c.in-Err.fault c.into.result c.into.ensures c.in-Err.ensures.exists;
-  stranger = λ some free. not_a_desk_told c.in-Err.fault c.into.result c.into.ensures (c.in-Err.ensures.stranger some free);
+  exists = says_exists c.in-Err.fault c.into.result c.into.ensures c.in-Err.ensures.exists;
+  stranger = λ some free. says_not_a_desk c.in-Err.fault c.into.result c.into.ensures (c.in-Err.ensures.stranger some free);
   unavailable = λ blank clean. ap Err (c.into.ensures ∙ is_unavailable c.in-Err.fault (c.in-Err.ensures.unavailable blank clean));
   given_back = c.in-Err.ensures.given_back;
 }

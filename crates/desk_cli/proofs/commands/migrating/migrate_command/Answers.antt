@@ -4,9 +4,9 @@ use Rattle.desk_tables.specs.Store.{meaning_of}
 use Rattle.desk_engine.specs.InOrder.{kept_after}
 use Rattle.desk_cli.specs.OnTables.{WasOpened}
 use Rattle.desk_rows.specs.Meta.{HasMeta}
-use Rattle.desk_cli.proofs.Migrated.{exists_of, store_told, told_or_unavailable}
+use Rattle.desk_cli.proofs.Migrated.{exists_of, says_fault, told_or_unavailable}
 use Rattle.desk_cli.proofs.OnTables.{keeps, was_in_order}
-use Rattle.desk_cli.proofs.Opened.{is_unavailable, schema_told}
+use Rattle.desk_cli.proofs.Opened.{is_unavailable, says_schema}
 use Rattle.desk_engine.specs.Stays.{stays}
 use Rattle.desk_cli.specs.declared.faults.Fault.TheVariants.{Exists, Schema}
 use Rattle.desk_cli.proofs.commands.migrating.migrate_command.Goals as goal
@@ -39,10 +39,10 @@ returns-in-Err g c = record {
   undone = c.in-Err.ensures.undone;
   given_back = λ config heard has. c.in-Err.ensures.given_back config (kept_after config heard) has.tables;
   first = tt;
-  told = store_told c.in-Err.fault c.into.result c.into.ensures;
+  told = says_fault c.in-Err.fault c.into.result c.into.ensures;
   version = λ clean is.
       let same : c.into.result ≡ Schema = cc in
-      let of = c.in-Err.ensures.version clean (schema_told c.in-Err.fault c.into.result c.into.ensures same) in
+      let of = c.in-Err.ensures.version clean (says_schema c.in-Err.fault c.into.result c.into.ensures same) in
       (of.1.0, (of.0, (of.1.1, of.1.2)), of.1.3);
   other_version = λ version of other clean.
       told_or_unavailable c.in-Err.fault store.SchemaVersion c.into.result c.into.ensures (c.in-Err.ensures.other_version of.0 version of.1.0 of.1.1 other clean);

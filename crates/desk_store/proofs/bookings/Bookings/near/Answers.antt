@@ -10,7 +10,7 @@ use Rattle.desk_store.specs.steps.StartIndex.{is_near_place}
 use Rattle.desk_store.specs.steps.ByKey.{Rises}
 use Rattle.desk_store.specs.Lookups.{downlinks_near}
 use Rattle.desk_store.proofs.Placed.{places_rise}
-use Rattle.desk_store.proofs.BookingsTold.{near_told}
+use Rattle.desk_store.proofs.BookingsTold.{near_listed}
 use Rattle.desk_store.proofs.bookings.Bookings.near.Goals as goal
 
 pub returns : goal.returns
@@ -23,5 +23,5 @@ returns c =
     c.places_near.ensures (subst R (sym places) (places_rise (λ (b : Booking). b.span.start) (λ b. bytes_eq b.gateway gateway) items)) ∙ ap (filter (is_near_place c.args.start)) places in
     IfOk-weaker c.spans_at.result _ _
     (λ spans is. let P : List Booking → Type 0 = λ bookings. IsByStart (downlinks_near bookings gateway c.args.band c.args.start) spans.items in
-    subst P c.self.view_is (near_told items gateway c.args.band c.args.start spans.items (is ∙ (λ i. filter_map (booking_span_at (c.deref.ensures.value i) c.args.band) (near i)))))
+    subst P c.self.view_is (near_listed items gateway c.args.band c.args.start spans.items (is ∙ (λ i. filter_map (booking_span_at (c.deref.ensures.value i) c.args.band) (near i)))))
     c.spans_at.ensures

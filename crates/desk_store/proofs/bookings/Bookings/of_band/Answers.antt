@@ -5,7 +5,7 @@ use Rattle.duty_core.specs.InOrder.{IsByStart}
 use Rattle.registry_core.specs.declared.facts.Booking.{Booking}
 use Rattle.registry_core.specs.Bookings.{downlinks_in}
 use Rattle.desk_store.specs.steps.BookingPlaces.{booking_places, booking_span_at}
-use Rattle.desk_store.proofs.BookingsTold.{band_told}
+use Rattle.desk_store.proofs.BookingsTold.{band_listed}
 use Rattle.desk_store.proofs.bookings.Bookings.of_band.Goals as goal
 
 pub returns : goal.returns
@@ -15,5 +15,5 @@ returns c =
     let places : c.places.result.now ≡ booking_places items gateway = c.places.ensures ∙ c.self.invariant.0.places gateway in
     IfOk-weaker c.spans_at.result _ _
     (λ spans is. let P : List Booking → Type 0 = λ bookings. IsByStart (downlinks_in bookings gateway c.args.band) spans.items in
-    subst P c.self.view_is (band_told items gateway c.args.band spans.items (is ∙ (λ i. filter_map (booking_span_at (c.deref.ensures.value i) (Some c.args.band)) (places i)))))
+    subst P c.self.view_is (band_listed items gateway c.args.band spans.items (is ∙ (λ i. filter_map (booking_span_at (c.deref.ensures.value i) (Some c.args.band)) (places i)))))
     c.spans_at.ensures

@@ -3,7 +3,7 @@ use Rattle.std.specs.Prelude.{max}
 use Rattle.std.specs.Option.{option_map_or, unwrap_or}
 use Rattle.indexmap.specs.IndexMap.{get}
 use Rattle.registry_core.specs.Derived.{last_nonce}
-use Rattle.desk_store.specs.Sessions.{sessions_of}
+use Rattle.desk_store.specs.steps.Sessions.{sessions_of}
 use Rattle.desk_store.specs.declared.sessions.Link.{Link}
 use Rattle.desk_store.specs.steps.Sessions.{latest_of}
 use Rattle.desk_store.proofs.Linked.{linked_more}

@@ -8,7 +8,7 @@ use Rattle.desk_store.specs.steps.UplinkPlaces.{AreStarts, key_of}
 use Rattle.desk_store.specs.steps.Uplinks.{same_numbers, IsIndexOf}
 use Rattle.desk_store.proofs.Indexed.{index_unchanged}
 use Rattle.desk_store.proofs.Placed.{index_noted, index_same, places_rise}
-use Rattle.desk_store.proofs.UplinksTold.{pair_told}
+use Rattle.desk_store.proofs.UplinksTold.{pair_alike}
 use Rattle.desk_store.proofs.uplinks.Uplinks.push.Goals as goal
 
 pub invariant_of-self-in_err-note : goal.invariant_of-self-in_err-note
@@ -32,7 +32,7 @@ invariant_of-self-2 c =
     let room = index_unchanged items c.self.inside.index c.make_room.new.self c.self.invariant.0 c.make_room.ensures.joins c.make_room.ensures.frames c.make_room.ensures.counters in
     let key_is : (uplink.session, c.get.result) ≡ key_of uplink = (λ i. (uplink.session, c.get.ensures i)) in
     let starts : AreStarts (items ++ uplink ∷ []) c.note.new.self =
-    index_noted start same_numbers key_of pair_told items uplink (uplink.session, c.get.result) c.place_of.result
+    index_noted start same_numbers key_of pair_alike items uplink (uplink.session, c.get.result) c.place_of.result
     (places_in same_numbers c.self.inside.starts) (places_in same_numbers c.note.new.self) key_is
     (c.place_of.ensures ∙ (λ i. record { start = pos uplink.start; number = count i + 1 })) c.self.invariant.1
     (c.in_ok-note.ensures.noted (rw key_is rise)) in

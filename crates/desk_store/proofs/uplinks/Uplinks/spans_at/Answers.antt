@@ -5,7 +5,7 @@ use Rattle.duty_core.specs.declared.interval.Span.{Span}
 use Rattle.registry_core.specs.declared.facts.Uplink.{Uplink}
 use Rattle.registry_core.specs.Reports.{interval_of}
 use Rattle.desk_store.specs.steps.UplinkPlaces.{uplink_span_at}
-use Rattle.desk_store.proofs.ToldAlong.{all_told, told_on, untold_on}
+use Rattle.desk_store.proofs.ToldAlong.{all_mapped, told_on, untold_on}
 use Rattle.desk_store.proofs.uplinks.Uplinks.spans_at.Goals as goal
 use Rattle.desk_store.proofs.uplinks.Uplinks.spans_at.Goals.{in-Some+in_ok-push, in_default}
 
@@ -22,4 +22,4 @@ loop-place-preserved c =
     ]
 
 pub returns : goal.returns
-returns c = all_told (uplink_span_at c.args.self.now) _ _ _ _ c.loop-place-test.false c.loop-place.invariant
+returns c = all_mapped (uplink_span_at c.args.self.now) _ _ _ _ c.loop-place-test.false c.loop-place.invariant

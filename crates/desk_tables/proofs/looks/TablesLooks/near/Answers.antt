@@ -1,8 +1,8 @@
 use Rattle.std.proofs.Common.{◌∙◌, sym, subst, true≢false}
-use Rattle.desk_tables.proofs.LookUps.{down_read, kept_told, read_told}
+use Rattle.desk_tables.proofs.LookUps.{down_read, answered_by_kept, answered_by_rows}
 use Rattle.duty_core.specs.InOrder.{IsByStart}
 use Rattle.desk_store.specs.Lookups.{downlinks_near}
-use Rattle.desk_tables.proofs.SpanLookUps.{near_told}
+use Rattle.desk_tables.proofs.SpanLookUps.{near_found}
 use Rattle.desk_tables.proofs.Reading.{says_also}
 use Rattle.desk_tables.proofs.looks.TablesLooks.near.Goals as goal
 
@@ -10,12 +10,12 @@ pub returns-then-self-clause-read : goal.returns-then-self-clause-read
 returns-then-self-clause-read g c = down_read _ _ c.if-self.true
 
 pub returns-clause-read : goal.returns-clause-read
-returns-clause-read g c = read_told _ _ _ _ _ _ _ c.if-self.false c.near-answer.ensures c.tell.ensures
+returns-clause-read g c = answered_by_rows _ _ _ _ _ _ _ c.if-self.false c.near-answer.ensures c.tell.ensures
 
 pub returns-clause-down : goal.returns-clause-down
 returns-clause-down g c down = absurd (true≢false (sym down ∙ c.if-self.false))
 
 pub returns-clause-told : goal.returns-clause-told
-returns-clause-told g c = kept_told _ _ _ _ _ _ _ c.if-self.false (says_also _ _ _ _ _ (λ r spans is config kept tell.
+returns-clause-told g c = answered_by_kept _ _ _ _ _ _ _ c.if-self.false (says_also _ _ _ _ _ (λ r spans is config kept tell.
     subst (IsByStart (downlinks_near kept.facts.bookings c.args.gateway.now c.args.band c.args.start)) (sym is)
-    (near_told c.args.gateway.now c.args.band c.args.start kept.facts r (c.arranged_rows_tell.ensures config kept.facts r tell.are) c.orders_hold.ensures)) c.near-answer.ensures) c.tell.ensures
+    (near_found c.args.gateway.now c.args.band c.args.start kept.facts r (c.arranged_rows_tell.ensures config kept.facts r tell.are) c.orders_hold.ensures)) c.near-answer.ensures) c.tell.ensures

@@ -1,6 +1,6 @@
 use Rattle.std.proofs.Common.{◌∙◌, FitsSigned, rules, sym, subst, true≢false, w64}
 use Rattle.std.proofs.lemmas.Int.{to_z-of_z}
-use Rattle.desk_tables.proofs.LookUps.{down_read, kept_told, read_told}
+use Rattle.desk_tables.proofs.LookUps.{down_read, answered_by_kept, answered_by_rows}
 use Rattle.duty_core.specs.InOrder.{IsByStart}
 use Rattle.registry_core.specs.declared.facts.Uplink.{Uplink}
 use Rattle.registry_core.specs.Reports.{in_band, interval_of, uplinks_from}
@@ -12,7 +12,7 @@ pub returns-then-self-clause-read : goal.returns-then-self-clause-read
 returns-then-self-clause-read g c = down_read _ _ c.if-self.true
 
 pub returns-clause-read : goal.returns-clause-read
-returns-clause-read g c = read_told _ _ _ _ _ _ _ c.if-self.false c.uplinks_of-answer.ensures c.tell.ensures
+returns-clause-read g c = answered_by_rows _ _ _ _ _ _ _ c.if-self.false c.uplinks_of-answer.ensures c.tell.ensures
 
 pub returns-clause-down : goal.returns-clause-down
 returns-clause-down g c down = absurd (true≢false (sym down ∙ c.if-self.false))
@@ -21,7 +21,7 @@ pub returns-clause-told : goal.returns-clause-told
 returns-clause-told g c =
     let from : FitsSigned w64 c.args.from = search rules in
     let to : FitsSigned w64 c.args.to = search rules in
-    kept_told _ _ _ _ _ _ _ c.if-self.false (says_also _ _ _ _ _ (λ r spans is config kept tell.
+    answered_by_kept _ _ _ _ _ _ _ c.if-self.false (says_also _ _ _ _ _ (λ r spans is config kept tell.
     subst (IsByStart (in_band c.args.band (uplinks_from kept.facts.uplinks kept.facts.sessions c.args.device c.args.from c.args.to))) (sym is)
     ((c.arranged_rows_tell.ensures config kept.facts r tell.are).uplinks c.args.device c.args.band c.args.from c.args.to
     (by_start (λ (u : Uplink). (interval_of u).start)) c.orders_hold.ensures.uplinks)) (rw (to_z-of_z w64 c.args.from from, to_z-of_z w64 c.args.to to) at c.uplinks_of-answer.ensures)) c.tell.ensures

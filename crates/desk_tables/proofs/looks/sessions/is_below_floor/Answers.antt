@@ -4,7 +4,7 @@ use Rattle.registry_core.specs.Derived.{is_below}
 use Rattle.desk_rows.specs.Rows.{is_device}
 use Rattle.desk_tables.proofs.CallLemmas.{failed_with}
 use Rattle.desk_tables.proofs.Reading.{fails, shows}
-use Rattle.desk_tables.proofs.Telling.{floor_told}
+use Rattle.desk_tables.proofs.Telling.{floor_joined}
 use Rattle.desk_tables.proofs.looks.sessions.is_below_floor.Goals as goal
 
 pub returns-in_err-floor : goal.returns-in_err-floor
@@ -13,5 +13,5 @@ returns-in_err-floor g c = fails (failed_with c.from_residual.result c.from_resi
 pub returns : goal.returns
 returns g c = shows _ _ _ _ _ _ (λ r is config kept tell.
     c.is_below.ensures ∙ ap (λ floor. is_below c.args.session (option_and_then (λ f. f) floor)) is
-    ∙ ap (is_below c.args.session) (floor_told (find (is_device c.args.device) r.devices))
+    ∙ ap (is_below c.args.session) (floor_joined (find (is_device c.args.device) r.devices))
     ∙ (c.look_ups_tell.ensures config kept.facts r tell.are).1.floor c.args.device c.args.session) c.in_ok-floor.ensures

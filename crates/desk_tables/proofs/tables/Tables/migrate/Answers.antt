@@ -5,7 +5,7 @@ use Rattle.sqlite.specs.State.{HasCleanDisk}
 use Rattle.desk_store.specs.Calls.{IsUnavailability}
 use Rattle.desk_rows.specs.Migrating.{HoldsFirst}
 use Rattle.desk_tables.specs.Migrating.{IsOfFirstSchema}
-use Rattle.desk_tables.specs.steps.Counting.{AreCounted}
+use Rattle.desk_tables.specs.steps.Counting.{AreRowsCounted}
 use Rattle.desk_tables.proofs.AdoptingLemmas.{stands}
 use Rattle.desk_tables.proofs.MigratingLemmas.{first_tells, free_in_first, looked_before, moved_desk, moved_rows, ready_moved}
 use Rattle.desk_tables.proofs.OpeningLemmas.{failed_as, never_exists, never_version, odd_from_stranger, told_once, unavailable_from_even}
@@ -249,7 +249,7 @@ returns-in-Ok-move_tables-clause-in_order g c settings kept is = rw c.over.ensur
             committed = ready.committed;
             unlimited = c.move_tables.ensures.limit ∙ at.limit ∙ c.requires.unlimited;
           })
-          told refl desk (subst (λ r. AreCounted r c.in-Ok-counted.counted) (sym (moved_rows settings kept _ _ first made)) counts);
+          told refl desk (subst (λ r. AreRowsCounted r c.in-Ok-counted.counted) (sym (moved_rows settings kept _ _ first made)) counts);
     })
 
 pub returns-in-Ok-move_tables-clause-version : goal.returns-in-Ok-move_tables-clause-version

@@ -1,6 +1,6 @@
 use Rattle.std.proofs.Common.{◌∙◌, sym}
 use Rattle.desk_rows.specs.Decode.{held_again}
-use Rattle.desk_rows.proofs.laws.rows_are_told.Goals as goal
+use Rattle.desk_rows.proofs.laws.rows_are_unique.Goals as goal
 
 pub returns : goal.returns
 returns c db a b has also = held_again db a has ∙ sym (held_again db b also)

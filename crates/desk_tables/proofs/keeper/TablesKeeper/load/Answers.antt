@@ -1,4 +1,4 @@
-use Rattle.desk_tables.proofs.keeping.TablesKeeper.load.Goals as goal
+use Rattle.desk_tables.proofs.keeper.TablesKeeper.load.Goals as goal
 
 pub returns-clause-read : goal.returns-clause-read
 returns-clause-read g c = c.load.ensures.read

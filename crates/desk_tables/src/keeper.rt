@@ -2,7 +2,7 @@
 ghost use Rattle.std.specs.Prelude.{◌<◌};
 ghost use Rattle.registry_core.specs.Heard.{most_heard};
 ghost use Rattle.desk_tables.specs.Store.{common_law, meaning_of, one_law, own_law};
-ghost use Rattle.desk_tables.specs.steps.Keeping.{CountsWith, IsCommit, IsNoted};
+ghost use Rattle.desk_tables.specs.steps.Keeper.{CountsWith, IsCommit, IsNoted};
 
 use crate::committing::commit_rows;
 use crate::settle::is_size;

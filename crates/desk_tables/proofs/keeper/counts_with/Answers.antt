@@ -1,5 +1,5 @@
 use Rattle.desk_tables.proofs.CountLemmas.{counts_as, one_more}
-use Rattle.desk_tables.proofs.keeping.counts_with.Goals as goal
+use Rattle.desk_tables.proofs.keeper.counts_with.Goals as goal
 
 pub returns-in-AddsUplink : goal.returns-in-AddsUplink
 returns-in-AddsUplink c s few are = counts_as s c.in-AddsUplink.is (record {

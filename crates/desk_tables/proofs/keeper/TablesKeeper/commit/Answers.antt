@@ -1,4 +1,4 @@
-use Rattle.desk_tables.proofs.keeping.TablesKeeper.commit.Goals as goal
+use Rattle.desk_tables.proofs.keeper.TablesKeeper.commit.Goals as goal
 
 pub returns-clause-call : goal.returns-clause-call
 returns-clause-call g c = c.keep.ensures.call
