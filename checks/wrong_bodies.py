@@ -29,6 +29,7 @@ import sys
 import tempfile
 import time
 from concurrent.futures import ThreadPoolExecutor
+from contextlib import contextmanager
 from pathlib import Path
 
 ROOT = Path(__file__).resolve().parent.parent
@@ -66,28 +67,38 @@ def edits_of(crate, with_must_fail):
     return [edit for folder in folders for edit in sorted(folder.glob("*.edit"))]
 
 
-def edited(edit, folder):
-    """Returns the texts that the edit makes of the crate's files, by their names."""
-    texts, file, old = {}, None, None
+def changes_of(edit):
+    """Returns the file, the old text and the new one of each change that the edit makes."""
+    changes, file, old = [], None, None
     for line in edit.read_text().splitlines():
         word, _, text = line.partition(":")
         text = text.removeprefix(" ")
         if word == "file":
             file = text
-            if not (folder / file).is_file():
-                raise NotTried(f"there is no file {file}")
-            texts.setdefault(file, (folder / file).read_text())
         elif word == "old" and file and text:
             old = text
-            if texts[file].count(old) != 1:
-                raise NotTried(f"an old text stands {texts[file].count(old)} times in {file}, not once: {old}")
         elif word == "new" and old:
-            texts[file] = texts[file].replace(old, text)
+            changes.append((file, old, text))
             old = None
         else:
             raise NotTried(f"this line is out of place: {line}")
-    if old or all(text == (folder / file).read_text() for file, text in texts.items()):
-        raise NotTried("it changes nothing, or its last line isn't a new text")
+    if old or not changes:
+        raise NotTried("its last line isn't a new text")
+    return changes
+
+
+def edited(edit, folder, before={}):
+    """Returns the texts that the edit makes of the crate's files, by their names; or of what other edits made of them before."""
+    texts = {}
+    for file, old, new in changes_of(edit):
+        if not (folder / file).is_file():
+            raise NotTried(f"there is no file {file}")
+        text = texts.get(file, before.get(file)) or (folder / file).read_text()
+        if text.count(old) != 1:
+            raise NotTried(f"an old text stands {text.count(old)} times in {file}, not once: {old}")
+        texts[file] = text.replace(old, new)
+    if all(text == (folder / file).read_text() for file, text in texts.items()):
+        raise NotTried("it changes nothing")
     return texts
 
 
@@ -123,98 +134,99 @@ def refusal(ran):
     return refused[0] + (f", and {len(refused) - 1} more" if len(refused) > 1 else "")
 
 
-def try_edit(edit, folder):
-    """Returns whether the prover refuses the edit, and what to say of it."""
-    try:
-        texts = edited(edit, folder)
-    except NotTried as why:
-        return False, f"NOT TRIED: {why}"
+@contextmanager
+def changed(folder, texts):
+    """The crate's files are these, until the block ends."""
     were = {file: (folder / file).read_text() for file in texts}
     try:
         for file, text in texts.items():
             (folder / file).write_text(text)
-        refused = refusal(check(folder))
-        return bool(refused), f"refused: {refused}" if refused else "PROVED: no contract refuses it"
-    except NotTried as why:
-        return False, f"NOT TRIED: {why}"
+        yield
     finally:
         for file, text in were.items():
             (folder / file).write_text(text)
 
 
-def without_parameters(text):
-    """Leaves out what stands in angle brackets."""
-    kept, depth = [], 0
-    for before, letter in zip(" " + text, text):
-        depth += letter == "<"
+def try_edit(edit, folder):
+    """Returns whether the prover refuses the edit, and what to say of it."""
+    try:
+        with changed(folder, edited(edit, folder)):
+            refused = refusal(check(folder))
+        return bool(refused), f"refused: {refused}" if refused else "PROVED: no contract refuses it"
+    except NotTried as why:
+        return False, f"NOT TRIED: {why}"
+
+
+# ---- many at a time
+
+
+def in_brackets(text):
+    """Returns what stands in the angle brackets that the text begins with, and what follows them."""
+    depth = 0
+    for at, letter in enumerate(text):
+        depth += (letter == "<") - (letter == ">" and text[at - 1] not in "-=")
         if not depth:
-            kept.append(letter)
-        depth -= letter == ">" and before not in "-="
-    return "".join(kept)
+            return (text[1:at], text[at + 1 :]) if at else ("", text)
+    return "", text
 
 
 def owner_of(line):
-    """Returns by which name a check prints what stands in an `impl` or a `trait`, or None where the line begins neither."""
-    words = without_parameters(line).replace("{", " ").split()
-    if "impl" in words:
-        of, _, of_type = " ".join(words[words.index("impl") + 1 :]).partition(" for ")
-        of_trait, of = (of.split()[0], of_type) if of_type else ("", of)
-        return of.split()[0].rpartition("::")[2] + of_trait.rpartition("::")[2]
-    if "trait" in words:
-        return words[words.index("trait") + 1].rstrip(":")
-    return None
+    """Returns by which name a check prints what stands in an `impl` or a `trait`; None where the line begins neither."""
+    begins = re.match(r"(?:pub )?(impl|trait)\b", line)
+    if not begins:
+        return None
+    parameters, named = in_brackets(line[begins.end() :].rstrip(" {").lstrip())
+    left_out = {it.split(":")[0].strip() for it in parameters.split(",")} | {"dyn", "mut"}
+    of_trait, _, of_type = named.partition(" for ") if begins[1] == "impl" else (named.partition(":")[0], "", "")
+    tuple_of = f"Tuple{of_type.count(',') + 1}" if of_type.startswith("(") else ""
+    words = re.findall(r"(?<![\w'])\w+", of_type) + re.findall(r"(?<![\w'])\w+", of_trait)[: None if of_type else 1]
+    return tuple_of + "".join(word[0].upper() + word[1:] for word in words if word not in left_out and word != "_")
 
 
-def function_at(file, text, place):
-    """Returns the function, by its path below the crate, in whose body the place is, or None where it is in none."""
+def function_at(file, text, place, names):
+    """Returns the function in whose body the place is, by the one of the names that is its; None where there is none."""
     path = [part for part in Path(file).with_suffix("").parts[1:] if part not in ("lib", "main")]
-    lines = text[:place].count("\n"), text.splitlines()
-    for at in range(lines[0], -1, -1):
-        line = lines[1][at]
-        begins = re.match(r"( *)(?:pub(?:\(.*?\))? )?(?:const )?fn (\w+)", line)
-        if begins:
-            end = next((k for k in range(at, len(lines[1])) if lines[1][k] == begins[1] + "}"), at)
-            if end < lines[0]:
-                return None
-            inside = begins[1] and next(
-                (it for it in map(owner_of, reversed([x for x in lines[1][:at] if not x.startswith(" ")])) if it), None
-            )
-            return "::".join([*path, *([inside] if inside else []), begins[2]])
+    lines, last = text.splitlines(), text[:place].count("\n")
+    for at in range(last, -1, -1):
+        begins = re.match(r"( *)(?:pub(?:\(.*?\))? )?(?:const )?fn (\w+)", lines[at])
+        if not begins:
+            continue
+        end = next((k for k in range(at, len(lines)) if lines[k] == begins[1] + "}"), at)
+        inside = [it for it in map(owner_of, lines[:at]) if it][-1:] if begins[1] else []
+        # methods of a type stand under its own module, whatever file they are in
+        whole, short = "::".join([*path, *inside, begins[2]]), "::".join([*inside, begins[2]])
+        found = [it for it in names if it == whole] or [it for it in names if inside and it.endswith("::" + short)]
+        return found[0] if end >= last and len(found) == 1 else None
     return None
 
 
-def functions_of(edit, folder):
+def functions_of(edit, folder, names):
     """Returns the functions that the edit changes, or None where it changes more than bodies."""
-    functions, texts, file = set(), {}, None
-    for line in edit.read_text().splitlines():
-        word, _, text = line.partition(":")
-        text = text.removeprefix(" ")
-        if word == "file":
-            file = text
-            if not file.startswith("src/"):
-                return None
-            texts.setdefault(file, (folder / file).read_text())
-        elif word == "old":
-            functions.add(function_at(file, texts[file], texts[file].find(text)))
-            old = text
-        else:
-            texts[file] = texts[file].replace(old, text)
+    functions, texts = set(), {}
+    for file, old, new in changes_of(edit):
+        if not file.startswith("src/"):
+            return None
+        text = texts.get(file) or (folder / file).read_text()
+        functions.add(function_at(file, text, text.find(old), names))
+        texts[file] = text.replace(old, new)
     return None if None in functions else functions
 
 
-def batches_of(edits, folder):
-    """Returns batches of edits, with the functions of each, no two in one of which change one function; and the other edits."""
-    batches, others = [], []
+def batches_of(edits, folder, names):
+    """Returns batches of the edits that change bodies alone, with the functions of each, no two in one of which change one function."""
+    batches = []
     for edit in edits:
-        functions = functions_of(edit, folder)
+        try:
+            functions = functions_of(edit, folder, names)
+        except NotTried:
+            functions = None
         if functions is None:
-            others.append(edit)
             continue
         batch = next((it for it in batches if not any(functions & others_of for others_of in it.values())), None)
         if batch is None:
             batches.append(batch := {})
         batch[edit] = functions
-    return batches, others
+    return batches
 
 
 def refusals(told):
@@ -230,37 +242,35 @@ def refusals(told):
 
 
 def try_batch(batch, folder):
-    """Makes the edits in one copy. Returns which are refused, and what to say of each."""
-    were, made = {}, {}
-    try:
-        for edit, functions in batch.items():
-            try:
-                new = edited(edit, folder)
-            except NotTried:
-                continue
-            for file, text in new.items():
-                were.setdefault(file, (folder / file).read_text())
-                (folder / file).write_text(text)
+    """Makes the edits in one copy. Returns which are refused, and what to say of each; None where the copy doesn't compile."""
+    texts, made = {}, {}
+    for edit, functions in batch.items():
+        try:
+            texts |= edited(edit, folder, texts)
             made[edit] = functions
-        at = refusals(check(folder, sorted(set().union(*made.values()))).stdout)
-    finally:
-        for file, text in were.items():
-            (folder / file).write_text(text)
+        except NotTried:
+            # one before it made its old text once more, or it doesn't apply at all, which is seen when it is tried by itself
+            continue
+    with changed(folder, texts):
+        told = check(folder, sorted(set().union(*made.values()))).stdout
+    if not re.search(r"^only=", told, re.M):
+        return None
+    at = refusals(told)
     # a closure of a function stands below it
     refused = {edit: [at[it] for it in at if any((it + "::").startswith(f + "::") for f in made[edit])] for edit in made}
     return {edit: f"refused: {said[0]}" for edit, said in refused.items() if said}
 
 
-def try_together(edits, folder):
-    """Tries the edits many at a time. Returns those that were refused, and what to say of each."""
-    batches, _ = batches_of(edits, folder)
-    well = {}
-    for batch in batches:
-        # the goals of a function may wait for the proof of one that it calls, so the rest is tried until none is refused
-        while batch and (refused := try_batch(batch, folder)):
-            well |= refused
-            batch = {edit: functions for edit, functions in batch.items() if edit not in refused}
-    return well
+def try_together(batch, folder):
+    """Tries the edits of a batch. Returns those that were refused, and what to say of each."""
+    refused = try_batch(batch, folder)
+    if refused is None:
+        # one of them doesn't compile
+        half, edits = len(batch) // 2, list(batch.items())
+        return try_together(dict(edits[:half]), folder) | try_together(dict(edits[half:]), folder) if half else {}
+    # the goals of a function may wait for the proof of one that it calls, so the rest is tried until none is refused
+    rest = {edit: functions for edit, functions in batch.items() if edit not in refused}
+    return refused | try_together(rest, folder) if refused and rest else refused
 
 
 def try_all(crate, known, edits, together):
@@ -274,9 +284,13 @@ def try_all(crate, known, edits, together):
             return 0
         print(f"{crate}: proved without an edit, in {time.monotonic() - began:.0f} s", flush=True)
         began = time.monotonic()
-        well = try_together(edits, folder) if together else {}
-        for edit, said in well.items():
-            print(f"{crate}/{edit.stem}: {said}", flush=True)
+        well = {}
+        names = set(re.findall(rf"^fn {crate}::(\S+): proved", ran.stdout, re.M))
+        for batch in batches_of(edits, folder, names) if together else []:
+            refused = try_together(batch, folder)
+            for edit, said in refused.items():
+                print(f"{crate}/{edit.stem}: {said}", flush=True)
+            well |= refused
         if together:
             print(f"{crate}: {len(well)} refused together, in {time.monotonic() - began:.0f} s", flush=True)
         refused = len(well)
