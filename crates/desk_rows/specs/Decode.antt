@@ -159,7 +159,7 @@ every : {X : Type 0} (xs : List X) → AllByRecursion (λ x. Unit {0}) xs
 every [] = tt
 every (x ∷ xs) = (tt, every xs)
 
--- what a table holds, where each row is all_decoded
+-- what a table holds, where each row is decoded
 abbrev again : {X : Type 0} (P : X → Type 0) (cells : X → Row) (of : Row → X) → ((n : ℕ) (x : X) → P x → of (Int (pos n) ∷ cells x) ≡ x)
     → (xs : List X) → AllByRecursion P xs → (rows : List Row) → rows ≡ table_of cells xs → xs ≡ map of rows
 again P cells of back xs all rows is = sym (all_decoded P cells of back 1 xs all) ∙ ap (map of) (sym is)
