@@ -10,8 +10,8 @@ then goes by what it was told before.
 
 It prints minutes of a processor, crate by crate: of the first check, the check with its tests, the check before its first edit, and the
 edits; and then what the run took in all, as the system counted it. Where rt tries a crate's first edit from nothing no check is told
-before it, and the edits took that much more. A machine whose processors others share takes up to twice as long as one that is alone:
-the last line tells the whole in first checks of `radio_core`, which goes with the machine. It fails where the gate does.
+before it, and the edits took that much more. A machine whose processors others share takes up to twice as long as one that is alone.
+It fails where the gate does.
 """
 
 import argparse
@@ -116,9 +116,6 @@ def main():
         print(f"| {crate} |", " | ".join(f"{it / 60:.1f}" for it in [*of_crate, sum(of_crate)]), "|")
     print(f"{OTHER}, and what was missed: {(user + system - sum(seconds[it] for it in seconds if it[0] != OTHER)) / 60:.1f}")
     print(f"{(time.monotonic() - began) / 60:.0f} minutes, {user / 60:.1f} of a processor in the programs and {system / 60:.1f} in the system")
-    one = seconds["radio_core", FIRST]
-    if one:
-        print(f"as much as {(user + system) / one:.0f} first checks of radio_core, of {one:.0f} s each")
     print(given.log.read_text().rstrip().rpartition("\n")[2])
     sys.exit(run.returncode)
 
