@@ -1,3 +1,4 @@
+pub mod AdministrationLaws
 pub mod BandNumbers
 pub mod BookedDownlinks
 pub mod BookedHours

@@ -82,11 +82,11 @@ kept_elsewhere f (x ∷ xs) zero (suc i) apart = refl
 kept_elsewhere f (x ∷ xs) (suc n) zero apart = refl
 kept_elsewhere f (x ∷ xs) (suc n) (suc i) apart = kept_elsewhere f xs n i (λ same. apart (ap suc same))
 
-item_there : {X : Type 0} (f : X → X) (xs : List X) (n : ℕ) → item_at (item_changed f xs n) n ≡ option_map f (item_at xs n)
+pub item_there : {X : Type 0} (f : X → X) (xs : List X) (n : ℕ) → item_at (item_changed f xs n) n ≡ option_map f (item_at xs n)
 item_there f xs zero = refl
 item_there f xs (suc n) = changed_there f xs n
 
-item_elsewhere : {X : Type 0} (f : X → X) (xs : List X) (n m : ℕ) → (n ≡ m → ⊥) → item_at (item_changed f xs n) m ≡ item_at xs m
+pub item_elsewhere : {X : Type 0} (f : X → X) (xs : List X) (n m : ℕ) → (n ≡ m → ⊥) → item_at (item_changed f xs n) m ≡ item_at xs m
 item_elsewhere f xs zero m apart = refl
 item_elsewhere f xs (suc n) zero apart = refl
 item_elsewhere f xs (suc n) (suc i) apart = kept_elsewhere f xs n i (λ same. apart (ap suc same))

@@ -1,7 +1,8 @@
 -- Worked rows, computed from the definitions alone: lists of messages, the answers that they get, and what they leave.
-use Rattle.std.proofs.Common.{◌≡◌, ℕ, ◌+◌, ◌-◌, List, [], ◌∷◌, ◌++◌, map, length, replicate, take, Some, None, true, false, refl}
+use Rattle.std.proofs.Common.{◌≡◌, ℕ, ◌+◌, ◌-◌, List, [], ◌∷◌, ◌++◌, map, length, replicate, take, Some, None, true, false, refl, arith, inl, inr}
 use Rattle.std.specs.Prelude.{codes, pos}
-use Rattle.radio_core.specs.declared.bands.Band.TheVariants.{B3, B4, B5}
+use Rattle.radio_core.specs.declared.bands.Band.{Band}
+use Rattle.radio_core.specs.declared.bands.Band.TheVariants.{B1, B3, B4, B5}
 use Rattle.radio_core.specs.declared.data_rates.DataRate.{DataRate}
 use Rattle.radio_core.specs.declared.data_rates.DataRate.TheVariants.{Dr0, Dr5, Dr6, Dr7}
 use Rattle.radio_core.specs.Bands.{band_at}
@@ -11,21 +12,25 @@ use Rattle.duty_core.specs.Computed.{peak_of, hours_within, is_clear}
 use Rattle.registry_core.specs.declared.answers.Answer.{Answer}
 use Rattle.registry_core.specs.declared.answers.Answer.TheVariants.{Success, JoinSuccess, FrameSuccess, DownSuccess, Refused}
 use Rattle.registry_core.specs.declared.answers.Refusal.TheVariants as refusals
+use Rattle.registry_core.specs.declared.facts.Kind.TheVariants.{Join, Data}
 use Rattle.registry_core.specs.declared.facts.Standing.TheVariants.{Booked, Sent, Dropped}
 use Rattle.registry_core.specs.declared.messages.Envelope.{Envelope}
 use Rattle.registry_core.specs.declared.messages.JoinVerdict.TheVariants.{Good, Bad}
 use Rattle.registry_core.specs.declared.messages.Message.{Message}
-use Rattle.registry_core.specs.declared.messages.Message.TheVariants.{SenderAdd, OwnerAdd, GatewayAdd, DeviceAdd, DeviceMove, JoinHeard, FrameHeard, DownBook, DownDone}
+use Rattle.registry_core.specs.declared.messages.Message.TheVariants.{SenderAdd, OwnerAdd, GatewayAdd, DeviceAdd, DeviceMove, JoinHeard, FrameHeard, DownBook, DownDone, LimitSet}
 use Rattle.registry_core.specs.declared.messages.Report.{Report}
 use Rattle.registry_core.specs.declared.messages.Role.TheVariants.{Operator, Radio}
 use Rattle.registry_core.specs.declared.windows.Window.{Window}
 use Rattle.registry_core.specs.declared.windows.Window.TheVariants.{First, Second}
-use Rattle.registry_core.specs.Administration.{sender_add, owner_add, gateway_add, device_add, device_move}
+use Rattle.registry_core.specs.Administration.{sender_add, owner_add, gateway_add, device_add, device_move, limit_set}
+use Rattle.registry_core.specs.AirtimeLaws.{IsDownlinkSize}
+use Rattle.registry_core.specs.Bookings.{limit_standing}
 use Rattle.registry_core.specs.CopyLaws.{copied_uplink}
 use Rattle.registry_core.specs.DataFrames.{data_added, frame_heard, original_data}
 use Rattle.registry_core.specs.Downlinks.{down_added, down_book, down_done}
 use Rattle.registry_core.specs.Heard.{Reply, Answers, Reused, Stranger, answers_of, heard_with, reply_to, state_of}
 use Rattle.registry_core.specs.Joins.{join_added, join_heard, original_join}
+use Rattle.registry_core.specs.LimitLaws.{last_limit}
 use Rattle.registry_core.specs.Reports.{interval_of}
 use Rattle.registry_core.specs.Same.{same_message}
 use Rattle.registry_core.specs.Settings.{Settings}
@@ -343,6 +348,75 @@ accept_booked : answers (joined ++ by_bridge 13 (DownBook 1 gw_a First accept_oc
     ≡ joined_answers ++ DownSuccess 46336 B3 1 (start + 5061696) ∷ Success ∷ []
 unfolding sender_add owner_add gateway_add device_add join_heard join_added original_join frame_of band_at airtime_of down_book down_added down_done is_clear hours_within peak_of
 accept_booked = refl
+
+-- ---- limits
+
+abbrev sets : ℕ → List ℕ → Band → ℕ → Envelope
+sets transaction gateway band most = by_office transaction (LimitSet gateway (record { band = band; most = most }))
+
+-- four downlinks fill an hour of B4: a microsecond less is refused, and as much is set
+abbrev limited : List Envelope
+limited = four_uplinks (start + 3598373696) ++ four_downlinks ++ sets 1 gw_a B4 3599999 ∷ sets 2 gw_a B4 3600000 ∷ []
+
+limited_answers : answers limited ≡ four_answers ++ three_booked ++ DownSuccess 991232 B4 4 (start + 3599373696) ∷ Refused refusals.Duty ∷ Success ∷ []
+unfolding sender_add owner_add gateway_add device_add join_heard join_added original_join frame_of band_at airtime_of frame_heard data_added original_data down_book down_added limit_set is_clear hours_within peak_of
+limited_answers = refl
+
+-- where the last one is dropped, the hour of the three others is within their sum, and then there is no room to answer its uplink again
+abbrev lowered : List Envelope
+lowered = four_uplinks (start + 3598373696) ++ four_downlinks ++ by_bridge 9 (DownDone 4 false) ∷ sets 1 gw_a B4 2973695 ∷ sets 2 gw_a B4 2973696
+    ∷ by_bridge 10 (down_in First 5 4) ∷ []
+
+lowered_answers : answers lowered
+    ≡ four_answers ++ three_booked ++ DownSuccess 991232 B4 4 (start + 3599373696) ∷ Success ∷ Refused refusals.Duty ∷ Success ∷ Refused refusals.Duty ∷ []
+unfolding sender_add owner_add gateway_add device_add join_heard join_added original_join frame_of band_at airtime_of frame_heard data_added original_data down_book down_added down_done limit_set is_clear hours_within peak_of
+lowered_answers = refl
+
+-- the last accepted LimitSet of each list for a gateway's band, and the limits that stand
+lowered_limits : (last_limit gw_a B4 (answers_of desk lowered) ∷ last_limit gw_a B5 (answers_of desk lowered) ∷ last_limit gw_b B4 (answers_of desk lowered) ∷ [] ≡ Some 2973696 ∷ None ∷ None ∷ [])
+    × (limit_standing (state_of desk lowered) gw_a B4 ∷ limit_standing (state_of desk lowered) gw_a B5 ∷ limit_standing (state_of desk lowered) gw_b B4 ∷ [] ≡ 2973696 ∷ 360000000 ∷ 3600000 ∷ [])
+unfolding sender_add owner_add gateway_add device_add join_heard join_added original_join frame_of band_at airtime_of frame_heard data_added original_data down_book down_added down_done limit_set is_clear hours_within peak_of
+lowered_limits = (refl, refl)
+
+-- a limit for one downlink alone: the second is refused, until the limit is raised again
+abbrev raised : List Envelope
+raised = four_uplinks (start + 3598373696) ++ sets 1 gw_a B4 991232 ∷ by_bridge 5 (down_in First 2 0) ∷ by_bridge 6 (down_in First 3 1)
+    ∷ sets 2 gw_a B4 3600000 ∷ by_bridge 7 (down_in First 3 1) ∷ []
+
+raised_answers : answers raised
+    ≡ four_answers ++ Success ∷ DownSuccess 991232 B4 1 start ∷ Refused refusals.Duty ∷ Success ∷ DownSuccess 991232 B4 2 (start + 10000000) ∷ []
+unfolding sender_add owner_add gateway_add device_add join_heard join_added original_join frame_of band_at airtime_of frame_heard data_added original_data down_book down_added limit_set is_clear hours_within peak_of
+raised_answers = refl
+
+-- the last one counts and not the lowest, and a refused one doesn't
+raised_limit : (last_limit gw_a B4 (answers_of desk raised) ≡ Some 3600000) × (last_limit gw_a B4 (answers_of desk limited) ≡ Some 3600000)
+unfolding sender_add owner_add gateway_add device_add join_heard join_added original_join frame_of band_at airtime_of frame_heard data_added original_data down_book down_added limit_set is_clear hours_within peak_of
+raised_limit = (refl, refl)
+
+-- an unknown gateway, and a sender that is no operator
+unset_limits : answers (names ++ sets 1 (codes "gw-z") B1 0 ∷ by_bridge 2 (LimitSet (codes "gw-z") (record { band = B1; most = 0 })) ∷ [])
+    ≡ named ++ Refused refusals.UnknownGateway ∷ Refused refusals.WrongRole ∷ []
+unfolding sender_add owner_add gateway_add device_add limit_set hours_within peak_of
+unset_limits = refl
+
+-- ---- one thing changed
+
+-- a device that is moved has another owner and its JoinEUI
+moved_device : (state_of desk (names ++ by_office 1 (OwnerAdd (codes "city")) ∷ by_office 2 (DeviceMove device (codes "city")) ∷ [])).devices device
+    ≡ Some (record { join_eui = 0x70b3d57ed0000001; owner = codes "city" })
+unfolding sender_add owner_add gateway_add device_add device_move
+moved_device = refl
+
+-- a join accept at DR5, 64 octets of a data frame at DR0, and one octet more
+downlink_sizes : IsDownlinkSize Join Dr5 17 × IsDownlinkSize Join Dr0 33 × IsDownlinkSize Data Dr0 64 × ¬ IsDownlinkSize Data Dr0 65 × ¬ IsDownlinkSize Data Dr5 11 × ¬ IsDownlinkSize Join Dr5 18
+downlink_sizes = (
+  record { frame = inl refl; carried = omega arith },
+  record { frame = inr refl; carried = omega arith },
+  record { frame = omega arith; carried = omega arith },
+  λ is. omega (arith, is.carried),
+  λ is. omega (arith, is.frame),
+  λ is. elim is.frame [ inl short ↦ omega (arith, short) | inr long ↦ omega (arith, long) ],
+)
 
 -- ---- hearing once
 

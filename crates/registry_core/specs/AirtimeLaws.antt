@@ -1,10 +1,13 @@
 -- What is booked of the air: when each downlink and each uplink is on it, for how long, and in which band.
-use Rattle.std.specs.Prelude.{◌≡◌, ℕ, ◌+◌, ◌≤◌, true, false, List, length, Some, IsTrue, pos}
+use Rattle.std.specs.Prelude.{◌≡◌, ◌⊎◌, ℕ, ◌+◌, ◌≤◌, true, false, List, length, Some, IsTrue, pos}
+use Rattle.radio_core.specs.declared.data_rates.DataRate.{DataRate}
 use Rattle.radio_core.specs.declared.data_rates.Rate.{Rate}
 use Rattle.radio_core.specs.Bands.{lies_in}
 use Rattle.radio_core.specs.DataRates.{max_length}
 use Rattle.radio_core.specs.TimeOnAir.{IsAirtime}
 use Rattle.registry_core.specs.declared.facts.Booking.{Booking}
+use Rattle.registry_core.specs.declared.facts.Kind.{Kind}
+use Rattle.registry_core.specs.declared.facts.Kind.TheVariants.{Join, Data}
 use Rattle.registry_core.specs.declared.facts.Reception.{Reception}
 use Rattle.registry_core.specs.declared.facts.Uplink.{Uplink}
 use Rattle.registry_core.specs.declared.frames.Downlink.{Downlink}
@@ -17,6 +20,16 @@ use Rattle.registry_core.specs.Numbered.{item_at}
 use Rattle.registry_core.specs.Settings.{Settings}
 use Rattle.registry_core.specs.State.{State}
 use Rattle.registry_core.specs.Windows.{delay, rate_in}
+
+-- how many octets the frame has that answers an uplink of the kind: a join accept 17 or 33, and a data frame at least 12
+abbrev pub HasDownlinkSize : Kind → ℕ → Type 0
+HasDownlinkSize Join n = (n ≡ 17) ⊎ (n ≡ 33)
+HasDownlinkSize Data n = 12 ≤ n
+
+-- the frame has so many octets, and the data rate carries them
+pub record IsDownlinkSize (kind : Kind) (dr : DataRate) (n : ℕ) : Type 0 where
+  pub frame : HasDownlinkSize kind n
+  pub carried : n ≤ max_length dr
 
 -- The booking answers an uplink of which its gateway has a copy, in one of the two windows after that. Its octets
 -- are a frame that the uplink's kind asks for and that the window's data rate carries, to the session's address. It
@@ -33,6 +46,7 @@ pub record IsDownlink (c : Settings) (s : State) (booking : Booking) : Type 0 wh
   pub octets : List ℕ
   pub down : Downlink
   pub frame : downlink_to uplink.kind (frame_at rate.dr octets) ≡ Some down
+  pub size : IsDownlinkSize uplink.kind rate.dr (length octets)
   pub address : IsTrue (goes_to (address_of c uplink.session) down)
   pub start : booking.span.start ≡ pos (copy.end + delay uplink.kind window)
   pub airtime : IsAirtime rate.dr (length octets) false booking.span.len

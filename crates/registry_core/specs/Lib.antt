@@ -1,4 +1,5 @@
 pub mod Administration
+pub mod AdministrationLaws
 pub mod AirtimeLaws
 pub mod Bookings
 pub mod Checks

@@ -1,14 +1,17 @@
 -- What holds of the limits that operators set.
-use Rattle.std.specs.Prelude.{◌≡◌, ◌≢◌, ◌↔◌, ℕ, ◌≤◌, List, IsTrue}
+use Rattle.std.specs.Prelude.{◌≡◌, ◌≢◌, ◌↔◌, ℕ, ◌==◌, ◌≤◌, Bool, true, false, ◌&&◌, List, [], ◌∷◌, Option, Some, None, IsTrue, bytes_eq, if◌then◌else◌}
+use Rattle.std.specs.Option.{option_map_or, option_or}
 use Rattle.radio_core.specs.declared.bands.Band.{Band}
-use Rattle.radio_core.specs.Bands.{limit_of}
+use Rattle.radio_core.specs.Bands.{band_number, limit_of}
 use Rattle.duty_core.specs.Use.{EveryHourWithin}
+use Rattle.registry_core.specs.declared.answers.Answer.{Answer}
 use Rattle.registry_core.specs.declared.answers.Answer.TheVariants.{Success}
 use Rattle.registry_core.specs.declared.messages.Envelope.{Envelope}
+use Rattle.registry_core.specs.declared.messages.Message.{Message}
 use Rattle.registry_core.specs.declared.messages.Message.TheVariants.{LimitSet}
 use Rattle.registry_core.specs.Administration.{is_operator}
 use Rattle.registry_core.specs.Bookings.{downlinks_in, limit_standing}
-use Rattle.registry_core.specs.Heard.{IsHeard, state_of}
+use Rattle.registry_core.specs.Heard.{IsHeard, answers_of, state_of}
 use Rattle.registry_core.specs.Limits.{Limit}
 use Rattle.registry_core.specs.Settings.{Settings}
 use Rattle.registry_core.specs.State.{State}
@@ -44,3 +47,29 @@ OtherLimitsStay = (c : Settings) (s : State) (e : Envelope) (gateway : List ℕ)
 abbrev pub LimitsAreWithin : Type 0
 LimitsAreWithin = (c : Settings) (heard : List Envelope) (gateway : List ℕ) (band : Band) → IsHeard c heard
     → limit_standing (state_of c heard) gateway band ≤ limit_of band
+
+-- ---- the last one that was set
+
+-- the limit that the message names for the gateway's band, where it is a LimitSet for this one
+abbrev pub limit_named : List ℕ → Band → Message → Option ℕ
+limit_named gateway band (LimitSet at limit) =
+    if bytes_eq gateway at && band_number band == band_number limit.band then Some limit.most else None
+limit_named gateway band message = None
+
+abbrev pub is_success : Answer → Bool
+is_success Success = true
+is_success _ = false
+
+-- the limit that an envelope with its answer sets for the gateway's band: none where it is refused
+abbrev pub limit_accepted : List ℕ → Band → Envelope × Answer → Option ℕ
+limit_accepted gateway band heard = if is_success heard.1 then limit_named gateway band heard.0.message else None
+
+-- the limit that the last accepted LimitSet for the gateway's band sets, if there is one
+abbrev pub last_limit : List ℕ → Band → List (Envelope × Answer) → Option ℕ
+last_limit gateway band [] = None
+last_limit gateway band (heard ∷ later) = option_or (last_limit gateway band later) (limit_accepted gateway band heard)
+
+-- whatever was heard, the limit of a gateway's band is that of the last accepted LimitSet for it, and else the band's own
+abbrev pub LastLimitStands : Type 0
+LastLimitStands = (c : Settings) (heard : List Envelope) (gateway : List ℕ) (band : Band)
+    → limit_standing (state_of c heard) gateway band ≡ option_map_or (λ most. most) (last_limit gateway band (answers_of c heard)) (limit_of band)

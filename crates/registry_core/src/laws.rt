@@ -1,6 +1,7 @@
 //! Laws of the definitions: each is the contract of a function that does nothing, or only reads what its
 //! arguments keep.
 ghost use Rattle.std.specs.Prelude.{ℕ, ◌<◌, ◌^◌, IfSome, get_or};
+ghost use Rattle.registry_core.specs.AdministrationLaws.{DevicesAddedAlone, DevicesAddedExactly, DevicesMovedAlone, DevicesMovedExactly, DownlinksEndedAlone, DownlinksEndedExactly, GatewaysAddedAlone, GatewaysAddedExactly, OwnersAddedAlone, OwnersAddedExactly, SendersAddedAlone, SendersAddedExactly};
 ghost use Rattle.registry_core.specs.AirtimeLaws.{BookingsAreDownlinks, UplinksAreReceived};
 ghost use Rattle.registry_core.specs.CopyLaws.{CopiesAddOneAtMost, CopiesStay};
 ghost use Rattle.registry_core.specs.Counts.{FactsAreNoMoreThanMessages};
@@ -8,7 +9,7 @@ ghost use Rattle.registry_core.specs.DownlinkLaws.{BookedExactly, CopiesLieInBan
 ghost use Rattle.registry_core.specs.Fits.{DecisionsFit};
 ghost use Rattle.registry_core.specs.Heard.{FirstAnswersStay, HeardListsStay, NewNumbersAreDecided, NothingIsHeard, UsedNumbersAreRefused};
 ghost use Rattle.registry_core.specs.Laws.{AddressesAreApart, AddressesLieInBlock, CopiesBookNothing, CountersAgreeWithFrames, CountersRise, DataCopiesAreFound, JoinCopiesAreFound, NoncesRise, OperatorsKeepTheRegister, RefusalsChangeNothing, SendersStay, SessionsAreFound, SessionsHaveJoins, StepsRefuseByNumber, UplinksHaveCopies, UplinksHaveSessions, UplinksStay};
-ghost use Rattle.registry_core.specs.LimitLaws.{LimitsAreWithin, OtherLimitsStay, SetExactly, SetLimitsStand};
+ghost use Rattle.registry_core.specs.LimitLaws.{LastLimitStands, LimitsAreWithin, OtherLimitsStay, SetExactly, SetLimitsStand};
 ghost use Rattle.registry_core.specs.NumberedLaws.{FirstIsFirst, GreatestIsMost, OneIsChanged};
 ghost use Rattle.registry_core.specs.Ranges.{IsEnvelope, IsMessage, IsName, IsOctets, IsReport, IsSettings};
 ghost use Rattle.registry_core.specs.ReportOrder.{DataInAnyOrder, JoinsInAnyOrder};
@@ -19,7 +20,7 @@ ghost use Rattle.registry_core.specs.UplinkLaws.{FramesBookedExactly, JoinedExac
 use crate::configuration::Config;
 use crate::messages::{Envelope, Message, Report};
 use duty_core::laws::computed_forms_tell;
-use radio_core::laws::{airtime_is_bounded, airtime_is_computed, band_is_found};
+use radio_core::laws::{airtime_is_bounded, airtime_is_computed, band_is_found, frame_is_found};
 use radio_core::{Name, Octets};
 
 /// The test of two messages tells whether they are equal.
@@ -157,12 +158,14 @@ pub fn reports_in_any_order()
 
 /// Whatever was heard, each booking is a downlink in a receive window of the uplink that it answers. The octets of a
 /// frame that the uplink's kind asks for take its length on the air at the window's data rate, as a downlink, and the
-/// window lies in its band.
+/// window lies in its band. Of a join accept there are 17 or 33 octets, of a data frame from 12 up to what the data rate
+/// carries.
 pub fn bookings_are_downlinks()
     ensures { BookingsAreDownlinks }
 {
     airtime_is_computed();
     band_is_found();
+    frame_is_found();
 }
 
 /// Whatever was heard, each uplink is as one of its gateways received it: on the air as long as its octets are at the
@@ -227,6 +230,13 @@ pub fn set_limits_stand()
     ensures others { OtherLimitsStay }
 {}
 
+/// Whatever was heard, the limit of a gateway's band is the one that the last accepted LimitSet for it has set, and the band's own
+/// where there is none.
+#[tactic(auto, using(crate::proofs::LimitLaws::last_limit_stands))]
+pub fn last_limit_stands()
+    ensures { LastLimitStands }
+{}
+
 /// Whatever was heard, no limit is above the band's own.
 #[tactic(auto, using(crate::proofs::LimitLaws::limits_are_within))]
 pub fn limits_are_within()
@@ -266,6 +276,48 @@ pub fn steps_refuse_by_number()
 /// What is kept of senders, owners, gateways, devices and limits is changed by messages of operators alone.
 pub fn operators_keep_the_register()
     ensures { OperatorsKeepTheRegister }
+{}
+
+/// A SenderAdd is answered Success exactly where an operator sends it and no sender has the name. Then the name is a sender's with
+/// the role, and nothing else differs.
+pub fn senders_are_added_exactly()
+    ensures accepted { SendersAddedExactly }
+    ensures alone { SendersAddedAlone }
+{}
+
+/// An OwnerAdd is answered Success exactly where an operator sends it and no owner has the name. Then the name is an owner's, and
+/// nothing else differs.
+pub fn owners_are_added_exactly()
+    ensures accepted { OwnersAddedExactly }
+    ensures alone { OwnersAddedAlone }
+{}
+
+/// A GatewayAdd is answered Success exactly where an operator sends it and no gateway has the name. Then the name is a gateway's,
+/// and nothing else differs.
+pub fn gateways_are_added_exactly()
+    ensures accepted { GatewaysAddedExactly }
+    ensures alone { GatewaysAddedAlone }
+{}
+
+/// A DeviceAdd is answered Success exactly where an operator sends it, the owner is known, and no device has the DevEUI. Then the
+/// device has the JoinEUI and the owner, and nothing else differs.
+pub fn devices_are_added_exactly()
+    ensures accepted { DevicesAddedExactly }
+    ensures alone { DevicesAddedAlone }
+{}
+
+/// A DeviceMove is answered Success exactly where an operator sends it, and both the device and the owner are known. Then the
+/// device has the owner and keeps its JoinEUI, its last nonce and the floor of its sessions, and nothing else differs.
+pub fn devices_are_moved_exactly()
+    ensures accepted { DevicesMovedExactly }
+    ensures alone { DevicesMovedAlone }
+{}
+
+/// A DownDone is answered Success exactly where the booking is there and was neither sent nor dropped. Then the booking is sent
+/// or dropped and keeps its uplink, gateway, band and span, and nothing else differs.
+pub fn downlinks_are_ended_exactly()
+    ensures accepted { DownlinksEndedExactly }
+    ensures alone { DownlinksEndedAlone }
 {}
 
 /// A message that adds no sender leaves the senders as they are.

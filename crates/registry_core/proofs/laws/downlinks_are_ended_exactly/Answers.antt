@@ -1,0 +1,8 @@
+use Rattle.registry_core.proofs.AdministrationLaws.{downlinks_ended_alone, downlinks_ended_exactly}
+use Rattle.registry_core.proofs.laws.downlinks_are_ended_exactly.Goals as goal
+
+pub returns-clause-accepted : goal.returns-clause-accepted
+returns-clause-accepted c = downlinks_ended_exactly
+
+pub returns-clause-alone : goal.returns-clause-alone
+returns-clause-alone c = downlinks_ended_alone
