@@ -1,6 +1,6 @@
 -- What is found where there is no frame is the fault, and each fault is found.
-use Rattle.std.proofs.Common.{◌≡◌, ◌≢◌, ℕ, zero, suc, ◌/◌, ◌%◌, ◌≤◌, ◌<◌, List, [], ◌∷◌, length, Option, Some, None, Bool, true, false, cond, not, Result, Ok, Err, refl, subst, arith}
-use Rattle.std.specs.Prelude.{◌==◌, ◌↔◌, if◌then◌else◌, nat_le, ok_or}
+use Rattle.std.proofs.Common.{◌≡◌, ℕ, zero, suc, ◌/◌, ◌%◌, ◌≤◌, ◌<◌, List, [], ◌∷◌, Option, Some, None, Bool, true, false, cond, not, Ok, Err, refl, subst, arith}
+use Rattle.std.specs.Prelude.{◌==◌, ◌↔◌, nat_le, ok_or}
 use Rattle.std.proofs.lemmas.Bool.{eqb-true, eqb-false, eq-eqb, ne_eqb, leb-true, leb-false, le-leb, lt-leb}
 use Rattle.radio_core.specs.declared.frames.FrameFault.{FrameFault}
 use Rattle.radio_core.specs.declared.frames.FrameFault.TheVariants.{Empty, Major, Kind, Length}
@@ -27,21 +27,6 @@ frame_is_read text phy =
     let r : (ok_or (frame_of text) (frame_fault text) ≡ Ok phy) ↔ (frame_of text ≡ Some phy) = read_ok (frame_of text) (frame_fault text) phy in
     let f : (frame_of text ≡ Some phy) ↔ IsFrame text phy = frame_is_found text phy in
     (λ e. f.0 (r.0 e), λ i. r.1 (f.1 i))
-
--- what is read of no octets, behind another Major, and behind Major 0
-pub read_empty : (text : List ℕ) → length text ≡ 0 → Err Empty ≡ read_of text
-unfolding frame_of
-read_empty [] e = refl
-read_empty (octet ∷ octets) e = absurd (omega (arith, e))
-
-pub read_major : (text : List ℕ) (mhdr : ℕ) (body : List ℕ) → text ≡ mhdr ∷ body → mhdr % 4 ≢ 0 → Err Major ≡ read_of text
-unfolding frame_of
-read_major text mhdr body e h = rw (e, ne_eqb (mhdr % 4) 0 h)
-
-pub read_behind : (text : List ℕ) (mhdr : ℕ) (body : List ℕ) (r : Result Phy FrameFault) → text ≡ mhdr ∷ body → mhdr % 4 ≡ 0
-    → r ≡ ok_or (body_of (mhdr / 32) body) (if nat_le 6 (mhdr / 32) then Kind else Length) → r ≡ read_of text
-unfolding frame_of
-read_behind text mhdr body r e h k = rw (e, eq-eqb (mhdr % 4) 0 h) k
 
 -- the first fault is one, where no frame is found
 first_is : (text : List ℕ) → ((phy : Phy) → ¬ IsFrame text phy) → IsFault text (frame_fault text)

@@ -128,12 +128,21 @@ fn read_body(frame_type: u8, body: &[u8]) -> Result<Phy, FrameFault>
 
 /// The frame that the octets are, or the first fault that they have (LoRaWAN L2 1.0.4, sections 4.2, 4.3 and 6.2).
 /// That bits 4 to 2 of the MHDR are ignored is this project's.
+#[tactic(auto, using(crate::proofs::FoundFaults::frame_is_read, crate::proofs::FoundFaults::fault_is_found))]
 pub fn read_phy(octets: &[u8]) -> Result<Phy, FrameFault>
     ensures frame { (phy : Phy) → (result ≡ Ok phy) ↔ IsFrame octets.now phy }
     ensures fault { (fault : FrameFault) → (result ≡ Err fault) ↔ IsFault octets.now fault }
     ensures exact { result ≡ read_of octets.now }
 {
-    let Some((mhdr, body)) = octets.split_first() else {
+    frame_or_fault(octets)
+}
+
+/// The frame that the octets are, or their first fault: the MHDR says how the octets behind it are read.
+#[tactic(auto, unfolding(crate::specs::Frames::frame_of))]
+fn frame_or_fault(octets: &[u8]) -> Result<Phy, FrameFault>
+    ensures { result ≡ read_of octets.now }
+{
+    let [mhdr, body @ ..] = octets else {
         return Err(FrameFault::Empty);
     };
     // Major in bits 1 and 0, the frame type in bits 7 to 5
