@@ -9,11 +9,12 @@ use Rattle.duty_core.specs.Use.{Interval, end_of, shared_count, hour, hour_from,
 use Rattle.duty_core.specs.Computed.{edge_hours, greatest_use, peak_of, hours_within}
 use Rattle.duty_core.specs.declared.marks.Edge.{Edge}
 use Rattle.duty_core.specs.declared.marks.Edge.TheVariants.{Start, End}
+use Rattle.duty_core.specs.steps.Edges.{edges_within}
 use Rattle.duty_core.specs.steps.Marks.{edge_of, IsRising, height_of}
 use Rattle.duty_core.specs.steps.Windows.{IsWindow}
 use Rattle.duty_core.specs.declared.sweep.Window.{Window}
 use Rattle.duty_core.proofs.Counting.{lap_is}
-use Rattle.duty_core.proofs.EdgeHours.{edge_use, use_of-push, edges_within}
+use Rattle.duty_core.proofs.EdgeHours.{edge_use, use_of-push}
 use Rattle.duty_core.proofs.Heights.{use_from_heights, mark_later}
 
 -- ---- the use of the hour

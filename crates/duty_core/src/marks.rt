@@ -84,6 +84,7 @@ fn forward(spans: &[Span], edge: Edge, from: Mark, x: i64) -> Mark
 }
 
 /// How far the edges that lie before x do so, added up: no edge after the mark does.
+#[tactic(auto, using(crate::proofs::Signed::signed, crate::proofs::Heights::height_from_mark))]
 fn height(spans: &[Span], edge: Edge, at: Mark, x: i64) -> u128
     requires mark { IsMark edge spans.now at.passed at.sum x }
     requires stop { HasPassedAll edge spans.now at.passed x }

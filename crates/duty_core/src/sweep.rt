@@ -12,17 +12,17 @@
 //! No clause speaks of time. The test `sweeps_a_million` shows that the sweep is what runs: neither the plain form nor
 //! marks that begin anew for each hour would end within the time of a test.
 
-ghost use Rattle.std.specs.Prelude.{◌≡◌, ◌↔◌, ◌^◌, ◌∷◌, ◌++◌, [], pos, ◌+ℤ◌, ◌<ℤ◌, IsTrue};
-ghost use Rattle.duty_core.specs.Use.{hour, use_of, IsPeak, EveryHourWithin};
+ghost use Rattle.std.specs.Prelude.{◌≡◌, ◌↔◌, ◌^◌, ◌∷◌, ◌++◌, [], max, pos, ◌+ℤ◌, ◌-ℤ◌, ◌<ℤ◌, IsTrue};
+ghost use Rattle.duty_core.specs.Use.{end_of, hour, use_of, IsPeak, EveryHourWithin};
 ghost use Rattle.duty_core.specs.Computed.{edge_hours, greatest_use, peak_of, hours_within};
 ghost use Rattle.duty_core.specs.InOrder.{StartsAscend};
 ghost use Rattle.duty_core.specs.declared.marks.Edge.TheVariants.{Start, End};
 ghost use Rattle.duty_core.specs.steps.Marks.{IsRising};
 ghost use Rattle.duty_core.specs.steps.Windows.{IsWindow};
 
-use crate::hours::{HOUR, edges_fit, fits, peak, shared_count};
+use crate::hours::{HOUR, edges_fit, fits, hour_to_end, in_hour, peak};
 use crate::interval::Span;
-use crate::marks::{Edge, Mark, UNPASSED, climb, edge_of, rises};
+use crate::marks::{Edge, Mark, UNPASSED, climb, rises};
 
 /// Whether no start is less than the one before it.
 pub fn in_order(spans: &[Span]) -> bool
@@ -37,6 +37,15 @@ pub fn sweep_peak(spans: &[Span]) -> u128
     ensures peak { IsPeak spans.now result }
     ensures exact { result ≡ peak_of spans.now }
 {
+    swept_peak(spans)
+}
+
+/// The peak, by one sweep where the ends don't fall either.
+#[tactic(auto, using(crate::proofs::Sliding::with_none), unfolding(crate::specs::Computed::peak_of))]
+fn swept_peak(spans: &[Span]) -> u128
+    requires { StartsAscend spans.now }
+    ensures { result ≡ peak_of spans.now }
+{
     if rises(spans, Edge::End) {
         greatest(spans, Span::empty())
     } else {
@@ -46,10 +55,20 @@ pub fn sweep_peak(spans: &[Span]) -> u128
 
 /// Whether with the new span too the use of every hour is at most `most` microseconds. The spans are in order of start;
 /// the new one may stand anywhere, so that its own two hours are summed apart.
+#[tactic(auto, using(crate::proofs::Edges::hours_within_tells))]
 pub fn sweep_fits(spans: &[Span], new: Span, most: u64) -> bool
     requires { StartsAscend spans.now }
     ensures hours { IsTrue result ↔ EveryHourWithin (spans.now ++ new ∷ []) most }
     ensures exact { result ≡ hours_within (spans.now ++ new ∷ []) most }
+{
+    swept_fits(spans, new, most)
+}
+
+/// Whether the new span fits, by one sweep where the ends don't fall either.
+#[tactic(auto, using(crate::proofs::Sliding::within_both))]
+fn swept_fits(spans: &[Span], new: Span, most: u64) -> bool
+    requires { StartsAscend spans.now }
+    ensures { result ≡ hours_within (spans.now ++ new ∷ []) most }
 {
     if rises(spans, Edge::End) {
         edges_fit(spans, new, new, most) && greatest(spans, new) <= u128::from(most)
@@ -69,17 +88,50 @@ fn greatest(spans: &[Span], new: Span) -> u128
     let mut by_start = UNMOVED;
     let mut by_end = UNMOVED;
     for span in spans {
-        let start = span.start();
-        let (from_start, at_start) = slide(spans, by_start, start);
-        let with_start = at_start + u128::from(shared_count(new, start, HOUR));
-        let last = edge_of(*span, Edge::End) - i64::from(HOUR);
-        let (from_end, at_end) = slide(spans, by_end, last);
-        let with_end = at_end + u128::from(shared_count(new, last, HOUR));
+        let (from_start, from_end, used) = slide_both(spans, new, by_start, by_end, *span);
         by_start = from_start;
         by_end = from_end;
-        most = most.max(with_start.max(with_end));
+        most = most.max(used);
     }
     most
+}
+
+/// Two windows slid on to the hour that begins where the edge begins and to the one that ends where it ends, and the
+/// greater use of the two, with the new span too.
+#[tactic(auto, using(crate::proofs::Signed::signed))]
+fn slide_both(
+    spans: &[Span],
+    new: Span,
+    by_start: Window,
+    by_end: Window,
+    edge: Span,
+) -> (Window, Window, u128)
+    requires by_start { IsWindow spans.now by_start edge.start }
+    requires by_end { IsWindow spans.now by_end (end_of edge -ℤ pos hour) }
+    requires starts { IsRising Start spans.now }
+    requires ends { IsRising End spans.now }
+    ensures from_start { IsWindow spans.now result.0 edge.start }
+    ensures from_end { IsWindow spans.now result.1 (end_of edge -ℤ pos hour) }
+    ensures used { let all = spans.now ++ new ∷ [] in
+        result.2 ≡ max (use_of all edge.start) (use_of all (end_of edge -ℤ pos hour)) }
+{
+    let (from_start, at_start) = slide_with(spans, new, by_start, edge.start());
+    let (from_end, at_end) = slide_with(spans, new, by_end, hour_to_end(edge));
+    (from_start, from_end, at_start.max(at_end))
+}
+
+/// The window slid on to the hour from t, and the use of that hour, with the new span too.
+#[tactic(auto, using(crate::proofs::Signed::signed, crate::proofs::Signed::uses))]
+fn slide_with(spans: &[Span], new: Span, from: Window, t: i64) -> (Window, u128)
+    requires window { IsWindow spans.now from t }
+    requires range { (t +ℤ pos hour) <ℤ pos (2 ^ 63) }
+    requires starts { IsRising Start spans.now }
+    requires ends { IsRising End spans.now }
+    ensures window { IsWindow spans.now result.0 t }
+    ensures used { result.1 ≡ use_of (spans.now ++ new ∷ []) t }
+{
+    let (window, used) = slide(spans, from, t);
+    (window, used + u128::from(in_hour(new, t)))
 }
 
 /// The marks of an hour: of the edges up to where it begins, and up to where it ends.
@@ -100,6 +152,7 @@ const UNMOVED: Window = Window {
 };
 
 /// The window slid on to the hour from t, and the use of that hour.
+#[tactic(auto, using(crate::proofs::Signed::signed, crate::proofs::Heights::use_from_heights))]
 fn slide(spans: &[Span], from: Window, t: i64) -> (Window, u128)
     requires window { IsWindow spans.now from t }
     requires range { (t +ℤ pos hour) <ℤ pos (2 ^ 63) }

@@ -8,9 +8,3 @@ overflow_sub-result c =
     let fits = c.ranges.x in
     let same = (simp to_z-of_z at c.place.ensures) in
     omega (arith, same, ap (λ n. c.args.at.passed * n) same, height_from_mark c.args.edge c.args.spans.now c.args.at.passed c.args.at.sum c.args.x c.requires.mark c.requires.stop c.requires.rising)
-
-pub returns-clause-same : goal.returns-clause-same
-returns-clause-same c =
-    let fits = c.ranges.x in
-    let same = (simp to_z-of_z at c.place.ensures) in
-    omega (arith, same, ap (λ n. c.args.at.passed * n) same, height_from_mark c.args.edge c.args.spans.now c.args.at.passed c.args.at.sum c.args.x c.requires.mark c.requires.stop c.requires.rising)
