@@ -9,7 +9,6 @@ use Rattle.registry_core.specs.declared.answers.Refusal.TheVariants.{WrongRole, 
 use Rattle.registry_core.specs.declared.effects.Effect.{Effect}
 use Rattle.registry_core.specs.declared.effects.Effect.TheVariants.{AddsSender, AddsOwner, AddsGateway, AddsDevice, MovesDevice, EndsBooking}
 use Rattle.registry_core.specs.declared.facts.Booking.{Booking}
-use Rattle.registry_core.specs.declared.facts.Device.{Device}
 use Rattle.registry_core.specs.declared.facts.Standing.{Standing}
 use Rattle.registry_core.specs.declared.facts.Standing.TheVariants.{Booked, Sent, Dropped}
 use Rattle.registry_core.specs.declared.messages.Envelope.{Envelope}
@@ -18,7 +17,7 @@ use Rattle.registry_core.specs.declared.messages.Role.{Role}
 use Rattle.registry_core.specs.Administration.{is_operator, sender_add, owner_add, gateway_add, device_add, device_move}
 use Rattle.registry_core.specs.AdministrationLaws.{DevicesAddedAlone, DevicesAddedExactly, DevicesMovedAlone, DevicesMovedExactly, DownlinksEndedAlone, DownlinksEndedExactly, GatewaysAddedAlone, GatewaysAddedExactly, IsBookingEnded, IsDeviceAdded, IsDeviceMoved, IsGatewayAdded, IsOwnerAdded, IsSenderAdded, OwnersAddedAlone, OwnersAddedExactly, SendersAddedAlone, SendersAddedExactly}
 use Rattle.registry_core.specs.Bookings.{is_booked}
-use Rattle.registry_core.specs.Checks.{Checked, ◌>>=◌, ◌>>◌, wants, needs}
+use Rattle.registry_core.specs.Checks.{◌>>=◌, ◌>>◌, wants, needs}
 use Rattle.registry_core.specs.Decision.{Decision, decision_or_refusal}
 use Rattle.registry_core.specs.Downlinks.{down_done}
 use Rattle.registry_core.specs.Numbered.{item_at}

@@ -7,7 +7,6 @@ use Rattle.registry_core.specs.declared.effects.Effect.TheVariants.{AddsSession,
 use Rattle.registry_core.specs.declared.facts.Kind.{Kind}
 use Rattle.registry_core.specs.declared.facts.Kind.TheVariants.{Join, Data}
 use Rattle.registry_core.specs.declared.facts.Uplink.{Uplink}
-use Rattle.registry_core.specs.Heard.{state_of}
 use Rattle.registry_core.specs.Laws.{UplinksHaveCopies, UplinksStay, CountersRise, CountersAgreeWithFrames}
 use Rattle.registry_core.specs.Numbered.{item_at}
 use Rattle.registry_core.specs.Settings.{Settings}

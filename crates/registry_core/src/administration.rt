@@ -78,6 +78,7 @@ pub(crate) fn device_move(
 }
 
 /// An operator sets the limit of a gateway's band, where every hour of the band keeps it already.
+#[tactic(auto, using(crate::proofs::LimitsByView::limit_set_same), unfolding(crate::specs::steps::Checked::IsChecked))]
 pub(crate) fn limit_set(
     gateway: Name,
     limit: BandLimit,

@@ -18,6 +18,7 @@ use crate::views::View;
 /// What the message changes, and what it is answered. It takes no memory and always answers.
 ///
 /// The caller's condition: the view is what the registry holds for the message after some heard list.
+#[tactic(auto, using(crate::proofs::Decisions::checked_decides), unfolding(crate::specs::steps::Checked::IsChecked))]
 pub fn decide(message: &Message, view: &View) -> (Effect, Answer)
     ensures { IsStep message.now view.now result }
 {
@@ -35,6 +36,7 @@ fn decision_or_refusal(checked: Result<(Effect, Answer), Refusal>) -> (Effect, A
 }
 
 /// The checks of the message's type.
+#[tactic(auto, using(crate::proofs::DownlinksByView::down_done_same), unfolding(crate::specs::steps::Checked::IsChecked))]
 fn checked_decision(message: &Message, view: &View) -> Result<(Effect, Answer), Refusal>
     ensures { IsChecked message.now view.now result }
 {

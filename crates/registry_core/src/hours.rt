@@ -5,6 +5,7 @@ ghost use Rattle.duty_core.specs.Computed.{hours_within};
 use duty_core::{Span, fits, in_order, peak, sweep_fits, sweep_peak};
 
 /// Whether every hour keeps the limit: by one sweep through the spans where they stand in order of start.
+#[tactic(auto, unfolding(duty_core::specs::Computed::hours_within))]
 pub(crate) fn fit(spans: &[Span], most: u64) -> bool
     ensures { result ≡ hours_within spans.now most }
 {

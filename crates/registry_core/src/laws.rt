@@ -55,6 +55,7 @@ pub fn heard_lists_stay()
 
 /// What is replied: a message that was heard gets what its step answered then, whatever was heard after it; another one of its
 /// sender with its number is refused; and one with a new number gets what its step answers now.
+#[tactic(auto, using(crate::proofs::Replies::first_answers_stay, crate::proofs::Replies::new_numbers_are_decided, crate::proofs::Replies::used_numbers_are_refused))]
 pub fn first_answers_stay()
     ensures first { FirstAnswersStay }
     ensures used { UsedNumbersAreRefused }
@@ -102,6 +103,7 @@ pub fn counters_agree_with_frames()
 {}
 
 /// Whatever was heard, the session that is looked up by an address is the one that has it.
+#[tactic(auto, using(crate::proofs::SessionLaws::sessions_are_found))]
 pub fn sessions_are_found()
     ensures { SessionsAreFound }
 {}
@@ -119,6 +121,7 @@ pub fn data_copies_are_found()
 
 /// Whatever was heard, each session has the join uplink that made it, and each uplink is one of a session that is there. A
 /// session's nonce is the counter of its join.
+#[tactic(auto, using(crate::proofs::SessionJoins::sessions_have_joins, crate::proofs::SessionJoins::uplinks_have_sessions))]
 pub fn sessions_have_joins()
     ensures sessions { SessionsHaveJoins }
     ensures uplinks { UplinksHaveSessions }
@@ -138,6 +141,7 @@ pub fn uplinks_stay()
 
 /// Whatever was heard, what is answered as a copy adds no session and no uplink, and changes no booking. It is a
 /// report, and adds no more than its gateway's copy of the uplink that is told, where that gateway had none.
+#[tactic(auto, using(crate::proofs::CopyLaws::copies_book_nothing, crate::proofs::KeptCopies::copies_add_one_at_most))]
 pub fn copies_book_nothing()
     ensures nothing { CopiesBookNothing }
     ensures copy { CopiesAddOneAtMost }
@@ -160,6 +164,7 @@ pub fn reports_in_any_order()
 /// frame that the uplink's kind asks for take its length on the air at the window's data rate, as a downlink, and the
 /// window lies in its band. Of a join accept there are 17 or 33 octets, of a data frame from 12 up to what the data rate
 /// carries.
+#[tactic(auto, using(crate::proofs::BookedDownlinks::bookings_are_downlinks))]
 pub fn bookings_are_downlinks()
     ensures { BookingsAreDownlinks }
 {
@@ -170,6 +175,7 @@ pub fn bookings_are_downlinks()
 
 /// Whatever was heard, each uplink is as one of its gateways received it: on the air as long as its octets are at the
 /// copy's data rate, as an uplink, up to the end of the copy, and in the copy's band.
+#[tactic(auto, using(crate::proofs::ReceivedUplinks::uplinks_are_received))]
 pub fn uplinks_are_received()
     ensures { UplinksAreReceived }
 {
@@ -188,6 +194,7 @@ pub fn rules_are_kept()
 }
 
 /// Whatever was heard, no two downlinks of a gateway that aren't dropped are on the air at once, in whatever bands.
+#[tactic(auto, using(crate::proofs::BookingsApart::gateways_send_one_at_a_time))]
 pub fn gateways_send_one_at_a_time()
     ensures { GatewaysSendOneAtATime }
 {
@@ -195,11 +202,13 @@ pub fn gateways_send_one_at_a_time()
 }
 
 /// Whatever was heard, no two downlinks that aren't dropped answer one uplink.
+#[tactic(auto, using(crate::proofs::BookingsApart::uplinks_are_answered_once))]
 pub fn uplinks_are_answered_once()
     ensures { UplinksAreAnsweredOnce }
 {}
 
 /// Whatever was heard, no downlink is longer than 3,000,000 microseconds.
+#[tactic(auto, using(crate::proofs::DownlinkLaws::downlinks_are_short))]
 pub fn downlinks_are_short()
     ensures { DownlinksAreShort }
 {
@@ -274,6 +283,7 @@ pub fn steps_refuse_by_number()
 {}
 
 /// What is kept of senders, owners, gateways, devices and limits is changed by messages of operators alone.
+#[tactic(auto, using(crate::proofs::EveryMessage::operators_keep_the_register))]
 pub fn operators_keep_the_register()
     ensures { OperatorsKeepTheRegister }
 {}

@@ -1,7 +1,5 @@
 use Rattle.std.proofs.Common.{◌∙◌}
-use Rattle.registry_core.specs.Heard.{state_of}
 use Rattle.registry_core.specs.steps.Checked.{IsChecked}
-use Rattle.registry_core.proofs.DownlinksByView.{down_done_same}
 use Rattle.registry_core.proofs.ViewBounds.{frame_checked, join_checked}
 use Rattle.registry_core.proofs.deciding.checked_decision.Goals as goal
 
@@ -14,8 +12,3 @@ pub returns-in-FrameHeard : goal.returns-in-FrameHeard
 unfolding IsChecked
 returns-in-FrameHeard c = λ c' heard e block list same v.
     rw c.in-FrameHeard.is (frame_checked c' heard e _ _ _ _ block list (same ∙ c.in-FrameHeard.is) v c.frame_heard.ensures)
-
-pub returns-in-DownDone : goal.returns-in-DownDone
-unfolding IsChecked
-returns-in-DownDone c = λ c' heard e block list same v.
-    rw c.in-DownDone.is (c.down_done.ensures ∙ down_done_same c' (state_of c' heard) e _ _ _ (same ∙ c.in-DownDone.is) v)
