@@ -102,6 +102,7 @@ impl Bookings {
     }
 
     /// A booking that isn't dropped answers the uplink with this number.
+    #[tactic(auto, using(crate::proofs::Counted::any_counted))]
     pub(crate) fn is_answered(&self, uplink: u64) -> bool
         ensures { result ≡ is_answered self.now uplink }
     {

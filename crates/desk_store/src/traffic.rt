@@ -96,6 +96,7 @@ impl Traffic {
     }
 
     /// The booking with this number, from 1, is sent, or else dropped, and all else stays; or nothing changes.
+    #[tactic(auto, using(crate::proofs::Downs::booking_ended))]
     pub(crate) fn end_booking(&mut self, number: u64, sent: bool) -> Result<(), AllocError>
         ensures ok { OnOk result (self.new.bookings
             ≡ item_changed (ended sent) self.old.bookings number) }

@@ -10,16 +10,3 @@ returns-clause-copies c =
     let count : c.len.result ≡ length c.args.traffic.now.uplinks = c.len.ensures.count ∙ ap length c.uplinks.ensures in
     copies_with-updated c.reserve.new.self c.insert.new.self _ c.args.gateway c.args.reception c.in_ok-insert.ensures.updates
     ∙ (λ i. copies_with (λ number gateway. lookup (same_key (number, gateway)) (c.in_ok-reserve.ensures.entries i)) (count i + 1) c.args.gateway c.args.reception)
-
--- room was made for it
-pub returns-in_err-insert-clause-uplinks : goal.returns-in_err-insert-clause-uplinks
-returns-in_err-insert-clause-uplinks c = absurd (true≢false (sym (c.in_err-insert.ensures.succeeds (omega (arith, c.in_ok-reserve.ensures.ok)))))
-
-pub returns-in_err-insert-clause-copies : goal.returns-in_err-insert-clause-copies
-returns-in_err-insert-clause-copies c = absurd (true≢false (sym (c.in_err-insert.ensures.succeeds (omega (arith, c.in_ok-reserve.ensures.ok)))))
-
-pub returns-in_err-insert-clause-err : goal.returns-in_err-insert-clause-err
-returns-in_err-insert-clause-err c = absurd (true≢false (sym (c.in_err-insert.ensures.succeeds (omega (arith, c.in_ok-reserve.ensures.ok)))))
-
-pub returns-in_err-insert-clause-bookings : goal.returns-in_err-insert-clause-bookings
-returns-in_err-insert-clause-bookings c = absurd (true≢false (sym (c.in_err-insert.ensures.succeeds (omega (arith, c.in_ok-reserve.ensures.ok)))))

@@ -23,10 +23,3 @@ loop-number-preserved c =
       first = c.earlier_of-found.ensures ∙ (λ i. earlier_of (c.loop-number.invariant.first i) (here i))
           ∙ sym (join_step c.args.uplinks.now c.args.sessions.now.items c.args.device c.args.nonce c.loop-number.number own);
     })
-
-pub returns : goal.returns
-returns c =
-    let last : c.loop-number.number ≡ 0 = omega arith in
-    c.loop-number.invariant.first
-    ∙ ap (λ n. first_that (is_later_join c.args.sessions.now.items c.args.device c.args.nonce n) c.args.uplinks.now) last
-    ∙ join_all c.args.uplinks.now c.args.sessions.now.items c.args.device c.args.nonce

@@ -27,11 +27,3 @@ loop-number-preserved c =
       later = places_step c.args.uplinks.now c.args.sessions.now.items c.args.device c.args.band c.args.period.now.from c.args.period.now.to c.loop-number.number own
           c.loop-number.places.items c.places.result.now c.loop-number.invariant.later c.places.ensures;
     })
-
-pub returns : goal.returns
-returns c =
-    let last : c.loop-number.number ≡ 0 = omega arith in
-    let all = ap (places_later c.args.uplinks.now c.args.sessions.now.items c.args.device c.args.band c.args.period.now.from c.args.period.now.to) last
-    ∙ places_all c.args.uplinks.now c.args.sessions.now.items c.args.device c.args.band c.args.period.now.from c.args.period.now.to in
-    let P : List Place → Type 0 = λ places. IsPermutation places c.loop-number.places.items in
-    subst P all c.loop-number.invariant.later

@@ -25,28 +25,3 @@ invariant_of-self-2 c =
     let all : c.push.new.self.items ≡ items ++ booking ∷ [] = search rules in
     let P : List Booking → Type 0 = λ bookings. IsBookingIndex bookings c.note.new.self × AreCounted bookings c.note-2.new.self in
     subst P (sym all) (noted, c.in_ok-note-2.ensures.noted items few (c.make_room.ensures.same items c.self.invariant.1))
-
--- room was made for it
-pub invariant_of-self-in_err-note-2 : goal.invariant_of-self-in_err-note-2
-invariant_of-self-in_err-note-2 c = absurd (true≢false (sym (c.in_err-note-2.ensures.succeeds c.in_ok-make_room.ensures.named c.in_ok-make_room.ensures.standing)))
-
-pub returns-in_err-note-2-clause-ok : goal.returns-in_err-note-2-clause-ok
-returns-in_err-note-2-clause-ok c = absurd (true≢false (sym (c.in_err-note-2.ensures.succeeds c.in_ok-make_room.ensures.named c.in_ok-make_room.ensures.standing)))
-
-pub returns-in_err-note-2-clause-err : goal.returns-in_err-note-2-clause-err
-returns-in_err-note-2-clause-err c = absurd (true≢false (sym (c.in_err-note-2.ensures.succeeds c.in_ok-make_room.ensures.named c.in_ok-make_room.ensures.standing)))
-
-pub returns-in_err-note-2-clause-few : goal.returns-in_err-note-2-clause-few
-returns-in_err-note-2-clause-few c = absurd (true≢false (sym (c.in_err-note-2.ensures.succeeds c.in_ok-make_room.ensures.named c.in_ok-make_room.ensures.standing)))
-
-pub invariant_of-self-in_err-push : goal.invariant_of-self-in_err-push
-invariant_of-self-in_err-push c = absurd (true≢false (sym (c.in_err-push.ensures.succeeds (omega (arith, c.in_ok-reserve.ensures.ok)))))
-
-pub returns-in_err-push-clause-ok : goal.returns-in_err-push-clause-ok
-returns-in_err-push-clause-ok c = absurd (true≢false (sym (c.in_err-push.ensures.succeeds (omega (arith, c.in_ok-reserve.ensures.ok)))))
-
-pub returns-in_err-push-clause-err : goal.returns-in_err-push-clause-err
-returns-in_err-push-clause-err c = absurd (true≢false (sym (c.in_err-push.ensures.succeeds (omega (arith, c.in_ok-reserve.ensures.ok)))))
-
-pub returns-in_err-push-clause-few : goal.returns-in_err-push-clause-few
-returns-in_err-push-clause-few c = absurd (true≢false (sym (c.in_err-push.ensures.succeeds (omega (arith, c.in_ok-reserve.ensures.ok)))))

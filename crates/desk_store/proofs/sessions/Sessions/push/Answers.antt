@@ -9,9 +9,6 @@ use Rattle.desk_store.specs.steps.Sessions.{latest_of}
 use Rattle.desk_store.proofs.Linked.{linked_more}
 use Rattle.desk_store.proofs.sessions.Sessions.push.Goals as goal
 
-has_room : (len capacity latest nonces : ℕ) → 1 ≤ min (capacity - len) (min latest nonces) → (len < capacity) × (0 < latest) × (0 < nonces)
-has_room len capacity latest nonces room = (omega arith, omega arith, omega arith)
-
 pub invariant_of-self-2 : goal.invariant_of-self-2
 invariant_of-self-2 c =
     let link : Link = record { session = c.args.session; before = c.latest-before.result } in
@@ -28,28 +25,3 @@ invariant_of-self-2 c =
     (linked_more c.self.inside.links.items link (get nat_eq c.self.inside.latest) (get nat_eq c.self.inside.nonces) c.self.invariant before _ _
     (λ dev_eui. c.in_ok-insert.ensures.updates.0 dev_eui ∙ (λ i. cond (nat_eq (device i) dev_eui) (Some (number i)) (get nat_eq c.self.inside.latest dev_eui)))
     (λ dev_eui. c.in_ok-insert-2.ensures.updates.0 dev_eui ∙ (λ i. cond (nat_eq (device i) dev_eui) (Some (nonce i)) (get nat_eq c.self.inside.nonces dev_eui))))
-
--- room was made for it
-pub invariant_of-self : goal.invariant_of-self
-invariant_of-self c = absurd (true≢false (sym (c.in_err-insert.ensures.succeeds (has_room _ _ _ _ (subst (λ s. 1 ≤ s.room) (sym c.self.view_is) c.in_ok-make_room.ensures.room)).1)))
-
-pub returns-in_err-insert-clause-ok : goal.returns-in_err-insert-clause-ok
-returns-in_err-insert-clause-ok c = absurd (true≢false (sym (c.in_err-insert.ensures.succeeds (has_room _ _ _ _ (subst (λ s. 1 ≤ s.room) (sym c.self.view_is) c.in_ok-make_room.ensures.room)).1)))
-
-pub returns-in_err-insert-clause-err : goal.returns-in_err-insert-clause-err
-returns-in_err-insert-clause-err c = absurd (true≢false (sym (c.in_err-insert.ensures.succeeds (has_room _ _ _ _ (subst (λ s. 1 ≤ s.room) (sym c.self.view_is) c.in_ok-make_room.ensures.room)).1)))
-
-pub returns-in_err-insert-clause-succeeds : goal.returns-in_err-insert-clause-succeeds
-returns-in_err-insert-clause-succeeds c = absurd (true≢false (sym (c.in_err-insert.ensures.succeeds (has_room _ _ _ _ (subst (λ s. 1 ≤ s.room) (sym c.self.view_is) c.in_ok-make_room.ensures.room)).1)))
-
-pub invariant_of-self-in_err-insert-2 : goal.invariant_of-self-in_err-insert-2
-invariant_of-self-in_err-insert-2 c = absurd (true≢false (sym (c.in_err-insert-2.ensures.succeeds (has_room _ _ _ _ (subst (λ s. 1 ≤ s.room) (sym c.self.view_is) c.in_ok-make_room.ensures.room)).2)))
-
-pub returns-in_err-insert-2-clause-ok : goal.returns-in_err-insert-2-clause-ok
-returns-in_err-insert-2-clause-ok c = absurd (true≢false (sym (c.in_err-insert-2.ensures.succeeds (has_room _ _ _ _ (subst (λ s. 1 ≤ s.room) (sym c.self.view_is) c.in_ok-make_room.ensures.room)).2)))
-
-pub returns-in_err-insert-2-clause-err : goal.returns-in_err-insert-2-clause-err
-returns-in_err-insert-2-clause-err c = absurd (true≢false (sym (c.in_err-insert-2.ensures.succeeds (has_room _ _ _ _ (subst (λ s. 1 ≤ s.room) (sym c.self.view_is) c.in_ok-make_room.ensures.room)).2)))
-
-pub returns-in_err-insert-2-clause-succeeds : goal.returns-in_err-insert-2-clause-succeeds
-returns-in_err-insert-2-clause-succeeds c = absurd (true≢false (sym (c.in_err-insert-2.ensures.succeeds (has_room _ _ _ _ (subst (λ s. 1 ≤ s.room) (sym c.self.view_is) c.in_ok-make_room.ensures.room)).2)))

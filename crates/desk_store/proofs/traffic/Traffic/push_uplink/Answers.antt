@@ -5,11 +5,6 @@ use Rattle.desk_store.specs.steps.Traffic.{AreDowns}
 use Rattle.desk_store.proofs.Downs.{downs_same, uplink_counted}
 use Rattle.desk_store.proofs.traffic.Traffic.push_uplink.Goals as goal
 
-pub invariant_of-self : goal.invariant_of-self
-invariant_of-self c =
-    downs_same c.self.inside.uplinks c.self.inside.uplinks c.self.inside.bookings c.self.inside.downs c.make_room.new.self
-    refl c.make_room.ensures.same c.self.invariant
-
 pub invariant_of-self-in_err-push : goal.invariant_of-self-in_err-push
 invariant_of-self-in_err-push c =
     downs_same c.self.inside.uplinks c.push.new.self c.self.inside.bookings c.self.inside.downs c.make_room.new.self
@@ -24,16 +19,3 @@ invariant_of-self-2 c =
     let named = c.naming-naming.ensures.count ∙ ap (λ n. count_by (is_naming (n + 1)) bookings) c.len.ensures.count in
     rw c.in_ok-push.ensures.ok
     (uplink_counted uplinks bookings c.make_room.new.self c.grow.new.downs c.naming-naming.ensures.few were c.args.uplink c.naming-naming.result named c.in_ok-grow.ensures.ok)
-
--- room was made for it
-pub invariant_of-self-in_err-grow : goal.invariant_of-self-in_err-grow
-invariant_of-self-in_err-grow c = absurd (true≢false (sym (c.in_err-grow.ensures.succeeds c.in_ok-make_room.ensures.room)))
-
-pub returns-in_err-grow-clause-ok : goal.returns-in_err-grow-clause-ok
-returns-in_err-grow-clause-ok c = absurd (true≢false (sym (c.in_err-grow.ensures.succeeds c.in_ok-make_room.ensures.room)))
-
-pub returns-in_err-grow-clause-err : goal.returns-in_err-grow-clause-err
-returns-in_err-grow-clause-err c = absurd (true≢false (sym (c.in_err-grow.ensures.succeeds c.in_ok-make_room.ensures.room)))
-
-pub returns-in_err-grow-clause-bookings : goal.returns-in_err-grow-clause-bookings
-returns-in_err-grow-clause-bookings c = absurd (true≢false (sym (c.in_err-grow.ensures.succeeds c.in_ok-make_room.ensures.room)))

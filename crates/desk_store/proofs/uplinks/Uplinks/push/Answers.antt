@@ -39,22 +39,3 @@ invariant_of-self-2 c =
     let all : c.push.new.self.items ≡ items ++ uplink ∷ [] = search rules in
     let P : List Uplink → Type 0 = λ uplinks. IsIndexOf uplinks c.note-2.new.self × AreStarts uplinks c.note.new.self in
     subst P (sym all) (c.in_ok-note-2.ensures.noted items last room, starts)
-
--- room was made for it
-pub invariant_of-self-in_err-note-2 : goal.invariant_of-self-in_err-note-2
-invariant_of-self-in_err-note-2 c = absurd (true≢false (sym (c.in_err-note-2.ensures.succeeds c.in_ok-make_room.ensures.room)))
-
-pub returns-in_err-note-2-clause-ok : goal.returns-in_err-note-2-clause-ok
-returns-in_err-note-2-clause-ok c = absurd (true≢false (sym (c.in_err-note-2.ensures.succeeds c.in_ok-make_room.ensures.room)))
-
-pub returns-in_err-note-2-clause-err : goal.returns-in_err-note-2-clause-err
-returns-in_err-note-2-clause-err c = absurd (true≢false (sym (c.in_err-note-2.ensures.succeeds c.in_ok-make_room.ensures.room)))
-
-pub invariant_of-self-in_err-push : goal.invariant_of-self-in_err-push
-invariant_of-self-in_err-push c = absurd (true≢false (sym (c.in_err-push.ensures.succeeds (omega (arith, c.in_ok-reserve.ensures.ok)))))
-
-pub returns-in_err-push-clause-ok : goal.returns-in_err-push-clause-ok
-returns-in_err-push-clause-ok c = absurd (true≢false (sym (c.in_err-push.ensures.succeeds (omega (arith, c.in_ok-reserve.ensures.ok)))))
-
-pub returns-in_err-push-clause-err : goal.returns-in_err-push-clause-err
-returns-in_err-push-clause-err c = absurd (true≢false (sym (c.in_err-push.ensures.succeeds (omega (arith, c.in_ok-reserve.ensures.ok)))))
