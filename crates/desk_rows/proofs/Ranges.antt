@@ -1,4 +1,4 @@
--- Queries of many rows: what is told of all rows of an answer, and of those that show spans in order of start.
+-- Queries of many rows: what is told of all rows of an answer, and of those in order of start.
 use Rattle.std.proofs.Common.{◌≡◌, inl, inr, ℕ, pos, List, [], ◌∷◌, ◌++◌, map, filter, length, Bool, true, false, Vec, None, Ok, Err, Result, IfOk, IfErr, refl}
 use Rattle.std.proofs.Common.{sym, ap, subst, ◌∙◌, map-id, ◌<◌, ◌^◌, Ordering, Less, Equal, int_cmp}
 use Rattle.std.specs.declared.alloc.Global.{Global}
@@ -139,7 +139,7 @@ pub rows_alike : {X : Type 0} (order : ℕ × X → ℕ × X → Ordering) (P : 
 rows_alike {X} order P p q same xs all = ap (sort_by order) (filter_alike (λ (b : ℕ × X). P b.1) (λ b. p b.1) (λ b. q b.1) (λ b. same b.1) (zip_from 1 xs)
     (zip_all P 1 xs all))
 
--- ---- spans in order of start, then of number
+-- ---- rows in order of start, then of number
 
 pub untied : {X : Type 0} (start : X → ℤ) (b c : ℕ × X) → int_cmp (pos b.0) (pos c.0) ≡ Less → IsNoTie (by_start start b c)
 untied start b c less = no_tie_after (int_cmp (start b.1) (start c.1)) (no_tie (ap (λ o. ordering_then o Equal) less))
@@ -152,6 +152,31 @@ module _ {sql : List ℕ} {many tree : ℕ} {terms project : List Term} {order :
     (many_is : many ≡ length params) (typed : accepts_program desk_schema [] (query_of (all_by (tree ∷ []) terms project order)) params ≡ true)
     {X : Type 0} (cells : X → Row) (xs : Rows → List X) (stored : (r : Rows) → Holds old.now r → overlay old.now.trees [] tree ≡ table_of cells (xs r))
     (p : X → Bool) (tests : (b : ℕ × X) → list_all (holds (params ∷ encode cells b ∷ [])) terms ≡ p b.1)
+    {Y : Type 0} (shows : Y → Row) (Fits : Y → Type 0)
+    (shown : X → Y) (shows_it : (b : ℕ × X) → eval_all project (params ∷ encode cells b ∷ []) ≡ shows (shown b.1))
+    (start : X → ℤ) (orders : (b c : ℕ × X) → output_cmp (query_of (all_by (tree ∷ []) terms project order))
+    (output (query_of (all_by (tree ∷ []) terms project order)) (params ∷ encode cells b ∷ []))
+    (output (query_of (all_by (tree ∷ []) terms project order)) (params ∷ encode cells c ∷ [])) ≡ by_start start b c)
+    (P : X → Type 0) (ranges : (r : Rows) → Holds old.now r → AllByRecursion P (xs r)) (fits : (x : X) → P x → Fits (shown x)) where
+  pub reads_by_start : {result : Result (Vec Y Global) RowFault} → FindsAll sql params old new (λ y. y) shows Fits result
+      → Reads old new result (λ r all. all.items ≡ map (λ (row : ℕ × X). shown row.1) (rows_by (by_start start) p (xs r)))
+  reads_by_start found = says_so (reads_all text params many_is typed found (λ r. map (λ (row : ℕ × X). shown row.1) (rows_by (by_start start) p (xs r)))
+      (λ r has. (
+        all_map (λ (b : ℕ × X). P b.1) Fits (λ b. shown b.1) (λ b. fits b.1) _
+            (rows_all P P (by_start start) p (λ x fit passes. fit) (xs r) (ranges r has)),
+        λ rows answer. rows_sorted (all_by (tree ∷ []) terms project order) (overlay old.now.trees []) cells (xs r) (stored r has) params (λ b. p b.1) tests
+            (λ b. shows (shown b.1)) shows_it
+            (by_start start) (untied start) orders rows answer
+            ∙ sym (map-map shows (λ (b : ℕ × X). shown b.1) (rows_by (by_start start) p (xs r))),
+      )))
+      (λ r has all is. sym (map-id all.items) ∙ is)
+
+-- and where spans are shown
+module _ {sql : List ℕ} {many tree : ℕ} {terms project : List Term} {order : List (Term × Key)} (text : IsLookup sql many (all_by (tree ∷ []) terms project order))
+    (params : Row) {old new : State}
+    (many_is : many ≡ length params) (typed : accepts_program desk_schema [] (query_of (all_by (tree ∷ []) terms project order)) params ≡ true)
+    {X : Type 0} (cells : X → Row) (xs : Rows → List X) (stored : (r : Rows) → Holds old.now r → overlay old.now.trees [] tree ≡ table_of cells (xs r))
+    (p : X → Bool) (tests : (b : ℕ × X) → list_all (holds (params ∷ encode cells b ∷ [])) terms ≡ p b.1)
     (span : X → Interval) (shown : (b : ℕ × X) → eval_all project (params ∷ encode cells b ∷ []) ≡ span_shown (span b.1))
     (orders : (b c : ℕ × X) → output_cmp (query_of (all_by (tree ∷ []) terms project order))
     (output (query_of (all_by (tree ∷ []) terms project order)) (params ∷ encode cells b ∷ []))
@@ -159,13 +184,4 @@ module _ {sql : List ℕ} {many tree : ℕ} {terms project : List Term} {order :
     (P : X → Type 0) (ranges : (r : Rows) → Holds old.now r → AllByRecursion P (xs r)) (fits : (x : X) → P x → IsSpan (span x)) where
   pub reads_spans : {result : Result (Vec Interval Global) RowFault} → FindsAll sql params old new (λ s. s) span_shown IsSpan result
       → Reads old new result (λ r spans. spans.items ≡ spans_by span (by_start (λ x. (span x).start)) p (xs r))
-  reads_spans found = says_so (reads_all text params many_is typed found (λ r. spans_by span (by_start (λ x. (span x).start)) p (xs r))
-      (λ r has. (
-        all_map (λ (b : ℕ × X). P b.1) IsSpan (λ b. span b.1) (λ b. fits b.1) _
-            (rows_all P P (by_start (λ x. (span x).start)) p (λ x fit passes. fit) (xs r) (ranges r has)),
-        λ rows answer. rows_sorted (all_by (tree ∷ []) terms project order) (overlay old.now.trees []) cells (xs r) (stored r has) params (λ b. p b.1) tests
-            (λ b. span_shown (span b.1)) shown
-            (by_start (λ x. (span x).start)) (untied (λ x. (span x).start)) orders rows answer
-            ∙ sym (map-map span_shown (λ (b : ℕ × X). span b.1) (rows_by (by_start (λ x. (span x).start)) p (xs r))),
-      )))
-      (λ r has spans is. sym (map-id spans.items) ∙ is)
+  reads_spans = reads_by_start text params many_is typed cells xs stored p tests span_shown IsSpan span shown (λ x. (span x).start) orders P ranges fits

@@ -1,5 +1,5 @@
 -- Queries of spans: a gateway's bookings in a band, and those near a start.
-use Rattle.std.proofs.Common.{◌≡◌, ◌==◌, ◌&&◌, ℕ, pos, List, [], ◌∷◌, map, codes, Vec, Bool, true, false, cond, not, Result, bytes_eq, refl, sym, ap, ap₂, ◌∙◌}
+use Rattle.std.proofs.Common.{◌≡◌, ◌==◌, ◌&&◌, ◌<◌, ◌^◌, ℕ, pos, List, [], ◌∷◌, map, codes, Vec, Bool, true, false, cond, not, Result, bytes_eq, refl, sym, ap, ap₂, ◌∙◌}
 use Rattle.std.proofs.Common.{arith, Less, Equal, Greater, int_cmp}
 use Rattle.std.specs.declared.alloc.Global.{Global}
 use Rattle.std.specs.Ordering.{is_gt, is_lt, ordering_then}
@@ -20,18 +20,20 @@ use Rattle.duty_core.specs.Range.{IsStart}
 use Rattle.duty_core.specs.Use.{Interval}
 use Rattle.radio_core.specs.declared.bands.Band.{Band}
 use Rattle.radio_core.specs.Bands.{band_number}
+use Rattle.registry_core.specs.declared.views.NearBooking.{NearBooking}
 use Rattle.registry_core.specs.Bookings.{is_dropped, stands_at, stands_in}
+use Rattle.registry_core.specs.Near.{near_shown}
 use Rattle.desk_rows.specs.Calls.{Reads}
 use Rattle.desk_rows.specs.Rows.{BookingRow, IsBooking, booking_cells, number}
-use Rattle.desk_rows.specs.order.Arranged.{booking_span, by_start, spans_by}
+use Rattle.desk_rows.specs.order.Arranged.{booking_span, by_start, is_near_at, near_by, spans_by}
 use Rattle.desk_rows.specs.steps.Queries.{FindsAll}
-use Rattle.desk_rows.specs.steps.Shown.{span_shown}
+use Rattle.desk_rows.specs.steps.Shown.{near_booking_shown, span_shown}
 use Rattle.desk_rows.specs.declared.faults.RowFault.{RowFault}
 use Rattle.desk_rows.proofs.ByKey.{undropped, stands}
 use Rattle.desk_rows.proofs.Lookups.{IsLookup, says_so}
 use Rattle.desk_rows.proofs.OrderLemmas.Orders.{not_both}
 use Rattle.desk_rows.proofs.Ordered.{rising}
-use Rattle.desk_rows.proofs.Ranges.{IsSpan, all_by, rows_alike, reads_spans}
+use Rattle.desk_rows.proofs.Ranges.{IsSpan, all_by, reads_by_start, rows_alike, reads_spans}
 use Rattle.desk_rows.proofs.ReadLemmas.{truth_again}
 use Rattle.desk_rows.proofs.Terms.{is, and_true, text_equal, number_equal}
 
@@ -105,74 +107,51 @@ int_below a b = truth_again _ ∙ ap is_lt (value_cmp-Int a b) ∙ lt_lt a b
 
 -- ---- near a start
 
-abbrev all_text : List ℕ
-all_text = codes "SELECT start, airtime FROM booking WHERE gateway = ?1 AND start > ?2 AND start < ?3 AND state <> 2 ORDER BY start, number"
+abbrev near_text : List ℕ
+near_text = codes "SELECT start, airtime, band FROM booking WHERE gateway = ?1 AND start > ?2 AND start < ?3 AND state <> 2 ORDER BY start, number"
 
-all_lookup : IsLookup all_text 3 (all_by (17 ∷ []) (is 3 0 ∷ above 7 1 ∷ below 7 2 ∷ undropped ∷ []) booking_project booking_order)
+abbrev near_project : List Term
+near_project = col 1 7 ∷ col 1 8 ∷ col 1 6 ∷ []
+
+near_lookup : IsLookup near_text 3 (all_by (17 ∷ []) (is 3 0 ∷ above 7 1 ∷ below 7 2 ∷ undropped ∷ []) near_project booking_order)
 unfolding understood everything
-all_lookup = record { names = _; compiled = _; means = refl; command = refl; plain = (refl, refl); whole = omega arith; given = refl; unlisted = refl }
+near_lookup = record { names = _; compiled = _; means = refl; command = refl; plain = (refl, refl); whole = omega arith; given = refl; unlisted = refl }
 
-abbrev one_text : List ℕ
-one_text = codes "SELECT start, airtime FROM booking WHERE gateway = ?1 AND start > ?2 AND start < ?3 AND band = ?4 AND state <> 2 ORDER BY start, number"
+near_moved : (g a b s : Bool) → (g && (a && (b && s))) ≡ ((g && s) && (a && b))
+near_moved false a b s = refl
+near_moved true false b true = refl
+near_moved true false b false = refl
+near_moved true true false true = refl
+near_moved true true false false = refl
+near_moved true true true true = refl
+near_moved true true true false = refl
 
-one_lookup : IsLookup one_text 4 (all_by (17 ∷ []) (is 3 0 ∷ above 7 1 ∷ below 7 2 ∷ is 6 3 ∷ undropped ∷ []) booking_project booking_order)
-unfolding understood everything
-one_lookup = record { names = _; compiled = _; means = refl; command = refl; plain = (refl, refl); whole = omega arith; given = refl; unlisted = refl }
-
-in_all : (g a b s : Bool) → (g && (a && (b && s))) ≡ ((g && s) && (a && b))
-in_all false a b s = refl
-in_all true false b true = refl
-in_all true false b false = refl
-in_all true true false true = refl
-in_all true true false false = refl
-in_all true true true true = refl
-in_all true true true false = refl
-
-in_one : (g a b n s : Bool) → (g && (a && (b && (n && s)))) ≡ (((g && s) && n) && (a && b))
-in_one g a b n s = in_all g a b (n && s) ∙ ap (λ t. t && (a && b)) (moved g n s)
+abbrev pub IsNearBooking : NearBooking → Type 0
+IsNearBooking near = IsStart near.span.start × (near.span.len < 2 ^ 32)
 
 module _ {old new : State} (gateway : List ℕ) (after before : ℤ) where
-  pub all_near : {result : Result (Vec Interval Global) RowFault} → FindsAll all_text (Text gateway ∷ Int after ∷ Int before ∷ []) old new
-      (λ s. s) span_shown IsSpan result
-      → Reads old new result (λ r spans. spans.items ≡ spans_by booking_span (by_start (λ (b : BookingRow). (booking_span b).start))
+  between : {result : Result (Vec NearBooking Global) RowFault} → FindsAll near_text (Text gateway ∷ Int after ∷ Int before ∷ []) old new
+      (λ n. n) near_booking_shown IsNearBooking result
+      → Reads old new result (λ r near. near.items ≡ near_by (by_start (λ (b : BookingRow). (booking_span b).start))
       (λ b. stands_at gateway b.booking && starts_between after before (booking_span b)) r.bookings)
-  all_near found = reads_spans all_lookup (Text gateway ∷ Int after ∷ Int before ∷ []) refl refl booking_cells (λ r. r.bookings) (λ r has. has.ten.booking)
+  between found = reads_by_start near_lookup (Text gateway ∷ Int after ∷ Int before ∷ []) refl refl booking_cells (λ r. r.bookings) (λ r has. has.ten.booking)
       (λ b. stands_at gateway b.booking && starts_between after before (booking_span b))
       (λ b. ap₂ (λ s t. s && t) (text_equal b.1.booking.gateway gateway) (ap₂ (λ s t. s && t) (int_above (booking_span b.1).start after)
       (ap₂ (λ s t. s && t) (int_below (booking_span b.1).start before) (and_true _ ∙ stands b.1.booking.standing)))
-      ∙ in_all (bytes_eq b.1.booking.gateway gateway) (int_lt after (booking_span b.1).start) (int_lt (booking_span b.1).start before)
+      ∙ near_moved (bytes_eq b.1.booking.gateway gateway) (int_lt after (booking_span b.1).start) (int_lt (booking_span b.1).start before)
       (not (is_dropped b.1.booking.standing)))
-      booking_span (λ b. refl)
+      near_booking_shown IsNearBooking (λ b. near_shown b.booking) (λ b. refl) (λ b. (booking_span b).start)
       (λ b c. ap₂ (λ u v. ordering_then u (ordering_then v Equal)) (value_cmp-Int (booking_span b.1).start (booking_span c.1).start)
       (value_cmp-Int (pos b.0) (pos c.0)))
       IsBooking (λ r has. has.ten.in_range.bookings) (λ b fits. (fits.start, fits.len)) found
 
-  pub one_near : (band : Band) {result : Result (Vec Interval Global) RowFault}
-      → FindsAll one_text (Text gateway ∷ Int after ∷ Int before ∷ number (band_number band) ∷ []) old new (λ s. s) span_shown IsSpan result
-      → Reads old new result (λ r spans. spans.items ≡ spans_by booking_span (by_start (λ (b : BookingRow). (booking_span b).start))
-      (λ b. stands_in gateway band b.booking && starts_between after before (booking_span b)) r.bookings)
-  one_near band found = reads_spans one_lookup (Text gateway ∷ Int after ∷ Int before ∷ number (band_number band) ∷ []) refl refl booking_cells
-      (λ r. r.bookings) (λ r has. has.ten.booking)
-      (λ b. stands_in gateway band b.booking && starts_between after before (booking_span b))
-      (λ b. ap₂ (λ s t. s && t) (text_equal b.1.booking.gateway gateway) (ap₂ (λ s t. s && t) (int_above (booking_span b.1).start after)
-      (ap₂ (λ s t. s && t) (int_below (booking_span b.1).start before)
-      (ap₂ (λ s t. s && t) (number_equal (band_number b.1.booking.band) (band_number band)) (and_true _ ∙ stands b.1.booking.standing))))
-      ∙ in_one (bytes_eq b.1.booking.gateway gateway) (int_lt after (booking_span b.1).start) (int_lt (booking_span b.1).start before)
-      (band_number b.1.booking.band == band_number band) (not (is_dropped b.1.booking.standing)))
-      booking_span (λ b. refl)
-      (λ b c. ap₂ (λ u v. ordering_then u (ordering_then v Equal)) (value_cmp-Int (booking_span b.1).start (booking_span c.1).start)
-      (value_cmp-Int (pos b.0) (pos c.0)))
-      IsBooking (λ r has. has.ten.in_range.bookings) (λ b fits. (fits.start, fits.len)) found
-
--- what lies between the two starts is what is near the one
-pub reads_near : {old new : State} (after before start : ℤ) → ((a : Interval) → IsStart a.start → is_near start a ≡ starts_between after before a) →
-    (test : BookingRow → Bool) {result : Result (Vec Interval Global) RowFault}
-    → Reads old new result (λ r spans. spans.items ≡ spans_by booking_span (by_start (λ (b : BookingRow). (booking_span b).start))
-    (λ b. test b && starts_between after before (booking_span b)) r.bookings)
-    → Reads old new result (λ r spans. spans.items ≡ spans_by booking_span (by_start (λ (b : BookingRow). (booking_span b).start))
-    (λ b. test b && is_near start (booking_span b)) r.bookings)
-reads_near after before start near test reads = says_so reads
-    (λ r has spans is. is ∙ ap (map (λ (row : ℕ × BookingRow). booking_span row.1))
-    (rows_alike (by_start (λ (b : BookingRow). (booking_span b).start)) IsBooking
-    (λ b. test b && starts_between after before (booking_span b)) (λ b. test b && is_near start (booking_span b))
-    (λ b fits. ap (λ t. test b && t) (sym (near (booking_span b) fits.start))) r.bookings has.ten.in_range.bookings))
+  -- what lies between the two starts is what is near the one
+  pub reads_near : (start : ℤ) → ((a : Interval) → IsStart a.start → is_near start a ≡ starts_between after before a)
+      → {result : Result (Vec NearBooking Global) RowFault} → FindsAll near_text (Text gateway ∷ Int after ∷ Int before ∷ []) old new
+      (λ n. n) near_booking_shown IsNearBooking result
+      → Reads old new result (λ r near. near.items ≡ near_by (by_start (λ (b : BookingRow). (booking_span b).start)) (is_near_at gateway start) r.bookings)
+  reads_near start near found = says_so (between found)
+      (λ r has shown is. is ∙ ap (map (λ (row : ℕ × BookingRow). near_shown row.1.booking))
+      (rows_alike (by_start (λ (b : BookingRow). (booking_span b).start)) IsBooking
+      (λ b. stands_at gateway b.booking && starts_between after before (booking_span b)) (is_near_at gateway start)
+      (λ b fits. ap (λ t. stands_at gateway b.booking && t) (sym (near (booking_span b) fits.start))) r.bookings has.ten.in_range.bookings))

@@ -1,21 +1,22 @@
 //! When uplinks and downlinks are on the air.
-ghost use Rattle.std.specs.Prelude.{◌≡◌, ◌&&◌, ◌<◌, ◌^◌, pos};
+ghost use Rattle.std.specs.Prelude.{◌≡◌, ◌<◌, ◌^◌, pos};
 ghost use Rattle.sqlite.specs.Held.{state};
-ghost use Rattle.duty_core.specs.Near.{starts_between};
 ghost use Rattle.duty_core.specs.Range.{IsStart};
 ghost use Rattle.duty_core.specs.Use.{Interval};
-ghost use Rattle.registry_core.specs.Bookings.{stands_at, stands_in};
+ghost use Rattle.registry_core.specs.declared.views.NearBooking.{NearBooking};
+ghost use Rattle.registry_core.specs.Bookings.{stands_in};
 ghost use Rattle.registry_core.specs.Reports.{interval_of};
 ghost use Rattle.desk_rows.specs.Calls.{Reads};
-ghost use Rattle.desk_rows.specs.order.Arranged.{booking_span, by_start, is_near_at, is_uplink_of, spans_by};
-ghost use Rattle.desk_rows.specs.steps.Shown.{span_shown};
+ghost use Rattle.desk_rows.specs.order.Arranged.{booking_span, by_start, is_near_at, is_uplink_of, near_by, spans_by};
+ghost use Rattle.desk_rows.specs.steps.Shown.{near_booking_shown, span_shown};
 
-use crate::columns::span_at;
+use crate::columns::{band_at, span_at};
 use crate::faults::RowFault;
 use crate::queries::{FromRow, find_all};
 use crate::values::{band, blob, integer, octets_of, text};
-use duty_core::{NearRange, Span, near_range};
+use duty_core::{Span, near_range};
 use radio_core::{Band, Eui, Name};
+use registry_core::NearBooking;
 use sqlite::{Alter, Connection, Row};
 use std::alloc::Global;
 
@@ -30,6 +31,22 @@ impl FromRow for Span {
 
     fn from_row(row: &Row) -> Result<Span, RowFault> {
         span_at(row, 0)
+    }
+}
+
+impl FromRow for NearBooking {
+    ghost Seen = { NearBooking };
+
+    ghost seen = { λ near. near };
+
+    ghost shows = { near_booking_shown };
+
+    ghost InRange = { λ near. IsStart near.span.start × (near.span.len < 2 ^ 32) };
+
+    fn from_row(row: &Row) -> Result<NearBooking, RowFault> {
+        let span = span_at(row, 0)?;
+        let band = band_at(row, 2)?;
+        Ok(NearBooking { band, span })
     }
 }
 
@@ -52,63 +69,24 @@ pub fn bookings_of<S: Alter>(
     )
 }
 
-fn near_in_all<S: Alter>(
-    alloc: Global,
-    conn: &mut Connection<S>,
-    gateway: &Name,
-    range: NearRange,
-) -> Result<Vec<Span>, RowFault>
-    ensures { Reads (state S.Store conn.old) (state S.Store conn.new) result (λ r spans. spans.items ≡ spans_by booking_span (by_start (λ b. (booking_span b).start))
-        (λ b. stands_at gateway.now b.booking && starts_between range.after range.before (booking_span b)) r.bookings) }
-{
-    find_all(
-        alloc,
-        conn,
-        "SELECT start, airtime FROM booking WHERE gateway = ?1 AND start > ?2 AND start < ?3 AND state <> 2 ORDER BY start, number",
-        &[text(gateway), integer(range.after), integer(range.before)],
-    )
-}
-
-fn near_in_one<S: Alter>(
-    alloc: Global,
-    conn: &mut Connection<S>,
-    gateway: &Name,
-    of: Band,
-    range: NearRange,
-) -> Result<Vec<Span>, RowFault>
-    ensures { Reads (state S.Store conn.old) (state S.Store conn.new) result (λ r spans. spans.items ≡ spans_by booking_span (by_start (λ b. (booking_span b).start))
-        (λ b. stands_in gateway.now of b.booking && starts_between range.after range.before (booking_span b)) r.bookings) }
-{
-    find_all(
-        alloc,
-        conn,
-        "SELECT start, airtime FROM booking WHERE gateway = ?1 AND start > ?2 AND start < ?3 AND band = ?4 AND state <> 2 ORDER BY start, number",
-        &[
-            text(gateway),
-            integer(range.after),
-            integer(range.before),
-            band(of),
-        ],
-    )
-}
-
-/// When the gateway's bookings that aren't dropped and start near the given start, in microseconds since 1970 UTC, are on the air,
-/// of one band or of all, in order of start: equal starts in order of number.
+/// The gateway's bookings that aren't dropped and start near the given start, in microseconds since 1970 UTC, in order of start:
+/// equal starts in order of number.
 pub fn near<S: Alter>(
     alloc: Global,
     conn: &mut Connection<S>,
     gateway: &Name,
-    of: Option<Band>,
     start: u64,
-) -> Result<Vec<Span>, RowFault>
+) -> Result<Vec<NearBooking>, RowFault>
     ensures { Reads (state S.Store conn.old) (state S.Store conn.new) result
-        (λ r spans. spans.items ≡ spans_by booking_span (by_start (λ b. (booking_span b).start)) (is_near_at gateway.now of (pos start)) r.bookings) }
+        (λ r near. near.items ≡ near_by (by_start (λ b. (booking_span b).start)) (is_near_at gateway.now (pos start)) r.bookings) }
 {
     let range = near_range(i128::from(start));
-    match of {
-        Some(of) => near_in_one(alloc, conn, gateway, of, range),
-        None => near_in_all(alloc, conn, gateway, range),
-    }
+    find_all(
+        alloc,
+        conn,
+        "SELECT start, airtime, band FROM booking WHERE gateway = ?1 AND start > ?2 AND start < ?3 AND state <> 2 ORDER BY start, number",
+        &[text(gateway), integer(range.after), integer(range.before)],
+    )
 }
 
 /// When the device's uplinks in the band were on the air that start from the one time on and before the other, in microseconds

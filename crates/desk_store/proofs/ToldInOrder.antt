@@ -63,7 +63,7 @@ pub shown_of_numbered : {X Y : Type 0} (f : X → Option Y) (first : ℕ) (xs : 
 shown_of_numbered f first [] = refl
 shown_of_numbered f first (x ∷ xs) = ap (cons_option (f x)) (shown_of_numbered f (first + 1) xs)
 
--- ---- items that pass a test, each shown as when it is on the air
+-- ---- items that pass a test, each shown as something with its start
 
 module _ {X : Type 0} (start : X → ℤ) where
   abbrev pub start_of : ℕ × X → ℤ
@@ -79,25 +79,26 @@ module _ {X : Type 0} (start : X → ℤ) where
   pub places_are : (owns : X → Bool) (xs : List X) → places_that start owns xs ≡ filter_map (place_of start owns) (in_order start_of (numbered_from 1 xs))
   places_are owns xs = sym (in_order_shown start_of (λ (p : Place). p.start) (place_of start owns) (place_start owns) (numbered_from 1 xs))
 
-  module _ (owns : X → Bool) (shown : X → Option Interval) (starts : (x : X) (a : Interval) → shown x ≡ Some a → a.start ≡ start x) (test : ℤ → Bool) where
-    -- when the item is on the air, if it is one of those and passes by its start
-    abbrev pub span_if : X → Option Interval
-    span_if x = cond (owns x) (cond (test (start x)) (shown x) None) None
+  module _ (owns : X → Bool) {Y : Type 0} (shown_start : Y → ℤ) (shown : X → Option Y) (starts : (x : X) (y : Y) → shown x ≡ Some y → shown_start y ≡ start x)
+      (test : ℤ → Bool) where
+    -- what is shown of the item, if it is one of those and passes by its start
+    abbrev pub shown_if : X → Option Y
+    shown_if x = cond (owns x) (cond (test (start x)) (shown x) None) None
 
-    span_start : (n : ℕ × X) (a : Interval) → span_if n.1 ≡ Some a → a.start ≡ start_of n
-    span_start n a is = by (owns n.1) (test (start n.1)) is
+    shown_if_start : (n : ℕ × X) (a : Y) → shown_if n.1 ≡ Some a → shown_start a ≡ start_of n
+    shown_if_start n a is = by (owns n.1) (test (start n.1)) is
       where
-        by : (own passes : Bool) → cond own (cond passes (shown n.1) None) None ≡ Some a → a.start ≡ start_of n
+        by : (own passes : Bool) → cond own (cond passes (shown n.1) None) None ≡ Some a → shown_start a ≡ start_of n
         by true true told = starts n.1 a told
         by true false told = let no : ⊥ = cc in absurd no
         by false passes told = let no : ⊥ = cc in absurd no
 
     module _ (xs : List X) where
-      abbrev told : Place → Option Interval
+      abbrev told : Place → Option Y
       told place = option_and_then shown (item_at xs place.number)
 
       -- what is told at the places that pass
-      abbrev told_at : Place → Option Interval
+      abbrev told_at : Place → Option Y
       told_at place = option_and_then told (passing (λ (p : Place). test p.start) place)
 
       told_by : (n : ℕ × X) (own passes : Bool) → item_at xs n.0 ≡ Some n.1
@@ -107,27 +108,27 @@ module _ {X : Type 0} (start : X → ℤ) where
       told_by n true false found = refl
       told_by n false passes found = refl
 
-      told_is : (n : ℕ × X) → item_at xs n.0 ≡ Some n.1 → option_and_then told_at (place_of start owns n) ≡ span_if n.1
+      told_is : (n : ℕ × X) → item_at xs n.0 ≡ Some n.1 → option_and_then told_at (place_of start owns n) ≡ shown_if n.1
       told_is n found = by (owns n.1)
         where
           by : (own : Bool) → option_and_then told_at (cond own (Some (record { start = start n.1; number = n.0 })) None) ≡ cond own (cond (test (start n.1)) (shown n.1) None) None
           by true = told_by n true (test (start n.1)) found
           by false = refl
 
-      all_in_order : AllByRecursion (λ (n : ℕ × X). option_and_then told_at (place_of start owns n) ≡ span_if n.1) (in_order start_of (numbered_from 1 xs))
+      all_in_order : AllByRecursion (λ (n : ℕ × X). option_and_then told_at (place_of start owns n) ≡ shown_if n.1) (in_order start_of (numbered_from 1 xs))
       all_in_order = all_weaker (λ (n : ℕ × X). item_at xs n.0 ≡ Some n.1) _ told_is (in_order start_of (numbered_from 1 xs))
           (recursion_from_All _ _ (All-permutation (λ (n : ℕ × X). item_at xs n.0 ≡ Some n.1) (numbered_from 1 xs) (in_order start_of (numbered_from 1 xs))
           (in_order_permutation start_of (numbered_from 1 xs)) (All-from_recursion _ _ (numbered_found xs))))
 
-      pub told_in_order : filter_map told (filter (λ (p : Place). test p.start) (places_that start owns xs)) ≡ in_order (λ (a : Interval). a.start) (filter_map span_if xs)
+      pub told_in_order : filter_map told (filter (λ (p : Place). test p.start) (places_that start owns xs)) ≡ in_order shown_start (filter_map shown_if xs)
       told_in_order =
           ap (λ places. filter_map told (filter (λ (p : Place). test p.start) places)) (places_are owns xs)
           ∙ ap (filter_map told) (filter_kept (λ (p : Place). test p.start) (filter_map (place_of start owns) (in_order start_of (numbered_from 1 xs))))
           ∙ shown_twice (passing (λ (p : Place). test p.start)) told (filter_map (place_of start owns) (in_order start_of (numbered_from 1 xs)))
           ∙ shown_twice (place_of start owns) told_at (in_order start_of (numbered_from 1 xs))
-          ∙ shown_same _ (λ (n : ℕ × X). span_if n.1) (in_order start_of (numbered_from 1 xs)) all_in_order
-          ∙ in_order_shown start_of (λ (a : Interval). a.start) (λ (n : ℕ × X). span_if n.1) span_start (numbered_from 1 xs)
-          ∙ ap (in_order (λ (a : Interval). a.start)) (shown_of_numbered span_if 1 xs)
+          ∙ shown_same _ (λ (n : ℕ × X). shown_if n.1) (in_order start_of (numbered_from 1 xs)) all_in_order
+          ∙ in_order_shown start_of shown_start (λ (n : ℕ × X). shown_if n.1) shown_if_start (numbered_from 1 xs)
+          ∙ ap (in_order shown_start) (shown_of_numbered shown_if 1 xs)
 
 pub by_start_from : (xs spans : List Interval) → spans ≡ in_order (λ (a : Interval). a.start) xs → IsByStart xs spans
 by_start_from xs spans is = let P : List Interval → Type 0 = IsByStart xs in subst P (sym is) (by_start xs)

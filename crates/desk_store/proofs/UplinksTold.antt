@@ -20,7 +20,7 @@ use Rattle.desk_store.specs.steps.StartIndex.{is_place_in, numbered_from, place_
 use Rattle.desk_store.specs.steps.UplinkPlaces.{is_sent_from, key_of, places_from, uplink_places, uplink_span_at}
 use Rattle.desk_store.specs.steps.Uplinks.{same_numbers}
 use Rattle.desk_store.proofs.ByKey.{in_order_permutation, in_order_shown}
-use Rattle.desk_store.proofs.ToldInOrder.{all_kept, by_start_from, filter_kept, passing, shown_twice, span_if, told_in_order}
+use Rattle.desk_store.proofs.ToldInOrder.{all_kept, by_start_from, filter_kept, passing, shown_if, shown_twice, told_in_order}
 use Rattle.desk_store.proofs.DeviceSessions.{later_all, later_none, later_step}
 
 -- pairs that are equal are one
@@ -182,7 +182,7 @@ module _ (uplinks : List Uplink) (sessions : List Session) (dev_eui : ℕ) (band
   own_start uplink a is = let same : interval_of uplink ≡ a = cc in sym (ap (λ (i : Interval). i.start) same)
 
   abbrev span_sent : Uplink → Option Interval
-  span_sent = span_if started (is_sent_from sessions dev_eui band from to) own_span own_start (λ s. true)
+  span_sent = shown_if started (is_sent_from sessions dev_eui band from to) (λ (a : Interval). a.start) own_span own_start (λ s. true)
 
   sent_by : (u : Uplink) (rest : List Uplink) (b c : Bool) → is_in_band band u ≡ c
       → cons_option (cond (b && c) (Some (interval_of u)) None) (in_band band (filter (is_uplink_from sessions dev_eui from to) rest))
@@ -200,5 +200,5 @@ module _ (uplinks : List Uplink) (sessions : List Session) (dev_eui : ℕ) (band
   uplinks_listed spans is =
       by_start_from (in_band band (uplinks_from uplinks sessions dev_eui from to)) spans
       (is ∙ ap (filter_map (uplink_span_at uplinks)) (sym (all_kept (places_from uplinks sessions dev_eui band from to)))
-      ∙ told_in_order started (is_sent_from sessions dev_eui band from to) own_span own_start (λ s. true) uplinks
+      ∙ told_in_order started (is_sent_from sessions dev_eui band from to) (λ (a : Interval). a.start) own_span own_start (λ s. true) uplinks
       ∙ ap (in_order (λ (a : Interval). a.start)) (spans_sent uplinks))

@@ -1,16 +1,19 @@
 //! When a gateway is on the air, and what its band's limit is, as far as a message asks.
-ghost use Rattle.std.specs.Prelude.{◌≡◌, option_and_then};
+ghost use Rattle.std.specs.Prelude.{◌≡◌, [], map, option_and_then, IfOk, Some};
+ghost use Rattle.std.specs.Option.{option_map_or};
+ghost use Rattle.registry_core.specs.Bookings.{limit_standing};
 ghost use Rattle.registry_core.specs.Settings.{Settings};
 ghost use Rattle.registry_core.specs.Viewed.{uplink_for};
-ghost use Rattle.desk_store.specs.steps.Downlinks.{IsAirAfter, window_seen};
+ghost use Rattle.desk_store.specs.steps.Downlinks.{IsAirAfter, span_in, spans_in, window_seen};
 ghost use Rattle.desk_store.specs.Calls.{IsRead, Tells, fault_in};
 ghost use Rattle.desk_store.specs.steps.Parts.{IsAirView};
 
 use crate::faults::StoreFault;
 use crate::looks::Looks;
 use duty_core::Span;
-use radio_core::{Name, Rate, band_of};
-use registry_core::{Message, UplinkView, Window, receive};
+use radio_core::{Band, Name, Rate, band_of};
+use registry_core::{Message, NearBooking, UplinkView, Window, receive};
+use std::alloc::{AllocError, Global};
 
 /// What the facts hold of a gateway's time on air, for a message that books a downlink or sets a limit. What the message
 /// doesn't ask for is 0 or empty.
@@ -61,28 +64,82 @@ fn air_after<K: Looks>(
     ensures told { Tells K.meaning keeper.old keeper.new result (λ kept air. IsAirAfter kept.facts gateway.now opens air) }
 {
     let alloc = keeper.alloc();
-    let Some((start, rate)) = opens else {
-        return Ok(AirView {
+    match opens {
+        Some((start, rate)) => air_near(keeper, gateway, start, rate),
+        None => Ok(AirView {
             limit: 0,
             near: Vec::new(alloc),
             in_band: Vec::new(alloc),
-        });
-    };
-    let near = keeper.near(gateway, None, start)?;
-    let Some(band) = band_of(rate.freq, rate.dr) else {
-        return Ok(AirView {
-            limit: 0,
-            near,
-            in_band: Vec::new(alloc),
-        });
-    };
-    let limit = keeper.limit_of(gateway, band)?;
-    let in_band = keeper.near(gateway, Some(band), start)?;
+        }),
+    }
+}
+
+/// For a downlink at the gateway that starts then, in microseconds, and is sent so.
+fn air_near<K: Looks>(
+    keeper: &mut K,
+    gateway: &Name,
+    start: u64,
+    rate: Rate,
+) -> Result<AirView, StoreFault>
+    ensures read { IsRead K.meaning keeper.old keeper.new (fault_in result) }
+    ensures told { Tells K.meaning keeper.old keeper.new result (λ kept air. IsAirAfter kept.facts gateway.now (Some (start, rate)) air) }
+{
+    let alloc = keeper.alloc();
+    let near = keeper.near(gateway, start)?;
+    let band = band_of(rate.freq, rate.dr);
+    let limit = limit_of(keeper, gateway, band)?;
     Ok(AirView {
         limit,
-        near,
-        in_band,
+        near: spans_of(alloc, &near)?,
+        in_band: spans_in(alloc, &near, band)?,
     })
+}
+
+/// The limit of the gateway's band, if there is one.
+fn limit_of<K: Looks>(keeper: &mut K, gateway: &Name, band: Option<Band>) -> Result<u64, StoreFault>
+    ensures read { IsRead K.meaning keeper.old keeper.new (fault_in result) }
+    ensures told { Tells K.meaning keeper.old keeper.new result (λ kept limit. limit ≡ option_map_or (limit_standing kept.facts gateway.now) band 0) }
+{
+    match band {
+        Some(band) => keeper.limit_of(gateway, band),
+        None => Ok(0),
+    }
+}
+
+/// When the bookings are on the air, in the same order.
+fn spans_of(alloc: Global, near: &[NearBooking]) -> Result<Vec<Span>, AllocError>
+    ensures { IfOk result (λ spans. spans.items ≡ map (λ booking. booking.span) near.now) }
+{
+    near.iter().map(|booking| booking.span).collect(alloc)
+}
+
+/// When those of the bookings that are in the band are on the air, in the same order.
+fn spans_in(
+    alloc: Global,
+    near: &[NearBooking],
+    band: Option<Band>,
+) -> Result<Vec<Span>, AllocError>
+    ensures { IfOk result (λ spans. spans.items ≡ option_map_or (λ band. spans_in band near.now) band []) }
+{
+    match band {
+        Some(band) => spans_in_band(alloc, near, band),
+        None => Ok(Vec::new(alloc)),
+    }
+}
+
+fn spans_in_band(alloc: Global, near: &[NearBooking], band: Band) -> Result<Vec<Span>, AllocError>
+    ensures { IfOk result (λ spans. spans.items ≡ spans_in band near.now) }
+{
+    near.iter()
+        .filter_map(|booking| span_in(booking, band))
+        .collect(alloc)
+}
+
+/// When the booking is on the air, if it is in the band.
+fn span_in(booking: &NearBooking, band: Band) -> Option<Span>
+    ensures { result ≡ span_in band booking.now }
+{
+    (booking.band == band).then_some(booking.span)
 }
 
 /// Where the window opens after the uplink's copy at the gateway, and how a downlink in it is sent.

@@ -1,20 +1,20 @@
 //! The bookings in order; those of one gateway are found in order of start, without looking through the others.
-ghost use Rattle.std.specs.Prelude.{◌≡◌, ◌^◌, ◌<◌, [], ◌∷◌, ◌++◌, length, count_by, IfOk, OnOk, OnErr};
+ghost use Rattle.std.specs.Prelude.{◌≡◌, ◌^◌, ◌<◌, [], ◌∷◌, ◌++◌, length, count_by, pos, not, IfOk, OnOk, OnErr};
 ghost use Rattle.std.specs.List.{filter_map};
 ghost use Rattle.duty_core.specs.InOrder.{IsByStart};
-ghost use Rattle.registry_core.specs.Bookings.{downlinks_in, is_answered};
+ghost use Rattle.registry_core.specs.Bookings.{downlinks_in, is_answered, is_dropped};
+ghost use Rattle.registry_core.specs.Near.{AreByStart, bookings_near};
 ghost use Rattle.registry_core.specs.Numbered.{item_at, item_changed};
 ghost use Rattle.registry_core.specs.State.{ended};
 ghost use Rattle.desk_store.specs.steps.Answers.{is_naming};
-ghost use Rattle.desk_store.specs.steps.BookingPlaces.{is_on_air, booking_span_at};
-ghost use Rattle.desk_store.specs.Lookups.{downlinks_near};
+ghost use Rattle.desk_store.specs.steps.BookingPlaces.{booking_span_at, near_booking_at};
 
 use crate::answers::Answers;
 use crate::lookups::item_at;
 use crate::start_index::{Place, StartIndex, places_near};
 use duty_core::Span;
 use radio_core::{Band, Name};
-use registry_core::{Booking, Standing};
+use registry_core::{Booking, NearBooking, Standing};
 use std::alloc::{AllocError, Global};
 use std::marker::Model;
 
@@ -109,22 +109,19 @@ impl Bookings {
         self.answers.standing.at(uplink) > 0
     }
 
-    /// When the gateway's bookings that aren't dropped and begin near the start are on the air, in order of start: those in the
-    /// band, or in all bands.
+    /// The gateway's bookings that aren't dropped and begin near the start, in order of start.
     pub(crate) fn near(
         &self,
         alloc: Global,
         gateway: &Name,
-        band: Option<Band>,
         start: u64,
-    ) -> Result<Vec<Span>, AllocError>
-        ensures { IfOk result (λ spans. IsByStart (downlinks_near self.now gateway.now band start) spans.items) }
+    ) -> Result<Vec<NearBooking>, AllocError>
+        ensures { IfOk result (λ near. AreByStart (bookings_near self.now gateway.now (pos start)) near.items) }
     {
-        spans_at(
+        near_at(
             alloc,
             &self.items,
             places_near(self.starts.places(gateway), start),
-            band,
         )
     }
 
@@ -137,7 +134,7 @@ impl Bookings {
     ) -> Result<Vec<Span>, AllocError>
         ensures { IfOk result (λ spans. IsByStart (downlinks_in self.now gateway.now band) spans.items) }
     {
-        spans_at(alloc, &self.items, self.starts.places(gateway), Some(band))
+        spans_at(alloc, &self.items, self.starts.places(gateway), band)
     }
 }
 
@@ -164,36 +161,57 @@ fn end_in(bookings: &mut [Booking], number: u64, sent: bool)
     }
 }
 
-/// The booking isn't dropped, and is in the band if one is given.
-fn is_on_air(booking: &Booking, band: Option<Band>) -> bool
-    ensures { result ≡ is_on_air band booking.now }
+/// The booking isn't dropped.
+fn is_on_air(booking: &Booking) -> bool
+    ensures { result ≡ not (is_dropped booking.now.standing) }
 {
-    booking.standing != Standing::Dropped && band.is_none_or(|band| booking.band == band)
+    booking.standing != Standing::Dropped
 }
 
-/// When the booking that stands there is on the air, if it isn't dropped, and is in the band if one is given.
-fn booking_span_at(bookings: &[Booking], place: &Place, band: Option<Band>) -> Option<Span>
+/// The band of the booking that stands there and when it is on the air, if it isn't dropped.
+fn near_booking_at(bookings: &[Booking], place: &Place) -> Option<NearBooking>
+    ensures { result ≡ near_booking_at bookings.now place.now }
+{
+    let booking = item_at(bookings, place.number)?;
+    is_on_air(&booking).then_some(NearBooking {
+        band: booking.band,
+        span: booking.span,
+    })
+}
+
+/// The bookings that stand there and aren't dropped, in the places' order.
+fn near_at(
+    alloc: Global,
+    bookings: &[Booking],
+    places: &[Place],
+) -> Result<Vec<NearBooking>, AllocError>
+    ensures { IfOk result (λ near. near.items ≡ filter_map (near_booking_at bookings.now) places.now) }
+{
+    places
+        .iter()
+        .filter_map(|place| near_booking_at(bookings, place))
+        .collect(alloc)
+}
+
+/// When the booking that stands there is on the air, if it isn't dropped and is in the band.
+fn booking_span_at(bookings: &[Booking], place: &Place, band: Band) -> Option<Span>
     ensures { result ≡ booking_span_at bookings.now band place.now }
 {
     let booking = item_at(bookings, place.number)?;
-    is_on_air(&booking, band).then_some(booking.span)
+    (is_on_air(&booking) && booking.band == band).then_some(booking.span)
 }
 
-/// When the bookings that stand there are on the air, in the places' order: those that aren't dropped, in the band if one is
-/// given.
+/// When the bookings that stand there are on the air, in the places' order: those in the band that aren't dropped.
 fn spans_at(
     alloc: Global,
     bookings: &[Booking],
     places: &[Place],
-    band: Option<Band>,
+    band: Band,
 ) -> Result<Vec<Span>, AllocError>
     ensures { IfOk result (λ spans. spans.items ≡ filter_map (booking_span_at bookings.now band) places.now) }
 {
-    let mut spans = Vec::new(alloc);
-    for place in places {
-        if let Some(span) = booking_span_at(bookings, place, band) {
-            spans.push(span)?;
-        }
-    }
-    Ok(spans)
+    places
+        .iter()
+        .filter_map(|place| booking_span_at(bookings, place, band))
+        .collect(alloc)
 }

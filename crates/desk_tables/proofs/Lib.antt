@@ -15,6 +15,5 @@ pub mod OpeningLemmas
 pub mod Reading
 pub mod RefusedCommits
 pub mod ShapeLemmas
-pub mod SpanLookUps
 pub mod Telling
 pub mod WholeLemmas

@@ -12,7 +12,9 @@ use desk_rows::{gateway_is_known, owner_is_known};
 use desk_store::{Counts, Looks, StoreFault, Texts};
 use duty_core::Span;
 use radio_core::{Band, Eui, Name};
-use registry_core::{Booking, Config, Device, Envelope, Reception, Role, Session, Uplink};
+use registry_core::{
+    Booking, Config, Device, Envelope, NearBooking, Reception, Role, Session, Uplink,
+};
 use sqlite::Alter;
 use std::alloc::Global;
 
@@ -160,18 +162,13 @@ impl<S: Alter> Looks for Tables<S> {
         self.tell(answer)
     }
 
-    fn near(
-        &mut self,
-        gateway: &Name,
-        band: Option<Band>,
-        start: u64,
-    ) -> Result<Vec<Span>, StoreFault> {
+    fn near(&mut self, gateway: &Name, start: u64) -> Result<Vec<NearBooking>, StoreFault> {
         if self.down {
             return Err(StoreFault::Disk);
         }
         arranged_rows_tell();
         orders_hold();
-        let answer = desk_rows::near(self.alloc, &mut self.conn, gateway, band, start);
+        let answer = desk_rows::near(self.alloc, &mut self.conn, gateway, start);
         self.tell(answer)
     }
 

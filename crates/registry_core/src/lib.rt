@@ -30,6 +30,6 @@ pub use facts::{Booking, Device, Kind, Reception, Session, Standing, Uplink};
 pub use frames::{DataFrame, JoinRequest, data_up, join_request};
 pub use limits::BandLimit;
 pub use messages::{Envelope, JoinVerdict, MOST_HEARD, Message, Report, Role};
-pub use views::{SessionView, UplinkView, View};
+pub use views::{NearBooking, SessionView, UplinkView, View};
 pub use wholes::{GREATEST_WHOLE, Whole};
 pub use windows::{Window, receive};

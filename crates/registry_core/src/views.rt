@@ -2,7 +2,7 @@
 use crate::facts::{Device, Reception, Standing, Uplink};
 use crate::messages::Role;
 use duty_core::Span;
-use radio_core::Eui;
+use radio_core::{Band, Eui};
 
 /// What the registry holds for one message. The sender's role, the block and the three counts are there for each message; of the
 /// rest what it doesn't ask for is false, 0, absent or empty.
@@ -69,4 +69,11 @@ pub struct UplinkView {
     pub uplink: Uplink,
     /// Its copy at the gateway that the message names.
     pub at_gateway: Option<Reception>,
+}
+
+/// A downlink of a gateway: its band, and when it is on the air.
+#[derive(Clone, Copy)]
+pub struct NearBooking {
+    pub band: Band,
+    pub span: Span,
 }

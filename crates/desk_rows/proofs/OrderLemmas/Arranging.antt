@@ -6,38 +6,29 @@ use Rattle.std.specs.Option.{option_map_or}
 use Rattle.std.specs.Ordering.{is_gt}
 use Rattle.std.proofs.lemmas.Bool.{and_from, and_parts, eq-eqb, eqb-true}
 use Rattle.radio_core.specs.declared.bands.Band.{Band}
-use Rattle.duty_core.specs.Near.{is_near, near_ones}
 use Rattle.registry_core.specs.declared.facts.Booking.{Booking}
 use Rattle.registry_core.specs.declared.facts.Device.{Device}
 use Rattle.registry_core.specs.declared.facts.Uplink.{Uplink}
 use Rattle.registry_core.specs.Bookings.{stands_in}
 use Rattle.registry_core.specs.Derived.{is_of_device, is_session_of}
+use Rattle.registry_core.specs.Near.{near_shown, stands_near}
 use Rattle.registry_core.specs.Numbered.{item_at}
 use Rattle.registry_core.specs.Ranges.{IsEui}
 use Rattle.registry_core.specs.Reports.{IsNextDevice, in_band, interval_of, is_after, is_in_band, is_owned, is_uplink_from, uplinks_from}
 use Rattle.sqlite_keyed.specs.Lists.{insert_sorted, sort_by}
 use Rattle.desk_rows.specs.Rows.{Rows, BookingRow, DeviceRow, SessionRow, is_device}
-use Rattle.desk_rows.specs.order.Arranged.{ArrangedRowsTell, ListsTell, RisesByEui, booking_span, is_next_of, is_uplink_of}
-use Rattle.desk_rows.specs.order.Facts.{bookings_in, facts_in, sessions_in}
+use Rattle.desk_rows.specs.order.Arranged.{ArrangedRowsTell, ListsTell, RisesByEui, booking_span, is_near_at, is_next_of, is_uplink_of}
+use Rattle.desk_rows.specs.order.Facts.{facts_in, sessions_in}
 use Rattle.desk_rows.specs.order.LookUps.{first_by, is_row_of_device, zip_from}
-use Rattle.desk_rows.proofs.OrderLemmas.Counting.{filter-map, filter_alike, filter_twice}
+use Rattle.desk_rows.proofs.OrderLemmas.Counting.{filter_alike, filter_twice}
 use Rattle.desk_rows.proofs.OrderLemmas.Each.{all_both, all_found, all_kept, all_map, all_shown, all_so, all_were}
 use Rattle.desk_rows.proofs.OrderLemmas.Finding.{found_passes}
 use Rattle.desk_rows.proofs.Ordered.{every}
 use Rattle.desk_rows.proofs.OrderLemmas.Looking.{filter_shown, zipped_shown}
 use Rattle.desk_rows.proofs.OrderLemmas.Numbering.{item_at-map}
-use Rattle.desk_rows.proofs.OrderLemmas.Sorting.{all_sorted, spans_in_order}
+use Rattle.desk_rows.proofs.OrderLemmas.Sorting.{all_sorted, near_in_order, spans_in_order}
 
 -- ---- in order of start
-
--- those near a start, of those that pass a test
-near_shown : (test : Booking → Bool) (start : ℤ) (rows : List BookingRow)
-    → map booking_span (filter (λ b. test b.booking && is_near start (booking_span b)) rows)
-    ≡ near_ones start (map (λ (b : Booking). b.span) (filter test (bookings_in rows)))
-near_shown test start rows =
-    filter_shown (λ (b : BookingRow). b.booking) (λ (b : Booking). b.span) (λ b. test b && is_near start b.span) rows
-    ∙ ap (map (λ (b : Booking). b.span)) (sym (filter_twice test (λ (b : Booking). is_near start b.span) (bookings_in rows)))
-    ∙ sym (filter-map (λ (b : Booking). b.span) (is_near start) (filter test (bookings_in rows)))
 
 own_by : (dev_eui : ℕ) (found : Option SessionRow)
     → option_map_or (is_row_of_device dev_eui) found false ≡ option_map_or (is_session_of dev_eui) (option_map (λ (s : SessionRow). s.session) found) false
@@ -200,8 +191,8 @@ module _ (r : Rows) (apart : IsDistinct nat_eq (map (λ (d : DeviceRow). d.dev_e
 
 pub arranged_rows_tell : ArrangedRowsTell
 arranged_rows_tell c facts r are = subst (λ s. ListsTell s r) (sym are.is) (record {
-  near = λ test start order puts. spans_in_order booking_span order puts (λ b. test b.booking && is_near start (booking_span b)) r.bookings _
-      (near_shown test start r.bookings);
+  near = λ gateway start order puts. near_in_order (λ (b : BookingRow). near_shown b.booking) order puts (is_near_at gateway start) r.bookings _
+      (filter_shown (λ (b : BookingRow). b.booking) near_shown (stands_near gateway start) r.bookings);
   bookings = λ gateway band order puts. spans_in_order booking_span order puts (λ b. stands_in gateway band b.booking) r.bookings _
       (filter_shown (λ (b : BookingRow). b.booking) (λ (b : Booking). b.span) (stands_in gateway band) r.bookings);
   uplinks = λ dev_eui band from to order puts. spans_in_order interval_of order puts (is_uplink_of r.sessions dev_eui band from to) r.uplinks _

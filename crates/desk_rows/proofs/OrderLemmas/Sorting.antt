@@ -8,9 +8,11 @@ use Rattle.std.proofs.lemmas.Int.{ints}
 use Rattle.std.proofs.lemmas.List.Sorted.{IsPermutation-refl, IsPermutation-cons, IsPermutation-map, IsPermutation-middle, IsPermutation-sym, IsPermutation-trans}
 use Rattle.duty_core.specs.InOrder.{IsByStart, StartsAscend}
 use Rattle.duty_core.specs.Use.{Interval}
+use Rattle.registry_core.specs.declared.views.NearBooking.{NearBooking}
+use Rattle.registry_core.specs.Near.{AreByStart}
 use Rattle.sqlite_keyed.specs.Lists.{insert_sorted, sort_by}
 use Rattle.desk_rows.specs.order.Arranged.{PutsByStart, spans_by}
-use Rattle.desk_rows.specs.order.LookUps.{zip_from}
+use Rattle.desk_rows.specs.order.LookUps.{rows_by, zip_from}
 use Rattle.desk_rows.proofs.OrderLemmas.Each.{all_so}
 use Rattle.desk_rows.proofs.OrderLemmas.Looking.{zipped_shown}
 use Rattle.desk_rows.proofs.OrderLemmas.Orders.{not_both}
@@ -181,3 +183,38 @@ module _ {X : Type 0} (span : X → Interval) (order : ℕ × X → ℕ × X →
     spans_in_order xs spans is =
         subst (λ l. IsByStart l (spans_by span order test xs)) (zipped_shown span test 1 xs
         ∙ is) (by_start (filter (λ b. test b.1) (zip_from 1 xs)) (rise_zipped 1 xs))
+
+-- ---- near bookings
+
+module _ {X : Type 0} (shown : X → NearBooking) (order : ℕ × X → ℕ × X → Ordering) (puts : PutsByStart (λ x. (shown x).span.start) order) where
+  abbrev span_of : X → Interval
+  span_of x = (shown x).span
+
+  abbrev near_of : List (ℕ × X) → List NearBooking
+  near_of rows = map (λ a. shown a.1) rows
+
+  spans_of_near : (rows : List (ℕ × X)) → map (λ a. span_of a.1) rows ≡ map (λ (n : NearBooking). n.span) (near_of rows)
+  spans_of_near [] = refl
+  spans_of_near (a ∷ rows) = ap (λ spans. span_of a.1 ∷ spans) (spans_of_near rows)
+
+  near_kept : (a : ℕ × X) (kept : List (ℕ × X)) (more : List NearBooking) (t : Bool) → more ≡ near_of kept
+      → cond t (shown a.1 ∷ more) more ≡ near_of (cond t (a ∷ kept) kept)
+  near_kept a kept more true rest = ap (λ near. shown a.1 ∷ near) rest
+  near_kept a kept more false rest = rest
+
+  near_starts : (start : ℤ) (rows : List (ℕ × X))
+      → filter (λ (n : NearBooking). int_eq n.span.start start) (near_of rows) ≡ near_of (filter (λ a. int_eq (span_of a.1).start start) rows)
+  near_starts start [] = refl
+  near_starts start (a ∷ rows) = near_kept a _ _ (int_eq (span_of a.1).start start) (near_starts start rows)
+
+  near_by_start : (rows : List (ℕ × X)) → NumbersRise span_of order puts rows → AreByStart (near_of rows) (near_of (sort_by order rows))
+  near_by_start rows rise = record {
+    same = IsPermutation-map (λ a. shown a.1) rows (sort_by order rows) (permutation_sorted span_of order puts rows);
+    ascend = subst StartsAscend (spans_of_near (sort_by order rows)) (neighbours span_of order puts (sort_by order rows) (ascends_sorted span_of order puts rows rise));
+    together = λ start. near_starts start (sort_by order rows) ∙ ap near_of (together_sorted span_of order puts start rows rise) ∙ sym (near_starts start rows);
+  }
+
+  pub near_in_order : (test : X → Bool) (xs : List X) (near : List NearBooking) → map shown (filter test xs) ≡ near → AreByStart near (near_of (rows_by order test xs))
+  near_in_order test xs near is =
+      subst (λ l. AreByStart l (near_of (rows_by order test xs))) (zipped_shown shown test 1 xs ∙ is)
+      (near_by_start (filter (λ b. test b.1) (zip_from 1 xs)) (rise_zipped span_of order puts test 1 xs))

@@ -1,5 +1,5 @@
 -- Rows in an order, and what they tell of the facts: bookings and uplinks in order of start, an owner's devices by DevEUI.
-use Rattle.std.specs.Prelude.{◌≡◌, ℕ, ◌<◌, ◌≤◌, ◌&&◌, ℤ, pos, int_le, int_lt, Bool, true, false, List, map, filter, Option, bytes_eq}
+use Rattle.std.specs.Prelude.{◌≡◌, ℕ, ◌<◌, ◌≤◌, ◌&&◌, ℤ, pos, int_le, int_lt, Bool, true, false, List, map, Option, bytes_eq}
 use Rattle.std.specs.declared.cmp.Ordering.{Ordering}
 use Rattle.std.specs.declared.cmp.Ordering.TheVariants.{Equal}
 use Rattle.std.specs.List.{AllByRecursion}
@@ -9,11 +9,11 @@ use Rattle.std.specs.Int.{to_be_bytes, w64}
 use Rattle.std.specs.Ordering.{int_cmp, is_gt, nat_cmp, ordering_then}
 use Rattle.radio_core.specs.declared.bands.Band.{Band}
 use Rattle.duty_core.specs.InOrder.{IsByStart}
-use Rattle.duty_core.specs.Near.{is_near, near_ones}
 use Rattle.duty_core.specs.Use.{Interval}
-use Rattle.registry_core.specs.declared.facts.Booking.{Booking}
 use Rattle.registry_core.specs.declared.facts.Uplink.{Uplink}
-use Rattle.registry_core.specs.Bookings.{downlinks_in, stands_at, stands_in}
+use Rattle.registry_core.specs.declared.views.NearBooking.{NearBooking}
+use Rattle.registry_core.specs.Bookings.{downlinks_in, stands_in}
+use Rattle.registry_core.specs.Near.{AreByStart, bookings_near, near_shown, stands_near}
 use Rattle.registry_core.specs.Numbered.{item_at}
 use Rattle.registry_core.specs.Ranges.{IsEui}
 use Rattle.registry_core.specs.Reports.{IsNextDevice, in_band, interval_of, is_after, is_in_band, uplinks_from}
@@ -36,9 +36,13 @@ spans_by span order test rows = map (λ row. span row.1) (rows_by order test row
 abbrev pub booking_span : BookingRow → Interval
 booking_span b = b.booking.span
 
--- the booking stands at the gateway, in the band if one is given, and is near the start
-abbrev pub is_near_at : List ℕ → Option Band → ℤ → BookingRow → Bool
-is_near_at gateway band start b = option_map_or (λ band. stands_in gateway band b.booking) band (stands_at gateway b.booking) && is_near start (booking_span b)
+-- the bands of the bookings that pass the test and when they are on the air, in this order
+abbrev pub near_by : (ℕ × BookingRow → ℕ × BookingRow → Ordering) → (BookingRow → Bool) → List BookingRow → List NearBooking
+near_by order test rows = map (λ row. near_shown row.1.booking) (rows_by order test rows)
+
+-- the booking stands at the gateway and is near the start
+abbrev pub is_near_at : List ℕ → ℤ → BookingRow → Bool
+is_near_at gateway start b = stands_near gateway start b.booking
 
 -- the uplink is one of the device's in the band, and starts from the one time on and before the other
 abbrev pub is_uplink_of : List SessionRow → ℕ → Band → ℤ → ℤ → Uplink → Bool
@@ -60,10 +64,8 @@ is_next_of owner after d = bytes_eq d.device.owner owner && is_after after d.dev
 
 -- in such orders the rows are the registry's lists
 pub record ListsTell (facts : State) (r : Rows) : Type 0 where
-  -- of those bookings that pass any test, as that they stand at a gateway
-  pub near : (test : Booking → Bool) (start : ℤ) (order : ℕ × BookingRow → ℕ × BookingRow → Ordering) → PutsByStart (λ b. (booking_span b).start) order
-      → IsByStart (near_ones start (map (λ b. b.span) (filter test facts.bookings)))
-      (spans_by booking_span order (λ b. test b.booking && is_near start (booking_span b)) r.bookings)
+  pub near : (gateway : List ℕ) (start : ℤ) (order : ℕ × BookingRow → ℕ × BookingRow → Ordering) → PutsByStart (λ b. (booking_span b).start) order
+      → AreByStart (bookings_near facts.bookings gateway start) (near_by order (is_near_at gateway start) r.bookings)
   pub bookings : (gateway : List ℕ) (band : Band) (order : ℕ × BookingRow → ℕ × BookingRow → Ordering) → PutsByStart (λ b. (booking_span b).start) order
       → IsByStart (downlinks_in facts.bookings gateway band) (spans_by booking_span order (λ b. stands_in gateway band b.booking) r.bookings)
   pub uplinks : (dev_eui : ℕ) (band : Band) (from to : ℤ) (order : ℕ × Uplink → ℕ × Uplink → Ordering) → PutsByStart (λ u. (interval_of u).start) order

@@ -6,6 +6,7 @@ use Rattle.duty_core.specs.Use.{Interval}
 use Rattle.registry_core.specs.declared.facts.Booking.{Booking}
 use Rattle.registry_core.specs.declared.facts.Reception.{Reception}
 use Rattle.registry_core.specs.declared.facts.Uplink.{Uplink}
+use Rattle.registry_core.specs.declared.views.NearBooking.{NearBooking}
 use Rattle.sqlite_value.specs.declared.value.Value.TheVariants.{Int, Text, Blob}
 use Rattle.sqlite_value.specs.Order.{Row}
 use Rattle.desk_rows.specs.Rows.{number, kind_number, standing_number}
@@ -22,3 +23,6 @@ booking_shown b = number b.uplink ∷ Text b.gateway ∷ number (band_number b.b
 
 abbrev pub span_shown : Interval → Row
 span_shown span = Int span.start ∷ number span.len ∷ []
+
+abbrev pub near_booking_shown : NearBooking → Row
+near_booking_shown near = Int near.span.start ∷ number near.span.len ∷ number (band_number near.band) ∷ []

@@ -1,4 +1,4 @@
-use Rattle.std.proofs.Common.{◌≡◌, ◌∙◌, ◌+◌, ap, length, sym, true≢false, arith}
+use Rattle.std.proofs.Common.{◌≡◌, ◌∙◌, ◌+◌, ap, length}
 use Rattle.std.specs.Map.{lookup}
 use Rattle.registry_core.specs.State.{copies_with}
 use Rattle.desk_store.specs.Facts.{same_key}

@@ -1,7 +1,6 @@
-use Rattle.std.proofs.Common.{◌≡◌, ◌∙◌, sym, ap, arith}
-use Rattle.registry_core.specs.Numbered.{first_that}
+use Rattle.std.proofs.Common.{◌∙◌, sym, ap}
 use Rattle.desk_store.specs.steps.Uplinks.{join_of, earlier_of}
-use Rattle.desk_store.proofs.Joins.{is_later_join, join_none, join_step, join_all}
+use Rattle.desk_store.proofs.Joins.{join_none, join_step}
 use Rattle.desk_store.proofs.DeviceSessions.{latest_is_own, before_less, before_is_own}
 use Rattle.desk_store.proofs.lookups.join_in.Goals as goal
 

@@ -1,8 +1,8 @@
-use Rattle.std.proofs.Common.{◌≡◌, ◌∙◌, [], List, ap, subst, sym, arith}
+use Rattle.std.proofs.Common.{[], List, subst, sym}
 use Rattle.std.specs.Prelude.{IsPermutation}
 use Rattle.std.proofs.lemmas.List.Sorted.{IsPermutation-refl}
 use Rattle.desk_store.specs.declared.start_index.Place.{Place}
-use Rattle.desk_store.proofs.UplinksTold.{places_all, places_later, places_none, places_step}
+use Rattle.desk_store.proofs.UplinksTold.{places_none, places_step}
 use Rattle.desk_store.proofs.DeviceSessions.{before_is_own, before_less, latest_is_own}
 use Rattle.desk_store.proofs.reports.places_in.Goals as goal
 

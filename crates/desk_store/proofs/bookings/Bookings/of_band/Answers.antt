@@ -1,4 +1,4 @@
-use Rattle.std.proofs.Common.{◌≡◌, ◌∙◌, List, Some, subst}
+use Rattle.std.proofs.Common.{◌≡◌, ◌∙◌, List, subst}
 use Rattle.std.specs.List.{filter_map}
 use Rattle.std.proofs.lemmas.Result.{IfOk-weaker}
 use Rattle.duty_core.specs.InOrder.{IsByStart}
@@ -15,5 +15,5 @@ returns c =
     let places : c.places.result.now ≡ booking_places items gateway = c.places.ensures ∙ c.self.invariant.0.places gateway in
     IfOk-weaker c.spans_at.result _ _
     (λ spans is. let P : List Booking → Type 0 = λ bookings. IsByStart (downlinks_in bookings gateway c.args.band) spans.items in
-    subst P c.self.view_is (band_listed items gateway c.args.band spans.items (is ∙ (λ i. filter_map (booking_span_at (c.deref.ensures.value i) (Some c.args.band)) (places i)))))
+    subst P c.self.view_is (band_listed gateway c.args.band items spans.items (is ∙ (λ i. filter_map (booking_span_at (c.deref.ensures.value i) c.args.band) (places i)))))
     c.spans_at.ensures

@@ -1,4 +1,4 @@
-use Rattle.std.proofs.Common.{◌≡◌, ◌<◌, ◌^◌, ◌+◌, ◌∙◌, length, true≢false, refl, subst, sym, List, [], ◌∷◌, ◌++◌, arith, rules}
+use Rattle.std.proofs.Common.{◌≡◌, ◌<◌, ◌^◌, ◌+◌, ◌∙◌, length, refl, subst, sym, List, [], ◌∷◌, ◌++◌, arith, rules}
 use Rattle.std.specs.Prelude.{bytes_eq}
 use Rattle.std.proofs.lemmas.Slice.Eq.{bytes_eq-Decides}
 use Rattle.registry_core.specs.declared.facts.Booking.{Booking}

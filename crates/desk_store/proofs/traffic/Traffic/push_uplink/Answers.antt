@@ -1,4 +1,4 @@
-use Rattle.std.proofs.Common.{◌∙◌, ◌+◌, ap, refl, sym, true≢false}
+use Rattle.std.proofs.Common.{◌∙◌, ◌+◌, ap, refl}
 use Rattle.std.specs.Prelude.{count_by}
 use Rattle.desk_store.specs.steps.Answers.{is_naming}
 use Rattle.desk_store.specs.steps.Traffic.{AreDowns}

@@ -1,4 +1,4 @@
-use Rattle.std.proofs.Common.{◌≡◌, ◌+◌, ◌∙◌, length, true≢false, subst, sym, List, [], ◌∷◌, ◌++◌, arith, rules}
+use Rattle.std.proofs.Common.{◌≡◌, ◌+◌, ◌∙◌, length, subst, sym, List, [], ◌∷◌, ◌++◌, arith, rules}
 use Rattle.std.specs.Prelude.{pos}
 use Rattle.registry_core.specs.declared.facts.Uplink.{Uplink}
 use Rattle.desk_store.specs.declared.start_index.Place.{Place}

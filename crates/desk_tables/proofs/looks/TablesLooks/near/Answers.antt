@@ -1,8 +1,8 @@
-use Rattle.std.proofs.Common.{◌∙◌, sym, subst, true≢false}
+use Rattle.std.proofs.Common.{◌∙◌, pos, sym, subst, true≢false}
 use Rattle.desk_tables.proofs.LookUps.{down_read, answered_by_kept, answered_by_rows}
-use Rattle.duty_core.specs.InOrder.{IsByStart}
-use Rattle.desk_store.specs.Lookups.{downlinks_near}
-use Rattle.desk_tables.proofs.SpanLookUps.{near_found}
+use Rattle.registry_core.specs.Near.{AreByStart, bookings_near}
+use Rattle.desk_rows.specs.Rows.{BookingRow}
+use Rattle.desk_rows.specs.order.Arranged.{booking_span, by_start}
 use Rattle.desk_tables.proofs.Reading.{says_also}
 use Rattle.desk_tables.proofs.looks.TablesLooks.near.Goals as goal
 
@@ -16,6 +16,7 @@ pub returns-clause-down : goal.returns-clause-down
 returns-clause-down g c down = absurd (true≢false (sym down ∙ c.if-self.false))
 
 pub returns-clause-told : goal.returns-clause-told
-returns-clause-told g c = answered_by_kept _ _ _ _ _ _ _ c.if-self.false (says_also _ _ _ _ _ (λ r spans is config kept tell.
-    subst (IsByStart (downlinks_near kept.facts.bookings c.args.gateway.now c.args.band c.args.start)) (sym is)
-    (near_found c.args.gateway.now c.args.band c.args.start kept.facts r (c.arranged_rows_tell.ensures config kept.facts r tell.are) c.orders_hold.ensures)) c.near-answer.ensures) c.tell.ensures
+returns-clause-told g c = answered_by_kept _ _ _ _ _ _ _ c.if-self.false (says_also _ _ _ _ _ (λ r near is config kept tell.
+    subst (AreByStart (bookings_near kept.facts.bookings c.args.gateway.now (pos c.args.start))) (sym is)
+    ((c.arranged_rows_tell.ensures config kept.facts r tell.are).near c.args.gateway.now (pos c.args.start)
+    (by_start (λ (b : BookingRow). (booking_span b).start)) c.orders_hold.ensures.bookings)) c.near-answer.ensures) c.tell.ensures
