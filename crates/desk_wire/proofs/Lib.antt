@@ -2,6 +2,7 @@ pub mod CsvRows
 pub mod DataRateNumbers
 pub mod DecimalDigits
 pub mod FirstFaults
+pub mod Fitting
 pub mod HexTexts
 pub mod InRange
 pub mod Kept
@@ -9,4 +10,5 @@ pub mod NameTexts
 pub mod PlainValues
 pub mod PutMembers
 pub mod ReadBack
+pub mod Sizes
 pub mod WorkedRows

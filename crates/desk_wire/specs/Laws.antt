@@ -1,5 +1,5 @@
 -- What holds of reading and writing together.
-use Rattle.std.specs.Prelude.{◌≡◌, ◌≢◌, ℕ, List, Ok, Err}
+use Rattle.std.specs.Prelude.{◌≡◌, ◌≢◌, ◌≤◌, ℕ, List, length, Ok, Err}
 use Rattle.registry_core.specs.declared.messages.Envelope.{Envelope}
 use Rattle.registry_core.specs.Ranges.{IsName, IsEnvelope}
 use Rattle.desk_wire.specs.declared.faults.WireFault.TheVariants.{Memory}
@@ -18,3 +18,7 @@ ReadsInRange = (receiver text : List ℕ) (e : Envelope) → reads receiver text
 -- no text reads as want of memory: that is told only by what reads it
 abbrev pub ReadsNoMemory : Type 0
 ReadsNoMemory = (receiver text : List ℕ) → reads receiver text ≢ Err Memory
+
+-- the text of an envelope has at most 65,536 octets
+abbrev pub MessagesFit : Type 0
+MessagesFit = (receiver : List ℕ) (e : Envelope) → IsName receiver → IsEnvelope e → length (message_text receiver e) ≤ 65536

@@ -1,10 +1,16 @@
 //! Laws of the definitions: each is the contract of a function that does nothing.
-ghost use Rattle.desk_wire.specs.Laws.{MessageReadsBack, ReadsInRange, ReadsNoMemory};
+ghost use Rattle.desk_wire.specs.Laws.{MessageReadsBack, MessagesFit, ReadsInRange, ReadsNoMemory};
 
 /// What is written is read as the same envelope.
 #[tactic(auto, using(crate::proofs::ReadBack::message_reads_back))]
 pub fn message_reads_back()
     ensures { MessageReadsBack }
+{}
+
+/// The text of an envelope has at most 65,536 octets: as many as a desk reads of one message.
+#[tactic(auto, using(crate::proofs::Fitting::messages_fit))]
+pub fn messages_fit()
+    ensures { MessagesFit }
 {}
 
 /// What is read is in the ranges that the types keep.
