@@ -9,6 +9,8 @@ use Rattle.desk_store.specs.Calls.{IsCall, IsRead, is_disk, is_foreign}
 use Rattle.desk_store.specs.Meaning.{Meaning}
 use Rattle.desk_engine.specs.Hearing.{Hears}
 use Rattle.desk_engine.specs.InOrder.{IsInOrder, Survives, WasInOrder, doubt_after, kept_after}
+use Rattle.desk_engine.specs.Laws.{NoCallHearsNothing, ReadsHearNothing}
+use Rattle.desk_engine.specs.steps.Hearing.{KeepsRules}
 use Rattle.desk_engine.proofs.KeptAfter.{HoldsOne, holds_rules}
 
 or_true : (b : Bool) → (b || true) ≡ true
@@ -60,22 +62,29 @@ module _ {K : Type 0} (m : Meaning K) where
       )
 
   -- reading calls that heard nothing
-  pub hears_nothing : HoldsOne m → RulesAreKept → (old new : K) (fault : Option StoreFault) (disk foreign : Bool)
+  pub reading_hears : KeepsRules m → (old new : K) (fault : Option StoreFault) (disk foreign : Bool)
       (after : Settings → List Envelope → List Envelope) (doubtful : Settings → Option Envelope)
       → IsRead m old new fault → disk ≡ is_disk fault → foreign ≡ is_foreign fault
       → ((c : Settings) (heard : List Envelope) → WasInOrder m c heard old new → after c heard ≡ heard)
       → Hears m old new disk foreign after doubtful
-  hears_nothing one law old new fault disk foreign after doubtful reads disk_is foreign_is same = record {
+  reading_hears keeps old new fault disk foreign after doubtful reads disk_is foreign_is same = record {
     call = record { same = reads.same; was_sound = reads.was_sound; shut = rw disk_is reads.shut; strange = rw foreign_is reads.strange };
     order = λ c heard was. subst (λ l. IsInOrder m c new l) (sym (same c heard was)) (stays c heard was);
     crash = λ c heard doubt was s.
         subst (λ l. Survives m c new l (doubt_after (m.down old) doubt (doubtful c))) (sym (same c heard was))
         (survives_reads c heard doubt (doubtful c) old new fault reads was.sound was.order.kept s);
-    rules = λ c heard was. holds_rules m one law c heard new was.sound (stays c heard was);
+    rules = λ c heard was. keeps c heard new was.sound (stays c heard was);
   }
     where
       stays : (c : Settings) (heard : List Envelope) → WasInOrder m c heard old new → IsInOrder m c new heard
       stays c heard was = record { list = was.order.list; kept = reads.held _ was.sound was.order.kept }
+
+  pub hears_nothing : HoldsOne m → RulesAreKept → (old new : K) (fault : Option StoreFault) (disk foreign : Bool)
+      (after : Settings → List Envelope → List Envelope) (doubtful : Settings → Option Envelope)
+      → IsRead m old new fault → disk ≡ is_disk fault → foreign ≡ is_foreign fault
+      → ((c : Settings) (heard : List Envelope) → WasInOrder m c heard old new → after c heard ≡ heard)
+      → Hears m old new disk foreign after doubtful
+  hears_nothing one law = reading_hears (holds_rules m one law)
 
   -- ---- one after another
 
@@ -132,3 +141,11 @@ module _ {K : Type 0} (m : Meaning K) where
 
       there : (c : Settings) (heard : List Envelope) → WasInOrder m c heard old new → WasInOrder m c (first_after c heard) mid new
       there c heard was = record { its = was.its ∙ sym first.call.same; sound = was.sound; order = first.order c heard (here c heard was) }
+
+  -- ---- laws
+
+  pub reads_hear_nothing : KeepsRules m → ReadsHearNothing m
+  reads_hear_nothing keeps old new fault reads = reading_hears keeps old new fault _ _ _ _ reads refl refl (λ c heard was. refl)
+
+  pub no_call_hears_nothing : KeepsRules m → NoCallHearsNothing m
+  no_call_hears_nothing keeps keeper = reading_hears keeps keeper keeper None _ _ _ _ (reads_none keeper) refl refl (λ c heard was. refl)

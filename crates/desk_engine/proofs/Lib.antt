@@ -1,7 +1,9 @@
 pub mod AirUse
+pub mod BookedUplinks
 pub mod CsvImports
 pub mod HeardTexts
 pub mod HearingAgain
+pub mod HearingArms
 pub mod HearingCases
 pub mod Hearings
 pub mod Imports
@@ -11,9 +13,11 @@ pub mod LineCuts
 pub mod LineParts
 pub mod LineRuns
 pub mod NewLists
+pub mod OwnTexts
 pub mod OwnerLines
 pub mod Places
 pub mod Readings
+pub mod RepeatedTexts
 pub mod Replies
 pub mod ReportFaults
 pub mod ReportLaw

@@ -1,9 +1,8 @@
 -- A run goes on by one text.
-use Rattle.std.proofs.Common.{◌≡◌, ℕ, true, false, cond, List, [], ◌∷◌, ◌++◌, Option, Some, None, refl, ap, inl, inr, ◌∙◌, ◌<◌, ◌≤◌, ◌+◌, map, take, length, get_or, Bor}
+use Rattle.std.proofs.Common.{◌≡◌, ℕ, true, false, cond, List, [], ◌∷◌, ◌++◌, Option, Some, None, refl, ap, subst, sym, inl, inr, ◌∙◌, ◌<◌, ◌≤◌, ◌+◌, map, take, length, get_or, Bor}
 use Rattle.std.specs.Prelude.{◌||◌, Result, Ok, Err}
 use Rattle.std.proofs.lemmas.List.{take_more, map-append, take_all}
 use Rattle.registry_core.specs.declared.messages.Envelope.{Envelope}
-use Rattle.registry_core.specs.Heard.{most_heard}
 use Rattle.registry_core.specs.Settings.{Settings}
 use Rattle.desk_store.specs.declared.faults.StoreFault.TheVariants.{Size}
 use Rattle.desk_store.specs.Calls.{is_disk, is_foreign}
@@ -13,7 +12,8 @@ use Rattle.desk_engine.specs.declared.outcomes.Outcome.{Outcome}
 use Rattle.desk_engine.specs.Deliveries.{heard_after, heard_all}
 use Rattle.desk_engine.specs.Hearing.{Hears}
 use Rattle.desk_engine.specs.InOrder.{HasNoRoom, WasInOrder}
-use Rattle.desk_engine.specs.Outcomes.{AreOutcomes, IsOutcome, SizesAreTold, deliveries_of, delivery_of, doubt_of_text, doubt_read, outcome_fault, first_doubt, has_disk, has_foreign}
+use Rattle.desk_engine.specs.Outcomes.{AreOutcomes, IsOutcome, deliveries_of, delivery_of, doubt_of_text, doubt_read, outcome_fault, first_doubt, has_disk, has_foreign}
+use Rattle.desk_engine.specs.Sizes.{AreDelivered, IsDelivered, SizesAreMostHeard}
 use Rattle.desk_engine.specs.Told.{envelope_of_text, told_of_text}
 use Rattle.desk_engine.proofs.Hearings.{hears_as, hears_then, was_before}
 
@@ -75,27 +75,40 @@ module _ {K : Type 0} (m : Meaning K) where
       (λ c heard was. heard_all-push c heard ts os t o (told c heard (was_before m c heard old mid new more.call.was_sound was)))
       (λ c heard was. first_doubt-push c heard ts os t o (told c heard (was_before m c heard old mid new more.call.was_sound was))))
 
-  sizes-push : (c : Settings) (heard : List Envelope) (ts : List (List ℕ)) (os : List Outcome) (t : List ℕ) (o : Outcome) → AreOutcomes c heard ts os
-      → SizesAreTold m c heard ts os → (outcome_fault o ≡ Some Size → ((k : K) → ¬ (m.sized k)) → most_heard ≤ length (heard_all c heard (deliveries_of ts os)))
-      → SizesAreTold m c heard (ts ++ t ∷ []) (os ++ o ∷ [])
-  sizes-push c heard [] [] t o all told size = (size, tt)
-  sizes-push c heard (x ∷ xs) (y ∷ ys) t o all told size = (told.0, sizes-push c (heard_after c heard (delivery_of x y)) xs ys t o all.1 told.1 size)
-  sizes-push c heard [] (y ∷ ys) t o all told size = absurd all
-  sizes-push c heard (x ∷ xs) [] t o all told size = absurd all
+  delivered-push : (c : Settings) (heard : List Envelope) (old mid new : K) (ts : List (List ℕ)) (os : List Outcome) (t : List ℕ) (o : Outcome) → AreOutcomes c heard ts os
+      → AreDelivered m c heard old mid ts os → IsDelivered m c (heard_all c heard (deliveries_of ts os)) mid new t o
+      → AreDelivered m c heard old new (ts ++ t ∷ []) (os ++ o ∷ [])
+  delivered-push c heard old mid new [] [] t o all told one = (new, subst (λ k. IsDelivered m c heard k new t o) (sym told) one, refl)
+  delivered-push c heard old mid new (x ∷ xs) (y ∷ ys) t o all told one =
+      (told.0, told.1, delivered-push c (heard_after c heard (delivery_of x y)) told.0 mid new xs ys t o all.1 told.2 one)
+  delivered-push c heard old mid new [] (y ∷ ys) t o all told one = absurd all
+  delivered-push c heard old mid new (x ∷ xs) [] t o all told one = absurd all
 
   -- what a run has told, of a store that was in order
-  pub record HasTold (c : Settings) (heard : List Envelope) (ts : List (List ℕ)) (os : List Outcome) : Type 0 where
+  pub record HasTold (c : Settings) (heard : List Envelope) (old mid : K) (ts : List (List ℕ)) (os : List Outcome) : Type 0 where
     pub outcomes : AreOutcomes c heard ts os
-    pub sizes : SizesAreTold m c heard ts os
+    pub delivered : AreDelivered m c heard old mid ts os
 
-  pub told_more : (c : Settings) (heard : List Envelope) (ts : List (List ℕ)) (os : List Outcome) (t : List ℕ) (o : Outcome) (new : K) → HasTold c heard ts os
+  pub told_more : (c : Settings) (heard : List Envelope) (old mid new : K) (ts : List (List ℕ)) (os : List Outcome) (t : List ℕ) (o : Outcome) → HasTold c heard old mid ts os
       → IsOutcome (told_of_text c (heard_all c heard (deliveries_of ts os)) t) o
+      → Hears m mid new (is_disk (outcome_fault o)) (is_foreign (outcome_fault o)) (λ s list. heard_after s list (delivery_of t o)) (λ s. doubt_of_text s t o)
       → (outcome_fault o ≡ Some Size → HasNoRoom m new (heard_all c heard (deliveries_of ts os)))
-      → HasTold c heard (ts ++ t ∷ []) (os ++ o ∷ [])
-  told_more c heard ts os t o new told outcome size = record {
+      → HasTold c heard old new (ts ++ t ∷ []) (os ++ o ∷ [])
+  told_more c heard old mid new ts os t o told outcome hears size = record {
     outcomes = outcomes-push c heard ts os t o told.outcomes outcome;
-    sizes = sizes-push c heard ts os t o told.outcomes told.sizes (λ is unsized. elim (size is) [ inl full ↦ full | inr sized ↦ absurd (unsized new sized) ]);
+    delivered = delivered-push c heard old mid new ts os t o told.outcomes told.delivered (record { hears = hears; size = size });
   }
+
+  -- of stores whose media have no size of their own
+  pub most_heard_at_sizes : ((k : K) → ¬ (m.sized k)) → (c : Settings) (heard : List Envelope) (old new : K) (ts : List (List ℕ)) (os : List Outcome)
+      → AreDelivered m c heard old new ts os → SizesAreMostHeard c heard ts os
+  most_heard_at_sizes unsized c heard old new [] [] told = tt
+  most_heard_at_sizes unsized c heard old new (t ∷ ts) (o ∷ os) told = (
+    λ is. elim (told.1.size is) [ inl full ↦ full | inr sized ↦ absurd (unsized told.0 sized) ],
+    most_heard_at_sizes unsized c (heard_after c heard (delivery_of t o)) told.0 new ts os told.2,
+  )
+  most_heard_at_sizes unsized c heard old new [] (o ∷ os) told = absurd told
+  most_heard_at_sizes unsized c heard old new (t ∷ ts) [] told = absurd told
 
 -- what the texts say, as far as the loop has come
 pub seen_more : (ts : List (Bor (List ℕ))) (i : ℕ) (d : Bor (List ℕ)) → i < length ts → map (λ t. t.now) (take (i + 1) ts) ≡ map (λ t. t.now) (take i ts) ++ (get_or ts i d).now ∷ []

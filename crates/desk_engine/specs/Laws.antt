@@ -2,16 +2,17 @@
 use Rattle.std.specs.Prelude.{◌≡◌, ℕ, ◌<◌, ◌||◌, Bool, false, List, [], ◌∷◌, ◌++◌, length, map, All, Option, Some, None, IfOk, if◌then◌else◌}
 use Rattle.registry_core.specs.declared.answers.Answer.{Answer}
 use Rattle.registry_core.specs.declared.messages.Envelope.{Envelope}
-use Rattle.registry_core.specs.Heard.{IsHeard, most_heard, pair_place}
+use Rattle.registry_core.specs.Heard.{IsHeard, heard_with, most_heard, pair_place}
 use Rattle.registry_core.specs.Laws.{adds_sender}
-use Rattle.registry_core.specs.Ranges.{IsSettings}
+use Rattle.registry_core.specs.Ranges.{IsEnvelope, IsSettings}
 use Rattle.registry_core.specs.Settings.{Settings}
 use Rattle.desk_store.specs.declared.faults.StoreFault.{StoreFault}
 use Rattle.desk_store.specs.Calls.{IsRead, is_disk, is_foreign}
 use Rattle.desk_store.specs.Meaning.{Meaning}
+use Rattle.desk_wire.specs.Writing.{message_text}
 use Rattle.desk_engine.specs.Deliveries.{Delivery, heard_after, heard_all}
 use Rattle.desk_engine.specs.Hearing.{Hears}
-use Rattle.desk_engine.specs.Told.{Told, envelope_of_text, told_of_text}
+use Rattle.desk_engine.specs.Told.{Told, envelope_of_text, told_of_envelope, told_of_text}
 
 -- one more delivery leaves a heard list, while there is room
 abbrev pub DeliveriesLeaveHeardLists : Type 0
@@ -47,11 +48,18 @@ abbrev pub KeptAnswersStay : Type 0
 KeptAnswersStay = (c : Settings) (heard : List Envelope) (d : Delivery) (e : Envelope) (kept : Envelope × Answer) → pair_place c heard e ≡ Some kept
     → pair_place c (heard_after c heard d) e ≡ Some kept
 
--- ---- the same texts again
+-- ---- a message's own text
 
 -- the text as a delivery that isn't answered Unavailable
 abbrev pub delivered : List ℕ → Delivery
 delivered text = record { text = text; unavailable = false }
+
+-- An envelope's own text is told what the envelope is told, and what is heard of the text is the envelope.
+abbrev pub MessagesAreDelivered : Type 0
+MessagesAreDelivered = (c : Settings) (heard : List Envelope) (e : Envelope) → IsSettings c → IsEnvelope e → let text : List ℕ = message_text c.receiver e in
+    (told_of_text c heard text ≡ told_of_envelope c heard e) × (heard_after c heard (delivered text) ≡ heard_with c heard e)
+
+-- ---- the same texts again
 
 -- what each text is told, after the ones before it
 abbrev pub told_each : Settings → List Envelope → List (List ℕ) → List Told

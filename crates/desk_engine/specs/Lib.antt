@@ -7,8 +7,11 @@ pub mod Laws
 pub mod Lines
 pub mod Months
 pub mod Outcomes
+pub mod Repeats
 pub mod Reporting
 pub mod Reports
+pub mod Sizes
 pub mod Stays
 pub mod Told
+pub mod Uplinks
 pub mod steps

@@ -1,14 +1,11 @@
 -- Outcomes of the code against what is told.
-use Rattle.std.specs.Prelude.{◌≡◌, ◌≤◌, ◌||◌, ℕ, Bool, true, false, List, [], ◌∷◌, length, Option, Some, None, Result, Ok, Err, if◌then◌else◌}
+use Rattle.std.specs.Prelude.{◌≡◌, ◌||◌, ℕ, Bool, true, false, List, [], ◌∷◌, Option, Some, None, Result, Ok, Err, if◌then◌else◌}
 use Rattle.registry_core.specs.declared.answers.Refusal.{Refusal}
 use Rattle.registry_core.specs.declared.answers.Refusal.TheVariants.{Malformed, InvalidProtocolVersion, UnknownReceiver, UnknownSender, TransactionReused, BadBody, UnknownType}
 use Rattle.registry_core.specs.declared.messages.Envelope.{Envelope}
-use Rattle.registry_core.specs.Heard.{most_heard}
 use Rattle.registry_core.specs.Settings.{Settings}
 use Rattle.desk_store.specs.declared.faults.StoreFault.{StoreFault}
-use Rattle.desk_store.specs.declared.faults.StoreFault.TheVariants.{Size}
 use Rattle.desk_store.specs.Calls.{IsUnavailability, is_disk, is_foreign}
-use Rattle.desk_store.specs.Meaning.{Meaning}
 use Rattle.desk_wire.specs.declared.faults.WireFault.{WireFault}
 use Rattle.desk_engine.specs.declared.outcomes.Outcome.{Outcome}
 use Rattle.desk_engine.specs.declared.outcomes.Outcome.TheVariants.{Answered, Refused, Unavailable}
@@ -95,14 +92,6 @@ has_disk (o ∷ os) = is_disk (outcome_fault o) || has_disk os
 abbrev pub has_foreign : List Outcome → Bool
 has_foreign [] = false
 has_foreign (o ∷ os) = is_foreign (outcome_fault o) || has_foreign os
-
--- Each that is Unavailable for size came when as many were heard as ever may be. Said of stores whose medium has no size of its own:
--- of others it isn't told which of the two it was.
-abbrev pub SizesAreTold : {K : Type 0} → Meaning K → Settings → List Envelope → List (List ℕ) → List Outcome → Type 0
-SizesAreTold {K} m c heard (t ∷ ts) (o ∷ os) =
-    (outcome_fault o ≡ Some Size → ((k : K) → ¬ (m.sized k)) → most_heard ≤ length heard) × SizesAreTold m c (heard_after c heard (delivery_of t o)) ts os
-SizesAreTold m c heard (t ∷ ts) [] = Unit {0}
-SizesAreTold m c heard [] os = Unit {0}
 
 -- the message in doubt: that of the first fault of the disk
 abbrev pub first_doubt : Settings → List (List ℕ) → List Outcome → Option Envelope

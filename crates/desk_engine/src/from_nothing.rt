@@ -6,7 +6,10 @@ ghost use Rattle.registry_core.specs.State.{opening};
 ghost use Rattle.desk_store.specs.Lists.{kept_of, lists_meaning, settings_of};
 ghost use Rattle.desk_engine.specs.Deliveries.{heard_all};
 ghost use Rattle.desk_engine.specs.InOrder.{kept_after};
-ghost use Rattle.desk_engine.specs.Outcomes.{AreOutcomes, SizesAreTold, deliveries_of, has_disk, has_foreign};
+ghost use Rattle.desk_engine.specs.Outcomes.{AreOutcomes, deliveries_of, has_disk, has_foreign};
+ghost use Rattle.desk_engine.specs.Repeats.{RepeatsGetFirstAnswers};
+ghost use Rattle.desk_engine.specs.Sizes.{SizesAreMostHeard};
+ghost use Rattle.desk_engine.specs.Uplinks.{UplinksStayBooked};
 
 use crate::delivering::run;
 use crate::outcomes::Outcome;
@@ -33,9 +36,13 @@ pub fn run_from_nothing(
         (heard_all config [] (take n (deliveries_of (map (λ t. t.now) texts.now) ran.1.items))))) }
     ensures rules { IfOk result (λ ran. GoesByRules (kept_of ran.0).facts) }
 
+    // Every repeat gets the first answer, and the frame that is received first is the uplink.
+    ensures repeats { IfOk result (λ ran. RepeatsGetFirstAnswers config (map (λ t. t.now) texts.now) ran.1.items) }
+    ensures uplinks { IfOk result (λ ran. UplinksStayBooked config [] (deliveries_of (map (λ t. t.now) texts.now) ran.1.items)) }
+
     // None is told a fault of the disk, or that what is stored is no desk's; and size only when as many were heard as ever may be.
     ensures faults { IfOk result (λ ran. (has_disk ran.1.items ≡ false) × (has_foreign ran.1.items ≡ false)) }
-    ensures sizes { IfOk result (λ ran. SizesAreTold lists_meaning config [] (map (λ t. t.now) texts.now) ran.1.items) }
+    ensures sizes { IfOk result (λ ran. SizesAreMostHeard config [] (map (λ t. t.now) texts.now) ran.1.items) }
 {
     rules_are_kept();
     nothing_is_heard();

@@ -1,10 +1,11 @@
 //! Laws of the definitions: each is the contract of a function that does nothing.
-ghost use Rattle.desk_engine.specs.Laws.{CallsHearInOrder, DeliveriesAddAtTheEnd, DeliveriesLeaveHeardLists, HeardAgain, KeptAnswersStay, NoCallHearsNothing, ReadsHearNothing};
+ghost use Rattle.desk_engine.specs.Laws.{CallsHearInOrder, DeliveriesAddAtTheEnd, DeliveriesLeaveHeardLists, HeardAgain, KeptAnswersStay, MessagesAreDelivered, NoCallHearsNothing, ReadsHearNothing};
 ghost use Rattle.desk_engine.specs.Lines.{InputsAreCut};
 ghost use Rattle.desk_engine.specs.Reports.{OwnerReportsAgree};
+ghost use Rattle.desk_engine.specs.steps.Hearing.{KeepsRules};
 
 use desk_store::Keeper;
-use desk_wire::laws::reads_in_range;
+use desk_wire::laws::{message_reads_back, messages_fit, reads_in_range};
 use duty_core::laws::peak_has_an_edge;
 use registry_core::laws::{heard_lists_stay, rules_are_kept, same_message_tells, senders_stay};
 
@@ -29,6 +30,13 @@ pub fn calls_hear_in_order<K: Keeper>()
     ensures reads { ReadsHearNothing K.meaning }
     ensures none { NoCallHearsNothing K.meaning }
 {
+    stores_keep_rules::<K>();
+}
+
+/// What a store holds that is in order goes by the registry's rules.
+pub(crate) fn stores_keep_rules<K: Keeper>()
+    ensures { KeepsRules K.meaning }
+{
     rules_are_kept();
 }
 
@@ -37,6 +45,15 @@ pub fn calls_hear_in_order<K: Keeper>()
 pub fn kept_answers_stay()
     ensures { KeptAnswersStay }
 {}
+
+/// The text that `write_message` writes of an envelope is told what `hear` tells of the envelope, and the envelope is what is
+/// heard of it.
+pub fn messages_are_delivered()
+    ensures { MessagesAreDelivered }
+{
+    message_reads_back();
+    messages_fit();
+}
 
 /// Texts of which none adds a sender, delivered again at once, are told the same again and leave what is heard as it was, as
 /// long as none of them is answered Unavailable.

@@ -1,24 +1,32 @@
 -- What one message makes of the store, and what it is told.
-use Rattle.std.specs.Prelude.{◌≡◌, ◌≢◌, ℕ, List, [], ◌∷◌, ◌++◌, Some, MatchOption}
-use Rattle.registry_core.specs.declared.answers.Refusal.TheVariants.{TransactionReused}
+use Rattle.std.specs.Prelude.{◌≡◌, ◌≢◌, ℕ, false, List, [], ◌∷◌, ◌++◌, Some, None, MatchOption}
+use Rattle.registry_core.specs.declared.answers.Refusal.TheVariants.{TransactionReused, UnknownSender}
 use Rattle.registry_core.specs.declared.effects.Effect.{Effect}
 use Rattle.registry_core.specs.declared.messages.Envelope.{Envelope}
+use Rattle.registry_core.specs.declared.views.View.{View}
 use Rattle.registry_core.specs.Heard.{state_of}
 use Rattle.registry_core.specs.Settings.{Settings}
 use Rattle.registry_core.specs.Step.{step}
-use Rattle.desk_store.specs.declared.faults.StoreFault.TheVariants.{Memory}
-use Rattle.desk_store.specs.Calls.{IsUnavailability}
-use Rattle.desk_store.specs.Kept.{CanAdd, with_entry}
+use Rattle.registry_core.specs.Viewed.{IsView}
+use Rattle.desk_store.specs.declared.faults.StoreFault.TheVariants.{Memory, Size}
+use Rattle.desk_store.specs.declared.keeper.Loaded.{Loaded}
+use Rattle.desk_store.specs.declared.keeper.Loaded.TheVariants.{Stranger, Heard, Fresh}
+use Rattle.desk_store.specs.Calls.{IsCall, IsOfCalls, IsUnavailability, is_disk, is_foreign}
+use Rattle.desk_store.specs.Kept.{CanAdd, entry_of, with_entry}
 use Rattle.desk_store.specs.Meaning.{Meaning}
 use Rattle.desk_wire.specs.Answers.{answer_text, head_of_envelope}
 use Rattle.desk_wire.specs.Writing.{message_text}
 use Rattle.desk_wire.specs.declared.faults.WireFault.{WireFault}
 use Rattle.desk_wire.specs.Faults.{head_of_fault, refusal_of_fault}
-use Rattle.desk_engine.specs.Outcomes.{doubt_of}
+use Rattle.desk_engine.specs.Outcomes.{IfRefused, doubt_of, outcome_fault}
 use Rattle.desk_engine.specs.declared.outcomes.Outcome.{Outcome}
 use Rattle.desk_engine.specs.declared.outcomes.Outcome.TheVariants.{Answered, Refused, Unavailable}
 use Rattle.desk_engine.specs.Told.{Told, AnswerText, RefusalText, told_of_refusal}
-use Rattle.desk_engine.specs.InOrder.{IsInOrder, Survives, kept_after}
+use Rattle.desk_engine.specs.InOrder.{HasNoRoom, HoldsRules, IsInOrder, Survives, WasInOrder, entries_of, kept_after}
+
+-- whatever a store holds that is in order goes by the registry's rules
+abbrev pub KeepsRules : {K : Type 0} → Meaning K → Type 0
+KeepsRules {K} m = (c : Settings) (heard : List Envelope) (keeper : K) → m.sound keeper → IsInOrder m c keeper heard → HoldsRules m keeper
 
 -- the outcome is what is told, or memory ran out
 abbrev pub Says : Told → Outcome → Type 0
@@ -52,3 +60,19 @@ HearsNew m c heard e new (Answered text) =
 HearsNew m c heard e new (Refused refusal text) = ⊥
 HearsNew m c heard e new (Unavailable fault) =
     IsUnavailability fault × IsInOrder m c new heard × Survives m c new heard (doubt_of e (Unavailable fault))
+
+module _ {K : Type 0} (m : Meaning K) (old new : K) (e : Envelope) where
+  -- a message whose pair is new was decided from this view, and kept, or the store was unavailable
+  pub record HearsFresh (view : View) (o : Outcome) : Type 0 where
+    pub call : IsCall m old new (is_disk (outcome_fault o)) (is_foreign (outcome_fault o))
+    pub told : IsOfCalls (outcome_fault o)
+    pub refused : IfRefused o (λ refusal. ⊥)
+    pub size : (c : Settings) (heard : List Envelope) → WasInOrder m c heard old new → outcome_fault o ≡ Some Size → HasNoRoom m new heard
+    pub hears : (c : Settings) (heard : List Envelope) → WasInOrder m c heard old new → m.down old ≡ false → entry_of e (entries_of c heard) ≡ None
+        → IsView c (state_of c heard) e view → HearsNew m c heard e new o
+
+  -- By what the store knew of the message. One of an unknown sender, and one whose pair was heard, leave the store as it is.
+  abbrev pub HearsLoaded : Loaded → Outcome → Type 0
+  HearsLoaded Stranger o = (new ≡ old) × Says (told_of_refusal (m.configuration old) UnknownSender (Some (head_of_envelope e))) o
+  HearsLoaded (Heard message answer) o = (new ≡ old) × Repeats (m.configuration old) e message.items answer.items o
+  HearsLoaded (Fresh view) o = HearsFresh view o

@@ -1,17 +1,10 @@
 use Rattle.std.proofs.Common.{◌∙◌, ap, refl, List, ℕ}
-use Rattle.std.proofs.lemmas.Result.{IfOk-from_err}
 use Rattle.registry_core.specs.Decision.{Decision}
 use Rattle.desk_wire.specs.Answers.{answer_text, head_of_envelope}
 use Rattle.desk_wire.specs.Writing.{message_text}
 use Rattle.desk_engine.proofs.HearingCases.{can_add}
 use Rattle.desk_engine.proofs.KeptAfter.{with_entry-kept_after}
 use Rattle.desk_engine.proofs.hearing.decided.Goals as goal
-
-pub returns-in_err-message : goal.returns-in_err-message
-returns-in_err-message c = IfOk-from_err c.from_residual.result _ c.from_residual.ensures.0
-
-pub returns-in_err-text : goal.returns-in_err-text
-returns-in_err-text c = IfOk-from_err c.from_residual-in_err-text.result _ c.from_residual-in_err-text.ensures.0
 
 pub returns : goal.returns
 returns c = λ heard list none viewed.

@@ -35,15 +35,3 @@ returns-in-Err-keep_octets-clause-goes g c = λ s heard start before input same 
     rw (runs.octets-done input c.args.octets.now c.loop-front.invariant.done c.loop-front.rest.now c.loop-front.invariant.parts) at
     (runs.goes-without g.K.Looks.meaning s heard start c.loop-front.keeper before _ (input ++ c.loop-front.invariant.done) c.loop-front.line.items c.loop-front.rest.now
     c.in_default.ensures.none c.in-Err-keep_octets.ensures.some (c.loop-front.invariant.stands s heard start before input same sound stands) more)
-
-pub returns-in-Err-clause-call : goal.returns-in-Err-clause-call
-returns-in-Err-clause-call g c = call_then g.K.Looks.meaning c.args.keeper.now c.loop-front.keeper c.take_line.new.keeper _ _ c.loop-front.invariant.call c.in-Err.ensures.call
-
-pub returns-in-Err-clause-told : goal.returns-in-Err-clause-told
-returns-in-Err-clause-told g c = c.in-Err.ensures.told
-
-pub returns-in-Ok-keep_octets-clause-call : goal.returns-in-Ok-keep_octets-clause-call
-returns-in-Ok-keep_octets-clause-call g c = c.loop-front.invariant.call
-
-pub returns-in-Err-keep_octets-clause-call : goal.returns-in-Err-keep_octets-clause-call
-returns-in-Err-keep_octets-clause-call g c = c.loop-front.invariant.call
