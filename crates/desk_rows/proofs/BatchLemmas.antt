@@ -82,3 +82,18 @@ first_spared (b ∷ more) first rest before mid begins step later S g (suc most)
 first_spared (b ∷ more) first rest before mid begins step later S g (suc most) old new e has empty inside told (inr (on, count, ran, others, stays)) =
     let did = step.leads (state g old) (state g on) count has empty (subst (λ t. ExecutesIn true t [] (state g old) (state g on) (Ok count)) begins.first_is ran.runs) in
     later S g most on new e did.0 did.1 stays.0 told (subst (λ t. RunInTurn g (Some 0) most t on new (Err e)) begins.rest_is others)
+
+-- ---- both
+
+pub record Makes (text : List ℕ) (before after : Schema) : Type 1 where
+  pub through : Through text before after
+  pub spared : IsNeverRefused text before
+
+pub nothing_more : (schema : Schema) → Makes [] schema schema
+nothing_more schema = record { through = no_more schema; spared = none_refused schema }
+
+pub makes : (text first rest : List ℕ) {before mid after : Schema} → Begins text first rest → CreatesOne first before mid → Makes rest mid after → Makes text before after
+makes text first rest {before} {mid} {after} begins step more = record {
+  through = through text first rest before mid after begins step.leads more.through;
+  spared = first_spared text first rest before mid begins step more.spared;
+}

@@ -1,7 +1,6 @@
 -- What an INSERT of one row does.
 use Rattle.std.proofs.Common.{◌≡◌, ◌⊎◌, inl, inr, ℕ, ℤ, ◌/◌, List, [], ◌∷◌, length, slice_get, Bool, true, false, cond, Some, None, Ok, Err, Result, refl, sym, ap, subst, ◌∙◌, append-nil}
 use Rattle.std.proofs.lemmas.Bool.{and_parts, not-true}
-use Rattle.sqlite_value.specs.declared.value.Value.{Value}
 use Rattle.sqlite_value.specs.declared.value.Value.TheVariants.{Null, Int}
 use Rattle.sqlite_value.specs.Order.{Row}
 use Rattle.sqlite_trees.specs.Tree.{Trees, put_row}
@@ -24,7 +23,7 @@ use Rattle.sqlite.proofs.Callers.{IsPlain, command_of, statement_of, runs_as, on
 use Rattle.desk_rows.specs.Schema.{desk_schema, desk_tables}
 use Rattle.desk_rows.specs.steps.Change.{KeepsOthers}
 
-either : (b : Bool) (x : Value) → cond b x x ≡ x
+pub either : {X : Type 0} (b : Bool) (x : X) → cond b x x ≡ x
 either true x = refl
 either false x = refl
 

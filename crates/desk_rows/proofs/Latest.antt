@@ -30,11 +30,9 @@ use Rattle.registry_core.specs.declared.facts.Uplink.{Uplink}
 use Rattle.registry_core.specs.Derived.{is_data, is_data_of, last_counter}
 use Rattle.registry_core.specs.Numbered.{greatest}
 use Rattle.registry_core.specs.Ranges.{IsEui}
-use Rattle.desk_rows.specs.Migrating.{HoldsFirst}
-use Rattle.desk_rows.specs.Schema.{first_schema}
-use Rattle.desk_rows.specs.Calls.{Reads, ReadsFirst, ReadsOf}
+use Rattle.desk_rows.specs.Calls.{Reads, ReadsOf}
 use Rattle.desk_rows.specs.steps.Queries.{Finds}
-use Rattle.desk_rows.specs.Rows.{Rows, Holds, SessionRow, IsSession, IsUplink, booking_cells, device_cells, limit_cells, name_cells, reply_cells, sender_cells, session_cells, uplink_cells, eui, number, kind_number, table_of, last_number}
+use Rattle.desk_rows.specs.Rows.{Rows, Holds, SessionRow, IsSession, IsUplink, session_cells, uplink_cells, eui, number, kind_number, table_of, last_number}
 use Rattle.desk_rows.specs.declared.faults.RowFault.{RowFault}
 use Rattle.desk_rows.proofs.Lookups.{IsLookup, IsLookupOf, finds_of, has_schema, says_so}
 use Rattle.desk_rows.proofs.Ordered.{Asked, query_of, falling, encode, zip_from, head, first_sorted, map_same, map_twice}
@@ -150,71 +148,8 @@ module _ {desk : Schema} (Have : Database → Rows → Type 0) (schema : (db : D
 -- ---- the last number of a table
 
 -- the rowid of the row whose rowid is the greatest
-abbrev last_of : (tree : ℕ) → Asked (tree ∷ [])
+abbrev pub last_of : (tree : ℕ) → Asked (tree ∷ [])
 last_of tree = latest tree [] (col 1 0 ∷ []) ((col 1 0, falling) ∷ [])
-
-abbrev last_sender_text : List ℕ
-last_sender_text = codes "SELECT rowid FROM sender ORDER BY rowid DESC LIMIT 1"
-
-last_sender_lookup : IsLookup last_sender_text 0 (last_of 1)
-unfolding understood everything
-last_sender_lookup = record { names = _; compiled = _; means = refl; command = refl; plain = (refl, refl); whole = omega arith; given = refl; unlisted = refl }
-
-abbrev last_reply_text : List ℕ
-last_reply_text = codes "SELECT seq FROM reply ORDER BY seq DESC LIMIT 1"
-
-last_reply_lookup : IsLookup last_reply_text 0 (last_of 3)
-unfolding understood everything
-last_reply_lookup = record { names = _; compiled = _; means = refl; command = refl; plain = (refl, refl); whole = omega arith; given = refl; unlisted = refl }
-
-abbrev last_owner_text : List ℕ
-last_owner_text = codes "SELECT rowid FROM owner ORDER BY rowid DESC LIMIT 1"
-
-last_owner_lookup : IsLookup last_owner_text 0 (last_of 5)
-unfolding understood everything
-last_owner_lookup = record { names = _; compiled = _; means = refl; command = refl; plain = (refl, refl); whole = omega arith; given = refl; unlisted = refl }
-
-abbrev last_gateway_text : List ℕ
-last_gateway_text = codes "SELECT rowid FROM gateway ORDER BY rowid DESC LIMIT 1"
-
-last_gateway_lookup : IsLookup last_gateway_text 0 (last_of 7)
-unfolding understood everything
-last_gateway_lookup = record { names = _; compiled = _; means = refl; command = refl; plain = (refl, refl); whole = omega arith; given = refl; unlisted = refl }
-
-abbrev last_device_text : List ℕ
-last_device_text = codes "SELECT rowid FROM device ORDER BY rowid DESC LIMIT 1"
-
-last_device_lookup : IsLookup last_device_text 0 (last_of 9)
-unfolding understood everything
-last_device_lookup = record { names = _; compiled = _; means = refl; command = refl; plain = (refl, refl); whole = omega arith; given = refl; unlisted = refl }
-
-abbrev last_session_text : List ℕ
-last_session_text = codes "SELECT number FROM session ORDER BY number DESC LIMIT 1"
-
-last_session_lookup : IsLookup last_session_text 0 (last_of 11)
-unfolding understood everything
-last_session_lookup = record { names = _; compiled = _; means = refl; command = refl; plain = (refl, refl); whole = omega arith; given = refl; unlisted = refl }
-
-abbrev last_uplink_text : List ℕ
-last_uplink_text = codes "SELECT number FROM uplink ORDER BY number DESC LIMIT 1"
-
-last_uplink_lookup : IsLookup last_uplink_text 0 (last_of 13)
-unfolding understood everything
-last_uplink_lookup = record { names = _; compiled = _; means = refl; command = refl; plain = (refl, refl); whole = omega arith; given = refl; unlisted = refl }
-
-abbrev last_booking_text : List ℕ
-last_booking_text = codes "SELECT number FROM booking ORDER BY number DESC LIMIT 1"
-
-last_booking_lookup : IsLookup last_booking_text 0 (last_of 17)
-unfolding understood everything
-last_booking_lookup = record { names = _; compiled = _; means = refl; command = refl; plain = (refl, refl); whole = omega arith; given = refl; unlisted = refl }
-
-abbrev last_limit_text : List ℕ
-last_limit_text = codes "SELECT rowid FROM band_limit ORDER BY rowid DESC LIMIT 1"
-
-last_limit_lookup : IsLookup last_limit_text 0 (last_of 22)
-unfolding understood everything
-last_limit_lookup = record { names = _; compiled = _; means = refl; command = refl; plain = (refl, refl); whole = omega arith; given = refl; unlisted = refl }
 
 -- one falling key is two, the same again
 once : (a b : ℕ) → ordering_then (int_cmp (pos b) (pos a)) Equal ≡ ordering_then (int_cmp (pos b) (pos a)) (ordering_then (int_cmp (pos b) (pos a)) Equal)
@@ -232,73 +167,11 @@ any (Some n) = tt
 module _ {desk : Schema} (Have : Database → Rows → Type 0) (schema : (db : Database) (r : Rows) → Have db r → db.schema ≡ desk)
     {sql : List ℕ} {tree : ℕ} (text : IsLookupOf desk sql 0 (last_of tree)) (typed : accepts_program desk [] (query_of (last_of tree)) [] ≡ true)
     {X : Type 0} (cells : X → Row) (xs : Rows → List X) {old new : State} (stored : (r : Rows) → Have old.now r → overlay old.now.trees [] tree ≡ table_of cells (xs r)) where
-  reads_last : {result : Result (Option ℕ) RowFault} → Finds sql [] old new (λ n. n) (λ n. number n ∷ []) (λ n. Unit {0}) result → ReadsOf desk Have old new result (λ r n. n ≡ last_number (xs r))
+  pub reads_last : {result : Result (Option ℕ) RowFault} → Finds sql [] old new (λ n. n) (λ n. number n ∷ []) (λ n. Unit {0}) result → ReadsOf desk Have old new result (λ r n. n ≡ last_number (xs r))
   reads_last found = says_so
       (greatest_found Have schema text [] refl typed cells xs stored (λ b. true) (λ b. refl) (λ b. b.0) (λ b. refl)
       (λ b c. ap (λ o. ordering_then o Equal) (value_cmp-Int (pos c.0) (pos b.0)) ∙ once b.0 c.0) (λ _. Unit {0}) (λ r has. any _) found)
       (λ r has n is. is ∙ last_is (xs r))
-
-module _ {old new : State} {result : Result (Option ℕ) RowFault} where
-  pub reads_last_sender : Finds last_sender_text [] old new (λ n. n) (λ n. number n ∷ []) (λ n. Unit {0}) result → Reads old new result (λ r n. n ≡ last_number r.senders)
-  reads_last_sender = reads_last Holds has_schema last_sender_lookup refl sender_cells (λ r. r.senders) (λ r has. has.ten.sender)
-
-  pub reads_last_reply : Finds last_reply_text [] old new (λ n. n) (λ n. number n ∷ []) (λ n. Unit {0}) result → Reads old new result (λ r n. n ≡ last_number r.replies)
-  reads_last_reply = reads_last Holds has_schema last_reply_lookup refl reply_cells (λ r. r.replies) (λ r has. has.ten.reply)
-
-  pub reads_last_owner : Finds last_owner_text [] old new (λ n. n) (λ n. number n ∷ []) (λ n. Unit {0}) result → Reads old new result (λ r n. n ≡ last_number r.owners)
-  reads_last_owner = reads_last Holds has_schema last_owner_lookup refl name_cells (λ r. r.owners) (λ r has. has.ten.owner)
-
-  pub reads_last_gateway : Finds last_gateway_text [] old new (λ n. n) (λ n. number n ∷ []) (λ n. Unit {0}) result → Reads old new result (λ r n. n ≡ last_number r.gateways)
-  reads_last_gateway = reads_last Holds has_schema last_gateway_lookup refl name_cells (λ r. r.gateways) (λ r has. has.ten.gateway)
-
-  pub reads_last_device : Finds last_device_text [] old new (λ n. n) (λ n. number n ∷ []) (λ n. Unit {0}) result → Reads old new result (λ r n. n ≡ last_number r.devices)
-  reads_last_device = reads_last Holds has_schema last_device_lookup refl device_cells (λ r. r.devices) (λ r has. has.ten.device)
-
-  pub reads_last_session : Finds last_session_text [] old new (λ n. n) (λ n. number n ∷ []) (λ n. Unit {0}) result → Reads old new result (λ r n. n ≡ last_number r.sessions)
-  reads_last_session = reads_last Holds has_schema last_session_lookup refl session_cells (λ r. r.sessions) (λ r has. has.ten.session)
-
-  pub reads_last_uplink : Finds last_uplink_text [] old new (λ n. n) (λ n. number n ∷ []) (λ n. Unit {0}) result → Reads old new result (λ r n. n ≡ last_number r.uplinks)
-  reads_last_uplink = reads_last Holds has_schema last_uplink_lookup refl uplink_cells (λ r. r.uplinks) (λ r has. has.ten.uplink)
-
-  pub reads_last_booking : Finds last_booking_text [] old new (λ n. n) (λ n. number n ∷ []) (λ n. Unit {0}) result → Reads old new result (λ r n. n ≡ last_number r.bookings)
-  reads_last_booking = reads_last Holds has_schema last_booking_lookup refl booking_cells (λ r. r.bookings) (λ r has. has.ten.booking)
-
-  pub reads_last_limit : Finds last_limit_text [] old new (λ n. n) (λ n. number n ∷ []) (λ n. Unit {0}) result → Reads old new result (λ r n. n ≡ last_number r.limits)
-  reads_last_limit = reads_last Holds has_schema last_limit_lookup refl limit_cells (λ r. r.limits) (λ r has. has.limit)
-
--- ---- the same four over tables of schema 1
-
-first_has_schema : (db : Database) (r : Rows) → HoldsFirst db r → db.schema ≡ first_schema
-first_has_schema db r has = has.ten.schema
-
-first_reply_lookup : IsLookupOf first_schema last_reply_text 0 (last_of 3)
-unfolding understood everything
-first_reply_lookup = record { names = _; compiled = _; means = refl; command = refl; plain = (refl, refl); whole = omega arith; given = refl; unlisted = refl }
-
-first_session_lookup : IsLookupOf first_schema last_session_text 0 (last_of 11)
-unfolding understood everything
-first_session_lookup = record { names = _; compiled = _; means = refl; command = refl; plain = (refl, refl); whole = omega arith; given = refl; unlisted = refl }
-
-first_uplink_lookup : IsLookupOf first_schema last_uplink_text 0 (last_of 13)
-unfolding understood everything
-first_uplink_lookup = record { names = _; compiled = _; means = refl; command = refl; plain = (refl, refl); whole = omega arith; given = refl; unlisted = refl }
-
-first_booking_lookup : IsLookupOf first_schema last_booking_text 0 (last_of 17)
-unfolding understood everything
-first_booking_lookup = record { names = _; compiled = _; means = refl; command = refl; plain = (refl, refl); whole = omega arith; given = refl; unlisted = refl }
-
-module _ {old new : State} {result : Result (Option ℕ) RowFault} where
-  pub reads_first_reply : Finds last_reply_text [] old new (λ n. n) (λ n. number n ∷ []) (λ n. Unit {0}) result → ReadsFirst old new result (λ r n. n ≡ last_number r.replies)
-  reads_first_reply = reads_last HoldsFirst first_has_schema first_reply_lookup refl reply_cells (λ r. r.replies) (λ r has. has.ten.reply)
-
-  pub reads_first_session : Finds last_session_text [] old new (λ n. n) (λ n. number n ∷ []) (λ n. Unit {0}) result → ReadsFirst old new result (λ r n. n ≡ last_number r.sessions)
-  reads_first_session = reads_last HoldsFirst first_has_schema first_session_lookup refl session_cells (λ r. r.sessions) (λ r has. has.ten.session)
-
-  pub reads_first_uplink : Finds last_uplink_text [] old new (λ n. n) (λ n. number n ∷ []) (λ n. Unit {0}) result → ReadsFirst old new result (λ r n. n ≡ last_number r.uplinks)
-  reads_first_uplink = reads_last HoldsFirst first_has_schema first_uplink_lookup refl uplink_cells (λ r. r.uplinks) (λ r has. has.ten.uplink)
-
-  pub reads_first_booking : Finds last_booking_text [] old new (λ n. n) (λ n. number n ∷ []) (λ n. Unit {0}) result → ReadsFirst old new result (λ r n. n ≡ last_number r.bookings)
-  reads_first_booking = reads_last HoldsFirst first_has_schema first_booking_lookup refl booking_cells (λ r. r.bookings) (λ r has. has.ten.booking)
 
 -- ---- the last nonce of a device, the last counter of a session
 

@@ -25,22 +25,22 @@ use Rattle.desk_rows.specs.steps.Statements.{HasWritten}
 use Rattle.desk_rows.specs.declared.faults.RowFault.{RowFault}
 use Rattle.desk_rows.proofs.InsertLemmas.{cast_null, cast_int, uncounted}
 use Rattle.desk_rows.proofs.Insertions.{IsInsert, row_added, insert_in_order, ran_well}
-use Rattle.desk_rows.proofs.SchemaBatch.{from_meta, makes_all, never_refused}
+use Rattle.desk_rows.proofs.SchemaBatch.{batch, makes_all, all_made}
 use Rattle.desk_rows.proofs.FaultLemmas.{even_unless}
 
-pub tables_made : {S : Type 0} (g : Ghosts S) (old new : Held S) → ExecutesAllInside g 0 from_meta old new (Ok tt) → (state g old).now.schema ≡ no_schema → IsBare (state g new).now × IsTrue (state g new).is_open
+pub tables_made : {S : Type 0} (g : Ghosts S) (old new : Held S) → ExecutesAllInside g 0 batch old new (Ok tt) → (state g old).now.schema ≡ no_schema → IsBare (state g new).now × IsTrue (state g new).is_open
 unfolding ExecutesAllInside
 tables_made {S} g old new ran has =
     let none : IsEmptied (state g old).now = subst (λ (s : Schema). AllByRecursion (λ t. (state g old).now.trees t.tree ≡ []) s.tables) (sym has) tt in
-    let all = makes_all S g (length from_meta) old new has none ran in
+    let all = makes_all S g (length batch) old new has none ran in
     (record { schema = all.0; sound = all.2; empty = all.1 }, all.3)
 
-pub tables_refused : {S : Type 0} (g : Ghosts S) (old new : Held S) (e : Error) → ExecutesAllInside g 0 from_meta old new (Err e) → (state g old).now.schema ≡ no_schema
+pub tables_refused : {S : Type 0} (g : Ghosts S) (old new : Held S) (e : Error) → ExecutesAllInside g 0 batch old new (Err e) → (state g old).now.schema ≡ no_schema
     → IsTrue old.in_transaction → IsEven (row_fault e)
 unfolding ExecutesAllInside
 tables_refused {S} g old new e ran has inside =
     let none : IsEmptied (state g old).now = subst (λ (s : Schema). AllByRecursion (λ t. (state g old).now.trees t.tree ≡ []) s.tables) (sym has) tt in
-    even_unless e (λ told. never_refused S g (length from_meta) old new e has none inside told ran)
+    even_unless e (λ told. all_made.spared S g (length batch) old new e has none inside told ran)
 
 abbrev meta_text : List ℕ
 meta_text = codes "INSERT INTO meta (version, receiver, operator, base, addresses) VALUES (2, ?1, ?2, ?3, ?4)"

@@ -1,204 +1,153 @@
--- The batch that makes a desk's tables: run in turn its statements lead to the desk's schema, and none is refused.
-use Rattle.std.proofs.Common.{ℕ, List, [], ◌++◌, refl}
+-- The batch that makes a desk's tables: its texts, as the schema gives them. Run in turn they lead to the desk's schema, and none
+-- is refused.
+use Rattle.std.proofs.Common.{ℕ, ◌+◌, ◌==◌, ◌++◌, List, [], ◌∷◌, codes, drop, get_or, map, take, Option, Some, None, Bool, false, if◌then◌else◌, refl, arith}
+use Rattle.sqlite_schema.specs.declared.schema.Column.{Column}
+use Rattle.sqlite_schema.specs.declared.schema.Kind.{Kind}
+use Rattle.sqlite_schema.specs.declared.schema.Kind.TheVariants as kind
+use Rattle.sqlite_schema.specs.declared.schema.Schema.{Schema}
+use Rattle.sqlite_schema.specs.declared.schema.Table.{Table}
 use Rattle.sqlite_tied.specs.Compute.{everything}
-use Rattle.desk_rows.proofs.BatchLemmas.{Begins, Through, Starts, starts, through, no_more, IsNeverRefused, none_refused, first_spared}
-use Rattle.desk_rows.proofs.SchemaTexts.{after, meta_text, sender_text, reply_text, owner_text, gateway_text, device_text, session_text, uplink_text, copy_text, booking_text, device_owner_text, uplink_start_text, booking_start_text, booking_uplink_text, limit_text}
-use Rattle.desk_rows.proofs.SchemaTexts.{meta_step, sender_step, reply_step, owner_step, gateway_step, device_step, session_step, uplink_step, copy_step, booking_step, device_owner_step, uplink_start_step, booking_start_step, booking_uplink_step, limit_step}
+use Rattle.sqlite_value.specs.Order.{value_cmp}
+use Rattle.sqlite_trees.specs.Sound.{fits_kind, is_free_name, begins, same_name}
+use Rattle.sqlite.specs.Listing.{understood}
+use Rattle.desk_rows.specs.Schema.{desk_tables, desk_indexes, meta_table, sender_table, reply_table, owner_table, gateway_table, device_table, session_table, uplink_table, copy_table, booking_table, limit_table}
+use Rattle.desk_rows.proofs.BatchLemmas.{Begins, Makes, Starts, makes, nothing_more, starts}
+use Rattle.desk_rows.proofs.BatchSteps.{CreatesOne, index_step, table_step}
+use Rattle.desk_rows.proofs.StatementTexts.{joined_by, name_at}
 
--- each with those after it
-abbrev pub from_limit : List ℕ
-from_limit = limit_text
+-- ---- texts
 
-abbrev pub from_booking_uplink : List ℕ
-from_booking_uplink = booking_uplink_text ++ from_limit
+abbrev pub kind_text : Kind → List ℕ
+kind_text kind.Integer = codes " INTEGER"
+kind_text kind.Text = codes " TEXT"
+kind_text kind.Blob = codes " BLOB"
+kind_text other = []
 
-abbrev pub from_booking_start : List ℕ
-from_booking_start = booking_start_text ++ from_booking_uplink
+-- the one column of a key tells so itself
+abbrev pub is_key_alone : List ℕ → ℕ → Bool
+is_key_alone (p ∷ []) place = p == place
+is_key_alone places place = false
 
-abbrev pub from_uplink_start : List ℕ
-from_uplink_start = uplink_start_text ++ from_booking_start
+abbrev pub column_text : List ℕ → ℕ → Column → List ℕ
+column_text primary place c =
+    c.name ++ (kind_text c.kind ++ (if is_key_alone primary place then codes " PRIMARY KEY" else (if c.not_null then codes " NOT NULL" else [])))
 
-abbrev pub from_device_owner : List ℕ
-from_device_owner = device_owner_text ++ from_uplink_start
+abbrev pub column_texts : List ℕ → ℕ → List Column → List (List ℕ)
+column_texts primary place [] = []
+column_texts primary place (c ∷ cs) = column_text primary place c ∷ column_texts primary (place + 1) cs
 
-abbrev pub from_booking : List ℕ
-from_booking = booking_text ++ from_device_owner
+abbrev pub key_text : Table → List ℕ → List ℕ → List ℕ
+key_text t what places = what ++ (codes " (" ++ (joined_by (codes ", ") (map (name_at t) places) ++ codes ")"))
 
-abbrev pub from_copy : List ℕ
-from_copy = copy_text ++ from_booking
+-- of a table whose rowid has a name the other keys; else the key, where it has several columns
+abbrev pub key_texts : Table → Option ℕ → List ℕ → List (List ℕ)
+key_texts t (Some at) primary = map (key_text t (codes "UNIQUE")) t.uniques
+key_texts t None (p ∷ q ∷ ps) = key_text t (codes "PRIMARY KEY") (p ∷ q ∷ ps) ∷ []
+key_texts t None primary = []
 
-abbrev pub from_uplink : List ℕ
-from_uplink = uplink_text ++ from_copy
+-- the column that the rowid has the name of stands at place 0 of the key, and first among the columns
+abbrev pub first_place : Option ℕ → ℕ
+first_place (Some at) = 0
+first_place None = 1
 
-abbrev pub from_session : List ℕ
-from_session = session_text ++ from_uplink
+abbrev pub create_text : Table → List ℕ
+create_text t = codes "CREATE TABLE " ++ (t.name ++ (codes " (" ++ (joined_by (codes ", ") (column_texts t.primary (first_place t.key) t.columns ++ key_texts t t.key t.primary) ++ codes ") STRICT")))
 
-abbrev pub from_device : List ℕ
-from_device = device_text ++ from_session
+abbrev pub index_text : Table → List ℕ → List ℕ → List ℕ
+index_text t name places = key_text t (codes "CREATE INDEX " ++ (name ++ (codes " ON " ++ t.name))) places
 
-abbrev pub from_gateway : List ℕ
-from_gateway = gateway_text ++ from_device
+abbrev pub statements : List (List ℕ)
+statements = map create_text (take 10 desk_tables)
+    ++ (index_text device_table (codes "device_owner") (3 ∷ 1 ∷ []) ∷ index_text uplink_table (codes "uplink_start") (2 ∷ 6 ∷ []) ∷ index_text booking_table (codes "booking_start") (3 ∷ 7 ∷ [])
+    ∷ index_text booking_table (codes "booking_uplink") (2 ∷ []) ∷ create_text limit_table ∷ [])
 
-abbrev pub from_owner : List ℕ
-from_owner = owner_text ++ from_gateway
+-- one after another
+abbrev pub batch_of : List (List ℕ) → List ℕ
+batch_of [] = []
+batch_of (s ∷ []) = s
+batch_of (s ∷ t ∷ more) = s ++ (codes "; " ++ batch_of (t ∷ more))
 
-abbrev pub from_reply : List ℕ
-from_reply = reply_text ++ from_owner
+abbrev pub batch : List ℕ
+batch = batch_of statements
 
-abbrev pub from_sender : List ℕ
-from_sender = sender_text ++ from_reply
+-- from one of the later ones on, and that one alone
+abbrev from : ℕ → List ℕ
+from n = codes " " ++ batch_of (drop n statements)
 
-abbrev pub from_meta : List ℕ
-from_meta = meta_text ++ from_sender
+abbrev text : ℕ → List ℕ
+text n = codes " " ++ (get_or statements n [] ++ codes ";")
 
-begins_limit : Begins from_limit limit_text ([])
+abbrev pub after : ℕ → ℕ → Schema
+after tables indexes = record { tables = take tables desk_tables; indexes = take indexes desk_indexes; views = [] }
+
+-- ---- what they make, the last first
+
+limit_made : Makes (from 14) (after 10 12) (after 11 13)
+unfolding understood everything fits_kind is_free_name begins same_name value_cmp lib.Ieee.is_nan lib.Ieee.lt
+limit_made = makes (from 14) (from 14) [] (record { some = λ e. cc; first_is = refl; rest_is = refl }) (table_step (from 14) (after 10 12) (record limit_table { tree = 0 }) (record { compiled = _; means = refl; is = refl; plain = (refl, refl); whole = omega arith; given = refl }) refl refl refl) (nothing_more (after 11 13))
+
+booking_uplink_made : Makes (from 13) (after 10 11) (after 11 13)
+unfolding understood everything fits_kind is_free_name begins same_name value_cmp lib.Ieee.is_nan lib.Ieee.lt
+booking_uplink_made = makes (from 13) (text 13) (from 14) (record { some = λ e. cc; first_is = refl; rest_is = refl }) (index_step (text 13) (after 10 11) 9 booking_table _ (record { compiled = _; means = refl; is = refl; plain = (refl, refl); whole = omega arith; given = refl }) refl refl refl) limit_made
+
+booking_start_made : Makes (from 12) (after 10 10) (after 11 13)
+unfolding understood everything fits_kind is_free_name begins same_name value_cmp lib.Ieee.is_nan lib.Ieee.lt
+booking_start_made = makes (from 12) (text 12) (from 13) (record { some = λ e. cc; first_is = refl; rest_is = refl }) (index_step (text 12) (after 10 10) 9 booking_table _ (record { compiled = _; means = refl; is = refl; plain = (refl, refl); whole = omega arith; given = refl }) refl refl refl) booking_uplink_made
+
+uplink_start_made : Makes (from 11) (after 10 9) (after 11 13)
+unfolding understood everything fits_kind is_free_name begins same_name value_cmp lib.Ieee.is_nan lib.Ieee.lt
+uplink_start_made = makes (from 11) (text 11) (from 12) (record { some = λ e. cc; first_is = refl; rest_is = refl }) (index_step (text 11) (after 10 9) 7 uplink_table _ (record { compiled = _; means = refl; is = refl; plain = (refl, refl); whole = omega arith; given = refl }) refl refl refl) booking_start_made
+
+device_owner_made : Makes (from 10) (after 10 8) (after 11 13)
+unfolding understood everything fits_kind is_free_name begins same_name value_cmp lib.Ieee.is_nan lib.Ieee.lt
+device_owner_made = makes (from 10) (text 10) (from 11) (record { some = λ e. cc; first_is = refl; rest_is = refl }) (index_step (text 10) (after 10 8) 5 device_table _ (record { compiled = _; means = refl; is = refl; plain = (refl, refl); whole = omega arith; given = refl }) refl refl refl) uplink_start_made
+
+booking_made : Makes (from 9) (after 9 8) (after 11 13)
+unfolding understood everything fits_kind is_free_name begins same_name value_cmp lib.Ieee.is_nan lib.Ieee.lt
+booking_made = makes (from 9) (text 9) (from 10) (record { some = λ e. cc; first_is = refl; rest_is = refl }) (table_step (text 9) (after 9 8) (record booking_table { tree = 0 }) (record { compiled = _; means = refl; is = refl; plain = (refl, refl); whole = omega arith; given = refl }) refl refl refl) device_owner_made
+
+copy_made : Makes (from 8) (after 8 7) (after 11 13)
+unfolding understood everything fits_kind is_free_name begins same_name value_cmp lib.Ieee.is_nan lib.Ieee.lt
+copy_made = makes (from 8) (text 8) (from 9) (record { some = λ e. cc; first_is = refl; rest_is = refl }) (table_step (text 8) (after 8 7) (record copy_table { tree = 0 }) (record { compiled = _; means = refl; is = refl; plain = (refl, refl); whole = omega arith; given = refl }) refl refl refl) booking_made
+
+uplink_made : Makes (from 7) (after 7 6) (after 11 13)
+unfolding understood everything fits_kind is_free_name begins same_name value_cmp lib.Ieee.is_nan lib.Ieee.lt
+uplink_made = makes (from 7) (text 7) (from 8) (record { some = λ e. cc; first_is = refl; rest_is = refl }) (table_step (text 7) (after 7 6) (record uplink_table { tree = 0 }) (record { compiled = _; means = refl; is = refl; plain = (refl, refl); whole = omega arith; given = refl }) refl refl refl) copy_made
+
+session_made : Makes (from 6) (after 6 5) (after 11 13)
+unfolding understood everything fits_kind is_free_name begins same_name value_cmp lib.Ieee.is_nan lib.Ieee.lt
+session_made = makes (from 6) (text 6) (from 7) (record { some = λ e. cc; first_is = refl; rest_is = refl }) (table_step (text 6) (after 6 5) (record session_table { tree = 0 }) (record { compiled = _; means = refl; is = refl; plain = (refl, refl); whole = omega arith; given = refl }) refl refl refl) uplink_made
+
+device_made : Makes (from 5) (after 5 4) (after 11 13)
+unfolding understood everything fits_kind is_free_name begins same_name value_cmp lib.Ieee.is_nan lib.Ieee.lt
+device_made = makes (from 5) (text 5) (from 6) (record { some = λ e. cc; first_is = refl; rest_is = refl }) (table_step (text 5) (after 5 4) (record device_table { tree = 0 }) (record { compiled = _; means = refl; is = refl; plain = (refl, refl); whole = omega arith; given = refl }) refl refl refl) session_made
+
+gateway_made : Makes (from 4) (after 4 3) (after 11 13)
+unfolding understood everything fits_kind is_free_name begins same_name value_cmp lib.Ieee.is_nan lib.Ieee.lt
+gateway_made = makes (from 4) (text 4) (from 5) (record { some = λ e. cc; first_is = refl; rest_is = refl }) (table_step (text 4) (after 4 3) (record gateway_table { tree = 0 }) (record { compiled = _; means = refl; is = refl; plain = (refl, refl); whole = omega arith; given = refl }) refl refl refl) device_made
+
+owner_made : Makes (from 3) (after 3 2) (after 11 13)
+unfolding understood everything fits_kind is_free_name begins same_name value_cmp lib.Ieee.is_nan lib.Ieee.lt
+owner_made = makes (from 3) (text 3) (from 4) (record { some = λ e. cc; first_is = refl; rest_is = refl }) (table_step (text 3) (after 3 2) (record owner_table { tree = 0 }) (record { compiled = _; means = refl; is = refl; plain = (refl, refl); whole = omega arith; given = refl }) refl refl refl) gateway_made
+
+reply_made : Makes (from 2) (after 2 1) (after 11 13)
+unfolding understood everything fits_kind is_free_name begins same_name value_cmp lib.Ieee.is_nan lib.Ieee.lt
+reply_made = makes (from 2) (text 2) (from 3) (record { some = λ e. cc; first_is = refl; rest_is = refl }) (table_step (text 2) (after 2 1) (record reply_table { tree = 0 }) (record { compiled = _; means = refl; is = refl; plain = (refl, refl); whole = omega arith; given = refl }) refl refl refl) owner_made
+
+sender_made : Makes (from 1) (after 1 0) (after 11 13)
+unfolding understood everything fits_kind is_free_name begins same_name value_cmp lib.Ieee.is_nan lib.Ieee.lt
+sender_made = makes (from 1) (text 1) (from 2) (record { some = λ e. cc; first_is = refl; rest_is = refl }) (table_step (text 1) (after 1 0) (record sender_table { tree = 0 }) (record { compiled = _; means = refl; is = refl; plain = (refl, refl); whole = omega arith; given = refl }) refl refl refl) reply_made
+
+meta_step : CreatesOne (create_text meta_table ++ codes ";") (after 0 0) (after 1 0)
+unfolding understood everything fits_kind is_free_name begins same_name value_cmp lib.Ieee.is_nan lib.Ieee.lt
+meta_step = table_step (create_text meta_table ++ codes ";") (after 0 0) (record meta_table { tree = 0 }) (record { compiled = _; means = refl; is = refl; plain = (refl, refl); whole = omega arith; given = refl }) refl refl refl
+
+begins_meta : Begins batch (create_text meta_table ++ codes ";") (from 1)
 unfolding everything
-begins_limit = record { some = λ e. cc; first_is = refl; rest_is = refl }
+begins_meta = (record { some = λ e. cc; first_is = refl; rest_is = refl })
 
-begins_booking_uplink : Begins from_booking_uplink booking_uplink_text (from_limit)
-unfolding everything
-begins_booking_uplink = record { some = λ e. cc; first_is = refl; rest_is = refl }
+pub makes_all : Starts batch (after 0 0) (after 11 13)
+makes_all = starts batch (create_text meta_table ++ codes ";") (from 1) (after 0 0) (after 1 0) (after 11 13) begins_meta meta_step.leads sender_made.through
 
-begins_booking_start : Begins from_booking_start booking_start_text (from_booking_uplink)
-unfolding everything
-begins_booking_start = record { some = λ e. cc; first_is = refl; rest_is = refl }
-
-begins_uplink_start : Begins from_uplink_start uplink_start_text (from_booking_start)
-unfolding everything
-begins_uplink_start = record { some = λ e. cc; first_is = refl; rest_is = refl }
-
-begins_device_owner : Begins from_device_owner device_owner_text (from_uplink_start)
-unfolding everything
-begins_device_owner = record { some = λ e. cc; first_is = refl; rest_is = refl }
-
-begins_booking : Begins from_booking booking_text (from_device_owner)
-unfolding everything
-begins_booking = record { some = λ e. cc; first_is = refl; rest_is = refl }
-
-begins_copy : Begins from_copy copy_text (from_booking)
-unfolding everything
-begins_copy = record { some = λ e. cc; first_is = refl; rest_is = refl }
-
-begins_uplink : Begins from_uplink uplink_text (from_copy)
-unfolding everything
-begins_uplink = record { some = λ e. cc; first_is = refl; rest_is = refl }
-
-begins_session : Begins from_session session_text (from_uplink)
-unfolding everything
-begins_session = record { some = λ e. cc; first_is = refl; rest_is = refl }
-
-begins_device : Begins from_device device_text (from_session)
-unfolding everything
-begins_device = record { some = λ e. cc; first_is = refl; rest_is = refl }
-
-begins_gateway : Begins from_gateway gateway_text (from_device)
-unfolding everything
-begins_gateway = record { some = λ e. cc; first_is = refl; rest_is = refl }
-
-begins_owner : Begins from_owner owner_text (from_gateway)
-unfolding everything
-begins_owner = record { some = λ e. cc; first_is = refl; rest_is = refl }
-
-begins_reply : Begins from_reply reply_text (from_owner)
-unfolding everything
-begins_reply = record { some = λ e. cc; first_is = refl; rest_is = refl }
-
-begins_sender : Begins from_sender sender_text (from_reply)
-unfolding everything
-begins_sender = record { some = λ e. cc; first_is = refl; rest_is = refl }
-
-begins_meta : Begins from_meta meta_text (from_sender)
-unfolding everything
-begins_meta = record { some = λ e. cc; first_is = refl; rest_is = refl }
-
-through_limit : Through from_limit (after 10 12) (after 11 13)
-through_limit = through from_limit limit_text ([]) (after 10 12) (after 11 13) (after 11 13) begins_limit limit_step.leads (no_more (after 11 13))
-
-through_booking_uplink : Through from_booking_uplink (after 10 11) (after 11 13)
-through_booking_uplink = through from_booking_uplink booking_uplink_text (from_limit) (after 10 11) (after 10 12) (after 11 13) begins_booking_uplink booking_uplink_step.leads through_limit
-
-through_booking_start : Through from_booking_start (after 10 10) (after 11 13)
-through_booking_start = through from_booking_start booking_start_text (from_booking_uplink) (after 10 10) (after 10 11) (after 11 13) begins_booking_start booking_start_step.leads through_booking_uplink
-
-through_uplink_start : Through from_uplink_start (after 10 9) (after 11 13)
-through_uplink_start = through from_uplink_start uplink_start_text (from_booking_start) (after 10 9) (after 10 10) (after 11 13) begins_uplink_start uplink_start_step.leads through_booking_start
-
-through_device_owner : Through from_device_owner (after 10 8) (after 11 13)
-through_device_owner = through from_device_owner device_owner_text (from_uplink_start) (after 10 8) (after 10 9) (after 11 13) begins_device_owner device_owner_step.leads through_uplink_start
-
-through_booking : Through from_booking (after 9 8) (after 11 13)
-through_booking = through from_booking booking_text (from_device_owner) (after 9 8) (after 10 8) (after 11 13) begins_booking booking_step.leads through_device_owner
-
-through_copy : Through from_copy (after 8 7) (after 11 13)
-through_copy = through from_copy copy_text (from_booking) (after 8 7) (after 9 8) (after 11 13) begins_copy copy_step.leads through_booking
-
-through_uplink : Through from_uplink (after 7 6) (after 11 13)
-through_uplink = through from_uplink uplink_text (from_copy) (after 7 6) (after 8 7) (after 11 13) begins_uplink uplink_step.leads through_copy
-
-through_session : Through from_session (after 6 5) (after 11 13)
-through_session = through from_session session_text (from_uplink) (after 6 5) (after 7 6) (after 11 13) begins_session session_step.leads through_uplink
-
-through_device : Through from_device (after 5 4) (after 11 13)
-through_device = through from_device device_text (from_session) (after 5 4) (after 6 5) (after 11 13) begins_device device_step.leads through_session
-
-through_gateway : Through from_gateway (after 4 3) (after 11 13)
-through_gateway = through from_gateway gateway_text (from_device) (after 4 3) (after 5 4) (after 11 13) begins_gateway gateway_step.leads through_device
-
-through_owner : Through from_owner (after 3 2) (after 11 13)
-through_owner = through from_owner owner_text (from_gateway) (after 3 2) (after 4 3) (after 11 13) begins_owner owner_step.leads through_gateway
-
-through_reply : Through from_reply (after 2 1) (after 11 13)
-through_reply = through from_reply reply_text (from_owner) (after 2 1) (after 3 2) (after 11 13) begins_reply reply_step.leads through_owner
-
-through_sender : Through from_sender (after 1 0) (after 11 13)
-through_sender = through from_sender sender_text (from_reply) (after 1 0) (after 2 1) (after 11 13) begins_sender sender_step.leads through_reply
-
-pub makes_all : Starts from_meta (after 0 0) (after 11 13)
-makes_all = starts from_meta meta_text (from_sender) (after 0 0) (after 1 0) (after 11 13) begins_meta meta_step.leads through_sender
-
--- ---- none is refused
-
-spared_limit : IsNeverRefused from_limit (after 10 12)
-spared_limit = first_spared from_limit limit_text [] (after 10 12) (after 11 13) begins_limit limit_step (none_refused (after 11 13))
-
-spared_booking_uplink : IsNeverRefused from_booking_uplink (after 10 11)
-spared_booking_uplink = first_spared from_booking_uplink booking_uplink_text from_limit (after 10 11) (after 10 12) begins_booking_uplink booking_uplink_step spared_limit
-
-spared_booking_start : IsNeverRefused from_booking_start (after 10 10)
-spared_booking_start = first_spared from_booking_start booking_start_text from_booking_uplink (after 10 10) (after 10 11) begins_booking_start booking_start_step spared_booking_uplink
-
-spared_uplink_start : IsNeverRefused from_uplink_start (after 10 9)
-spared_uplink_start = first_spared from_uplink_start uplink_start_text from_booking_start (after 10 9) (after 10 10) begins_uplink_start uplink_start_step spared_booking_start
-
-spared_device_owner : IsNeverRefused from_device_owner (after 10 8)
-spared_device_owner = first_spared from_device_owner device_owner_text from_uplink_start (after 10 8) (after 10 9) begins_device_owner device_owner_step spared_uplink_start
-
-spared_booking : IsNeverRefused from_booking (after 9 8)
-spared_booking = first_spared from_booking booking_text from_device_owner (after 9 8) (after 10 8) begins_booking booking_step spared_device_owner
-
-spared_copy : IsNeverRefused from_copy (after 8 7)
-spared_copy = first_spared from_copy copy_text from_booking (after 8 7) (after 9 8) begins_copy copy_step spared_booking
-
-spared_uplink : IsNeverRefused from_uplink (after 7 6)
-spared_uplink = first_spared from_uplink uplink_text from_copy (after 7 6) (after 8 7) begins_uplink uplink_step spared_copy
-
-spared_session : IsNeverRefused from_session (after 6 5)
-spared_session = first_spared from_session session_text from_uplink (after 6 5) (after 7 6) begins_session session_step spared_uplink
-
-spared_device : IsNeverRefused from_device (after 5 4)
-spared_device = first_spared from_device device_text from_session (after 5 4) (after 6 5) begins_device device_step spared_session
-
-spared_gateway : IsNeverRefused from_gateway (after 4 3)
-spared_gateway = first_spared from_gateway gateway_text from_device (after 4 3) (after 5 4) begins_gateway gateway_step spared_device
-
-spared_owner : IsNeverRefused from_owner (after 3 2)
-spared_owner = first_spared from_owner owner_text from_gateway (after 3 2) (after 4 3) begins_owner owner_step spared_gateway
-
-spared_reply : IsNeverRefused from_reply (after 2 1)
-spared_reply = first_spared from_reply reply_text from_owner (after 2 1) (after 3 2) begins_reply reply_step spared_owner
-
-spared_sender : IsNeverRefused from_sender (after 1 0)
-spared_sender = first_spared from_sender sender_text from_reply (after 1 0) (after 2 1) begins_sender sender_step spared_reply
-
-pub never_refused : IsNeverRefused from_meta (after 0 0)
-never_refused = first_spared from_meta meta_text from_sender (after 0 0) (after 1 0) begins_meta meta_step spared_sender
+pub all_made : Makes batch (after 0 0) (after 11 13)
+all_made = makes batch (create_text meta_table ++ codes ";") (from 1) begins_meta meta_step sender_made

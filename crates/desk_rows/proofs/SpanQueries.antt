@@ -29,7 +29,7 @@ use Rattle.desk_rows.specs.order.Arranged.{booking_span, by_start, is_near_at, n
 use Rattle.desk_rows.specs.steps.Queries.{FindsAll}
 use Rattle.desk_rows.specs.steps.Shown.{near_booking_shown, span_shown}
 use Rattle.desk_rows.specs.declared.faults.RowFault.{RowFault}
-use Rattle.desk_rows.proofs.ByKey.{undropped, stands}
+use Rattle.desk_rows.proofs.AnsweredUplinks.{undropped, stands}
 use Rattle.desk_rows.proofs.Lookups.{IsLookup, says_so}
 use Rattle.desk_rows.proofs.OrderLemmas.Orders.{not_both}
 use Rattle.desk_rows.proofs.Ordered.{rising}

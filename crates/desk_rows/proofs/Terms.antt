@@ -10,10 +10,7 @@ use Rattle.std.proofs.lemmas.Map.Text.{is_eq-slice_cmp}
 use Rattle.std.proofs.lemmas.Nat.{from_be_bytes-to_be_bytes_8}
 use Rattle.sqlite_value.specs.declared.value.Value.TheVariants.{Blob}
 use Rattle.sqlite_value.specs.declared.value.Value.{Value}
-use Rattle.sqlite_value.specs.declared.keys.Collation.{Collation}
 use Rattle.sqlite_value.specs.declared.keys.Collation.TheVariants.{Binary}
-use Rattle.sqlite_value.specs.Keys.{plain, first_key, later}
-use Rattle.sqlite_value.proofs.KeyLemmas.{first_key-plain}
 use Rattle.sqlite_value.proofs.OrderLemmas.{value_cmp-Int, value_cmp-Blob}
 use Rattle.sqlite_sql.specs.declared.ops.BinaryOp.TheVariants.{Compare}
 use Rattle.sqlite_sql.specs.declared.ops.CompareOp.TheVariants.{Eq}
@@ -52,27 +49,3 @@ eui_again a b low small e = sym (from_be_bytes-to_be_bytes_8 a low) ∙ ap (from
 pub eui_equal : (a b : ℕ) → a < 2 ^ 64 → b < 2 ^ 64 → same (eui a) (eui b) ≡ (a == b)
 eui_equal a b low small = blob_equal (to_be_bytes w64 a) (to_be_bytes w64 b)
     ∙ one_answer {P = a ≡ b} _ _ (λ t. eui_again a b low small ((bytes_eq-Decides _ _).0 t), λ e. (bytes_eq-Decides _ _).1 (ap (to_be_bytes w64) e)) (Decides-eqb a b)
-
--- ---- the keys of an index in the plain order
-
-second_key-plain : (first_key (later plain)).collation ≡ Binary
-unfolding first_key
-second_key-plain = refl
-
-third_key-plain : (first_key (later (later plain))).collation ≡ Binary
-unfolding first_key
-third_key-plain = refl
-
-abbrev same_by : Collation → Value → Value → Bool
-same_by k a b = is_true (binary (Compare Eq k) a b)
-
-pub one_key : (a b : Value) → (same_by (first_key plain).collation a b && true) ≡ same a b
-one_key a b = ap (λ k. same_by k.collation a b && true) first_key-plain ∙ and_true (same a b)
-
-pub two_keys : (a b c d : Value) → (same_by (first_key plain).collation a b && (same_by (first_key (later plain)).collation c d && true)) ≡ (same a b && same c d)
-two_keys a b c d = (λ i. same_by ((first_key-plain i).collation) a b && (same_by (second_key-plain i) c d && true)) ∙ ap (λ t. same a b && t) (and_true (same c d))
-
-pub three_keys : (a b c d e f : Value) → (same_by (first_key plain).collation a b && (same_by (first_key (later plain)).collation c d && (same_by (first_key (later (later plain))).collation e f && true)))
-    ≡ (same a b && (same c d && same e f))
-three_keys a b c d e f = (λ i. same_by ((first_key-plain i).collation) a b && (same_by (second_key-plain i) c d && (same_by (third_key-plain i) e f && true)))
-    ∙ ap (λ t. same a b && (same c d && t)) (and_true (same e f))

@@ -56,7 +56,7 @@ pub record IsUpdate (sql : List ℕ) (many at : ℕ) (table : Table) (terms proj
   pub whole : length sql ≤ compiled.tail
   pub given : many ≡ length compiled.names
 
-overlay_none : (db : Trees) (t : ℕ) → overlay db [] t ≡ db t
+pub overlay_none : (db : Trees) (t : ℕ) → overlay db [] t ≡ db t
 overlay_none db t = elim (nat_le (2 ^ 31) t) as (λ b. unwrap_or (cond b (slice_get [] (t - 2 ^ 31)) None) (db t) ≡ db t) [ true ↦ refl | false ↦ refl ]
 
 -- ---- what it changes

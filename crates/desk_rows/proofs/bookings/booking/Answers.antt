@@ -1,5 +1,7 @@
-use Rattle.desk_rows.proofs.ByKey.{reads_booking}
+use Rattle.std.proofs.Common.{[], ◌∷◌}
+use Rattle.desk_rows.proofs.DeskTables.{bookings, everything, finds_number, refl, understood}
 use Rattle.desk_rows.proofs.bookings.booking.Goals as goal
 
 pub returns : goal.returns
-returns g c = reads_booking c.args.number (rw (c.whole.ensures.same) at c.find.ensures)
+unfolding understood everything
+returns g c = finds_number bookings c.args.number (2 ∷ 3 ∷ 6 ∷ 7 ∷ 8 ∷ 9 ∷ []) (refl, refl) refl (λ b. b.1.booking) (λ b. refl) (λ b fits. (fits.gateway, fits.start, fits.len)) (rw (c.whole.ensures.same) at c.find.ensures)

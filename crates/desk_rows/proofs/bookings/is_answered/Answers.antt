@@ -1,4 +1,4 @@
-use Rattle.desk_rows.proofs.ByKey.{reads_answer}
+use Rattle.desk_rows.proofs.AnsweredUplinks.{reads_answer}
 use Rattle.desk_rows.proofs.bookings.is_answered.Goals as goal
 
 pub returns : goal.returns

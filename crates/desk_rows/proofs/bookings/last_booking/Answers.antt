@@ -1,8 +1,10 @@
-use Rattle.desk_rows.proofs.Latest.{reads_first_booking, reads_last_booking}
+use Rattle.desk_rows.proofs.DeskTables.{bookings, everything, reads_first, reads_number, refl, understood}
 use Rattle.desk_rows.proofs.bookings.last_booking.Goals as goal
 
 pub returns-clause-second : goal.returns-clause-second
-returns-clause-second g c = reads_last_booking c.find.ensures
+unfolding understood everything
+returns-clause-second g c = reads_number bookings (refl, refl) c.find.ensures
 
 pub returns-clause-first : goal.returns-clause-first
-returns-clause-first g c = reads_first_booking c.find.ensures
+unfolding understood everything
+returns-clause-first g c = reads_first bookings (λ db r has. has.ten.booking) refl (refl, refl) c.find.ensures

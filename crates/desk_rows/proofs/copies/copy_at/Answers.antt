@@ -1,5 +1,7 @@
-use Rattle.desk_rows.proofs.ByKey.{reads_copy}
+use Rattle.std.proofs.Common.{[], ◌∷◌}
+use Rattle.desk_rows.proofs.DeskTables.{copies, copy_key, everything, finds_plain, refl, understood}
 use Rattle.desk_rows.proofs.copies.copy_at.Goals as goal
 
 pub returns : goal.returns
-returns g c = reads_copy c.args.uplink c.args.gateway.now (rw (c.whole.ensures.same, c.text.ensures.same) at c.find.ensures)
+unfolding understood everything
+returns g c = finds_plain copies copy_key (c.args.uplink, c.args.gateway.now) tt (3 ∷ 4 ∷ 5 ∷ []) (refl, refl) refl refl (λ x. x.reception) (λ b. refl) (λ x fits. (fits.end, fits.freq)) (rw (c.whole.ensures.same, c.text.ensures.same) at c.find.ensures)

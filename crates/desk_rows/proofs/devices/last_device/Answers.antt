@@ -1,5 +1,6 @@
-use Rattle.desk_rows.proofs.Latest.{reads_last_device}
+use Rattle.desk_rows.proofs.DeskTables.{devices, everything, reads_number, refl, understood}
 use Rattle.desk_rows.proofs.devices.last_device.Goals as goal
 
 pub returns : goal.returns
-returns g c = reads_last_device c.find.ensures
+unfolding understood everything
+returns g c = reads_number devices (refl, refl) c.find.ensures

@@ -1,5 +1,6 @@
-use Rattle.desk_rows.proofs.ByKey.{reads_gateway}
+use Rattle.desk_rows.proofs.DeskTables.{everything, gateway_key, gateways, knows_key, refl, understood}
 use Rattle.desk_rows.proofs.gateways.gateway_is_known.Goals as goal
 
 pub returns : goal.returns
-returns g c = reads_gateway c.args.name.now (rw (c.text.ensures.same) at c.is_found.ensures)
+unfolding understood everything
+returns g c = knows_key gateways gateway_key c.args.name.now tt (refl, refl) refl refl (rw (c.text.ensures.same) at c.is_found.ensures)

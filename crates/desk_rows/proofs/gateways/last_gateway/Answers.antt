@@ -1,5 +1,6 @@
-use Rattle.desk_rows.proofs.Latest.{reads_last_gateway}
+use Rattle.desk_rows.proofs.DeskTables.{everything, gateways, reads_number, refl, understood}
 use Rattle.desk_rows.proofs.gateways.last_gateway.Goals as goal
 
 pub returns : goal.returns
-returns g c = reads_last_gateway c.find.ensures
+unfolding understood everything
+returns g c = reads_number gateways (refl, refl) c.find.ensures

@@ -1,5 +1,6 @@
-use Rattle.desk_rows.proofs.Latest.{reads_last_limit}
+use Rattle.desk_rows.proofs.DeskTables.{everything, limits, reads_number, refl, understood}
 use Rattle.desk_rows.proofs.limits.last_limit.Goals as goal
 
 pub returns : goal.returns
-returns g c = reads_last_limit c.find.ensures
+unfolding understood everything
+returns g c = reads_number limits (refl, refl) c.find.ensures

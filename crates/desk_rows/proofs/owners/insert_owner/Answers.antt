@@ -1,5 +1,7 @@
-use Rattle.desk_rows.proofs.Inserts.{owner_added}
+use Rattle.desk_rows.specs.Schema.{owner_table}
+use Rattle.desk_rows.proofs.DeskTables.{adds, everything, insert_is, owner_key, owners, refl, understood}
 use Rattle.desk_rows.proofs.owners.insert_owner.Goals as goal
 
 pub returns-clause-changes : goal.returns-clause-changes
-returns-clause-changes g c = owner_added c.args.name.now (rw (c.text.ensures.same) at c.write.ensures.written)
+unfolding understood everything
+returns-clause-changes g c = adds owners owner_key (insert_is 3 owner_table refl) c.args.name.now tt _ refl refl refl (rw (c.text.ensures.same) at c.write.ensures.written)

@@ -1,5 +1,6 @@
-use Rattle.desk_rows.proofs.Latest.{reads_last_owner}
+use Rattle.desk_rows.proofs.DeskTables.{everything, owners, reads_number, refl, understood}
 use Rattle.desk_rows.proofs.owners.last_owner.Goals as goal
 
 pub returns : goal.returns
-returns g c = reads_last_owner c.find.ensures
+unfolding understood everything
+returns g c = reads_number owners (refl, refl) c.find.ensures

@@ -1,5 +1,6 @@
-use Rattle.desk_rows.proofs.ByKey.{reads_owner}
+use Rattle.desk_rows.proofs.DeskTables.{everything, knows_key, owner_key, owners, refl, understood}
 use Rattle.desk_rows.proofs.owners.owner_is_known.Goals as goal
 
 pub returns : goal.returns
-returns g c = reads_owner c.args.name.now (rw (c.text.ensures.same) at c.is_found.ensures)
+unfolding understood everything
+returns g c = knows_key owners owner_key c.args.name.now tt (refl, refl) refl refl (rw (c.text.ensures.same) at c.is_found.ensures)

@@ -1,5 +1,6 @@
-use Rattle.desk_rows.proofs.Latest.{reads_last_sender}
+use Rattle.desk_rows.proofs.DeskTables.{everything, reads_number, refl, senders, understood}
 use Rattle.desk_rows.proofs.senders.last_sender.Goals as goal
 
 pub returns : goal.returns
-returns g c = reads_last_sender c.find.ensures
+unfolding understood everything
+returns g c = reads_number senders (refl, refl) c.find.ensures

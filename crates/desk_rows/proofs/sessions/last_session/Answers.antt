@@ -1,8 +1,10 @@
-use Rattle.desk_rows.proofs.Latest.{reads_first_session, reads_last_session}
+use Rattle.desk_rows.proofs.DeskTables.{everything, reads_first, reads_number, refl, sessions, understood}
 use Rattle.desk_rows.proofs.sessions.last_session.Goals as goal
 
 pub returns-clause-second : goal.returns-clause-second
-returns-clause-second g c = reads_last_session c.find.ensures
+unfolding understood everything
+returns-clause-second g c = reads_number sessions (refl, refl) c.find.ensures
 
 pub returns-clause-first : goal.returns-clause-first
-returns-clause-first g c = reads_first_session c.find.ensures
+unfolding understood everything
+returns-clause-first g c = reads_first sessions (λ db r has. has.ten.session) refl (refl, refl) c.find.ensures

@@ -1,5 +1,7 @@
-use Rattle.desk_rows.proofs.ByKey.{reads_session}
+use Rattle.std.proofs.Common.{[], ◌∷◌}
+use Rattle.desk_rows.proofs.DeskTables.{everything, finds_number, refl, sessions, understood}
 use Rattle.desk_rows.proofs.sessions.session.Goals as goal
 
 pub returns : goal.returns
-returns g c = reads_session c.args.number (rw (c.whole.ensures.same) at c.find.ensures)
+unfolding understood everything
+returns g c = finds_number sessions c.args.number (2 ∷ 3 ∷ []) (refl, refl) refl (λ b. b.1.session) (λ b. refl) (λ b fits. (fits.device, fits.nonce)) (rw (c.whole.ensures.same) at c.find.ensures)

@@ -1,5 +1,7 @@
-use Rattle.desk_rows.proofs.ByKey.{reads_nonce}
+use Rattle.std.proofs.Common.{[], ◌∷◌}
+use Rattle.desk_rows.proofs.DeskTables.{everything, finds_first, refl, session_key, sessions, understood}
 use Rattle.desk_rows.proofs.sessions.session_with.Goals as goal
 
 pub returns : goal.returns
-returns g c = reads_nonce c.args.device c.args.nonce c.octets_of-octets.ensures.range (rw (c.blob.ensures, c.octets_of-octets.ensures.same, c.short.ensures.same) at c.find.ensures)
+unfolding understood everything
+returns g c = finds_first sessions session_key (c.args.device, c.args.nonce) c.octets_of-octets.ensures.range (0 ∷ []) (refl, refl) refl refl (λ b. b.0) (λ b. refl) (λ b fits. tt) (rw (c.blob.ensures, c.octets_of-octets.ensures.same, c.short.ensures.same) at c.find.ensures)

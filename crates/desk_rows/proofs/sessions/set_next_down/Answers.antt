@@ -1,5 +1,16 @@
-use Rattle.desk_rows.proofs.NumberedUpdates.{next_down_changed}
+use Rattle.std.proofs.Common.{[], ◌∷◌, ◌∙◌, arith}
+use Rattle.registry_core.specs.Wholes.{IsWhole}
+use Rattle.desk_rows.specs.Rows.{number}
+use Rattle.desk_rows.specs.Schema.{session_table}
+use Rattle.desk_rows.specs.order.Keys.{next_down_set}
+use Rattle.desk_rows.proofs.DeskTables.{changes_at, everything, refl, sessions, understood, update_is}
+use Rattle.desk_rows.proofs.Terms.{and_true, number_equal}
 use Rattle.desk_rows.proofs.sessions.set_next_down.Goals as goal
 
 pub returns-clause-changes : goal.returns-clause-changes
-returns-clause-changes g c = next_down_changed c.args.session c.args.next_down c.whole.ensures.range (rw (c.whole.ensures.same, c.whole-2.ensures.same) at c.write.ensures.written)
+unfolding understood everything
+returns-clause-changes g c =
+    let n = c.args.session in
+    let low : IsWhole n = c.whole.ensures.range in
+    changes_at sessions (update_is 6 session_table (0 ∷ []) 4 refl) _ refl refl (next_down_set c.args.next_down) (λ s fits. record { device = fits.device; nonce = fits.nonce }) (λ b. refl)
+    4 (λ s. number c.args.next_down) (λ m s. refl) refl (λ m cells. refl) n (omega (arith, low)) (λ b. and_true _ ∙ number_equal b.0 n) (rw (c.whole.ensures.same, c.whole-2.ensures.same) at c.write.ensures.written)

@@ -1,7 +1,10 @@
-use Rattle.std.proofs.Common.{ap}
+use Rattle.std.proofs.Common.{ap, ◌<◌, ◌^◌, ◌∷◌, drop}
 use Rattle.sqlite.specs.Values.{bound_value}
-use Rattle.desk_rows.proofs.Inserts.{uplink_added}
+use Rattle.desk_rows.specs.Schema.{uplink_table}
+use Rattle.desk_rows.specs.Rows.{uplink_cells}
+use Rattle.desk_rows.proofs.DeskTables.{adds_given, everything, insert_is, refl, understood, uplink_key, uplinks}
 use Rattle.desk_rows.proofs.uplinks.insert_uplink.Goals as goal
 
 pub returns-clause-changes : goal.returns-clause-changes
-returns-clause-changes g c = uplink_added c.args.uplink.now (record { counter = c.word.ensures.range; octets = c.frame.ensures.range; start = c.whole.ensures.range; airtime = c.word-2.ensures.range }) _ (λ small. ap bound_value (c.number.ensures small)) (rw (c.kind.ensures, c.word.ensures.same, c.frame.ensures.same, c.whole.ensures.same, c.word-2.ensures.same, c.band.ensures) at c.write.ensures.written)
+unfolding understood everything
+returns-clause-changes g c = adds_given uplinks uplink_key (insert_is 7 uplink_table refl) c.args.uplink.now (record { counter = c.word.ensures.range; octets = c.frame.ensures.range; start = c.whole.ensures.range; airtime = c.word-2.ensures.range }) (drop 1 (uplink_cells c.args.uplink.now)) refl refl refl _ (_, refl) (c.args.uplink.now.session < 2 ^ 63) (λ small. ap (λ v. v ∷ drop 2 (uplink_cells c.args.uplink.now)) (ap bound_value (c.number.ensures small))) (rw (c.kind.ensures, c.word.ensures.same, c.frame.ensures.same, c.whole.ensures.same, c.word-2.ensures.same, c.band.ensures) at c.write.ensures.written)

@@ -1,5 +1,7 @@
-use Rattle.desk_rows.proofs.ByKey.{reads_uplink}
+use Rattle.std.proofs.Common.{[], ◌∷◌}
+use Rattle.desk_rows.proofs.DeskTables.{everything, finds_number, refl, understood, uplinks}
 use Rattle.desk_rows.proofs.uplinks.uplink.Goals as goal
 
 pub returns : goal.returns
-returns g c = reads_uplink c.args.number (rw (c.whole.ensures.same) at c.find.ensures)
+unfolding understood everything
+returns g c = finds_number uplinks c.args.number (0 ∷ 2 ∷ 3 ∷ 4 ∷ 5 ∷ 6 ∷ 7 ∷ 8 ∷ []) (refl, refl) refl (λ b. b) (λ b. refl) (λ b fits. fits) (rw (c.whole.ensures.same) at c.find.ensures)
