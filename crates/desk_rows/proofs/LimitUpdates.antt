@@ -1,4 +1,4 @@
--- The limit of a gateway's band: SQLite holds it, and its key is the gateway and the band.
+-- The limit of a gateway's band: SQLite can store it, and its key is the gateway and the band.
 use Rattle.std.proofs.Common.{◌≡◌, ℕ, ◌<◌, ◌≤◌, ◌^◌, ◌==◌, List, bytes_eq, true, refl, ap₂, arith, eqb-true}
 use Rattle.std.proofs.lemmas.Bool.{and_parts}
 use Rattle.std.proofs.lemmas.Slice.Eq.{bytes_eq-Decides}
@@ -8,7 +8,7 @@ use Rattle.registry_core.specs.Limits.{Limit, IsLimit}
 use Rattle.desk_rows.specs.Rows.{LimitRow, is_limit}
 use Rattle.desk_rows.proofs.Terms.{is}
 
--- SQLite holds each limit
+-- SQLite can store each limit
 pub storable : (limit : Limit) → IsLimit limit → limit.most < 2 ^ 63
 storable limit low = go limit.band refl
   where

@@ -1,4 +1,4 @@
--- The UPDATEs of a row by its number: a session's next downlink counter, and a booking's end.
+-- One row has a number: the row at that place.
 use Rattle.std.proofs.Common.{◌≡◌, inl, inr, ℕ, ◌==◌, List, [], ◌∷◌, filter, option_map, Some, sym, ap, ◌∙◌}
 use Rattle.registry_core.specs.Numbered.{item_at}
 use Rattle.desk_rows.proofs.Ordered.{zip_from, find_head, found_number, head}

@@ -19,43 +19,7 @@ use Rattle.sqlite_keyed.specs.Lists.{sort_by}
 use Rattle.sqlite_typed.proofs.AnswerLemmas.{Source, IsNoTie, at_end, last_table, answer_by_keys, answer_sorted}
 use Rattle.desk_rows.specs.Rows.{rowids_from, table_of}
 pub use Rattle.desk_rows.specs.order.LookUps.{zip_from}
-
--- ---- queries
-
--- each row of a table beside each of the next
-abbrev pub joined : List ℕ → Join
-joined [] = end
-joined (tree ∷ trees) = inner tree (joined trees)
-
--- of these tables which rows pass, what is shown of them, in which order, and whether the first alone is asked for
-pub record Asked (trees : List ℕ) : Type 0 where
-  pub terms : List Term
-  pub project : List Term
-  pub order : List (Term × Key)
-  pub one : Bool
-
-abbrev pub query_of : {trees : List ℕ} → Asked trees → Query
-query_of {trees} a = record {
-  from = joined trees;
-  filter = a.terms;
-  group = None;
-  project = a.project;
-  distinct = false;
-  collations = [];
-  order = a.order;
-  limit = cond a.one (lit (Int (pos 1))) (lit (Int (negsuc 0)));
-  offset = lit (Int (pos 0));
-}
-
-abbrev pub rising : Key
-rising = record { collation = Binary; descending = false }
-
-abbrev pub falling : Key
-falling = record { collation = Binary; descending = true }
-
--- all that pass, in the order of their rowids
-abbrev pub by_rowid : (tree : ℕ) → List Term → List Term → Asked (tree ∷ [])
-by_rowid tree terms project = record { terms = terms; project = project; order = (col 1 0, rising) ∷ []; one = false }
+pub use Rattle.desk_rows.specs.steps.Texts.{Asked, by_rowid, falling, joined, query_of, rising}
 
 abbrev pub head : {X : Type 0} → List X → Option X
 head [] = None

@@ -31,6 +31,7 @@ use Rattle.desk_rows.specs.order.Arranged.{by_start, spans_by}
 use Rattle.desk_rows.specs.order.LookUps.{rows_by}
 use Rattle.desk_rows.specs.steps.Queries.{AreRead, EndsWith, FindsAll}
 use Rattle.desk_rows.specs.steps.Shown.{span_shown}
+pub use Rattle.desk_rows.specs.steps.Texts.{all_by}
 use Rattle.desk_rows.specs.declared.faults.RowFault.{RowFault}
 use Rattle.desk_rows.specs.declared.faults.RowFault.TheVariants.{Memory, Disk, Size, Row as OutOfShape, Refused}
 use Rattle.desk_rows.proofs.FaultLemmas.{not_row}
@@ -40,10 +41,6 @@ use Rattle.desk_rows.proofs.OrderLemmas.Each.{all_kept, all_map, all_so}
 use Rattle.desk_rows.proofs.OrderLemmas.Sorting.{all_sorted}
 use Rattle.desk_rows.proofs.Ordered.{Asked, query_of, encode, zip_all, zip_from, rows_sorted}
 use Rattle.desk_rows.proofs.QueryLemmas.{fails_leave, shown_leaves}
-
--- all that pass, in this order
-abbrev pub all_by : (trees : List ℕ) → List Term → List Term → List (Term × Key) → Asked trees
-all_by trees terms project order = record { terms = terms; project = project; order = order; one = false }
 
 -- ---- what is read of the rows
 

@@ -1,5 +1,5 @@
--- The batch that makes a desk's tables: its texts, as the schema gives them. Run in turn they lead to the desk's schema, and none
--- is refused.
+-- The batch that makes a desk's tables, its texts derived from the schema. Run in turn they lead to the desk's schema, and none is
+-- refused.
 use Rattle.std.proofs.Common.{ℕ, ◌+◌, ◌==◌, ◌++◌, List, [], ◌∷◌, codes, drop, get_or, map, take, Option, Some, None, Bool, false, if◌then◌else◌, refl, arith}
 use Rattle.sqlite_schema.specs.declared.schema.Column.{Column}
 use Rattle.sqlite_schema.specs.declared.schema.Kind.{Kind}
@@ -23,7 +23,7 @@ kind_text kind.Text = codes " TEXT"
 kind_text kind.Blob = codes " BLOB"
 kind_text other = []
 
--- the one column of a key tells so itself
+-- the column is the whole key
 abbrev pub is_key_alone : List ℕ → ℕ → Bool
 is_key_alone (p ∷ []) place = p == place
 is_key_alone places place = false
@@ -39,13 +39,13 @@ column_texts primary place (c ∷ cs) = column_text primary place c ∷ column_t
 abbrev pub key_text : Table → List ℕ → List ℕ → List ℕ
 key_text t what places = what ++ (codes " (" ++ (joined_by (codes ", ") (map (name_at t) places) ++ codes ")"))
 
--- of a table whose rowid has a name the other keys; else the key, where it has several columns
+-- the unique keys of a table whose rowid has a name; of another table its key, where that has several columns
 abbrev pub key_texts : Table → Option ℕ → List ℕ → List (List ℕ)
 key_texts t (Some at) primary = map (key_text t (codes "UNIQUE")) t.uniques
 key_texts t None (p ∷ q ∷ ps) = key_text t (codes "PRIMARY KEY") (p ∷ q ∷ ps) ∷ []
 key_texts t None primary = []
 
--- the column that the rowid has the name of stands at place 0 of the key, and first among the columns
+-- the place of the first column: 0 where it names the rowid, else 1
 abbrev pub first_place : Option ℕ → ℕ
 first_place (Some at) = 0
 first_place None = 1
@@ -70,7 +70,7 @@ batch_of (s ∷ t ∷ more) = s ++ (codes "; " ++ batch_of (t ∷ more))
 abbrev pub batch : List ℕ
 batch = batch_of statements
 
--- from one of the later ones on, and that one alone
+-- the batch from a later statement on, and that statement alone
 abbrev from : ℕ → List ℕ
 from n = codes " " ++ batch_of (drop n statements)
 

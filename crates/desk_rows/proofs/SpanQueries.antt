@@ -28,13 +28,15 @@ use Rattle.desk_rows.specs.Rows.{BookingRow, IsBooking, booking_cells, number}
 use Rattle.desk_rows.specs.order.Arranged.{booking_span, by_start, is_near_at, near_by, spans_by}
 use Rattle.desk_rows.specs.steps.Queries.{FindsAll}
 use Rattle.desk_rows.specs.steps.Shown.{near_booking_shown, span_shown}
+use Rattle.desk_rows.specs.steps.Texts.{AsksFor, bookings_asked, undropped}
 use Rattle.desk_rows.specs.declared.faults.RowFault.{RowFault}
-use Rattle.desk_rows.proofs.AnsweredUplinks.{undropped, stands}
+use Rattle.desk_rows.proofs.AnsweredUplinks.{stands}
 use Rattle.desk_rows.proofs.Lookups.{IsLookup, says_so}
 use Rattle.desk_rows.proofs.OrderLemmas.Orders.{not_both}
 use Rattle.desk_rows.proofs.Ordered.{rising}
 use Rattle.desk_rows.proofs.Ranges.{IsSpan, all_by, reads_by_start, rows_alike, reads_spans}
 use Rattle.desk_rows.proofs.ReadLemmas.{truth_again}
+use Rattle.desk_rows.proofs.StatementTexts.{lookup_is}
 use Rattle.desk_rows.proofs.Terms.{is, and_true, text_equal, number_equal}
 
 -- by the columns of start and number
@@ -44,13 +46,6 @@ booking_order = (col 1 7, rising) ∷ (col 1 0, rising) ∷ []
 abbrev booking_project : List Term
 booking_project = col 1 7 ∷ col 1 8 ∷ []
 
-abbrev of_text : List ℕ
-of_text = codes "SELECT start, airtime FROM booking WHERE gateway = ?1 AND band = ?2 AND state <> 2 ORDER BY start, number"
-
-of_lookup : IsLookup of_text 2 (all_by (17 ∷ []) (is 3 0 ∷ is 6 1 ∷ undropped ∷ []) booking_project booking_order)
-unfolding understood everything
-of_lookup = record { names = _; compiled = _; means = refl; command = refl; plain = (refl, refl); whole = omega arith; given = refl; unlisted = refl }
-
 moved : (a b c : Bool) → (a && (b && c)) ≡ ((a && c) && b)
 moved true true true = refl
 moved true true false = refl
@@ -58,12 +53,12 @@ moved true false true = refl
 moved true false false = refl
 moved false b c = refl
 
-module _ {old new : State} (gateway : List ℕ) where
-  pub reads_band : (band : Band) {result : Result (Vec Interval Global) RowFault} → FindsAll of_text (Text gateway ∷ number (band_number band) ∷ []) old new
+module _ {sql : List ℕ} {names : List (List ℕ)} (means : AsksFor sql 2 bookings_asked names) {old new : State} (gateway : List ℕ) where
+  pub reads_band : (band : Band) {result : Result (Vec Interval Global) RowFault} → FindsAll sql (Text gateway ∷ number (band_number band) ∷ []) old new
       (λ s. s) span_shown IsSpan result
       → Reads old new result (λ r spans. spans.items ≡ spans_by booking_span (by_start (λ (b : BookingRow). (booking_span b).start))
       (λ b. stands_in gateway band b.booking) r.bookings)
-  reads_band band found = reads_spans of_lookup (Text gateway ∷ number (band_number band) ∷ []) refl refl booking_cells (λ r. r.bookings) (λ r has. has.ten.booking)
+  reads_band band found = reads_spans (lookup_is means) (Text gateway ∷ number (band_number band) ∷ []) refl refl booking_cells (λ r. r.bookings) (λ r has. has.ten.booking)
       (λ b. stands_in gateway band b.booking)
       (λ b. ap₂ (λ s t. s && t) (text_equal b.1.booking.gateway gateway)
       (ap₂ (λ s t. s && t) (number_equal (band_number b.1.booking.band) (band_number band)) (and_true _ ∙ stands b.1.booking.standing))

@@ -1,4 +1,4 @@
--- The texts of the statements on a table, as its schema gives them, and what the resolver has to make of them.
+-- The texts of the statements on a table, derived from its schema, and what the resolver makes of them.
 use Rattle.std.proofs.Common.{◌≡◌, ℕ, zero, suc, ◌+◌, ◌==◌, ◌++◌, pos, List, [], ◌∷◌, codes, length, filter, map, get_or, Option, Some, None, Ok, false, refl, ap, arith, if◌then◌else◌}
 use Rattle.sqlite_value.specs.declared.value.Value.TheVariants.{Int, Null}
 use Rattle.sqlite_sql.specs.Term.{Term, lit, col}
@@ -10,6 +10,7 @@ use Rattle.sqlite.specs.Command.TheVariants.{Insert, Select}
 use Rattle.sqlite.specs.Source.TheVariants.{Values}
 use Rattle.sqlite.specs.Listing.{understood, reads_listing}
 use Rattle.desk_rows.specs.Schema.{desk_schema}
+use Rattle.desk_rows.specs.steps.Texts.{AsksOf, finding, param, params_from}
 use Rattle.desk_rows.proofs.Insertions.{IsInsert}
 use Rattle.desk_rows.proofs.Latest.{last_of}
 use Rattle.desk_rows.proofs.Lookups.{IsLookupOf}
@@ -19,7 +20,7 @@ use Rattle.desk_rows.proofs.Updating.{IsUpdate, update_of}
 
 -- ---- names
 
--- with this text between them
+-- the texts, with this one between each two
 abbrev pub joined_by : List ℕ → List (List ℕ) → List ℕ
 joined_by between [] = []
 joined_by between (x ∷ []) = x
@@ -30,18 +31,10 @@ abbrev pub number_of : Option ℕ → List Column → List ℕ
 number_of (Some zero) (c ∷ cs) = c.name
 number_of key cs = codes "rowid"
 
--- the name of what stands at a place of a row
+-- the name of the column at a place of a row
 abbrev pub name_at : Table → ℕ → List ℕ
 name_at t zero = number_of t.key t.columns
 name_at t (suc n) = get_or (map (λ (c : Column). c.name) t.columns) n []
-
--- the first ten parameters
-abbrev pub param : ℕ → List ℕ
-param n = 63 ∷ (48 + n) ∷ []
-
-abbrev pub params_from : ℕ → ℕ → List (List ℕ)
-params_from n zero = []
-params_from n (suc many) = param n ∷ params_from (n + 1) many
 
 so_many : (n many : ℕ) → many ≡ length (params_from n many)
 so_many n zero = refl
@@ -79,22 +72,7 @@ insert_is at t means = record { compiled = inserting at t; means = means; comman
 
 -- ---- look-ups
 
-abbrev pub finding : List ℕ → ℕ → {trees : List ℕ} → Asked trees → List (List ℕ) → Compiled
-finding sql many a names = record {
-  command = Select (record { lets = []; body = query_of a }) names;
-  returning = None;
-  names = params_from 1 many;
-  formats = [];
-  start = 0;
-  end = length sql;
-  tail = length sql;
-}
-
--- the text is read as such a query, and as no other
-abbrev pub Reads : Schema → List ℕ → ℕ → {trees : List ℕ} → Asked trees → List (List ℕ) → Type 0
-Reads desk sql many a names = (understood desk sql ≡ Ok (finding sql many a names)) × (reads_listing desk sql ≡ false)
-
-pub lookup_is : {desk : Schema} {sql : List ℕ} {many : ℕ} {trees : List ℕ} {a : Asked trees} {names : List (List ℕ)} → Reads desk sql many a names → IsLookupOf desk sql many a
+pub lookup_is : {desk : Schema} {sql : List ℕ} {many : ℕ} {trees : List ℕ} {a : Asked trees} {names : List (List ℕ)} → AsksOf desk sql many a names → IsLookupOf desk sql many a
 lookup_is {desk} {sql} {many} {trees} {a} {names} means = record {
   names = names;
   compiled = finding sql many a names;
@@ -111,7 +89,7 @@ abbrev pub last_text : Table → List ℕ
 last_text t = codes "SELECT " ++ (name_at t 0 ++ (codes " FROM " ++ (t.name ++ (codes " ORDER BY " ++ (name_at t 0 ++ codes " DESC LIMIT 1")))))
 
 abbrev pub ReadsLast : Schema → Table → Type 0
-ReadsLast desk t = Reads desk (last_text t) 0 (last_of t.tree) (name_at t 0 ∷ [])
+ReadsLast desk t = AsksOf desk (last_text t) 0 (last_of t.tree) (name_at t 0 ∷ [])
 
 -- by the values at these places
 abbrev pub tests_from : Table → ℕ → List ℕ → List (List ℕ)
@@ -126,19 +104,19 @@ abbrev key_text : Table → List ℕ → List (List ℕ) → List ℕ
 key_text t places shown =
     codes "SELECT " ++ (joined_by (codes ", ") shown ++ (codes " FROM " ++ (t.name ++ (codes " WHERE " ++ (joined_by (codes " AND ") (tests_from t 1 places) ++ (codes " ORDER BY " ++ name_at t 0))))))
 
--- what stands at these other places of such a row
+-- the columns at these other places of such a row
 abbrev pub find_text : Table → List ℕ → List ℕ → List ℕ
 find_text t places shown = key_text t places (map (name_at t) shown)
 
 abbrev pub ReadsKey : Table → List ℕ → List ℕ → Type 0
-ReadsKey t places shown = Reads desk_schema (find_text t places shown) (length places) (by_rowid t.tree (key_terms 0 places) (map (col 1) shown)) (map (name_at t) shown)
+ReadsKey t places shown = AsksOf desk_schema (find_text t places shown) (length places) (by_rowid t.tree (key_terms 0 places) (map (col 1) shown)) (map (name_at t) shown)
 
 -- whether there is such a row
 abbrev pub know_text : Table → List ℕ → List ℕ
 know_text t places = key_text t places (codes "1" ∷ [])
 
 abbrev pub KnowsKey : Table → List ℕ → Type 0
-KnowsKey t places = Reads desk_schema (know_text t places) (length places) (by_rowid t.tree (key_terms 0 places) (lit (Int (pos 1)) ∷ [])) (codes "1" ∷ [])
+KnowsKey t places = AsksOf desk_schema (know_text t places) (length places) (by_rowid t.tree (key_terms 0 places) (lit (Int (pos 1)) ∷ [])) (codes "1" ∷ [])
 
 -- ---- UPDATE of the column at a place, of the rows with the values at other places
 

@@ -1,5 +1,5 @@
--- The tables as their statements see them: each is described once, and what an INSERT, a look-up by the key and the last number
--- tell follows for all of them.
+-- A table of the desk, described once: `Stored` is the table with its rows, `Keyed` its key. For every table it follows what an
+-- INSERT adds, and what look-ups by number, by key and of the last number return.
 use Rattle.std.proofs.Common.{◌≡◌, ℕ, ◌+◌, ◌<◌, ◌^◌, ◌/◌, ◌==◌, pos, List, [], ◌∷◌, ◌++◌, ◌&&◌, ◌||◌, Bool, true, false, map, find, length, slice_get, Option, Some, Result, option_map, refl, sym, ap, ap₂, ◌∙◌}
 use Rattle.std.specs.List.{list_all, list_any, AllByRecursion}
 use Rattle.std.proofs.lemmas.Bool.{and_parts}
@@ -33,6 +33,7 @@ use Rattle.desk_rows.specs.Schema.{desk_schema, desk_tables, first_schema}
 use Rattle.desk_rows.specs.declared.faults.RowFault.{RowFault}
 use Rattle.desk_rows.specs.steps.Queries.{Finds, Knows}
 use Rattle.desk_rows.specs.steps.Statements.{HasWritten}
+use Rattle.desk_rows.specs.steps.Texts.{AsksFor}
 use Rattle.desk_rows.proofs.InsertLemmas.{cast_int, cast_null, uncounted}
 use Rattle.desk_rows.proofs.Insertions.{IsInsert, changed_by, key_free}
 use Rattle.desk_rows.proofs.Latest.{last_of, reads_last}
@@ -52,7 +53,7 @@ all_same [] others = true
 all_same (v ∷ vs) [] = false
 all_same (v ∷ vs) (w ∷ ws) = same v w && all_same vs ws
 
--- an index in the plain order tells rows apart by what stands at its places
+-- an index in the plain order compares rows by the values at its places
 agree_plain : (places : List ℕ) (a b : Row) → agree plain places a places b ≡ all_same (map (column a) places) (map (column b) places)
 agree_plain [] a b = refl
 agree_plain (p ∷ ps) a b = ap₂ (λ s t. s && t) (ap (λ k. equal k.collation (column a p) (column b p)) first_key-plain) (agree_plain ps a b)
@@ -99,36 +100,38 @@ pub record Stored (X : Type 0) (Fits : X → Type 0) : Type 0 where
   -- its place among the tables
   pub at : ℕ
   pub table : Table
-  -- its rows, and all rows with these in their place
+  -- the rows of this table, and all rows with others in this table
   pub rows : Rows → List X
   pub put : Rows → List X → Rows
-  -- how a row stands there
+  -- the cells of a row, without the rowid
   pub cells : X → Row
   pub held : (db : Database) (r : Rows) → Holds db r → db.trees table.tree ≡ table_of cells (rows r)
   pub ranges : (r : Rows) → InRange r → AllByRecursion Fits (rows r)
   pub in_range : (r : Rows) (xs : List X) → InRange r → AllByRecursion Fits xs → InRange (put r xs)
-  -- what computes: it is that table, its rows alone are put, a row passes each rule that needs no look at the others, and the last number is asked for in order
+  -- by computation: the schema has the table at that place; `put` changes no other table; a row obeys each rule that needs no
+  -- other row; the look-up of the last number has the right types
   pub computes : (slice_get desk_tables at ≡ Some (uncounted table))
       × ((r : Rows) (xs : List X) → tables (put r xs) ≡ with_table table.tree (table_of cells xs) (tables r))
       × ((db : Trees) (n : ℕ) (x : X) → passes_alone db table n (cells x) ≡ true)
       × (accepts_program desk_schema [] (query_of (last_of table.tree)) [] ≡ true)
       × (slice_get desk_tables at ≡ Some table)
 
--- Its key is a `K` in the range `Known`.
+-- The key of such a table, a `K` in the range `Known`.
 pub record Keyed {X : Type 0} {Fits : X → Type 0} (t : Stored X Fits) (K : Type 0) (Known : K → Type 0) : Type 0 where
-  -- where the key stands, the values of a key, and whether a row has it
+  -- the places of the key, the key of a row, the values of a key, and whether a row has a key
   pub places : List ℕ
   pub key_of : X → K
   pub values : K → Row
   pub has : K → X → Bool
   pub tells : (k : K) (x : X) → Known k → Fits x → all_same (values (key_of x)) (values k) ≡ has k x
   pub known : (x : X) → Fits x → Known (key_of x)
-  -- what computes: the key is unique where no row clashes, it stands at its places, and the test of a look-up is that of its values
+  -- by computation: the unique index is obeyed where no row clashes; a row has the values of its key at those places; a look-up
+  -- tests these values
   pub computes : ((db : Trees) (all : List Row) (row : Row) → clashes plain places all row ≡ false → are_unique desk_schema.indexes (with_tree db t.table.tree all) (uncounted t.table) (row ∷ []) ≡ true)
       × ((n : ℕ) (x : X) → map (column (Int (pos n) ∷ t.cells x)) places ≡ values (key_of x))
       × ((n : ℕ) (k : K) (x : X) → list_all (holds (values k ∷ (Int (pos n) ∷ t.cells x) ∷ [])) (key_terms 0 places) ≡ all_same (values (key_of x)) (values k))
 
--- two tests that tell the rows of a list alike
+-- two tests that agree on the rows of a list
 any_same : {X : Type 0} (P : X → Type 0) (p q : X → Bool) → ((x : X) → P x → p x ≡ q x) → (xs : List X) → AllByRecursion P xs → list_any p xs ≡ list_any q xs
 any_same P p q alike [] all = refl
 any_same P p q alike (x ∷ xs) all = ap₂ (λ s t. s || t) (alike x all.0) (any_same P p q alike xs all.1)
@@ -151,13 +154,19 @@ module _ {X : Type 0} {Fits : X → Type 0} (t : Stored X Fits) where
 
   -- ---- by the number
 
+  module _ (n : ℕ) (shown : List ℕ) {sql : List ℕ} {names : List (List ℕ)} (means : AsksFor sql 1 (by_rowid t.table.tree (key_terms 0 (0 ∷ [])) (map (col 1) shown)) names) (typed : accepts_program desk_schema [] (query_of (by_rowid t.table.tree (key_terms 0 (0 ∷ [])) (map (col 1) shown))) (number n ∷ []) ≡ true) where
+    pub finds_asked : {Seen : Type 0} {shows : Seen → Row} {In : Seen → Type 0} (view : ℕ × X → Seen) → ((b : ℕ × X) → eval_all (map (col 1) shown) ((number n ∷ []) ∷ encode t.cells b ∷ []) ≡ shows (view b))
+        → ((b : ℕ × X) → Fits b.1 → In (view b)) → {old new : State} {result : Result (Option Seen) RowFault} → Finds sql (number n ∷ []) old new (λ x. x) shows In result
+        → Reads old new result (λ r x. x ≡ option_map (λ x. view (n, x)) (item_at (t.rows r) n))
+    finds_asked view viewed fits {old} found =
+        says_so (found_by (lookup_is means) (number n ∷ []) refl typed t.cells t.rows (stored old) (λ b. b.0 == n) (λ b. and_true _ ∙ number_equal b.0 n) Fits (λ r has. t.ranges r has.ten.in_range) found view viewed fits)
+        (λ r has x is. sym (map_same x) ∙ is ∙ ap (option_map view) (found_number n (t.rows r)) ∙ map_twice view (λ y. (n, y)) (item_at (t.rows r) n))
+
   module _ (n : ℕ) (shown : List ℕ) (means : ReadsKey t.table (0 ∷ []) shown) (typed : accepts_program desk_schema [] (query_of (by_rowid t.table.tree (key_terms 0 (0 ∷ [])) (map (col 1) shown))) (number n ∷ []) ≡ true) where
     pub finds_number : {Seen : Type 0} {shows : Seen → Row} {In : Seen → Type 0} (view : ℕ × X → Seen) → ((b : ℕ × X) → eval_all (map (col 1) shown) ((number n ∷ []) ∷ encode t.cells b ∷ []) ≡ shows (view b))
         → ((b : ℕ × X) → Fits b.1 → In (view b)) → {old new : State} {result : Result (Option Seen) RowFault} → Finds (find_text t.table (0 ∷ []) shown) (number n ∷ []) old new (λ x. x) shows In result
         → Reads old new result (λ r x. x ≡ option_map (λ x. view (n, x)) (item_at (t.rows r) n))
-    finds_number view viewed fits {old} found =
-        says_so (found_by (lookup_is means) (number n ∷ []) refl typed t.cells t.rows (stored old) (λ b. b.0 == n) (λ b. and_true _ ∙ number_equal b.0 n) Fits (λ r has. t.ranges r has.ten.in_range) found view viewed fits)
-        (λ r has x is. sym (map_same x) ∙ is ∙ ap (option_map view) (found_number n (t.rows r)) ∙ map_twice view (λ y. (n, y)) (item_at (t.rows r) n))
+    finds_number view viewed fits found = finds_asked n shown means typed view viewed fits found
 
   -- ---- INSERT
 
@@ -170,7 +179,7 @@ module _ {X : Type 0} {Fits : X → Type 0} (t : Stored X Fits) where
   module _ {sql : List ℕ} {many : ℕ} {terms : List Term} {width : ℕ} (text : IsInsert sql many t.at terms width) (x : X) (fits : Fits x) (params : Row)
       (one : value_rows params width (length terms / width) terms ≡ (Null ∷ t.cells x) ∷ []) (typed : accepts_terms terms params ≡ true) (many_is : length params ≡ many) {old new : State}
       (given : Row) (loose : (s : Row) × (value_rows given width (length terms / width) terms ≡ s ∷ [])) (Small : Type 0) (are : Small → given ≡ params) {result : Result (Unit {0}) RowFault} where
-    -- where no index turns the row down, and what is given may be out of its range
+    -- of a table without a unique index; a parameter may be out of its range
     pub adds_free : (Free : Rows → Type 0)
         → ((r : Rows) → InRange r → Free r → (row : Row) → row ≡ Int (pos (1 + length (map t.cells (t.rows r)))) ∷ t.cells x
         → are_unique desk_schema.indexes (with_tree old.now.trees t.table.tree (table_of t.cells (t.rows r ++ x ∷ []))) (uncounted t.table) (row ∷ []) ≡ true)
@@ -216,6 +225,17 @@ module _ {X : Type 0} {Fits : X → Type 0} (t : Stored X Fits) where
           says_so (known_by (lookup_is means) (key.values k) many_is typed t.cells t.rows (stored old) (λ b. asked b.1) (λ b. key.computes.2 b.0 k b.1) knew)
           (λ r has known is. is ∙ found_any asked 1 (t.rows r) ∙ any_same Fits asked (key.has k) alike (t.rows r) (t.ranges r has.ten.in_range))
 
+      module _ (shown : List ℕ) {sql : List ℕ} {names : List (List ℕ)} (means : AsksFor sql (length key.places) (by_rowid t.table.tree (key_terms 0 key.places) (map (col 1) shown)) names) (many_is : length key.places ≡ length (key.values k))
+          (typed : accepts_program desk_schema [] (query_of (by_rowid t.table.tree (key_terms 0 key.places) (map (col 1) shown))) (key.values k) ≡ true) where
+        pub finds_asked_key : {T Seen : Type 0} {seen : T → Seen} {shows : Seen → Row} {In : Seen → Type 0} (view : X → Seen) → ((b : ℕ × X) → eval_all (map (col 1) shown) (key.values k ∷ encode t.cells b ∷ []) ≡ shows (view b.1))
+            → ((x : X) → Fits x → In (view x)) → {old new : State} {result : Result (Option T) RowFault} → Finds sql (key.values k) old new seen shows In result
+            → Reads old new result (λ r x. option_map seen x ≡ option_map view (find (key.has k) (t.rows r)))
+        finds_asked_key view viewed fits {old} found =
+            says_so (found_by (lookup_is means) (key.values k) many_is typed t.cells t.rows (stored old) (λ b. asked b.1) (λ b. key.computes.2 b.0 k b.1) Fits (λ r has. t.ranges r has.ten.in_range) found
+            (λ b. view b.1) viewed (λ b b_fits. fits b.1 b_fits))
+            (λ r has x is. is ∙ sym (map_twice view (λ (b : ℕ × X). b.1) (find (λ b. asked b.1) (zip_from 1 (t.rows r))))
+            ∙ ap (option_map view) (found_row asked 1 (t.rows r) ∙ found_same Fits asked (key.has k) alike (t.rows r) (t.ranges r has.ten.in_range)))
+
       module _ (shown : List ℕ) (means : ReadsKey t.table key.places shown) (many_is : length key.places ≡ length (key.values k))
           (typed : accepts_program desk_schema [] (query_of (by_rowid t.table.tree (key_terms 0 key.places) (map (col 1) shown))) (key.values k) ≡ true) where
         -- with its number
@@ -231,11 +251,7 @@ module _ {X : Type 0} {Fits : X → Type 0} (t : Stored X Fits) where
         pub finds_key : {T Seen : Type 0} {seen : T → Seen} {shows : Seen → Row} {In : Seen → Type 0} (view : X → Seen) → ((b : ℕ × X) → eval_all (map (col 1) shown) (key.values k ∷ encode t.cells b ∷ []) ≡ shows (view b.1))
             → ((x : X) → Fits x → In (view x)) → {old new : State} {result : Result (Option T) RowFault} → Finds (find_text t.table key.places shown) (key.values k) old new seen shows In result
             → Reads old new result (λ r x. option_map seen x ≡ option_map view (find (key.has k) (t.rows r)))
-        finds_key view viewed fits {old} found =
-            says_so (found_by (lookup_is means) (key.values k) many_is typed t.cells t.rows (stored old) (λ b. asked b.1) (λ b. key.computes.2 b.0 k b.1) Fits (λ r has. t.ranges r has.ten.in_range) found
-            (λ b. view b.1) viewed (λ b b_fits. fits b.1 b_fits))
-            (λ r has x is. is ∙ sym (map_twice view (λ (b : ℕ × X). b.1) (find (λ b. asked b.1) (zip_from 1 (t.rows r))))
-            ∙ ap (option_map view) (found_row asked 1 (t.rows r) ∙ found_same Fits asked (key.has k) alike (t.rows r) (t.ranges r has.ten.in_range)))
+        finds_key view viewed fits found = finds_asked_key shown means many_is typed view viewed fits found
 
         -- where what is read is what contracts see of it
         pub finds_plain : {Seen : Type 0} {shows : Seen → Row} {In : Seen → Type 0} (view : X → Seen) → ((b : ℕ × X) → eval_all (map (col 1) shown) (key.values k ∷ encode t.cells b ∷ []) ≡ shows (view b.1))

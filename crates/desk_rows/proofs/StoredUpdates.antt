@@ -1,4 +1,4 @@
--- What an UPDATE of one column of one row does to a table that is described, and that it is refused only where the row isn't there.
+-- An UPDATE of one column of one row of a `Stored` table: what it changes, and that it is refused only where the row is missing.
 use Rattle.std.proofs.Common.{◌≡◌, ℕ, ◌<◌, ◌^◌, ◌==◌, pos, List, [], ◌∷◌, filter, length, slice_get, Bool, true, Some, Result, refl, sym, ap, subst, ◌∙◌}
 use Rattle.std.specs.List.{list_all, AllByRecursion}
 use Rattle.std.proofs.lemmas.Bool.{and_parts}

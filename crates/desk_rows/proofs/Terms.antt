@@ -19,10 +19,7 @@ use Rattle.sqlite_sql.specs.Term.{Term, col, op2}
 use Rattle.desk_rows.specs.Rows.{eui, number}
 use Rattle.desk_rows.proofs.ReadLemmas.{truth_again}
 pub use Rattle.desk_rows.proofs.ReadLemmas.{text_equal}
-
--- the column at a place is the parameter at a place
-abbrev pub is : ℕ → ℕ → Term
-is place param = op2 (Compare Eq Binary) (col 1 place) (col 0 param)
+pub use Rattle.desk_rows.specs.steps.Texts.{is}
 
 -- two values are the same, to SQL
 abbrev pub same : Value → Value → Bool

@@ -5,3 +5,4 @@ pub mod Meta
 pub mod Queries
 pub mod Shown
 pub mod Statements
+pub mod Texts

@@ -1,5 +1,5 @@
 //! Bookings of downlinks.
-ghost use Rattle.std.specs.Prelude.{◌≡◌, ◌+◌, ◌<◌, ◌^◌, ◌++◌, [], ◌∷◌, length, Some, option_map, if◌then◌else◌};
+ghost use Rattle.std.specs.Prelude.{◌≡◌, ◌+◌, ◌<◌, ◌^◌, ◌++◌, [], ◌∷◌, codes, length, Some, option_map, if◌then◌else◌};
 ghost use Rattle.std.specs.List.{list_any};
 ghost use Rattle.duty_core.specs.Range.{IsStart};
 ghost use Rattle.registry_core.specs.declared.facts.Booking.{Booking};
@@ -8,6 +8,7 @@ ghost use Rattle.registry_core.specs.Bookings.{is_answer_to};
 ghost use Rattle.registry_core.specs.Numbered.{item_at, item_changed};
 ghost use Rattle.registry_core.specs.Ranges.{IsName};
 ghost use Rattle.desk_rows.specs.steps.Shown.{booking_shown};
+ghost use Rattle.desk_rows.specs.steps.Texts.{AsksFor, answer_asked};
 ghost use Rattle.sqlite.specs.Held.{state};
 ghost use Rattle.desk_rows.specs.Rows.{BookingRow, last_number};
 ghost use Rattle.desk_rows.specs.order.Changes.{ended_row};
@@ -60,15 +61,19 @@ pub fn booking<S: Alter>(
     )
 }
 
+/// The text of the look-up of an uplink's answer.
+#[tactic(auto, unfolding(sqlite::specs::Listing::understood, sqlite_tied::specs::Compute::everything))]
+fn answer_text() -> &'static str
+    ensures { AsksFor result.now 1 answer_asked (codes "1" ∷ []) }
+{
+    "SELECT 1 FROM booking WHERE uplink = ?1 AND state <> 2 ORDER BY number"
+}
+
 /// Whether a booking that isn't dropped answers the uplink.
 pub fn is_answered<S: Alter>(conn: &mut Connection<S>, uplink: Whole) -> Result<bool, RowFault>
     ensures { Reads (state S.Store conn.old) (state S.Store conn.new) result (λ r answered. answered ≡ list_any (λ row. is_answer_to uplink row.booking) r.bookings) }
 {
-    is_found(
-        conn,
-        "SELECT 1 FROM booking WHERE uplink = ?1 AND state <> 2 ORDER BY number",
-        &[whole(uplink)],
-    )
+    is_found(conn, answer_text(), &[whole(uplink)])
 }
 
 /// The number of the last booking, if there is one.

@@ -1,11 +1,12 @@
 //! Messages that were heard, with their answers.
-ghost use Rattle.std.specs.Prelude.{◌≡◌, ◌+◌, ◌<◌, ◌^◌, ◌++◌, [], ◌∷◌, ℕ, List, length, false, find, option_map};
+ghost use Rattle.std.specs.Prelude.{◌≡◌, ◌+◌, ◌<◌, ◌^◌, ◌++◌, [], ◌∷◌, ℕ, List, codes, length, false, find, option_map};
 ghost use Rattle.std.specs.List.{list_any};
 ghost use Rattle.sqlite.specs.Held.{state};
 ghost use Rattle.desk_rows.specs.Calls.{Changes, Reads, ReadsFirst};
 ghost use Rattle.sqlite_value.specs.declared.value.Value.TheVariants.{Blob};
 ghost use Rattle.desk_rows.specs.Replies.{reply_texts, kept_texts};
 ghost use Rattle.desk_rows.specs.Rows.{is_reply, last_number};
+ghost use Rattle.desk_rows.specs.steps.Texts.{AsksFor, reply_asked};
 
 use crate::columns::octets_at;
 use crate::faults::RowFault;
@@ -38,6 +39,14 @@ impl FromRow for Texts {
     }
 }
 
+/// The text of the look-up of a reply.
+#[tactic(auto, unfolding(sqlite::specs::Listing::understood, sqlite_tied::specs::Compute::everything))]
+fn reply_text() -> &'static str
+    ensures { AsksFor result.now 2 reply_asked (codes "message" ∷ codes "answer" ∷ []) }
+{
+    "SELECT message, answer FROM reply WHERE sender = ?1 AND number = ?2 ORDER BY seq"
+}
+
 /// The texts of the message that was heard with this sender and number, if there is one.
 pub fn texts_of<S: Alter>(
     conn: &mut Connection<S>,
@@ -47,11 +56,7 @@ pub fn texts_of<S: Alter>(
     ensures { Reads (state S.Store conn.old) (state S.Store conn.new) result
         (λ r texts. option_map kept_texts texts ≡ option_map reply_texts (find (is_reply sender.now number) r.replies)) }
 {
-    find(
-        conn,
-        "SELECT message, answer FROM reply WHERE sender = ?1 AND number = ?2 ORDER BY seq",
-        &[text(sender), word(number)],
-    )
+    find(conn, reply_text(), &[text(sender), word(number)])
 }
 
 /// The number of the last message that was heard, if there is one.

@@ -1,5 +1,5 @@
 //! Sessions.
-ghost use Rattle.std.specs.Prelude.{◌≡◌, ◌==◌, ℕ, filter, map, ◌+◌, ◌<◌, ◌^◌, ◌++◌, [], ◌∷◌, length, false, Some, option_map};
+ghost use Rattle.std.specs.Prelude.{◌≡◌, ◌==◌, ℕ, filter, map, ◌+◌, ◌<◌, ◌^◌, ◌++◌, [], ◌∷◌, codes, length, false, Some, option_map};
 ghost use Rattle.std.specs.List.{list_any};
 ghost use Rattle.sqlite.specs.Held.{state};
 ghost use Rattle.desk_rows.specs.Calls.{Changes, Reads, ReadsFirst};
@@ -8,6 +8,7 @@ ghost use Rattle.registry_core.specs.Numbered.{first_that, greatest, item_at, it
 ghost use Rattle.registry_core.specs.Ranges.{IsEui};
 ghost use Rattle.desk_rows.specs.Rows.{SessionRow, eui, is_session, last_number, number};
 ghost use Rattle.desk_rows.specs.order.Keys.{next_down_set};
+ghost use Rattle.desk_rows.specs.steps.Texts.{AsksFor, next_down_asked};
 
 use crate::columns::{eui_at, short_at};
 use crate::faults::RowFault;
@@ -48,15 +49,19 @@ pub fn session<S: Alter>(
     )
 }
 
+/// The text of the look-up of a session's next downlink counter.
+#[tactic(auto, unfolding(sqlite::specs::Listing::understood, sqlite_tied::specs::Compute::everything))]
+fn next_down_text() -> &'static str
+    ensures { AsksFor result.now 1 next_down_asked (codes "next_down" ∷ []) }
+{
+    "SELECT next_down FROM session WHERE number = ?1 ORDER BY number"
+}
+
 /// How many bookings answer the data uplinks of the session with this number, if there is one.
 pub fn next_down<S: Alter>(conn: &mut Connection<S>, number: Whole) -> Result<Option<u64>, RowFault>
     ensures { Reads (state S.Store conn.old) (state S.Store conn.new) result (λ r counter. counter ≡ option_map (λ row. row.next_down) (item_at r.sessions number)) }
 {
-    find(
-        conn,
-        "SELECT next_down FROM session WHERE number = ?1 ORDER BY number",
-        &[whole(number)],
-    )
+    find(conn, next_down_text(), &[whole(number)])
 }
 
 /// The number of the session of the device with this nonce, if there is one.

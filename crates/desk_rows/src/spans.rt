@@ -1,5 +1,5 @@
 //! When uplinks and downlinks are on the air.
-ghost use Rattle.std.specs.Prelude.{◌≡◌, ◌<◌, ◌^◌, pos};
+ghost use Rattle.std.specs.Prelude.{◌≡◌, ◌&&◌, ◌<◌, ◌^◌, [], ◌∷◌, codes, pos};
 ghost use Rattle.sqlite.specs.Held.{state};
 ghost use Rattle.duty_core.specs.Range.{IsStart};
 ghost use Rattle.duty_core.specs.Use.{Interval};
@@ -9,6 +9,7 @@ ghost use Rattle.registry_core.specs.Reports.{interval_of};
 ghost use Rattle.desk_rows.specs.Calls.{Reads};
 ghost use Rattle.desk_rows.specs.order.Arranged.{booking_span, by_start, is_near_at, is_uplink_of, near_by, spans_by};
 ghost use Rattle.desk_rows.specs.steps.Shown.{near_booking_shown, span_shown};
+ghost use Rattle.desk_rows.specs.steps.Texts.{AsksFor, bookings_asked};
 
 use crate::columns::{band_at, span_at};
 use crate::faults::RowFault;
@@ -50,6 +51,14 @@ impl FromRow for NearBooking {
     }
 }
 
+/// The text of the look-up of a gateway's bookings in a band.
+#[tactic(auto, unfolding(sqlite::specs::Listing::understood, sqlite_tied::specs::Compute::everything))]
+fn bookings_text() -> &'static str
+    ensures { AsksFor result.now 2 bookings_asked (codes "start" ∷ codes "airtime" ∷ []) }
+{
+    "SELECT start, airtime FROM booking WHERE gateway = ?1 AND band = ?2 AND state <> 2 ORDER BY start, number"
+}
+
 /// When the gateway's bookings in the band that aren't dropped are on the air, in order of start: equal starts in order of
 /// number.
 pub fn bookings_of<S: Alter>(
@@ -61,12 +70,7 @@ pub fn bookings_of<S: Alter>(
     ensures { Reads (state S.Store conn.old) (state S.Store conn.new) result
         (λ r spans. spans.items ≡ spans_by booking_span (by_start (λ b. (booking_span b).start)) (λ b. stands_in gateway.now of b.booking) r.bookings) }
 {
-    find_all(
-        alloc,
-        conn,
-        "SELECT start, airtime FROM booking WHERE gateway = ?1 AND band = ?2 AND state <> 2 ORDER BY start, number",
-        &[text(gateway), band(of)],
-    )
+    find_all(alloc, conn, bookings_text(), &[text(gateway), band(of)])
 }
 
 /// The gateway's bookings that aren't dropped and start near the given start, in microseconds since 1970 UTC, in order of start:

@@ -1,0 +1,113 @@
+-- What the text of a look-up asks for, as SQLite reads it over the tables of schema 2.
+use Rattle.std.specs.Prelude.{◌≡◌, ℕ, zero, suc, ◌+◌, pos, negsuc, List, [], ◌∷◌, Bool, true, false, None, Ok, length, codes, cond}
+use Rattle.sqlite_value.specs.declared.keys.Collation.TheVariants.{Binary}
+use Rattle.sqlite_value.specs.declared.keys.Key.{Key}
+use Rattle.sqlite_value.specs.declared.value.Value.TheVariants.{Int}
+use Rattle.sqlite_sql.specs.declared.ops.BinaryOp.TheVariants.{Compare}
+use Rattle.sqlite_sql.specs.declared.ops.CompareOp.TheVariants.{Eq, Ne}
+use Rattle.sqlite_sql.specs.Term.{Term, lit, col, op2}
+use Rattle.sqlite_sql.specs.Query.{Query, Join, inner, end}
+use Rattle.sqlite_schema.specs.declared.schema.Schema.{Schema}
+use Rattle.sqlite_resolve.specs.declared.compiled.Compiled.{Compiled}
+use Rattle.sqlite.specs.Command.TheVariants.{Select}
+use Rattle.sqlite.specs.Listing.{understood, reads_listing}
+use Rattle.desk_rows.specs.Schema.{desk_schema}
+
+-- ---- queries
+
+-- each row of a table with each of the next
+abbrev pub joined : List ℕ → Join
+joined [] = end
+joined (tree ∷ trees) = inner tree (joined trees)
+
+-- which rows of these tables pass, what is shown of each, in which order, and whether only the first is asked for
+pub record Asked (trees : List ℕ) : Type 0 where
+  pub terms : List Term
+  pub project : List Term
+  pub order : List (Term × Key)
+  pub one : Bool
+
+abbrev pub query_of : {trees : List ℕ} → Asked trees → Query
+query_of {trees} a = record {
+  from = joined trees;
+  filter = a.terms;
+  group = None;
+  project = a.project;
+  distinct = false;
+  collations = [];
+  order = a.order;
+  limit = cond a.one (lit (Int (pos 1))) (lit (Int (negsuc 0)));
+  offset = lit (Int (pos 0));
+}
+
+abbrev pub rising : Key
+rising = record { collation = Binary; descending = false }
+
+abbrev pub falling : Key
+falling = record { collation = Binary; descending = true }
+
+-- all that pass, by rising rowid
+abbrev pub by_rowid : (tree : ℕ) → List Term → List Term → Asked (tree ∷ [])
+by_rowid tree terms project = record { terms = terms; project = project; order = (col 1 0, rising) ∷ []; one = false }
+
+-- all that pass, in this order
+abbrev pub all_by : (trees : List ℕ) → List Term → List Term → List (Term × Key) → Asked trees
+all_by trees terms project order = record { terms = terms; project = project; order = order; one = false }
+
+-- ---- tests of a row
+
+-- the column at a place is the parameter at a place
+abbrev pub is : ℕ → ℕ → Term
+is place param = op2 (Compare Eq Binary) (col 1 place) (col 0 param)
+
+-- the booking isn't dropped
+abbrev pub undropped : Term
+undropped = op2 (Compare Ne Binary) (col 1 9) (lit (Int (pos 2)))
+
+-- ---- texts
+
+-- one of the first nine parameters
+abbrev pub param : ℕ → List ℕ
+param n = 63 ∷ (48 + n) ∷ []
+
+abbrev pub params_from : ℕ → ℕ → List (List ℕ)
+params_from n zero = []
+params_from n (suc many) = param n ∷ params_from (n + 1) many
+
+-- what the resolver makes of a text that is one query, with so many parameters and these names of columns
+abbrev pub finding : List ℕ → ℕ → {trees : List ℕ} → Asked trees → List (List ℕ) → Compiled
+finding sql many a names = record {
+  command = Select (record { lets = []; body = query_of a }) names;
+  returning = None;
+  names = params_from 1 many;
+  formats = [];
+  start = 0;
+  end = length sql;
+  tail = length sql;
+}
+
+-- over tables of this schema SQLite reads the text as such a query, and not as one of the schema's own table
+abbrev pub AsksOf : Schema → List ℕ → ℕ → {trees : List ℕ} → Asked trees → List (List ℕ) → Type 0
+AsksOf desk sql many a names = (understood desk sql ≡ Ok (finding sql many a names)) × (reads_listing desk sql ≡ false)
+
+-- the same over schema 2
+abbrev pub AsksFor : List ℕ → ℕ → {trees : List ℕ} → Asked trees → List (List ℕ) → Type 0
+AsksFor = AsksOf desk_schema
+
+-- ---- what some of them ask for
+
+-- whether a booking that isn't dropped answers the uplink
+abbrev pub answer_asked : Asked (17 ∷ [])
+answer_asked = by_rowid 17 (is 2 0 ∷ undropped ∷ []) (lit (Int (pos 1)) ∷ [])
+
+-- start and airtime of the bookings of a gateway in a band that aren't dropped, by start and then by number
+abbrev pub bookings_asked : Asked (17 ∷ [])
+bookings_asked = all_by (17 ∷ []) (is 3 0 ∷ is 6 1 ∷ undropped ∷ []) (col 1 7 ∷ col 1 8 ∷ []) ((col 1 7, rising) ∷ (col 1 0, rising) ∷ [])
+
+-- both texts of the reply to a sender's number
+abbrev pub reply_asked : Asked (3 ∷ [])
+reply_asked = by_rowid 3 (is 2 0 ∷ is 3 1 ∷ []) (col 1 4 ∷ col 1 5 ∷ [])
+
+-- the counter of the next downlink of the session with the number
+abbrev pub next_down_asked : Asked (11 ∷ [])
+next_down_asked = by_rowid 11 (is 0 0 ∷ []) (col 1 4 ∷ [])
