@@ -121,6 +121,7 @@ pub(crate) fn eui_at(row: &Row, at: usize) -> Result<Eui, RowFault>
 }
 
 /// The EUI of eight octets, the most significant first.
+#[tactic(auto, using(std::proofs::lemmas::Nat::be_bytes_8))]
 fn eui_of(octets: &[u8]) -> Result<Eui, RowFault>
     ensures reads { (n : ℕ) → IsEui n → octets.now ≡ to_be_bytes w64 n → result ≡ Ok n }
     ensures stands { IfOk result (λ n. octets.now ≡ to_be_bytes w64 n) }

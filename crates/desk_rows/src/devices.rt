@@ -106,6 +106,7 @@ impl FromRow for Eui {
 
     ghost InRange = { IsEui };
 
+    #[tactic(auto, using(crate::proofs::NextDevice::eui_read))]
     fn from_row(row: &Row) -> Result<Eui, RowFault> {
         eui_at(row, 0)
     }

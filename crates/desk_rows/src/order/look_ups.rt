@@ -16,6 +16,7 @@ pub fn arranged_rows_tell()
 
 /// An order by start and then by number puts rows by start, one by the octets of DevEUIs rises, and an order by a key that
 /// falls, and then by anything, falls.
+#[tactic(auto, using(crate::proofs::OrderLemmas::Orders::orders_hold))]
 pub fn orders_hold()
     ensures { OrdersHold }
 {}

@@ -1,15 +1,8 @@
 use Rattle.std.proofs.Common.{◌∙◌, refl, rules}
 use Rattle.std.proofs.lemmas.Result.{err_from_is_err_and}
 use Rattle.sqlite.specs.Values.{bound}
-use Rattle.desk_rows.proofs.AllRows.{begins, ends, fails, gives_up, moves, read, unread}
+use Rattle.desk_rows.proofs.AllRows.{ends, fails, moves, read, unread}
 use Rattle.desk_rows.proofs.queries.find_all.Goals as goal
-
-pub rows-init : goal.rows-init
-rows-init g c = let made = c.in_ok-rows.ensures in (
-  refl,
-  begins g.S.Store _ _ c.args.conn.now _
-      (rw c.new-all.ensures.items tt) made.mode made.survives made.begun,
-)
 
 pub returns-in_err-row : goal.returns-in_err-row
 returns-in_err-row g c =
@@ -43,18 +36,6 @@ returns-in_err-from_row g c =
     (rw c.in_err-from_row.was at c.from_row.ensures) in
     rw (told.1, told.2) (search rules)
 
-pub returns-in_err-push : goal.returns-in_err-push
-returns-in_err-push g c =
-    let moved = c.next.follows.holds-at-none in
-    let now = c.next.follows.lender-at-none.conn.now in
-    let told = err_from_is_err_and c.from_residual-in_err-push.result c.from_residual-in_err-push.ensures.1 in
-    let at = moves g.S.Store c.args.sql.now (bound c.args.params.now) c.args.conn.now
-    g.T.FromRow.seen g.T.FromRow.shows g.T.FromRow.InRange _ now _ c.rows.invariant.1 moved.mode moved.survives
-    c.in-Some.row.now (λ clean. rw (c.in_ok-row.was, c.in-Some.is) at (moved.ok clean)) (λ clean. rw c.in_ok-row.was at (moved.same clean)) in
-    let end = gives_up g.S.Store c.args.sql.now (bound c.args.params.now) c.args.conn.now
-    g.T.FromRow.seen g.T.FromRow.shows g.T.FromRow.InRange now at in
-    rw (told.1, told.2) (search rules)
-
 pub rows-preserved : goal.rows-preserved
 rows-preserved g c =
     let moved = c.next.follows.holds-at-none in
@@ -66,9 +47,3 @@ rows-preserved g c =
     g.T.FromRow.seen g.T.FromRow.shows g.T.FromRow.InRange now _ _ at c.in_ok-from_row.field-0
     (rw c.in_ok-from_row.was at c.from_row.ensures) in
     (moved.same_reference ∙ c.rows.invariant.0, rw (c.push.ensures.items, c.in_ok-push.was) one)
-
-pub returns : goal.returns
-returns g c =
-    let end = gives_up g.S.Store c.args.sql.now (bound c.args.params.now) c.args.conn.now
-    g.T.FromRow.seen g.T.FromRow.shows g.T.FromRow.InRange c.rows.rows.conn.now c.rows.invariant.1 in
-    search rules
