@@ -11,9 +11,9 @@ abbrev pub row_fault : Error → RowFault
 row_fault (SqliteFailure code.OutOfMemory) = Memory
 row_fault (SqliteFailure code.SystemIoFailure) = Disk
 row_fault (SqliteFailure code.DatabaseCorrupt) = Disk
-row_fault (SqliteFailure code.DiskFull) = Disk
 row_fault (SqliteFailure code.Closed) = Disk
 row_fault (SqliteFailure code.TooBig) = Size
+row_fault (SqliteFailure code.DiskFull) = Size
 row_fault _ = Refused
 
 abbrev pub is_odd : RowFault → Bool
