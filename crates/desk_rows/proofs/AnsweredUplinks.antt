@@ -1,12 +1,10 @@
 -- Whether an uplink is answered: by a booking that isn't dropped.
-use Rattle.std.proofs.Common.{◌≡◌, ℕ, pos, List, [], ◌∷◌, codes, ◌&&◌, not, refl, ap, ap₂, ◌∙◌, arith, Bool, Result}
+use Rattle.std.proofs.Common.{◌≡◌, ℕ, pos, List, [], ◌∷◌, ◌&&◌, not, refl, ap, ap₂, ◌∙◌, Bool, Result}
 use Rattle.std.specs.List.{list_any}
-use Rattle.sqlite_value.specs.declared.value.Value.TheVariants.{Int}
 use Rattle.sqlite_value.specs.declared.keys.Collation.TheVariants.{Binary}
 use Rattle.sqlite_sql.specs.declared.ops.BinaryOp.TheVariants.{Compare}
 use Rattle.sqlite_sql.specs.declared.ops.CompareOp.TheVariants.{Ne}
 use Rattle.sqlite_sql.specs.Ops.{is_true, binary}
-use Rattle.sqlite_sql.specs.Term.{Term, lit, col, op2}
 use Rattle.std.specs.Ordering.{is_ne}
 use Rattle.sqlite_value.proofs.OrderLemmas.{value_cmp-Int}
 use Rattle.sqlite.specs.State.{State}

@@ -1,5 +1,5 @@
 -- Queries over tables that are joined, and of those the ones over one table: the first row, in the order of the rowids or in another that leaves no tie.
-use Rattle.std.proofs.Common.{◌≡◌, ◌==◌, ℕ, zero, suc, slice_get, eqb-true, ◌+◌, ◌<◌, ℤ, ◌<ℤ◌, pos, negsuc, List, [], ◌∷◌, map, filter, find, Bool, true, false, cond, ◌||◌, Option, Some, None, option_map, refl, sym, ap, ◌∙◌, arith, Ordering, Less, Equal, Greater, int_cmp, map-id}
+use Rattle.std.proofs.Common.{◌≡◌, ◌==◌, ℕ, zero, suc, slice_get, eqb-true, ◌+◌, ◌<◌, ℤ, ◌<ℤ◌, pos, List, [], ◌∷◌, map, filter, find, Bool, true, false, cond, ◌||◌, Option, Some, None, option_map, refl, sym, ap, ◌∙◌, arith, Ordering, Less, Equal, Greater, int_cmp, map-id}
 use Rattle.std.specs.List.{list_all, list_any, AllByRecursion}
 use Rattle.std.specs.Prelude.{IfSome, is_some}
 use Rattle.std.specs.Ordering.{ordering_then}
@@ -7,13 +7,11 @@ use Rattle.std.proofs.lemmas.Bool.{eq-eqb, false_from_ne_true}
 use Rattle.std.proofs.lemmas.Int.{ints}
 use Rattle.registry_core.specs.Numbered.{item_at}
 use Rattle.sqlite_value.specs.declared.value.Value.TheVariants.{Int}
-use Rattle.sqlite_value.specs.declared.keys.Collation.TheVariants.{Binary}
-use Rattle.sqlite_value.specs.declared.keys.Key.{Key}
 use Rattle.sqlite_value.specs.Order.{Row}
 use Rattle.sqlite_value.proofs.OrderLemmas.{value_cmp-Int}
 use Rattle.sqlite_trees.specs.Tree.{Trees}
-use Rattle.sqlite_sql.specs.Term.{Term, lit, col, holds, eval_all}
-use Rattle.sqlite_sql.specs.Query.{Query, Join, inner, end, IsAnswer, output, output_cmp, page}
+use Rattle.sqlite_sql.specs.Term.{col, holds, eval_all}
+use Rattle.sqlite_sql.specs.Query.{Query, inner, end, IsAnswer, output, output_cmp, page}
 use Rattle.sqlite_keyed.specs.Keyed.{IsKeyedBy}
 use Rattle.sqlite_keyed.specs.Lists.{sort_by}
 use Rattle.sqlite_typed.proofs.AnswerLemmas.{Source, IsNoTie, at_end, last_table, answer_by_keys, answer_sorted}

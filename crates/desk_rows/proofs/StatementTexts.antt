@@ -1,20 +1,20 @@
 -- The texts of the statements on a table, derived from its schema, and what the resolver makes of them.
-use Rattle.std.proofs.Common.{◌≡◌, ℕ, zero, suc, ◌+◌, ◌==◌, ◌++◌, pos, List, [], ◌∷◌, codes, length, filter, map, get_or, Option, Some, None, Ok, false, refl, ap, arith, if◌then◌else◌}
+use Rattle.std.proofs.Common.{◌≡◌, ℕ, zero, suc, ◌+◌, ◌==◌, ◌++◌, pos, List, [], ◌∷◌, codes, length, filter, map, get_or, Option, Some, None, Ok, refl, ap, arith, if◌then◌else◌}
 use Rattle.sqlite_value.specs.declared.value.Value.TheVariants.{Int, Null}
 use Rattle.sqlite_sql.specs.Term.{Term, lit, col}
 use Rattle.sqlite_schema.specs.declared.schema.Column.{Column}
 use Rattle.sqlite_schema.specs.declared.schema.Table.{Table}
 use Rattle.sqlite_schema.specs.declared.schema.Schema.{Schema}
 use Rattle.sqlite_resolve.specs.declared.compiled.Compiled.{Compiled}
-use Rattle.sqlite.specs.Command.TheVariants.{Insert, Select}
+use Rattle.sqlite.specs.Command.TheVariants.{Insert}
 use Rattle.sqlite.specs.Source.TheVariants.{Values}
-use Rattle.sqlite.specs.Listing.{understood, reads_listing}
+use Rattle.sqlite.specs.Listing.{understood}
 use Rattle.desk_rows.specs.Schema.{desk_schema}
 use Rattle.desk_rows.specs.steps.Texts.{AsksOf, finding, param, params_from}
 use Rattle.desk_rows.proofs.Insertions.{IsInsert}
 use Rattle.desk_rows.proofs.Latest.{last_of}
 use Rattle.desk_rows.proofs.Lookups.{IsLookupOf}
-use Rattle.desk_rows.proofs.Ordered.{Asked, by_rowid, query_of}
+use Rattle.desk_rows.proofs.Ordered.{Asked, by_rowid}
 use Rattle.desk_rows.proofs.Terms.{is}
 use Rattle.desk_rows.proofs.Updating.{IsUpdate, update_of}
 

@@ -15,7 +15,6 @@ use Rattle.sqlite_value.proofs.OrderLemmas.{value_cmp-Int, value_cmp-Blob}
 use Rattle.sqlite_sql.specs.declared.ops.BinaryOp.TheVariants.{Compare}
 use Rattle.sqlite_sql.specs.declared.ops.CompareOp.TheVariants.{Eq}
 use Rattle.sqlite_sql.specs.Ops.{is_true, binary}
-use Rattle.sqlite_sql.specs.Term.{Term, col, op2}
 use Rattle.desk_rows.specs.Rows.{eui, number}
 use Rattle.desk_rows.proofs.ReadLemmas.{truth_again}
 pub use Rattle.desk_rows.proofs.ReadLemmas.{text_equal}
