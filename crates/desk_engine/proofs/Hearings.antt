@@ -43,6 +43,7 @@ module _ {K : Type 0} (m : Meaning K) where
     held = λ kept sound held. held;
     left = λ kept all sound held left. left;
     unavailable = λ kept sound held. tt;
+    rests = λ stored sound rests. rests;
   }
 
   -- what a crash leaves stays, with its doubt

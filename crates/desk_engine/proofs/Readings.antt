@@ -19,6 +19,7 @@ module _ {K : Type 0} (m : Meaning K) where
     held = λ kept sound held. second.held kept sound (first.held kept (second.was_sound sound) held);
     left = λ kept all sound held left. second.left kept all sound (first.held kept (second.was_sound sound) held) (first.left kept all (second.was_sound sound) held left);
     unavailable = λ kept sound held. second.unavailable kept sound (first.held kept (second.was_sound sound) held);
+    rests = λ stored sound rests. second.rests stored sound (first.rests stored (second.was_sound sound) rests);
   }
 
   -- memory ran out after them
@@ -32,6 +33,7 @@ module _ {K : Type 0} (m : Meaning K) where
     held = read.held;
     left = read.left;
     unavailable = λ kept sound held. tt;
+    rests = read.rests;
   }
 
   -- a call's fault is told

@@ -16,6 +16,7 @@ read_then m a b c fault one two = record {
   held = λ kept sound holds. two.held kept sound (one.held kept (two.was_sound sound) holds);
   left = λ kept all sound holds left. two.left kept all sound (one.held kept (two.was_sound sound) holds) (one.left kept all (two.was_sound sound) holds left);
   unavailable = λ kept sound holds. two.unavailable kept sound (one.held kept (two.was_sound sound) holds);
+  rests = λ stored sound rests. two.rests stored sound (one.rests stored (two.was_sound sound) rests);
 }
 
 -- the fault of the last is told on

@@ -54,7 +54,8 @@ module _ {K : Type 0} where
     pub shut : m.down new ≡ disk || m.down old
     pub strange : m.foreign new ≡ foreign || m.foreign old
 
-  -- Reading calls in a row, which ended with this fault or with none: what the store holds and what a crash leaves stay.
+  -- Reading calls in a row, which ended with this fault or with none: what the store holds, what a crash leaves, and what its
+  -- medium stores, a desk's or not, stay.
   pub record IsRead (m : Meaning K) (old new : K) (fault : Option StoreFault) : Type 0 where
     pub same : m.configuration new ≡ m.configuration old
     pub was_sound : m.sound new → m.sound old
@@ -64,6 +65,7 @@ module _ {K : Type 0} where
     pub held : (kept : Kept) → m.sound new → m.holds old kept → m.holds new kept
     pub left : (kept : Kept) (all : List Kept) → m.sound new → m.holds old kept → m.leaves old all → m.leaves new all
     pub unavailable : (kept : Kept) → m.sound new → m.holds old kept → IfSome fault IsUnavailability
+    pub rests : (stored : m.Stored) → m.sound new → m.rests old stored → m.rests new stored
 
   -- of all that the store held, where it is sound after the call
   abbrev pub ForHeld : Meaning K → K → K → (Kept → Type 0) → Type 0

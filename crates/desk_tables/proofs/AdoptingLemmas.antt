@@ -1,18 +1,19 @@
 -- What follows where a connection is adopted, and where it isn't.
-use Rattle.std.proofs.Common.{◌≡◌, ◌∙◌, Result, Ok, Err, IfErr, IfOk, ap, length, subst, sym}
+use Rattle.std.proofs.Common.{◌≡◌, ◌∙◌, false, true, None, Result, Ok, Err, IfErr, IfOk, ap, length, refl, subst, sym}
 use Rattle.std.proofs.lemmas.List.{length-map}
 use Rattle.registry_core.specs.Settings.{Settings}
 use Rattle.registry_core.specs.State.{State as Registry}
 use Rattle.sqlite_trees.specs.declared.store.Store.{Ghosts}
 use Rattle.sqlite.specs.Effect.{Database}
 use Rattle.sqlite.specs.Held.{Held, state}
-use Rattle.sqlite.specs.State.{State, IsUnchanged}
+use Rattle.sqlite.specs.State.{State, HasCleanDisk, IsUnchanged}
 use Rattle.desk_store.specs.declared.faults.StoreFault.{StoreFault}
 use Rattle.desk_store.specs.Kept.{Kept}
+use Rattle.desk_rows.specs.Calls.{IsReadingCall}
 use Rattle.desk_rows.specs.Rows.{BookingRow, SessionRow}
 use Rattle.desk_rows.specs.Schema.{desk_schema}
 use Rattle.desk_tables.specs.InOrder.{IsOfDesk, entry_in}
-use Rattle.desk_tables.specs.Store.{IsSettled, Stands}
+use Rattle.desk_tables.specs.Store.{IsAtRest, IsSettled, Stands}
 use Rattle.desk_tables.specs.declared.tables.Tables.{Tables}
 use Rattle.desk_tables.specs.steps.Adopting.{IsAdopted, IsNotAdopted, IsStoreOver}
 use Rattle.desk_tables.specs.steps.Calls.{IsReady}
@@ -36,6 +37,22 @@ ready_again old new same schema settled = record {
   schema = ap (λ (d : Database). d.schema) same.0.now_is ∙ schema;
   committed = settled;
 }
+
+-- a connection that was ready, and was only read, is settled
+pub settled_read : (old new : State) → IsReadingCall old new true → old.in_transaction ≡ false → old.step_limit ≡ None → HasCleanDisk new → IsReady old
+    → IsSettled new
+settled_read old new read idle unlimited clean ready =
+    let same = read.leaves ready.schema ready.is_open clean in
+    record {
+      open_still = same.0.is_open;
+      autocommit = read.mode idle;
+      committed = same.0.now_is ∙ ready.committed ∙ sym same.0.committed_is;
+      unlimited = (read.survives ready.schema ready.is_open clean).limit ∙ unlimited;
+    }
+
+-- a settled connection with the desk's schema is at rest
+pub at_rest : (s : State) → IsSettled s → s.now.schema ≡ desk_schema → IsAtRest s s.now
+at_rest s settled schema = record { settled = settled; stored = refl; schema = schema }
 
 -- a store over settled tables of a desk, with what they hold counted
 pub stands : {S : Type 0} (g : Ghosts S) (t : Tables S) (c : Settings) (kept : Kept) (db : Database) → IsSettled (state g t.conn) → t.config ≡ c → (state g t.conn).now ≡ db

@@ -1,7 +1,8 @@
 -- What stands after a look-up, and what it tells.
-use Rattle.std.proofs.Common.{◌≡◌, ◌⊎◌, inl, inr, Bool, true, false, true≢false, IsTrue, None, Some, List, Result, Ok, Err, refl, sym, subst, ◌∙◌, arith}
+use Rattle.std.proofs.Common.{◌≡◌, ◌⊎◌, inl, inr, Bool, true, false, true≢false, IsTrue, None, Some, List, Result, Ok, Err, refl, sym, ap, subst, ◌∙◌, arith}
 use Rattle.std.specs.Prelude.{◌||◌, IfOk}
 use Rattle.sqlite_trees.specs.declared.store.Store.{Ghosts}
+use Rattle.sqlite.specs.Effect.{Database}
 use Rattle.sqlite.specs.State.{State, HasCleanDisk, IsUnchanged, IsRolledBack, Survives}
 use Rattle.sqlite.specs.Held.{Held, state}
 use Rattle.sqlite.proofs.StateLemmas.{survives_then}
@@ -15,8 +16,9 @@ use Rattle.desk_rows.specs.declared.faults.RowFault.TheVariants.{Memory, Disk, S
 use Rattle.desk_rows.specs.Calls.{IsReadingCall, Reads}
 use Rattle.desk_rows.specs.Faults.{IsEven}
 use Rattle.desk_rows.specs.Rows.{Holds, Rows}
+use Rattle.desk_rows.specs.Schema.{desk_schema}
 use Rattle.desk_tables.specs.InOrder.{IsOfDesk}
-use Rattle.desk_tables.specs.Store.{IsSettled, Leaves, Stands, meaning_of}
+use Rattle.desk_tables.specs.Store.{IsAtRest, IsSettled, Leaves, Stands, meaning_of}
 use Rattle.desk_tables.specs.declared.tables.Tables.{Tables}
 use Rattle.desk_tables.specs.steps.Calls.{Asks}
 use Rattle.desk_tables.specs.steps.LookUps.{OfKept}
@@ -65,6 +67,22 @@ failed_before old mid new fault told was read survives left settles clean not_di
       limit = settles.survives.limit ∙ survives.limit;
     }
 
+-- a connection at rest has the desk's schema
+pub has_schema : (s : State) (db : Database) → IsAtRest s db → s.now.schema ≡ desk_schema
+has_schema s db it = ap (λ (d : Database). d.schema) it.stored ∙ it.schema
+
+-- what was settled, or at rest, still is
+settled_on : (old new : State) → IsAsBefore old new → IsSettled old → IsSettled new
+settled_on old new same it = record {
+  open_still = same.open_still;
+  autocommit = same.mode;
+  committed = same.now_is ∙ it.committed ∙ sym same.committed_is;
+  unlimited = same.limit ∙ it.unlimited;
+}
+
+rests_on : (old new : State) (db : Database) → IsAsBefore old new → IsAtRest old db → IsAtRest new db
+rests_on old new db same it = record { settled = settled_on old new same it.settled; stored = same.now_is ∙ it.stored; schema = it.schema }
+
 -- ---- a store after a look-up
 
 module _ {S : Type 0} (g : Ghosts S) (old : Tables S) (conn : Held S) (down foreign : Bool) where
@@ -73,12 +91,7 @@ module _ {S : Type 0} (g : Ghosts S) (old : Tables S) (conn : Held S) (down fore
 
   stands_on : (kept : Kept) → IsAsBefore (state g old.conn) (state g conn) → Stands g old kept → Stands g later kept
   stands_on kept same it = record {
-    settled = record {
-      open_still = same.open_still;
-      autocommit = same.mode;
-      committed = same.now_is ∙ it.settled.committed ∙ sym same.committed_is;
-      unlimited = same.limit ∙ it.settled.unlimited;
-    };
+    settled = settled_on (state g old.conn) (state g conn) same it.settled;
     desk = subst (IsOfDesk old.config kept) (sym same.now_is) it.desk;
     heard = it.heard;
     counts = it.counts;
@@ -134,6 +147,12 @@ module _ {S : Type 0} (g : Ghosts S) (old : Tables S) (mid : Held S) (up : old.d
         let stands = holds up in
         leaves_on g old mid old.down old.foreign all clean (read.survives stands.desk.in_order.held.ten.schema stands.settled.open_still clean) left;
     unavailable = λ kept clean holds. tt;
+    rests = λ db clean rests still.
+        let was = rests up in
+        let has = has_schema (state g old.conn) db was in
+        let open_was = was.settled.open_still in
+        rests_on (state g old.conn) (state g mid) db
+        (unchanged_before (state g old.conn) (state g mid) was.settled (read.survives has open_was clean) (read.leaves has open_was clean)) was;
   }
 
   module _ (new : Held S) (fault : RowFault) (told : StoreFault) (read : IsReadingCall (state g old.conn) (state g mid) false)
@@ -176,6 +195,13 @@ module _ {S : Type 0} (g : Ghosts S) (old : Tables S) (mid : Held S) (up : old.d
           let stands = holds up in
           let even = in_order (early clean) stands.settled.open_still stands.settled.unlimited stands.desk.in_order.rows stands.desk.in_order.held in
           disk_or_as told (store_fault (reading_fault fault)) IsUnavailability tt (is_unavailable_reading fault even) settles.same;
+      rests = λ db clean rests still.
+          let was = rests up in
+          let has = has_schema (state g old.conn) db was in
+          let open_was = was.settled.open_still in
+          rests_on (state g old.conn) (state g new) db
+          (failed_before (state g old.conn) (state g mid) (state g new) (reading_fault fault) told was.settled read
+          (read.survives has open_was (early clean)) (read.leaves has open_was (early clean)) settles clean (not_disk still)) was;
     }
 
 -- ---- what a look-up of a store tells, and what several in a row do
@@ -223,4 +249,5 @@ down_read g s down = record {
   held = λ kept sound holds. holds;
   left = λ kept all sound holds left. left;
   unavailable = λ kept sound holds. tt;
+  rests = λ db sound rests. rests;
 }

@@ -1,5 +1,5 @@
 -- A commit whose transaction was made, or failed.
-use Rattle.std.proofs.Common.{◌≡◌, inl, inr, ℕ, ◌+◌, ◌<◌, Bool, true, false, true≢false, List, [], ◌∷◌, length, Some, Result, Ok, Err, IsTrue, refl, sym, ap, subst, ◌∙◌, arith}
+use Rattle.std.proofs.Common.{◌≡◌, inl, inr, ℕ, ◌+◌, ◌<◌, Bool, true, false, true≢false, List, [], ◌∷◌, length, None, Some, Result, Ok, Err, IsTrue, refl, sym, ap, subst, ◌∙◌, arith}
 use Rattle.std.specs.Prelude.{◌||◌}
 use Rattle.registry_core.specs.declared.effects.Effect.{Effect}
 use Rattle.registry_core.specs.declared.messages.Envelope.{Envelope}
@@ -22,7 +22,7 @@ use Rattle.desk_rows.specs.Rows.{Holds}
 use Rattle.desk_rows.specs.order.Changes.{RowsFollowFacts, rows_with}
 use Rattle.desk_rows.specs.order.Keys.{ChangedRowsAreThere, IsThereFor, KeysAreFree}
 use Rattle.desk_tables.specs.InOrder.{IsOfDesk}
-use Rattle.desk_tables.specs.Store.{HoldsKept, Leaves, Stands, meaning_of, own_law}
+use Rattle.desk_tables.specs.Store.{HoldsKept, IsAtRest, IsSettled, Leaves, Stands, meaning_of, own_law}
 use Rattle.desk_tables.specs.declared.tables.Tables.{Tables}
 use Rattle.desk_tables.specs.steps.Calls.{Commits, IsReady}
 use Rattle.desk_tables.specs.steps.Effects.{IsOpenToBoth, reply_row}
@@ -31,7 +31,7 @@ use Rattle.desk_tables.specs.steps.Keeper.{CountsWith, IsCommit, IsNoted}
 use Rattle.desk_tables.specs.steps.Settling.{Settles, is_size}
 use Rattle.desk_tables.proofs.CommitLemmas.{rows_in_order, rows_open}
 use Rattle.desk_tables.proofs.CountLemmas.{are_few, one_longer}
-use Rattle.desk_tables.proofs.LookUps.{disk_or_as}
+use Rattle.desk_tables.proofs.LookUps.{disk_or_as, has_schema}
 
 -- ---- faults
 
@@ -64,6 +64,9 @@ module _ {S : Type 0} (g : Ghosts S) (old : Tables S) (e : Envelope) (message : 
 
   ready : (kept : Kept) → Stands g old kept → IsReady (state g old.conn)
   ready kept it = record { is_open = it.settled.open_still; schema = it.desk.in_order.held.ten.schema; committed = it.settled.committed }
+
+  ready_at_rest : (db : Database) → IsAtRest (state g old.conn) db → IsReady (state g old.conn)
+  ready_at_rest db it = record { is_open = it.settled.open_still; schema = has_schema (state g old.conn) db it; committed = it.settled.committed }
 
   there : (kept : Kept) (it : Stands g old kept) → Fits effect kept.facts → IsThereFor effect it.desk.in_order.rows
   there kept it fits = changed old.config kept.facts it.desk.in_order.rows effect it.desk.in_order.are fits
@@ -107,6 +110,21 @@ module _ {S : Type 0} (g : Ghosts S) (old : Tables S) (e : Envelope) (message : 
           counts = counted kept.facts (are_few old.config kept r it.desk.in_order.are it.desk.in_order.entries it.desk.few) it.counts;
         }
 
+    rests_after : (db : Database) → HasCleanDisk (state g mid) → IsAtRest (state g old.conn) db → IsAtRest (state g mid) (state g mid).now
+    rests_after db clean it =
+        let was = ready_at_rest db it in
+        let new = commits.ready clean was in
+        record {
+          settled = record {
+            open_still = new.is_open;
+            autocommit = commits.mode;
+            committed = new.committed;
+            unlimited = commits.limit clean was ∙ it.settled.unlimited;
+          };
+          stored = refl;
+          schema = new.schema;
+        }
+
     commit_made : IsCommit (meaning_of g) old after e message effect answer (Ok done)
     commit_made = record {
       call = record { same = refl; was_sound = λ clean. omega (arith, commits.clean, clean); shut = refl; strange = refl };
@@ -119,6 +137,8 @@ module _ {S : Type 0} (g : Ghosts S) (old : Tables S) (e : Envelope) (message : 
       no_room = λ kept clean holds was most. let less = few kept (holds up) in absurd (omega (arith, most, less));
       doubt = λ kept clean holds can was is. absurd (cc);
       stays = λ all clean is left. absurd (true≢false (sym is ∙ up));
+      undone = λ db clean rests. tt;
+      rests = λ db clean rests. ((state g mid).now, λ still. rests_after db clean (rests up));
     }
 
   -- ---- it failed
@@ -133,21 +153,34 @@ module _ {S : Type 0} (g : Ghosts S) (old : Tables S) (e : Envelope) (message : 
     first : HasCleanDisk (state g new) → HasCleanDisk (state g old.conn)
     first clean = omega (arith, commits.clean, settles.survives.clean, clean)
 
-    stands_still : (kept : Kept) → HasCleanDisk (state g new) → Stands g old kept → is_disk (Some told) ≡ false → Stands g undone kept
-    stands_still kept clean it not_disk =
-        let was = ready kept it in
+    -- the connection still stands, and nothing is written
+    still_settled : HasCleanDisk (state g new) → (was : IsReady (state g old.conn)) → (state g old.conn).step_limit ≡ None → is_disk (Some told) ≡ false
+        → IsSettled (state g new) × ((state g new).now ≡ (state g old.conn).now)
+    still_settled clean was unlimited not_disk =
         let stays = settles.stands clean not_disk in
         let back = commits.neither (early clean) was stays.was_open in
-        let at : (state g mid).now ≡ (state g mid).committed = back.0 ∙ it.settled.committed ∙ sym back.1 in
-        let on = stays.kept at in
-        record {
-          settled = record {
+        let at : (state g mid).now ≡ (state g mid).committed = back.0 ∙ was.committed ∙ sym back.1 in
+        let on = stays.kept at in (
+          record {
             open_still = stays.open_still;
             autocommit = settles.mode commits.mode;
             committed = on.0 ∙ at ∙ sym on.1;
-            unlimited = settles.survives.limit ∙ commits.limit (early clean) was ∙ it.settled.unlimited;
-          };
-          desk = subst (IsOfDesk old.config kept) (sym (on.0 ∙ back.0)) it.desk;
+            unlimited = settles.survives.limit ∙ commits.limit (early clean) was ∙ unlimited;
+          },
+          on.0 ∙ back.0,
+        )
+
+    rests_still : (db : Database) → HasCleanDisk (state g new) → IsAtRest (state g old.conn) db → is_disk (Some told) ≡ false → IsAtRest (state g new) db
+    rests_still db clean it not_disk =
+        let on = still_settled clean (ready_at_rest db it) it.settled.unlimited not_disk in
+        record { settled = on.0; stored = on.1 ∙ it.stored; schema = it.schema }
+
+    stands_still : (kept : Kept) → HasCleanDisk (state g new) → Stands g old kept → is_disk (Some told) ≡ false → Stands g undone kept
+    stands_still kept clean it not_disk =
+        let on = still_settled clean (ready kept it) it.settled.unlimited not_disk in
+        record {
+          settled = on.0;
+          desk = subst (IsOfDesk old.config kept) (sym on.1) it.desk;
           heard = it.heard;
           counts = it.counts;
         }
@@ -189,6 +222,8 @@ module _ {S : Type 0} (g : Ghosts S) (old : Tables S) (e : Envelope) (message : 
       no_room = λ kept clean holds was most. let less = few kept (holds up) in absurd (omega (arith, most, less));
       doubt = λ kept clean holds can was is. leaves_either kept clean holds can;
       stays = λ all clean is left. absurd (true≢false (sym is ∙ up));
+      undone = λ db clean rests still. rests_still db clean (rests up) (first_false (is_disk (Some told)) old.down still);
+      rests = λ db clean rests. (db, λ still. rests_still db clean (rests up) (first_false (is_disk (Some told)) old.down still));
     }
 
   -- ---- either

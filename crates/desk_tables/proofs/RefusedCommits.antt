@@ -33,6 +33,8 @@ module _ {S : Type 0} (g : Ghosts S) (old : Tables S) (e : Envelope) (message : 
     no_room = λ kept clean holds up most. absurd (true≢false (sym down ∙ up));
     doubt = λ kept clean holds can up is. absurd (true≢false (sym down ∙ up));
     stays = λ all clean is left. left;
+    undone = λ db clean rests. rests;
+    rests = λ db clean rests. (db, rests);
   }
 
   module _ (up : old.down ≡ false) where
@@ -54,6 +56,8 @@ module _ {S : Type 0} (g : Ghosts S) (old : Tables S) (e : Envelope) (message : 
           no_room = λ kept clean holds was most. absurd (never kept holds);
           doubt = λ kept clean holds can was is. absurd (never kept holds);
           stays = λ all clean is left. absurd (true≢false (sym is ∙ up));
+          undone = λ db clean rests. absurd (true≢false (sym inside ∙ (rests up).settled.autocommit));
+          rests = λ db clean rests. absurd (true≢false (sym inside ∙ (rests up).settled.autocommit));
         }
 
     pub commit_refused : (new : Tables S) (told : StoreFault) → (state g old.conn).in_transaction ≡ true → Fails g old new Refused told
@@ -75,4 +79,6 @@ module _ {S : Type 0} (g : Ghosts S) (old : Tables S) (e : Envelope) (message : 
       no_room = λ kept clean holds was most. (refl, own_law g settled old kept clean up holds);
       doubt = λ kept clean holds can was is. absurd (cc);
       stays = λ all clean is left. left;
+      undone = λ db clean rests. rests;
+      rests = λ db clean rests. (db, rests);
     }

@@ -8,12 +8,13 @@ use Rattle.sqlite.specs.State.{State, HasCleanDisk}
 use Rattle.desk_store.specs.Kept.{Kept}
 use Rattle.desk_store.specs.Meaning.{Meaning}
 
--- a store of this configuration, which is up, has told nothing of another's database, and holds this
+-- a store of this configuration, which is up, has told nothing of another's database, and holds this, with no change half made
 pub record IsStore {K : Type 0} (m : Meaning K) (k : K) (c : Settings) (kept : Kept) : Type 0 where
   pub configuration : m.configuration k ≡ c
   pub up : m.down k ≡ false
   pub known : m.foreign k ≡ false
   pub holds : m.holds k kept
+  pub rests : (stored : m.Stored) × m.rests k stored
 
 -- what a desk of this configuration holds that has heard nothing
 abbrev pub opening_kept : Settings → Kept

@@ -25,6 +25,12 @@ pub record IsSettled (s : State) : Type 0 where
   pub committed : s.now ≡ s.committed
   pub unlimited : s.step_limit ≡ None
 
+-- a connection between two calls: its database is this, under the desk's schema, whatever rows the tables have
+pub record IsAtRest (s : State) (db : Database) : Type 0 where
+  pub settled : IsSettled s
+  pub stored : s.now ≡ db
+  pub schema : db.schema ≡ desk_schema
+
 module _ {S : Type 0} (g : Ghosts S) (k : Tables S) where
   -- so far the disk has given back what was written to it
   abbrev pub IsSound : Type 0
@@ -45,6 +51,10 @@ module _ {S : Type 0} (g : Ghosts S) (k : Tables S) where
   abbrev pub Leaves : List Kept → Type 0
   Leaves all = (db : Trees) → (state g k.conn).may_leave db → (kept : Kept) × IsOneOf all kept × AreOfDesk k.config kept db
 
+  -- its connection is at rest over this database; of a store that is down this says nothing
+  abbrev pub Rests : Database → Type 0
+  Rests db = k.down ≡ false → IsAtRest (state g k.conn) db
+
 -- what a store over the tables means
 abbrev pub meaning_of : {S : Type 0} → Ghosts S → Meaning (Tables S)
 meaning_of g = record {
@@ -55,6 +65,8 @@ meaning_of g = record {
   sized = λ k. IsTrue k.sized;
   holds = HoldsKept g;
   leaves = Leaves g;
+  Stored = Database;
+  rests = Rests g;
 }
 
 -- ---- laws

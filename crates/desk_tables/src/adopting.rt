@@ -2,6 +2,7 @@
 ghost use Rattle.std.specs.Prelude.{◌≡◌, ◌≢◌, ◌↔◌, ℤ, pos, List, None, false, IfErr, IfOk};
 ghost use Rattle.sqlite_trees.specs.Tree.{Trees};
 ghost use Rattle.registry_core.specs.Settings.{Settings};
+ghost use Rattle.sqlite.specs.Effect.{Database};
 ghost use Rattle.sqlite.specs.Held.{state};
 ghost use Rattle.sqlite.specs.State.{HasCleanDisk};
 ghost use Rattle.desk_store.specs.Calls.{IsUnavailability};
@@ -88,6 +89,7 @@ impl<S: Alter> Tables<S> {
         ensures other_version { HasMeta conn.schema → (version : ℤ) (c : Settings) → TellsMeta (state S.Store conn).now.trees version c → version ≢ pos 2
             → IfErr result (λ back. HasCleanDisk (state S.Store back.1) → back.0 ≢ NotADesk) }
         ensures never { IfErr result (λ back. back.0 ≢ Exists) }
+        ensures rests { IfOk result (λ t. (meaning_of S.Store).sound t → (meaning_of S.Store).rests t (state S.Store conn).now) }
         ensures clean { IfOk result (λ t. (meaning_of S.Store).sound t → HasCleanDisk (state S.Store conn)) }
         ensures given_back { IfErr result (λ back. IsGivenBack (state S.Store conn) (state S.Store back.1) (λ _. ⊥)) }
     {
@@ -145,6 +147,8 @@ impl<S: Alter> Tables<S> {
             → IsOfDesk ((meaning_of S.Store).configuration self) kept (state S.Store result).now × ((state S.Store result).now ≡ (state S.Store result).committed) }
         ensures rest { (kept : Kept) → (meaning_of S.Store).sound self → (meaning_of S.Store).down self ≡ false → (meaning_of S.Store).holds self kept
             → (result.in_transaction ≡ false) × (result.step_limit ≡ None) }
+        ensures stored { (db : Database) → (meaning_of S.Store).sound self → (meaning_of S.Store).down self ≡ false → (meaning_of S.Store).rests self db
+            → ((state S.Store result).now ≡ db) × ((state S.Store result).committed ≡ db) }
         ensures left { (all : List Kept) → (meaning_of S.Store).leaves self all → (trees : Trees) → (state S.Store result).may_leave trees
             → (kept : Kept) × IsOneOf all kept × AreOfDesk ((meaning_of S.Store).configuration self) kept trees }
     {

@@ -116,6 +116,7 @@ impl<S: Alter> Tables<S> {
             → ((state S.Store back.1).now ≡ (state S.Store conn).now) × ((state S.Store back.1).committed ≡ (state S.Store conn).committed)) }
         ensures given_back { (c : Settings) (kept : Kept) → IsOfFirstSchema c kept (state S.Store conn).now
             → IfErr result (λ back. IsGivenBack (state S.Store conn) (state S.Store back.1) (AreOfDesk c kept)) }
+        ensures refused { IfErr result (λ back. back.0 ≡ NotADesk → IsGivenBack (state S.Store conn) (state S.Store back.1) (λ _. ⊥)) }
         ensures untouched { (conn.schema ≡ first_schema → (c : Settings) → ¬ TellsMeta (state S.Store conn).now.trees (pos 1) c)
             → IfErr result (λ back. IsGivenBack (state S.Store conn) (state S.Store back.1) (λ _. ⊥)) }
     {

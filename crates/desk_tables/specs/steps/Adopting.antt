@@ -12,7 +12,7 @@ use Rattle.desk_store.specs.declared.faults.StoreFault.TheVariants.{Exists, Sche
 use Rattle.desk_rows.specs.Rows.{Holds, Rows}
 use Rattle.desk_tables.specs.Adopting.{IsGivenBack, IsStore}
 use Rattle.desk_tables.specs.InOrder.{IsOfDesk}
-use Rattle.desk_tables.specs.Store.{meaning_of}
+use Rattle.desk_tables.specs.Store.{Rests, meaning_of}
 use Rattle.desk_tables.specs.declared.tables.Tables.{Tables}
 use Rattle.desk_tables.specs.steps.Calls.{IsReady}
 
@@ -23,6 +23,7 @@ module _ {S : Type 0} (g : Ghosts S) (conn : Held S) where
     pub clean : doubt (state g conn).is_clean ≤ doubt (state g t.conn).is_clean
     pub holds : HasCleanDisk (state g t.conn) → IsReady (state g conn) → (kept : Kept) → IsOfDesk config kept (state g conn).now
         → IsStore (meaning_of g) t config kept
+    pub rests : HasCleanDisk (state g t.conn) → IsReady (state g conn) → Rests g t (state g conn).now
 
   -- the connection again, as it was: where the tables hold rows of a desk, it was for memory, the disk or a size
   pub record IsNotAdopted (fault : StoreFault) (back : Held S) : Type 0 where

@@ -61,3 +61,5 @@ pub record IsCommit {K : Type 0} (m : Meaning K) (old new : K) (e : Envelope) (m
   pub doubt : ForHeld m old new (λ kept. CanAdd kept e effect → m.down old ≡ false → IsErrOf result Disk
       → m.leaves new (kept ∷ with_entry kept e message effect answer ∷ []))
   pub stays : (all : List Kept) → m.sound new → m.down old ≡ true → m.leaves old all → m.leaves new all
+  pub undone : (stored : m.Stored) → m.sound new → m.rests old stored → OnErr result (m.rests new stored)
+  pub rests : (stored : m.Stored) → m.sound new → m.rests old stored → (after : m.Stored) × m.rests new after

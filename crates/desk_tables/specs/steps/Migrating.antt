@@ -16,6 +16,10 @@ use Rattle.desk_tables.specs.steps.Calls.{IsInside}
 abbrev pub AreRowsBefore : State → Trees → Type 0
 AreRowsBefore old trees = (r : Rows) → HoldsFirst old.now r → TreesHold trees r
 
+-- and it isn't told that they are no desk's
+abbrev pub AreMoved : State → Result (Unit {0}) RowFault → Trees → Type 0
+AreMoved old result trees = AreRowsBefore old trees × IfErr result IsEven
+
 -- Inside a transaction the two statements make schema 2 of the rows of schema 1. With no limit on steps, they fail only for memory, the
 -- disk or a size.
 pub record MakesSecond (old new : State) (result : Result (Unit {0}) RowFault) : Type 0 where
@@ -24,7 +28,7 @@ pub record MakesSecond (old new : State) (result : Result (Unit {0}) RowFault) :
   pub in_order : HasCleanDisk new → IsInside old → old.step_limit ≡ None → (r : Rows) → HoldsFirst old.now r → IfErr result IsEven
 
 -- On a connection that is open, it ends with the rows of the tables before in schema 2, all of it committed, or it leaves what was
--- committed. A crash leaves what it left before, or these rows.
+-- committed. A crash leaves what it left before, or these rows, which it doesn't where it is told that they are no desk's.
 pub record Moves (old new : State) (result : Result (Unit {0}) RowFault) : Type 0 where
   pub clean : doubt old.is_clean ≤ doubt new.is_clean
   pub mode : new.in_transaction ≡ false
@@ -34,5 +38,5 @@ pub record Moves (old new : State) (result : Result (Unit {0}) RowFault) : Type 
   pub made : HasCleanDisk new → IsTrue old.is_open → (r : Rows) → HoldsFirst old.now r → OnOk result (Holds new.now r)
   pub neither : HasCleanDisk new → IsTrue old.is_open → IsTrue new.is_open
       → OnErr result ((new.now ≡ old.committed) × (new.committed ≡ old.committed))
-  pub crash : HasCleanDisk new → IsTrue old.is_open → Survives old new (AreRowsBefore old)
+  pub crash : HasCleanDisk new → IsTrue old.is_open → Survives old new (AreMoved old result)
   pub in_order : HasCleanDisk new → IsTrue old.is_open → old.step_limit ≡ None → (r : Rows) → HoldsFirst old.now r → IfErr result IsEven

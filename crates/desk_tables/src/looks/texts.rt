@@ -1,10 +1,11 @@
 //! The texts of a message that was heard, and of its answer.
-ghost use Rattle.std.specs.Prelude.{◌≡◌, option_map};
+ghost use Rattle.std.specs.Prelude.{◌≡◌, find, option_map};
 ghost use Rattle.sqlite.specs.Held.{state};
 ghost use Rattle.desk_store.specs.Kept.{entry_of, texts_of};
 ghost use Rattle.desk_store.specs.Looks as store;
 ghost use Rattle.desk_rows.specs.Replies as rows;
 ghost use Rattle.desk_rows.specs.Calls.{Reads};
+ghost use Rattle.desk_rows.specs.Rows.{is_reply};
 ghost use Rattle.desk_tables.specs.steps.LookUps.{OfKept};
 
 use desk_rows::RowFault;
@@ -22,6 +23,17 @@ fn shown(found: Option<desk_rows::Texts>) -> Option<Texts>
     })
 }
 
+/// The texts that the row with the envelope's pair has.
+fn row_texts<S: Alter>(
+    conn: &mut Connection<S>,
+    envelope: &Envelope,
+) -> Result<Option<desk_rows::Texts>, RowFault>
+    ensures { Reads (state S.Store conn.old) (state S.Store conn.new) result
+        (λ r texts. option_map rows.kept_texts texts ≡ option_map rows.reply_texts (find (is_reply envelope.now.sender envelope.now.transaction) r.replies)) }
+{
+    desk_rows::texts_of(conn, &envelope.sender, envelope.transaction)
+}
+
 pub(crate) fn texts_of<S: Alter>(
     conn: &mut Connection<S>,
     envelope: &Envelope,
@@ -29,6 +41,6 @@ pub(crate) fn texts_of<S: Alter>(
     ensures { Reads (state S.Store conn.old) (state S.Store conn.new) result
         (OfKept (λ kept texts. option_map store.texts_shown texts ≡ option_map texts_of (entry_of envelope.now kept.entries))) }
 {
-    let found = desk_rows::texts_of(conn, &envelope.sender, envelope.transaction)?;
+    let found = row_texts(conn, envelope)?;
     Ok(shown(found))
 }

@@ -1,18 +1,6 @@
-use Rattle.desk_tables.proofs.CallLemmas.{asks_also, asks_as, asks_failed, asks_one, failed_with}
+use Rattle.desk_tables.proofs.CallLemmas.{asks_also, asks_as, asks_one}
 use Rattle.desk_tables.proofs.HaveItLemmas.{gateways_many, owners_many, senders_many}
 use Rattle.desk_tables.proofs.totals.named_in.Goals as goal
-
-pub returns-in_err-senders : goal.returns-in_err-senders
-returns-in_err-senders g c = asks_failed (failed_with c.from_residual.result c.from_residual.ensures.1)
-    (asks_one c.in_err-senders.ensures) (λ r of. of) (λ r of may. may)
-
-pub returns-in_err-owners : goal.returns-in_err-owners
-returns-in_err-owners g c = asks_failed (failed_with c.from_residual-in_err-owners.result c.from_residual-in_err-owners.ensures.1)
-    (asks_also (asks_one c.in_ok-senders.ensures) (asks_one c.in_err-owners.ensures)) (λ r of. of) (λ r of may. may)
-
-pub returns-in_err-gateways : goal.returns-in_err-gateways
-returns-in_err-gateways g c = asks_failed (failed_with c.from_residual-in_err-gateways.result c.from_residual-in_err-gateways.ensures.1)
-    (asks_also (asks_also (asks_one c.in_ok-senders.ensures) (asks_one c.in_ok-owners.ensures)) (asks_one c.in_err-gateways.ensures)) (λ r of. of) (λ r of may. may)
 
 pub returns : goal.returns
 returns g c = asks_as _

@@ -4,16 +4,8 @@ use Rattle.desk_rows.specs.Rows.{Rows, BookingRow}
 use Rattle.desk_rows.specs.order.Changes.{kind_at, session_at, sessions_counted}
 use Rattle.desk_rows.specs.order.Keys.{HasRowid}
 use Rattle.desk_tables.specs.steps.Effects.{IsBasisOfBooking}
-use Rattle.desk_tables.proofs.CallLemmas.{failed_with, makes_failed, makes_never, makes_one, makes_then}
+use Rattle.desk_tables.proofs.CallLemmas.{makes_one, makes_then}
 use Rattle.desk_tables.proofs.effects.bookings.add_booking.Goals as goal
-
-pub returns-in_err-whole-clause-writes : goal.returns-in_err-whole-clause-writes
-returns-in_err-whole-clause-writes g c = makes_never (failed_with c.from_residual.result c.from_residual.ensures.1) (λ r of may. c.in_err-whole.ensures may.whole.0)
-
-pub returns-in_err-count_down-clause-writes : goal.returns-in_err-count_down-clause-writes
-returns-in_err-count_down-clause-writes g c =
-    makes_failed (failed_with c.from_residual-in_err-count_down.result c.from_residual-in_err-count_down.ensures.1) c.in_err-count_down.ensures.makes
-    (λ r of. (subst (IsBasisOfBooking c.args.booking.now r) c.in-Booking.is of).1) (λ r of may. tt)
 
 pub returns-clause-writes : goal.returns-clause-writes
 returns-clause-writes g c =

@@ -4,11 +4,8 @@ use Rattle.desk_rows.specs.Rows.{Rows, is_copy}
 use Rattle.desk_rows.specs.order.Changes.{devices_raised, with_uplink_row}
 use Rattle.desk_rows.specs.order.Keys.{IsFree}
 use Rattle.desk_tables.specs.steps.Effects.{IsBasisOfUplink, IsRaised}
-use Rattle.desk_tables.proofs.CallLemmas.{failed_with, makes_failed, makes_never, makes_then}
+use Rattle.desk_tables.proofs.CallLemmas.{failed_with, makes_failed, makes_then}
 use Rattle.desk_tables.proofs.effects.uplinks.add_uplink.Goals as goal
-
-pub returns-in_err-whole-clause-writes : goal.returns-in_err-whole-clause-writes
-returns-in_err-whole-clause-writes g c = makes_never (failed_with c.from_residual.result c.from_residual.ensures.1) (λ r of may. c.in_err-whole.ensures may.whole.0)
 
 pub returns-in_err-raise_floor-clause-writes : goal.returns-in_err-raise_floor-clause-writes
 returns-in_err-raise_floor-clause-writes g c =

@@ -1,16 +1,9 @@
-use Rattle.std.proofs.Common.{◌∷◌, ◌++◌, [], Err, ap, refl, arith, subst, sym, ◌∙◌}
+use Rattle.std.proofs.Common.{◌∷◌, ◌++◌, [], ap, refl, arith, subst, sym, ◌∙◌}
 use Rattle.desk_rows.specs.Rows.{Rows, is_copy}
 use Rattle.desk_rows.specs.order.Changes.{copy_row}
 use Rattle.desk_rows.specs.order.Keys.{IsFree}
-use Rattle.desk_tables.proofs.CallLemmas.{failed_with, makes_failed, makes_one, makes_then}
+use Rattle.desk_tables.proofs.CallLemmas.{makes_one, makes_then}
 use Rattle.desk_tables.proofs.effects.uplinks.add_with_copy.Goals as goal
-
-pub returns-in_err-insert_uplink-clause-makes : goal.returns-in_err-insert_uplink-clause-makes
-returns-in_err-insert_uplink-clause-makes g c =
-    let u = c.args.uplink.now in
-    let failed = failed_with c.from_residual.result c.from_residual.ensures.1 in
-    makes_failed failed (makes_one {result = Err c.in_err-insert_uplink.field-0.0} c.in_err-insert_uplink.ensures.changes (λ r of. let e = of.1 in omega arith)
-    (λ r of may. (may.0.key, may.0.room)) (λ r of. refl)) (λ r of. of) (λ r of may. may)
 
 pub returns-clause-makes : goal.returns-clause-makes
 returns-clause-makes g c =

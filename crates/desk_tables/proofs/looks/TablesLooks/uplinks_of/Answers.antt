@@ -1,6 +1,6 @@
-use Rattle.std.proofs.Common.{◌∙◌, FitsSigned, rules, sym, subst, true≢false, w64}
+use Rattle.std.proofs.Common.{FitsSigned, rules, sym, subst, w64}
 use Rattle.std.proofs.lemmas.Int.{to_z-of_z}
-use Rattle.desk_tables.proofs.LookUps.{down_read, answered_by_kept, answered_by_rows}
+use Rattle.desk_tables.proofs.LookUps.{answered_by_kept, answered_by_rows}
 use Rattle.duty_core.specs.InOrder.{IsByStart}
 use Rattle.registry_core.specs.declared.facts.Uplink.{Uplink}
 use Rattle.registry_core.specs.Reports.{in_band, interval_of, uplinks_from}
@@ -8,14 +8,8 @@ use Rattle.desk_rows.specs.order.Arranged.{by_start}
 use Rattle.desk_tables.proofs.Reading.{says_also}
 use Rattle.desk_tables.proofs.looks.TablesLooks.uplinks_of.Goals as goal
 
-pub returns-then-self-clause-read : goal.returns-then-self-clause-read
-returns-then-self-clause-read g c = down_read _ _ c.if-self.true
-
 pub returns-clause-read : goal.returns-clause-read
 returns-clause-read g c = answered_by_rows _ _ _ _ _ _ _ c.if-self.false c.uplinks_of-answer.ensures c.tell.ensures
-
-pub returns-clause-down : goal.returns-clause-down
-returns-clause-down g c down = absurd (true≢false (sym down ∙ c.if-self.false))
 
 pub returns-clause-told : goal.returns-clause-told
 returns-clause-told g c =

@@ -2,13 +2,9 @@ use Rattle.std.proofs.Common.{◌∙◌, ap, find}
 use Rattle.std.specs.Prelude.{option_and_then}
 use Rattle.registry_core.specs.Derived.{is_below}
 use Rattle.desk_rows.specs.Rows.{is_device}
-use Rattle.desk_tables.proofs.CallLemmas.{failed_with}
-use Rattle.desk_tables.proofs.Reading.{fails, shows}
+use Rattle.desk_tables.proofs.Reading.{shows}
 use Rattle.desk_tables.proofs.Telling.{floor_joined}
 use Rattle.desk_tables.proofs.looks.sessions.is_below_floor.Goals as goal
-
-pub returns-in_err-floor : goal.returns-in_err-floor
-returns-in_err-floor g c = fails (failed_with c.from_residual.result c.from_residual.ensures.1) c.in_err-floor.ensures
 
 pub returns : goal.returns
 returns g c = shows _ _ _ _ _ _ (λ r is config kept tell.

@@ -5,13 +5,9 @@ use Rattle.registry_core.specs.Bookings.{next_down}
 use Rattle.registry_core.specs.Numbered.{item_at}
 use Rattle.desk_rows.specs.Rows.{SessionRow}
 use Rattle.desk_tables.proofs.Absent.{no_session}
-use Rattle.desk_tables.proofs.CallLemmas.{failed_with}
-use Rattle.desk_tables.proofs.Reading.{fails, shows, unasked}
+use Rattle.desk_tables.proofs.Reading.{shows, unasked}
 use Rattle.desk_tables.proofs.Telling.{or_zero}
 use Rattle.desk_tables.proofs.looks.sessions.next_down.Goals as goal
-
-pub returns-in_err-next_down-in-Some : goal.returns-in_err-next_down-in-Some
-returns-in_err-next_down-in-Some g c = fails (failed_with c.from_residual.result c.from_residual.ensures.1) c.in_err-next_down-in-Some.ensures
 
 pub returns-in_ok-next_down-in-Some : goal.returns-in_ok-next_down-in-Some
 returns-in_ok-next_down-in-Some g c = shows _ _ _ _ _ _ (λ r is config kept tell.

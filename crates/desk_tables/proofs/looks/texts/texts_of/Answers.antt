@@ -1,12 +1,8 @@
 use Rattle.std.proofs.Common.{◌∙◌, sym, ap, option_map}
 use Rattle.desk_store.specs.Kept.{entry_of, texts_of}
 use Rattle.desk_tables.proofs.Entries.{heard_texts}
-use Rattle.desk_tables.proofs.CallLemmas.{failed_with}
-use Rattle.desk_tables.proofs.Reading.{fails, shows}
+use Rattle.desk_tables.proofs.Reading.{shows}
 use Rattle.desk_tables.proofs.looks.texts.texts_of.Goals as goal
-
-pub returns-in_err-found : goal.returns-in_err-found
-returns-in_err-found g c = fails (failed_with c.from_residual.result c.from_residual.ensures.1) c.in_err-found.ensures
 
 pub returns : goal.returns
 returns g c = shows _ _ _ _ _ _ (λ r is config kept tell.

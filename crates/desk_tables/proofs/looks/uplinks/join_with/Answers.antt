@@ -3,19 +3,10 @@ use Rattle.std.specs.Prelude.{option_and_then}
 use Rattle.registry_core.specs.declared.facts.Kind.TheVariants.{Join}
 use Rattle.registry_core.specs.Numbered.{first_that}
 use Rattle.desk_rows.specs.Rows.{is_uplink}
-use Rattle.desk_tables.proofs.CallLemmas.{asks_as, asks_failed, asks_one, asks_then, failed_with}
+use Rattle.desk_tables.proofs.CallLemmas.{asks_one, asks_then}
 use Rattle.desk_tables.proofs.looks.uplinks.join_with.Goals as goal
-
-pub returns-in_err-session : goal.returns-in_err-session
-returns-in_err-session g c = asks_failed (failed_with c.from_residual.result c.from_residual.ensures.1)
-    (asks_one c.in_err-session.ensures) (λ r of. of) (λ r of may. may)
 
 pub returns-in-Some : goal.returns-in-Some
 returns-in-Some g c = asks_then (asks_one c.in_ok-session.ensures) (asks_one c.join_of.ensures) (λ r of. of) (λ r of said. of) (λ r of may said. may)
     (λ r of said found told config kept tell. told config kept tell
     ∙ sym (said config kept tell ∙ ap (option_and_then (λ n. first_that (is_uplink n Join c.args.nonce) kept.facts.uplinks)) c.in-Some.is))
-
-pub returns-in-None : goal.returns-in-None
-returns-in-None g c = asks_as _ (asks_one c.in_ok-session.ensures) (λ r of. of) (λ r of said config kept tell.
-    sym (said config kept tell ∙ ap (option_and_then (λ n. first_that (is_uplink n Join c.args.nonce) kept.facts.uplinks)) c.in-None.is))
-    (λ r of may said. tt)

@@ -1,19 +1,23 @@
 use Rattle.std.proofs.Common.{◌∙◌, refl, rules, arith}
 use Rattle.desk_rows.specs.order.Changes.{opening_rows}
+use Rattle.sqlite.specs.Held.{state}
+use Rattle.desk_tables.specs.Store.{IsSettled}
+use Rattle.desk_tables.proofs.AdoptingLemmas.{at_rest}
 use Rattle.desk_tables.proofs.tables.Tables.create.Goals as goal
 
 pub returns-in-Ok-clause-made : goal.returns-in-Ok-clause-made
-returns-in-Ok-clause-made g c clean = record {
+returns-in-Ok-clause-made g c clean = let settled : IsSettled (state g.S.Store c.make_desk.new.conn) = record {
+  open_still = c.in-Ok.ensures.open clean;
+  autocommit = c.make_desk.ensures.idle;
+  committed = c.make_desk.ensures.settled clean (c.in-Ok.ensures.open clean);
+  unlimited = c.make_desk.ensures.crash.limit ∙ c.requires.unlimited;
+} in record {
   configuration = refl;
   up = refl;
   known = refl;
+  rests = (_, λ up. at_rest _ settled (c.in-Ok.ensures.made clean).ten.schema);
   holds = λ up. record {
-    settled = record {
-      open_still = c.in-Ok.ensures.open clean;
-      autocommit = c.make_desk.ensures.idle;
-      committed = c.make_desk.ensures.settled clean (c.in-Ok.ensures.open clean);
-      unlimited = c.make_desk.ensures.crash.limit ∙ c.requires.unlimited;
-    };
+    settled = settled;
     desk = record {
       in_order = record {
         rows = opening_rows c.args.config;
@@ -31,6 +35,3 @@ returns-in-Ok-clause-made g c clean = record {
 
 pub returns-in-Err-clause-stranger : goal.returns-in-Err-clause-stranger
 returns-in-Err-clause-stranger g c other free = let told = c.in-Err.ensures.stranger other free in cc
-
-pub returns-in-Err-clause-unavailable : goal.returns-in-Err-clause-unavailable
-returns-in-Err-clause-unavailable g c blank clean = c.in-Err.ensures.unavailable clean blank

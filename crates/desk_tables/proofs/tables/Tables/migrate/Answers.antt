@@ -6,18 +6,11 @@ use Rattle.desk_store.specs.Calls.{IsUnavailability}
 use Rattle.desk_rows.specs.Migrating.{HoldsFirst}
 use Rattle.desk_tables.specs.Migrating.{IsOfFirstSchema}
 use Rattle.desk_tables.specs.steps.Counting.{AreRowsCounted}
-use Rattle.desk_tables.proofs.AdoptingLemmas.{stands}
+use Rattle.desk_tables.specs.Store.{IsSettled}
+use Rattle.desk_tables.proofs.AdoptingLemmas.{at_rest, stands}
 use Rattle.desk_tables.proofs.MigratingLemmas.{first_tells, free_in_first, looked_before, moved_desk, moved_rows, ready_moved}
-use Rattle.desk_tables.proofs.OpeningLemmas.{failed_as, never_exists, never_version, odd_from_stranger, told_once, unavailable_from_even}
+use Rattle.desk_tables.proofs.OpeningLemmas.{odd_from_stranger, told_once}
 use Rattle.desk_tables.proofs.tables.Tables.migrate.Goals as goal
-
--- ---- it has no desk of schema 1
-
-pub returns-in-Err-clause-desk : goal.returns-in-Err-clause-desk
-returns-in-Err-clause-desk g c = tt
-
-pub returns-in-Err-clause-in_order : goal.returns-in-Err-clause-in_order
-returns-in-Err-clause-in_order g c settings kept is = tt
 
 pub returns-in-Err-clause-unavailable : goal.returns-in-Err-clause-unavailable
 returns-in-Err-clause-unavailable g c settings kept is clean =
@@ -32,74 +25,10 @@ returns-in-Err-clause-other_version g c meta version s tells other clean = c.in-
 pub returns-in-Err-clause-taken : goal.returns-in-Err-clause-taken
 returns-in-Err-clause-taken g c meta s tells used clean = c.in-Err.ensures.taken clean meta s tells used
 
-pub returns-in-Err-clause-version : goal.returns-in-Err-clause-version
-returns-in-Err-clause-version g c clean is = c.in-Err.ensures.version clean (failed_as _ _ is)
-
-pub returns-in-Err-clause-exists : goal.returns-in-Err-clause-exists
-returns-in-Err-clause-exists g c clean is = c.in-Err.ensures.exists clean (failed_as _ _ is)
-
-pub returns-in-Err-clause-clean : goal.returns-in-Err-clause-clean
-returns-in-Err-clause-clean g c = tt
-
-pub returns-in-Err-clause-undone : goal.returns-in-Err-clause-undone
-returns-in-Err-clause-undone g c = c.in-Err.ensures.undone
-
-pub returns-in-Err-clause-given_back : goal.returns-in-Err-clause-given_back
-returns-in-Err-clause-given_back g c settings kept is = record {
-  clean = c.in-Err.ensures.crash.clean;
-  undone = c.in-Err.ensures.undone;
-  idle = c.in-Err.ensures.idle;
-  crash = λ clean trees may. elim (c.in-Err.ensures.crash.crash clean trees may) [ inl was ↦ inl was | inr none ↦ absurd none ];
-}
-
-pub returns-in-Err-clause-untouched : goal.returns-in-Err-clause-untouched
-returns-in-Err-clause-untouched g c other = record {
-  clean = c.in-Err.ensures.crash.clean;
-  undone = c.in-Err.ensures.undone;
-  idle = c.in-Err.ensures.idle;
-  crash = c.in-Err.ensures.crash.crash;
-}
-
--- ---- not counted
-
-pub returns-in-Err-counted-clause-desk : goal.returns-in-Err-counted-clause-desk
-returns-in-Err-counted-clause-desk g c = tt
-
-pub returns-in-Err-counted-clause-in_order : goal.returns-in-Err-counted-clause-in_order
-returns-in-Err-counted-clause-in_order g c settings kept is = tt
-
-pub returns-in-Err-counted-clause-unavailable : goal.returns-in-Err-counted-clause-unavailable
-returns-in-Err-counted-clause-unavailable g c settings kept is clean =
-    let same = c.in-Ok.ensures.same (omega (arith, c.counted.ensures.first.read.clean, clean)) in
-    let even = c.in-Err-counted.ensures.first.in_order clean same.0.is_open (c.first_desk.ensures.crash.limit ∙ c.requires.unlimited)
-    is.in_order.rows (subst (λ d. HoldsFirst d is.in_order.rows) (sym same.0.now_is) is.in_order.held) tt tt in
-    subst IsUnavailability (sym c.store_fault.ensures) (unavailable_from_even c.in-Err-counted.fault (λ odd. true≢false (sym odd ∙ even)))
-
-pub returns-in-Err-counted-clause-stranger : goal.returns-in-Err-counted-clause-stranger
-returns-in-Err-counted-clause-stranger g c clean is schema s tells r first =
-    let same = c.in-Ok.ensures.same (omega (arith, c.counted.ensures.first.read.clean, clean)) in
-    let even = c.in-Err-counted.ensures.first.in_order clean same.0.is_open (c.first_desk.ensures.crash.limit ∙ c.requires.unlimited)
-    r (subst (λ d. HoldsFirst d r) (sym same.0.now_is) first) tt tt in
-    true≢false (sym (odd_from_stranger c.in-Err-counted.fault (sym c.store_fault.ensures ∙ is)) ∙ even)
-
-pub returns-in-Err-counted-clause-version : goal.returns-in-Err-counted-clause-version
-returns-in-Err-counted-clause-version g c clean is = absurd (never_version c.in-Err-counted.fault (sym c.store_fault.ensures ∙ is))
-
-pub returns-in-Err-counted-clause-other_version : goal.returns-in-Err-counted-clause-other_version
-returns-in-Err-counted-clause-other_version g c meta version s tells other clean =
-    let early : HasCleanDisk (state g.S.Store c.first_desk.new.conn) = omega (arith, c.counted.ensures.first.read.clean, clean) in
-    absurd (other (told_once _ _ _ _ _ tells (c.in-Ok.ensures.desk early).1).0)
-
-pub returns-in-Err-counted-clause-exists : goal.returns-in-Err-counted-clause-exists
-returns-in-Err-counted-clause-exists g c clean is = absurd (never_exists c.in-Err-counted.fault (sym c.store_fault.ensures ∙ is))
-
 pub returns-in-Err-counted-clause-taken : goal.returns-in-Err-counted-clause-taken
 returns-in-Err-counted-clause-taken g c meta s tells used clean =
     let early : HasCleanDisk (state g.S.Store c.first_desk.new.conn) = omega (arith, c.counted.ensures.first.read.clean, clean) in
     absurd (free_in_first _ (c.in-Ok.ensures.desk early).0 used)
-
-pub returns-in-Err-counted-clause-clean : goal.returns-in-Err-counted-clause-clean
-returns-in-Err-counted-clause-clean g c = tt
 
 pub returns-in-Err-counted-clause-undone : goal.returns-in-Err-counted-clause-undone
 returns-in-Err-counted-clause-undone g c clean up =
@@ -128,60 +57,25 @@ returns-in-Err-counted-clause-given_back g c settings kept is = record {
       ];
 }
 
-pub returns-in-Err-counted-clause-untouched : goal.returns-in-Err-counted-clause-untouched
-returns-in-Err-counted-clause-untouched g c other =
-    let never = λ (clean : HasCleanDisk (state g.S.Store c.counted.new.conn)).
-    let desk = c.in-Ok.ensures.desk (omega (arith, c.counted.ensures.first.read.clean, clean)) in
-    let e : ⊥ = other desk.0 _ desk.1 in e in
-    record {
-      clean = omega (arith, c.first_desk.ensures.crash.clean, c.counted.ensures.first.read.clean);
-      undone = λ clean up. absurd (never clean);
-      idle = c.counted.ensures.first.read.mode c.first_desk.ensures.idle;
-      crash = λ clean trees may. absurd (never clean);
-    }
-
--- ---- not moved
-
-pub returns-in-Err-move_tables-clause-desk : goal.returns-in-Err-move_tables-clause-desk
-returns-in-Err-move_tables-clause-desk g c = tt
-
-pub returns-in-Err-move_tables-clause-in_order : goal.returns-in-Err-move_tables-clause-in_order
-returns-in-Err-move_tables-clause-in_order g c settings kept is = tt
-
-pub returns-in-Err-move_tables-clause-unavailable : goal.returns-in-Err-move_tables-clause-unavailable
-returns-in-Err-move_tables-clause-unavailable g c settings kept is clean =
-    let at = looked_before _ (state g.S.Store c.first_desk.new.conn) _ (state g.S.Store c.move_tables.new.conn)
-    c.in-Ok.ensures.same c.first_desk.ensures.crash c.first_desk.ensures.settled (λ early. (c.in-Ok.ensures.desk early).0) c.in-Ok-counted.ensures.first.read c.move_tables.ensures.clean clean in
-    let even = c.in-Err-move_tables.ensures.in_order clean at.same.0.is_open (at.limit ∙ c.requires.unlimited)
-    is.in_order.rows (subst (λ d. HoldsFirst d is.in_order.rows) (sym at.same.0.now_is) is.in_order.held) in
-    subst IsUnavailability (sym c.store_fault-in-Err-move_tables.ensures) (unavailable_from_even c.in-Err-move_tables.fault (λ odd. true≢false (sym odd ∙ even)))
-
-pub returns-in-Err-move_tables-clause-stranger : goal.returns-in-Err-move_tables-clause-stranger
-returns-in-Err-move_tables-clause-stranger g c clean is schema s tells r first =
-    let at = looked_before _ (state g.S.Store c.first_desk.new.conn) _ (state g.S.Store c.move_tables.new.conn)
-    c.in-Ok.ensures.same c.first_desk.ensures.crash c.first_desk.ensures.settled (λ early. (c.in-Ok.ensures.desk early).0) c.in-Ok-counted.ensures.first.read c.move_tables.ensures.clean clean in
-    let even = c.in-Err-move_tables.ensures.in_order clean at.same.0.is_open (at.limit ∙ c.requires.unlimited)
-    r (subst (λ d. HoldsFirst d r) (sym at.same.0.now_is) first) in
-    true≢false (sym (odd_from_stranger c.in-Err-move_tables.fault (sym c.store_fault-in-Err-move_tables.ensures ∙ is)) ∙ even)
-
-pub returns-in-Err-move_tables-clause-version : goal.returns-in-Err-move_tables-clause-version
-returns-in-Err-move_tables-clause-version g c clean is = absurd (never_version c.in-Err-move_tables.fault (sym c.store_fault-in-Err-move_tables.ensures ∙ is))
-
-pub returns-in-Err-move_tables-clause-other_version : goal.returns-in-Err-move_tables-clause-other_version
-returns-in-Err-move_tables-clause-other_version g c meta version s tells other clean =
-    let early : HasCleanDisk (state g.S.Store c.first_desk.new.conn) = omega (arith, c.move_tables.ensures.clean, c.counted.ensures.first.read.clean, clean) in
-    absurd (other (told_once _ _ _ _ _ tells (c.in-Ok.ensures.desk early).1).0)
-
-pub returns-in-Err-move_tables-clause-exists : goal.returns-in-Err-move_tables-clause-exists
-returns-in-Err-move_tables-clause-exists g c clean is = absurd (never_exists c.in-Err-move_tables.fault (sym c.store_fault-in-Err-move_tables.ensures ∙ is))
+pub returns-in-Err-counted-clause-refused : goal.returns-in-Err-counted-clause-refused
+returns-in-Err-counted-clause-refused g c is = record {
+  clean = omega (arith, c.first_desk.ensures.crash.clean, c.counted.ensures.first.read.clean);
+  undone = returns-in-Err-counted-clause-undone g c;
+  idle = c.counted.ensures.first.read.mode c.first_desk.ensures.idle;
+  crash = λ clean trees may.
+      let early : HasCleanDisk (state g.S.Store c.first_desk.new.conn) = omega (arith, c.counted.ensures.first.read.clean, clean) in
+      let same = c.in-Ok.ensures.same early in
+      let has = ap (λ (d : Database). d.schema) same.0.now_is ∙ (c.in-Ok.ensures.desk early).0 in
+      elim ((c.in-Err-counted.ensures.first.read.survives has same.0.is_open clean).crash clean trees may) [
+        | inl mid ↦ c.first_desk.ensures.crash.crash early trees mid
+        | inr none ↦ absurd none
+      ];
+}
 
 pub returns-in-Err-move_tables-clause-taken : goal.returns-in-Err-move_tables-clause-taken
 returns-in-Err-move_tables-clause-taken g c meta s tells used clean =
     let early : HasCleanDisk (state g.S.Store c.first_desk.new.conn) = omega (arith, c.move_tables.ensures.clean, c.counted.ensures.first.read.clean, clean) in
     absurd (free_in_first _ (c.in-Ok.ensures.desk early).0 used)
-
-pub returns-in-Err-move_tables-clause-clean : goal.returns-in-Err-move_tables-clause-clean
-returns-in-Err-move_tables-clause-clean g c = tt
 
 pub returns-in-Err-move_tables-clause-undone : goal.returns-in-Err-move_tables-clause-undone
 returns-in-Err-move_tables-clause-undone g c clean up =
@@ -202,27 +96,26 @@ returns-in-Err-move_tables-clause-given_back g c settings kept is =
           c.in-Ok.ensures.same c.first_desk.ensures.crash c.first_desk.ensures.settled (λ early. (c.in-Ok.ensures.desk early).0) c.in-Ok-counted.ensures.first.read c.move_tables.ensures.clean clean in
           elim ((moves.crash clean at.same.0.is_open).crash clean trees may) [
             | inl before ↦ inl (at.crash trees before)
-            | inr rows ↦ inr (moved_desk settings kept _ _ (subst (IsOfFirstSchema settings kept) (sym at.same.0.now_is) is) rows)
+            | inr made ↦ inr (moved_desk settings kept _ _ (subst (IsOfFirstSchema settings kept) (sym at.same.0.now_is) is) made.0)
           ];
     }
 
-pub returns-in-Err-move_tables-clause-untouched : goal.returns-in-Err-move_tables-clause-untouched
-returns-in-Err-move_tables-clause-untouched g c other =
-    let never = λ (clean : HasCleanDisk (state g.S.Store c.move_tables.new.conn)).
-    let desk = c.in-Ok.ensures.desk (omega (arith, c.move_tables.ensures.clean, c.counted.ensures.first.read.clean, clean)) in
-    let e : ⊥ = other desk.0 _ desk.1 in e in
+pub returns-in-Err-move_tables-clause-refused : goal.returns-in-Err-move_tables-clause-refused
+returns-in-Err-move_tables-clause-refused g c is =
+    let moves = c.in-Err-move_tables.ensures in
+    let odd = odd_from_stranger c.in-Err-move_tables.fault (sym c.store_fault-in-Err-move_tables.ensures ∙ is) in
     record {
       clean = omega (arith, c.first_desk.ensures.crash.clean, c.counted.ensures.first.read.clean, c.move_tables.ensures.clean);
-      undone = λ clean up. absurd (never clean);
-      idle = c.move_tables.ensures.mode;
-      crash = λ clean trees may. absurd (never clean);
+      undone = returns-in-Err-move_tables-clause-undone g c;
+      idle = moves.mode;
+      crash = λ clean trees may.
+          let at = looked_before _ (state g.S.Store c.first_desk.new.conn) _ (state g.S.Store c.move_tables.new.conn)
+          c.in-Ok.ensures.same c.first_desk.ensures.crash c.first_desk.ensures.settled (λ early. (c.in-Ok.ensures.desk early).0) c.in-Ok-counted.ensures.first.read c.move_tables.ensures.clean clean in
+          elim ((moves.crash clean at.same.0.is_open).crash clean trees may) [
+            | inl before ↦ inl (at.crash trees before)
+            | inr made ↦ absurd (true≢false (sym odd ∙ made.1))
+          ];
     }
-
--- ---- moved
-
-pub returns-in-Ok-move_tables-clause-desk : goal.returns-in-Ok-move_tables-clause-desk
-returns-in-Ok-move_tables-clause-desk g c = rw c.over.ensures (λ sound.
-    c.in-Ok.ensures.desk (omega (arith, c.move_tables.ensures.clean, c.counted.ensures.first.read.clean, sound)))
 
 pub returns-in-Ok-move_tables-clause-in_order : goal.returns-in-Ok-move_tables-clause-in_order
 returns-in-Ok-move_tables-clause-in_order g c settings kept is = rw c.over.ensures (λ sound.
@@ -238,47 +131,17 @@ returns-in-Ok-move_tables-clause-in_order g c settings kept is = rw c.over.ensur
     let same = c.in-Ok.ensures.same early in
     let counts = c.in-Ok-counted.ensures.first.told mid same.0.is_open first.in_order.rows
     (subst (λ d. HoldsFirst d first.in_order.rows) (at.same.0.now_is ∙ sym same.0.now_is) first.in_order.held) tt in
+    let settled : IsSettled (state g.S.Store c.move_tables.new.conn) = record {
+      open_still = ready.is_open;
+      autocommit = c.move_tables.ensures.mode;
+      committed = ready.committed;
+      unlimited = c.move_tables.ensures.limit ∙ at.limit ∙ c.requires.unlimited;
+    } in
     record {
       configuration = told;
       up = refl;
       known = refl;
-      holds = λ up. stands g.S.Store _ settings kept _
-          (record {
-            open_still = ready.is_open;
-            autocommit = c.move_tables.ensures.mode;
-            committed = ready.committed;
-            unlimited = c.move_tables.ensures.limit ∙ at.limit ∙ c.requires.unlimited;
-          })
+      rests = (_, λ up. at_rest _ settled ready.schema);
+      holds = λ up. stands g.S.Store _ settings kept _ settled
           told refl desk (subst (λ r. AreRowsCounted r c.in-Ok-counted.counted) (sym (moved_rows settings kept _ _ first made)) counts);
     })
-
-pub returns-in-Ok-move_tables-clause-version : goal.returns-in-Ok-move_tables-clause-version
-returns-in-Ok-move_tables-clause-version g c = tt
-
-pub returns-in-Ok-move_tables-clause-exists : goal.returns-in-Ok-move_tables-clause-exists
-returns-in-Ok-move_tables-clause-exists g c = tt
-
-pub returns-in-Ok-move_tables-clause-clean : goal.returns-in-Ok-move_tables-clause-clean
-returns-in-Ok-move_tables-clause-clean g c = rw c.over.ensures (λ sound.
-    omega (arith, c.first_desk.ensures.crash.clean, c.counted.ensures.first.read.clean, c.move_tables.ensures.clean, sound))
-
-pub returns-in-Ok-move_tables-clause-unavailable : goal.returns-in-Ok-move_tables-clause-unavailable
-returns-in-Ok-move_tables-clause-unavailable g c settings kept is = tt
-
-pub returns-in-Ok-move_tables-clause-stranger : goal.returns-in-Ok-move_tables-clause-stranger
-returns-in-Ok-move_tables-clause-stranger g c = tt
-
-pub returns-in-Ok-move_tables-clause-other_version : goal.returns-in-Ok-move_tables-clause-other_version
-returns-in-Ok-move_tables-clause-other_version g c meta version s tells other = tt
-
-pub returns-in-Ok-move_tables-clause-taken : goal.returns-in-Ok-move_tables-clause-taken
-returns-in-Ok-move_tables-clause-taken g c meta s tells used = tt
-
-pub returns-in-Ok-move_tables-clause-undone : goal.returns-in-Ok-move_tables-clause-undone
-returns-in-Ok-move_tables-clause-undone g c = tt
-
-pub returns-in-Ok-move_tables-clause-given_back : goal.returns-in-Ok-move_tables-clause-given_back
-returns-in-Ok-move_tables-clause-given_back g c settings kept is = tt
-
-pub returns-in-Ok-move_tables-clause-untouched : goal.returns-in-Ok-move_tables-clause-untouched
-returns-in-Ok-move_tables-clause-untouched g c other = tt
