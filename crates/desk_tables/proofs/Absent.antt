@@ -74,12 +74,6 @@ module _ (c : Settings) (kept : Kept) (r : Rows) (tell : RowsTell c kept r) (n :
   pub no_session : item_at r.sessions n ≡ None
   no_session = item_past r.sessions n (omega (arith, above, tell.are.few.sessions))
 
-  pub no_uplink : item_at r.uplinks n ≡ None
-  no_uplink = item_past r.uplinks n past_uplinks
-
-  pub no_booking : item_at r.bookings n ≡ None
-  no_booking = item_past r.bookings n (omega (arith, above, tell.are.few.bookings))
-
   of_no_session : AllByRecursion (λ (u : Uplink). (u.session == n) ≡ false) r.uplinks
   of_no_session = each_so (IsOfSession (sessions_in r.sessions)) (λ u. (u.session == n) ≡ false)
       (λ u of. differs (sessions_in r.sessions) n u.session of.session past_sessions of.there) r.uplinks tell.are.names.uplinks

@@ -1,5 +1,5 @@
 -- Look-ups in a row, and statements that write.
-use Rattle.std.proofs.Common.{◌≡◌, inl, true, false, Result, Ok, Err, IfOk, IfErr, OnOk, refl, arith, sym, ap, subst, ◌∙◌}
+use Rattle.std.proofs.Common.{◌≡◌, true, Result, Ok, Err, IfOk, IfErr, OnOk, refl, arith, sym, ap, subst, ◌∙◌}
 use Rattle.std.specs.Result.{is_ok, IsErrAnd}
 use Rattle.std.proofs.lemmas.Result.{err_from_is_err_and}
 use Rattle.sqlite_schema.specs.declared.schema.Schema.{Schema}
@@ -7,21 +7,16 @@ use Rattle.sqlite.specs.Effect.{Database}
 use Rattle.sqlite.specs.State.{State, HasCleanDisk}
 use Rattle.desk_rows.specs.Calls.{Changes, ReadsOf}
 use Rattle.desk_rows.specs.Faults.{IsEven}
-use Rattle.desk_rows.specs.Migrating.{HoldsFirst}
-use Rattle.desk_rows.specs.Schema.{desk_schema, first_schema}
+use Rattle.desk_rows.specs.Schema.{desk_schema}
 use Rattle.desk_rows.specs.Rows.{Rows, Holds}
 use Rattle.desk_rows.specs.declared.faults.RowFault.{RowFault}
 use Rattle.desk_rows.specs.CallLaws.{reads_then, read_weaker, writes_then}
 use Rattle.desk_tables.specs.steps.Calls.{Asks, AsksOf, IsInside, Makes}
-use Rattle.desk_tables.proofs.Reading.{stays, unasked}
 
 -- ---- look-ups
 
 pub has_schema : (db : Database) (r : Rows) → Holds db r → db.schema ≡ desk_schema
 has_schema db r has = has.ten.schema
-
-pub first_has_schema : (db : Database) (r : Rows) → HoldsFirst db r → db.schema ≡ first_schema
-first_has_schema db r has = has.ten.schema
 
 -- one look-up
 pub asks_one : {desk : Schema} {Have : Database → Rows → Type 0} {X : Type 0} {old new : State} {result : Result X RowFault} {Says : Rows → X → Type 0}
@@ -84,68 +79,6 @@ pub asks_also : {X Y : Type 0} {a b c : State} {x : X} {result : Result Y RowFau
     → Asks a c result (λ _. Unit {0}) (λ _. Unit {0}) (λ r y. Said r x × Told r y)
 asks_also = asks_also_of has_schema
 
--- a look-up that failed is the last
-pub asks_failed : {desk : Schema} {Have : Database → Rows → Type 0} {X Y : Type 0} {old new : State} {fault : RowFault} {result : Result Y RowFault} {Was Early Of May : Rows → Type 0}
-    {Said : Rows → X → Type 0} {Says : Rows → Y → Type 0}
-    → result ≡ Err fault → AsksOf desk Have {X = X} old new (Err fault) Was Early Said → ((r : Rows) → Of r → Was r) → ((r : Rows) → Of r → May r → Early r)
-    → AsksOf desk Have old new result Of May Says
-asks_failed {desk = desk} {Have = Have} {Y = Y} {old = old} {new = new} {fault = fault} {Of = Of} {May = May} {Says = Says} failed h was then =
-    let asked : AsksOf desk Have {X = Y} old new (Err fault) Of May Says = record {
-      read = h.read;
-      told = λ clean up r has of. tt;
-      in_order = λ clean up unlimited r has of may. h.in_order clean up unlimited r has (was r of) (then r of may);
-    } in
-    subst (λ (found : Result Y RowFault). AsksOf desk Have old new found Of May Says) (sym failed) asked
-
--- a look-up after one failed, and is the last
-pub asks_then_failed : {X Y Z : Type 0} {a b c : State} {x : X} {fault : RowFault} {result : Result Z RowFault} {First Early Second Late Of May : Rows → Type 0}
-    {Said : Rows → X → Type 0} {Told : Rows → Y → Type 0} {Says : Rows → Z → Type 0}
-    → result ≡ Err fault → Asks a b (Ok x) First Early Said → Asks {X = Y} b c (Err fault) Second Late Told → ((r : Rows) → Of r → First r)
-    → ((r : Rows) → Of r → Said r x → Second r) → ((r : Rows) → Of r → May r → Said r x → Late r) → Asks a c result Of May Says
-asks_then_failed {Of = Of} {May = May} failed one two first second late =
-    asks_failed failed (asks_then {Of = Of} {May = May} {Says = λ r y. Unit {0}} one two first second late (λ r of said y told. tt)) (λ r of. of) (λ r of may. may)
-
--- what two look-ups in a row read is judged
-pub asks_then_as : {X Y Z : Type 0} {a b c : State} {x : X} {y : Y} {First Early Second Late Of May : Rows → Type 0}
-    {Said : Rows → X → Type 0} {Told : Rows → Y → Type 0} {Says : Rows → Z → Type 0} (result : Result Z RowFault)
-    → Asks a b (Ok x) First Early Said → Asks b c (Ok y) Second Late Told → ((r : Rows) → Of r → First r)
-    → ((r : Rows) → Of r → Said r x → Second r) → ((r : Rows) → Of r → Said r x → Told r y → IfOk result (Says r))
-    → ((r : Rows) → Of r → May r → Said r x → Told r y → IfErr result IsEven) → Asks a c result Of May Says
-asks_then_as {x = x} {Of = Of} {Said = Said} {Told = Told} result one two first second says even =
-    asks_as result (asks_then {Of = Of} {May = λ _. ⊥} {Says = λ r y. Said r x × Told r y} one two first second (λ r of none said. absurd none)
-    (λ r of said y told. (said, told))) (λ r of. of) (λ r of both. says r of both.0 both.1) (λ r of may both. even r of may both.0 both.1)
-
--- what was read is refused, as it never is of rows that may be asked for
-pub asks_refused : {X Y : Type 0} {old new : State} {x : X} {fault : RowFault} {result : Result Y RowFault} {Was Early Of May : Rows → Type 0}
-    {Said : Rows → X → Type 0} {Says : Rows → Y → Type 0}
-    → result ≡ Err fault → Asks old new (Ok x) Was Early Said → ((r : Rows) → Of r → Was r) → ((r : Rows) → Of r → May r → Said r x → ⊥)
-    → Asks old new result Of May Says
-asks_refused {Y = Y} {old = old} {new = new} {fault = fault} {Of = Of} {May = May} {Says = Says} failed h was never =
-    subst (λ (found : Result Y RowFault). Asks old new found Of May Says) (sym failed)
-    (asks_as (Err fault) h was (λ r of said. tt) (λ r of may said. absurd (never r of may said)))
-
--- the same of fewer rows, and less of it
-pub asks_under : {X : Type 0} {old new : State} {result : Result X RowFault} {Was Early Of May : Rows → Type 0} {Said Says : Rows → X → Type 0}
-    → Asks old new result Was Early Said → ((r : Rows) → Of r → Was r) → ((r : Rows) → Of r → May r → Early r)
-    → ((r : Rows) → Of r → (x : X) → Said r x → Says r x) → Asks old new result Of May Says
-asks_under {result = result} {Said = Said} {Says = Says} h was then says = record {
-  read = h.read;
-  told = λ clean up r has of. ok_then result (Said r) (Says r) (says r of) (h.told clean up r has (was r of));
-  in_order = λ clean up unlimited r has of may. h.in_order clean up unlimited r has (was r of) (then r of may);
-}
-
--- nothing is asked where the rows may not be asked for
-pub asks_nothing : {Y : Type 0} {s : State} {fault : RowFault} {result : Result Y RowFault} {Of May : Rows → Type 0} {Says : Rows → Y → Type 0}
-    → result ≡ Err fault → ((r : Rows) → May r → ⊥) → Asks s s result Of May Says
-asks_nothing {Y = Y} {s = s} {fault = fault} {Of = Of} {May = May} {Says = Says} failed never =
-    let nothing = unasked s fault (λ r e. Unit {0}) (λ r. tt) in
-    let asked : Asks {X = Y} s s (Err fault) Of May Says = record {
-      read = read_weaker s s true false (λ _. refl) nothing.read;
-      told = λ clean up r has of. tt;
-      in_order = λ clean up unlimited r has of may. absurd (never r may);
-    } in
-    subst (λ (found : Result Y RowFault). Asks s s found Of May Says) (sym failed) asked
-
 -- ---- statements that write
 
 -- one statement
@@ -162,34 +95,6 @@ makes_one {new = new} {result = result} {change = change} {after = after} h in_r
 -- what the exit of a `?` returns
 pub failed_with : {X : Type 0} {fault : RowFault} (result : Result X RowFault) → IsErrAnd result (λ told. told ≡ fault) → result ≡ Err fault
 failed_with {X = X} result h = let p = err_from_is_err_and result h in p.1 ∙ ap (λ (e : RowFault). let told : Result X RowFault = Err e in told) p.2
-
--- no statement is needed
-pub makes_nothing : {X : Type 0} {s : State} {x : X} {Of May : Rows → Type 0} {after : Rows → Rows} → ((r : Rows) → Of r → r ≡ after r)
-    → Makes s s (Ok x) Of May after
-makes_nothing {s = s} same = record {
-  write = record {
-    survives = stays s;
-    goes_on = λ clean inside up. record { was_open = up; is_open = up; now_is = refl; committed_is = refl; mode = inside };
-  };
-  schema = λ clean inside has. has;
-  made = λ clean inside r has of. subst (Holds s.now) (same r of) has;
-  in_order = λ clean inside unlimited r has of may. tt;
-}
-
--- no statement is made where the rows may not be changed
-pub makes_never : {X : Type 0} {s : State} {fault : RowFault} {result : Result X RowFault} {Of May : Rows → Type 0} {after : Rows → Rows}
-    → result ≡ Err fault → ((r : Rows) → Of r → May r → ⊥) → Makes s s result Of May after
-makes_never {X = X} {s = s} {fault = fault} {Of = Of} {May = May} {after = after} failed never =
-    let refused : Makes {X = X} s s (Err fault) Of May after = record {
-      write = record {
-        survives = stays s;
-        goes_on = λ clean inside up. inl (record { was_open = up; is_open = up; now_is = refl; committed_is = refl; mode = inside });
-      };
-      schema = λ clean inside has. tt;
-      made = λ clean inside r has of. tt;
-      in_order = λ clean inside unlimited r has of may. absurd (never r of may);
-    } in
-    subst (λ (found : Result X RowFault). Makes s s found Of May after) (sym failed) refused
 
 -- a statement that failed is the last
 pub makes_failed : {X Y : Type 0} {old new : State} {fault : RowFault} {result : Result Y RowFault} {Was Early Of May : Rows → Type 0}

@@ -1,14 +1,10 @@
 -- Counts with an effect.
-use Rattle.std.proofs.Common.{◌≡◌, ℕ, ◌+◌, ◌≤◌, List, [], ◌∷◌, ◌++◌, length, length-append, map, ap, subst, sym, ◌∙◌, arith}
-use Rattle.std.specs.Prelude.{min}
+use Rattle.std.proofs.Common.{◌≡◌, ℕ, ◌+◌, ◌≤◌, List, [], ◌∷◌, ◌++◌, length, length-append, map, ap, ◌∙◌, arith}
 use Rattle.std.proofs.lemmas.List.{length-map}
-use Rattle.registry_core.specs.declared.effects.Effect.{Effect}
 use Rattle.registry_core.specs.Heard.{most_heard}
 use Rattle.registry_core.specs.Settings.{Settings}
-use Rattle.registry_core.specs.State.{State, state_with}
+use Rattle.registry_core.specs.State.{State}
 use Rattle.desk_store.specs.Kept.{Kept}
-use Rattle.desk_store.specs.Parts.{AreCounts}
-use Rattle.desk_store.specs.declared.looks.Counts.{Counts}
 use Rattle.desk_rows.specs.Rows.{BookingRow, Rows, SessionRow}
 use Rattle.desk_rows.specs.order.RowsOf.{AreRowsOf}
 use Rattle.desk_tables.specs.InOrder.{entry_in}
@@ -16,15 +12,6 @@ use Rattle.desk_tables.specs.steps.Keeper.{AreFew}
 
 pub one_longer : {X : Type 0} (xs : List X) (x : X) (n : ℕ) → n ≡ length xs → n + 1 ≡ length (xs ++ x ∷ [])
 one_longer xs x n is = omega (arith, is, length-append xs (x ∷ []))
-
--- one more is counted, where there are no more than messages that may be heard
-pub one_more : {X : Type 0} (xs : List X) (x : X) {n m : ℕ} → n ≡ length xs → length xs ≤ most_heard → m ≡ min (n + 1) 18446744073709551615
-    → m ≡ length (xs ++ x ∷ [])
-one_more xs x is few sum = omega (arith, is, few, sum, length-append xs (x ∷ []))
-
--- what is counted with an effect is counted with the one that it is
-pub counts_as : (s : State) {v : Counts} {effect other : Effect} → effect ≡ other → AreCounts (state_with s other) v → AreCounts (state_with s effect) v
-counts_as s {v = v} is h = subst (λ e. AreCounts (state_with s e) v) (sym is) h
 
 -- as many as there are messages
 pub as_many : (kept : Kept) (r : Rows) → kept.entries ≡ map entry_in r.replies → length kept.entries ≡ length r.replies

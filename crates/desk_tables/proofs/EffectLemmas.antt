@@ -12,7 +12,7 @@ use Rattle.registry_core.specs.Wholes.{IsWhole}
 use Rattle.sqlite.specs.State.{State}
 use Rattle.desk_tables.specs.steps.Calls.{Asks}
 use Rattle.desk_tables.specs.declared.effects.basis.Basis.{Basis}
-use Rattle.desk_tables.specs.steps.Effects.{AreWhole, HasSession, IsBasis, IsRaised, WritesEffect}
+use Rattle.desk_tables.specs.steps.Effects.{AreWhole, HasSession, IsBasis, IsRaised}
 use Rattle.desk_tables.proofs.CallLemmas.{asks_then}
 
 -- the only row that passes is the first one
@@ -24,22 +24,9 @@ find_only p (x ∷ xs) row only = go (p x) refl only (find_only p xs row)
     go true is h rest = let e = rw is at h in rw is (cc)
     go false is h rest = let e = rw is at h in rw is (rest e)
 
--- what is looked for and isn't found is not there
-pub absent : {X Y : Type 0} (f : X → Y) {found : Option Y} {o : Option X} {x : X} → found ≡ None → found ≡ option_map f o → o ≡ Some x → ⊥
-absent f {x = x} none told there = let no : None ≡ Some (f x) = sym none ∙ told ∙ ap (option_map f) there in cc
-
--- what is written of an effect is written of the one that it is
-pub writes_as : {old new : State} {result : Result (Unit {0}) RowFault} (basis : Basis) {effect other : Effect} → effect ≡ other
-    → WritesEffect old new result other basis → WritesEffect old new result effect basis
-writes_as {old = old} {new = new} {result = result} basis is h = subst (λ e. WritesEffect old new result e basis) (sym is) h
-
 -- and so is what it is written by
 abbrev pub AsksBasis : State → State → Result Basis RowFault → Effect → Type 0
 AsksBasis old new result effect = Asks old new result (IsThereFor effect) (AreWhole effect) (IsBasis effect)
-
-pub asks_basis : {old new : State} {result : Result Basis RowFault} {effect other : Effect} → effect ≡ other → AsksBasis old new result other
-    → AsksBasis old new result effect
-asks_basis {old = old} {new = new} {result = result} is h = subst (AsksBasis old new result) (sym is) h
 
 -- ---- floors
 

@@ -1,18 +1,14 @@
 -- So many rows, so many that have it.
-use Rattle.std.proofs.Common.{◌≡◌, ℕ, ◌||◌, Bool, true, false, cond, List, [], ◌∷◌, map, find, length, Option, Some, is_some, option_map, Result, Ok, Err, IfOk, refl, ap, ◌∙◌, sym, arith}
+use Rattle.std.proofs.Common.{◌≡◌, ℕ, ◌||◌, Bool, true, false, cond, List, [], ◌∷◌, map, find, length, Option, Some, is_some, option_map, refl, ap, ◌∙◌, sym, arith}
 use Rattle.std.specs.Prelude.{bytes_eq, nat_eq, unwrap_or}
 use Rattle.std.specs.List.{list_any}
 use Rattle.std.proofs.lemmas.List.{length-map}
 use Rattle.registry_core.specs.Settings.{Settings}
 use Rattle.registry_core.specs.State.{State}
 use Rattle.desk_store.specs.Kept.{Kept}
-use Rattle.desk_store.specs.Parts.{AreCounts}
-use Rattle.desk_store.specs.declared.faults.StoreFault.{StoreFault}
-use Rattle.desk_store.specs.declared.looks.Counts.{Counts}
 use Rattle.desk_rows.specs.Rows.{DeviceRow, LimitRow, Rows, SenderRow, last_number}
 use Rattle.desk_rows.specs.order.RowsOf.{limit_key, same_band}
-use Rattle.desk_tables.specs.Totals.{AreTotals, HaveIt, is_limit_set}
-use Rattle.desk_tables.specs.declared.totals.Totals.{Totals}
+use Rattle.desk_tables.specs.Totals.{HaveIt, is_limit_set}
 use Rattle.desk_tables.specs.steps.LookUps.{RowsTell}
 
 -- the last number is how many there are
@@ -81,10 +77,3 @@ limits_many r c kept last n tell is shown = record {
       ∙ found_any limit_key (λ (l : LimitRow). l.limit.most) (λ other. same_band other band) r.limits;
   many = many_are r.limits is shown ∙ sym (length-map r.limits limit_key);
 }
-
--- what is told of counts that are those of what is held
-pub totals_are : (kept : Kept) (result : Result Totals StoreFault) {numbered : Counts} {replies : ℕ} → AreCounts kept.facts numbered
-    → replies ≡ length kept.entries
-    → IfOk result (λ totals. AreCounts kept.facts numbered → replies ≡ length kept.entries → AreTotals kept totals) → IfOk result (AreTotals kept)
-totals_are kept (Ok totals) counts heard told = told counts heard
-totals_are kept (Err fault) counts heard told = tt

@@ -1,5 +1,5 @@
 -- What a desk's tables tell when they are opened.
-use Rattle.std.proofs.Common.{◌≡◌, ◌≢◌, ◌⊎◌, inl, inr, ℕ, ℤ, true, pos, [], ◌∷◌, Result, Ok, Err, IfErr, IsTrue, arith, refl, sym, ap, subst, ◌∙◌}
+use Rattle.std.proofs.Common.{◌≡◌, ◌≢◌, ◌⊎◌, inl, inr, ℕ, ℤ, true, pos, [], ◌∷◌, Result, Ok, Err, IfErr, refl, sym, ap, subst, ◌∙◌}
 use Rattle.std.specs.Result.{IsErrAnd}
 use Rattle.registry_core.specs.Settings.{Settings}
 use Rattle.sqlite_schema.specs.declared.schema.Schema.{Schema}
@@ -7,7 +7,6 @@ use Rattle.sqlite_value.specs.declared.value.Value.TheVariants.{Int, Text}
 use Rattle.sqlite_value.specs.Order.{column}
 use Rattle.sqlite_trees.specs.Tree.{Trees}
 use Rattle.sqlite.specs.Effect.{Database}
-use Rattle.sqlite.specs.State.{State, IsRolledBack, IsUnchanged, Survives}
 use Rattle.desk_store.specs.Calls.{IsUnavailability}
 use Rattle.desk_store.specs.declared.faults.StoreFault.{StoreFault}
 use Rattle.desk_store.specs.declared.faults.StoreFault.TheVariants.{Exists, NotADesk, SchemaVersion}
@@ -16,9 +15,8 @@ use Rattle.desk_rows.specs.declared.faults.RowFault.{RowFault}
 use Rattle.desk_rows.specs.declared.faults.RowFault.TheVariants.{Memory, Disk, Size, Row, Refused}
 use Rattle.desk_rows.specs.Faults.{is_odd}
 use Rattle.desk_rows.specs.Meta.{HasMeta, IsConfig, TellsMeta}
-use Rattle.desk_rows.specs.Rows.{Holds, HoldsTen, Rows}
+use Rattle.desk_rows.specs.Rows.{HoldsTen, Rows}
 use Rattle.desk_rows.specs.Schema.{desk_schema}
-use Rattle.desk_tables.specs.Opening.{TreesHold}
 use Rattle.desk_tables.specs.steps.Faults.{store_fault}
 
 -- ---- faults
@@ -37,43 +35,7 @@ unavailable_from_even Size even = tt
 unavailable_from_even Row even = even refl
 unavailable_from_even Refused even = even refl
 
-pub never_version : (fault : RowFault) → store_fault fault ≡ SchemaVersion → ⊥
-never_version Memory is = cc
-never_version Disk is = cc
-never_version Size is = cc
-never_version Row is = cc
-never_version Refused is = cc
-
-pub never_exists : (fault : RowFault) → store_fault fault ≡ Exists → ⊥
-never_exists Memory is = cc
-never_exists Disk is = cc
-never_exists Size is = cc
-never_exists Row is = cc
-never_exists Refused is = cc
-
 -- ---- what is returned tells its fault
-
-module _ {X : Type 0} where
-  pub failed_as : (a b : StoreFault) → a ≡ b → ◌≡◌ {A = Result X StoreFault} (Err a) (Err b)
-  failed_as a b is i = Err (is i)
-
-  pub told_fault : (a b : StoreFault) → ◌≡◌ {A = Result X StoreFault} (Err a) (Err b) → a ≡ b
-  told_fault a b is = cc
-
-  pub told_nothing : (x : X) (fault : StoreFault) → ◌≡◌ {A = Result X StoreFault} (Ok x) (Err fault) → ⊥
-  told_nothing x fault is = cc
-
-  pub stranger_not_version : ◌≡◌ {A = Result X StoreFault} (Err NotADesk) (Err SchemaVersion) → ⊥
-  stranger_not_version is = cc
-
-  pub stranger_not_taken : ◌≡◌ {A = Result X StoreFault} (Err NotADesk) (Err Exists) → ⊥
-  stranger_not_taken is = cc
-
-  pub version_not_stranger : ◌≡◌ {A = Result X StoreFault} (Err SchemaVersion) (Err NotADesk) → ⊥
-  version_not_stranger is = cc
-
-  pub version_not_taken : ◌≡◌ {A = Result X StoreFault} (Err SchemaVersion) (Err Exists) → ⊥
-  version_not_taken is = cc
 
 -- what the exit of a `?` returns is so of its fault
 pub failed_so : {X : Type 0} (P : StoreFault → Type 0) (fault : StoreFault) (result : Result X StoreFault) → IsErrAnd result (λ told. told ≡ fault)
@@ -126,30 +88,3 @@ told_once trees a b c d one two =
     let x : c.base ≡ d.base = cc in
     let y : c.addresses ≡ d.addresses = cc in
     (cc, λ i. record { receiver = r i; operator = o i; base = x i; addresses = y i })
-
-pub trees_hold : (db : Database) (r : Rows) → Holds db r → TreesHold db.trees r
-trees_hold db r has =
-    let same : db ≡ record db { schema = _ } = λ i. record db { schema = has.ten.schema i } in
-    subst (λ d. Holds d r) same has
-
--- ---- a connection that was only read
-
-pub survives_itself : (Commits : Trees → Type 0) (s : State) → Survives s s Commits
-survives_itself Commits s = record {
-  clean = omega arith;
-  shield = λ shielded. shielded;
-  counts = omega arith;
-  limit = refl;
-  closes = λ clean up. inl up;
-  crash = λ clean trees may. inl may;
-}
-
--- where all was committed, what was there stands, and is what is committed
-module _ (old new : State) (settled : IsTrue old.is_open → old.now ≡ old.committed) (up : IsTrue new.is_open) where
-  pub stands_read : IsUnchanged old new ⊎ IsRolledBack old new → (new.now ≡ old.now) × (new.committed ≡ old.committed)
-  stands_read (inl same) = (same.0.now_is, same.0.committed_is)
-  stands_read (inr back) = ((back.undone up).0 ∙ sym (settled (back.was_open up)), (back.undone up).1)
-
-  pub settled_read : IsUnchanged old new ⊎ IsRolledBack old new → new.now ≡ new.committed
-  settled_read (inl same) = same.0.now_is ∙ settled same.0.was_open ∙ sym same.0.committed_is
-  settled_read (inr back) = (back.undone up).0 ∙ sym (back.undone up).1

@@ -1,5 +1,5 @@
 -- Lists that are compared item by item.
-use Rattle.std.proofs.Common.{◌≡◌, List, [], ◌∷◌, map, length, Option, get_or, arith, ap, sym}
+use Rattle.std.proofs.Common.{List, [], ◌∷◌, map, Option, ap}
 use Rattle.std.specs.Iterator.{AlwaysYields}
 use Rattle.std.proofs.lemmas.Iterator.{YieldsList}
 
@@ -12,8 +12,3 @@ module _ {S A B C : Type 0} (steps : S → Option A → S → Type 0) (v : A →
 pub shaped_list : {S A B C : Type 0} {steps : S → Option A → S → Type 0} {v : A → B} {s : S} {ys : List B} (f : B → C)
     → YieldsList steps v s ys → YieldsList steps (λ a. f (v a)) s (map f ys)
 shaped_list {steps = steps} {v = v} {s} {ys} f e = record { runs = always_shaped steps v f ys s e.runs }
-
-pub one_item : {X : Type 0} (xs : List X) (x : X) → x ≡ get_or xs 0 x → length xs ≡ 1 → xs ≡ x ∷ []
-one_item [] x is one = absurd (omega (arith, one))
-one_item (y ∷ []) x is one = ap (λ z. z ∷ []) (sym is)
-one_item (y ∷ z ∷ more) x is one = absurd (omega (arith, one))

@@ -1,14 +1,13 @@
 -- What the rows tell of the facts, as look-ups ask for it.
-use Rattle.std.proofs.Common.{◌≡◌, ◌∙◌, ℕ, Bool, true, false, cond, List, [], ◌∷◌, map, filter, Option, Some, None, option_map, refl, sym, ap}
+use Rattle.std.proofs.Common.{◌≡◌, ℕ, Bool, true, false, cond, List, [], ◌∷◌, map, filter, Option, Some, None, option_map, refl, ap}
 use Rattle.std.specs.Prelude.{option_and_then, unwrap_or}
 use Rattle.std.specs.List.{AllByRecursion}
 use Rattle.std.specs.Option.{option_map_or}
 use Rattle.registry_core.specs.Derived.{is_session_of}
-use Rattle.registry_core.specs.Numbered.{item_at}
 use Rattle.registry_core.specs.Ranges.{IsEui}
 use Rattle.desk_rows.specs.Rows.{DeviceRow, IsDevice, SessionRow}
 use Rattle.desk_rows.specs.order.Facts.{sessions_in}
-use Rattle.desk_rows.specs.order.LookUps.{is_row_of_device, row_at}
+use Rattle.desk_rows.specs.order.LookUps.{is_row_of_device}
 
 -- the nonces of a device
 pub nonces_tell : (dev_eui : ℕ) (rows : List SessionRow)
@@ -29,10 +28,6 @@ pub or_zero : {X : Type 0} (f : X → ℕ) (o : Option X) → unwrap_or (option_
 or_zero f None = refl
 or_zero f (Some x) = refl
 
-pub or_else : (o : Option ℕ) (other : ℕ) → unwrap_or o other ≡ option_map_or (λ n. n) o other
-or_else None other = refl
-or_else (Some n) other = refl
-
 -- what is told beside its number
 pub beside : {X : Type 0} (n : ℕ) (o : Option X) → option_map (λ (found : ℕ × X). found.1) (option_map (λ x. (n, x)) o) ≡ o
 beside n None = refl
@@ -47,8 +42,3 @@ floor_joined (Some d) = refl
 pub euis_in : (devices : List DeviceRow) → AllByRecursion IsDevice devices → AllByRecursion (λ (d : DeviceRow). IsEui d.dev_eui) devices
 euis_in [] each = tt
 euis_in (d ∷ devices) each = (each.0.dev_eui, euis_in devices each.1)
-
--- the item of a number is what the row of that number shows
-pub shown_at : {X Y : Type 0} (f : X → Y) (rows : List X) (items : List Y) (n : ℕ) → row_at n rows ≡ item_at rows n
-    → option_map f (row_at n rows) ≡ item_at items n → option_map f (item_at rows n) ≡ item_at items n
-shown_at f rows items n at shows = ap (option_map f) (sym at) ∙ shows
