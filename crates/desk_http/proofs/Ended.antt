@@ -1,6 +1,6 @@
 -- How a connection was served, from how its parts were.
-use Rattle.std.proofs.Common.{◌≡◌, ℕ, List, [], ◌∷◌, ◌++◌, Option, length, take, drop, map, refl, ap, ◌∙◌, subst, append-nil}
-use Rattle.std.proofs.KnownBytes.{Consumes-trans}
+use Rattle.std.proofs.Common.{◌≡◌, ℕ, List, [], ◌∷◌, ◌++◌, Option, length, take, drop, map, refl, ap, sym, ◌∙◌, subst, append-nil}
+use Rattle.std.proofs.KnownBytes.{Consumes-nil, Consumes-trans}
 use Rattle.std.specs.List.{All}
 use Rattle.std.specs.Io.KnownBytes.{Consumes, IsAtEnd}
 use Rattle.httparse.specs.Grammar.{RequestHead, print_request}
@@ -12,7 +12,7 @@ use Rattle.desk_http.specs.declared.asking.Asked.{Asked}
 use Rattle.desk_http.specs.declared.serving.ServeEnd.{ServeEnd}
 use Rattle.desk_http.specs.declared.serving.ServeEnd.TheVariants.{Done, Closed, Read, Write, Memory}
 use Rattle.desk_http.specs.Heads.{IsWithinLimits}
-use Rattle.desk_http.specs.Requests.{HeadAsks, IsBodyOf, asked_of, head}
+use Rattle.desk_http.specs.Requests.{HeadAsks, IsBodyOf, Request, asked_of, head, refused}
 use Rattle.desk_http.specs.Responses.{Response}
 use Rattle.desk_http.specs.Serving.{ServingEndsBy, Serves, ServesRequest}
 use Rattle.desk_http.specs.Targets.{path_of}
@@ -33,11 +33,18 @@ ends-more old new P Q A B before after Memory f a h = h
 -- a response that was written, or a write of it failed
 pub ends-written : {K : Type 0} (old new : K) (response : Response) (P : Response → Type 0) (A : Type 0) (before after : Option (List ℕ)) (end : ServeEnd)
     → P response → WritesResponse response before after end → ServingEndsBy old new P A before after end
-ends-written old new response P A before after (Done status) serves h = (response, h.0, serves, h.1)
+ends-written old new response P A before after (Done status) serves h = (h.0, h.1, subst P (sym h.2) serves, h.3)
 ends-written old new response P A before after Closed serves h = absurd h
 ends-written old new response P A before after Read serves h = absurd h
 ends-written old new response P A before after Write serves h = (response, serves)
 ends-written old new response P A before after Memory serves h = absurd h
+
+-- a request that is refused: nothing after its head was read, and its response was written
+pub ends_refused : {K : Type 0} (m : Meaning K) (kept : K) (response : Response) (request : Request) (left before after : Option (List ℕ)) (end : ServeEnd)
+    → WritesResponse response before after end → request ≡ refused response
+    → ServingEndsBy kept kept (λ r. (body : List ℕ) × Consumes left left body × IsBodyOf request body left × ServesRequest m kept kept request body r) ⊥ before after end
+ends_refused m kept response request left before after end written is =
+    rw is (ends-written kept kept response _ ⊥ before after end ([], Consumes-nil left, refl, (refl, refl)) written)
 
 drop-all : (xs : List ℕ) → drop (length xs) xs ≡ []
 drop-all [] = refl

@@ -1,25 +1,29 @@
--- What the fields say of a body, from what they say one after another.
-use Rattle.std.proofs.Common.{◌≡◌, ℕ, Bool, true, false, cond, List, [], ◌∷◌, ◌||◌, codes, map, refl, ap, ◌∙◌}
+-- What the fields say, from what they say one after another.
+use Rattle.std.proofs.Common.{◌≡◌, ◌≤◌, ℕ, Bool, true, false, cond, List, [], ◌∷◌, ◌||◌, codes, length, map, take, refl, ap, ◌∙◌}
+use Rattle.std.proofs.lemmas.List.{take_all}
 use Rattle.std.specs.Prelude.{filter, fold, nat_lt, if◌then◌else◌}
-use Rattle.std.specs.List.{list_any}
 use Rattle.std.specs.Str.Parse.{digits_value}
+use Rattle.httparse.specs.Spans.{header_bytes}
+use Rattle.httparse.specs.declared.spans.HeaderSpan.{HeaderSpan}
 use Rattle.desk_engine.specs.Told.{longest_message}
 use Rattle.desk_http.specs.declared.fields.BodyLength.{BodyLength}
 use Rattle.desk_http.specs.declared.fields.BodyLength.TheVariants.{Absent, Number, TooLong, Bad}
-use Rattle.desk_http.specs.Fields.{NamedValue, body_length, has_transfer_encoding, is_named, is_number, length_by, length_of, values_of}
-use Rattle.desk_http.specs.steps.Fields.{encoding_so_far, length_after, length_so_far, length_with, names_encoding}
+use Rattle.desk_http.specs.Fields.{NamedValue, body_length, has_field, is_named, is_number, length_by, length_of, values_of}
+use Rattle.desk_http.specs.steps.Fields.{length_after, length_so_far, length_with, named_so_far, or_named}
 
--- ---- a transfer encoding
+-- ---- a field of a name
 
-encoding-from : (so_far : Bool) (fields : List NamedValue)
-    → fold names_encoding so_far fields ≡ (so_far || list_any (is_named (codes "transfer-encoding")) fields)
-encoding-from true [] = refl
-encoding-from false [] = refl
-encoding-from true (field ∷ fields) = encoding-from true fields
-encoding-from false (field ∷ fields) = encoding-from (is_named (codes "transfer-encoding") field) fields
+named-from : (name : List ℕ) (so_far : Bool) (fields : List NamedValue) → fold (or_named name) so_far fields ≡ (so_far || has_field name fields)
+named-from name true [] = refl
+named-from name false [] = refl
+named-from name true (field ∷ fields) = named-from name true fields
+named-from name false (field ∷ fields) = named-from name (is_named name field) fields
 
-pub encoding_whole : (fields : List NamedValue) → encoding_so_far fields ≡ has_transfer_encoding fields
-encoding_whole fields = encoding-from false fields
+-- once all fields are gone through
+pub named_by_all : (name octets : List ℕ) (headers : List HeaderSpan) (n : ℕ) → length headers ≤ n
+    → named_so_far name (map (header_bytes octets) (take n headers)) ≡ has_field name (map (header_bytes octets) headers)
+named_by_all name octets headers n all =
+    ap (λ taken. named_so_far name (map (header_bytes octets) taken)) (take_all n headers all) ∙ named-from name false (map (header_bytes octets) headers)
 
 -- ---- a length
 
@@ -60,5 +64,11 @@ length-from so_far [] = refl
 length-from so_far (field ∷ fields) =
     one-more (is_named (codes "content-length") field) so_far field fields (filter (is_named (codes "content-length")) fields) (λ l. length-from l fields)
 
-pub length_whole : (fields : List NamedValue) → length_so_far fields ≡ body_length fields
+length_whole : (fields : List NamedValue) → length_so_far fields ≡ body_length fields
 length_whole fields = length-from Absent fields ∙ by-values (values_of (codes "content-length") fields)
+
+-- once all fields are gone through
+pub length_by_all : (octets : List ℕ) (headers : List HeaderSpan) (n : ℕ) → length headers ≤ n
+    → length_so_far (map (header_bytes octets) (take n headers)) ≡ body_length (map (header_bytes octets) headers)
+length_by_all octets headers n all =
+    ap (λ taken. length_so_far (map (header_bytes octets) taken)) (take_all n headers all) ∙ length_whole (map (header_bytes octets) headers)

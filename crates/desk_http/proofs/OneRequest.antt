@@ -1,10 +1,13 @@
 -- An input has one request at most.
-use Rattle.std.proofs.Common.{◌≡◌, ℕ, List, [], ◌++◌, ◌+◌, ◌<◌, length, take, Some, None, inl, inr, refl, sym, ap, ◌∙◌, arith, append_assoc, append-nil, length-append, subst, map}
+use Rattle.std.proofs.Common.{◌≡◌, ℕ, List, [], ◌++◌, ◌+◌, ◌<◌, length, take, Some, None, inl, inr, refl, sym, ap, ◌∙◌, arith, append_assoc, append-nil, cond, length-append, subst, map}
 use Rattle.std.proofs.Math.Seq.{take-append_seam}
+use Rattle.std.specs.Prelude.{IsTrue}
 use Rattle.httparse.specs.Grammar.{RequestHead, print_request}
 use Rattle.httparse.specs.Spans.{name_and_value}
-use Rattle.desk_http.specs.RequestLaws.{NamedIsOne, RequestsAreOne}
-use Rattle.desk_http.specs.Requests.{Request, refused, message, owner_report, band_report, HeadAsks, IsBodyOf, asked_of, bad_head, head}
+use Rattle.desk_http.specs.RequestLaws.{NamedIsOne, OriginsAreRefused, RequestsAreOne}
+use Rattle.desk_http.specs.Requests.{Request, refused, message, owner_report, band_report, HeadAsks, IsBodyOf, asked_of, asked_of_named, bad_head, head}
+use Rattle.desk_http.specs.Fields.{has_origin}
+use Rattle.desk_http.specs.Responses.{Response, cross_origin}
 use Rattle.desk_http.specs.Targets.{path_of}
 use Rattle.desk_http.proofs.Named.{resources_are_one}
 use Rattle.desk_http.proofs.OneHead.{heads_are_one, no_head_is_none}
@@ -46,6 +49,23 @@ body-one (message count) body text left later (inr x) (inr y) e =
 -- the input, from the head that was read of it
 from-head : (octets body left : List ℕ) (h : RequestHead) → octets ≡ print_request h ++ body → octets ++ left ≡ print_request h ++ (body ++ left)
 from-head octets body left h e = ap (λ l. l ++ left) e ∙ append_assoc (print_request h) body left
+
+-- what a head with an origin asks for
+refused_by_origin : (h : RequestHead) (request : Request) → IsTrue (has_origin (map name_and_value h.fields)) → HeadAsks h request → request ≡ refused cross_origin
+refused_by_origin h request origin asks =
+    asks.2 ∙ ap (λ b. cond b (refused cross_origin) (asked_of_named asks.0 h.method (map name_and_value h.fields))) origin
+
+no_body : (request : Request) (body left : List ℕ) (wanted : Response) → request ≡ refused wanted → IsBodyOf request body (Some left) → body ≡ []
+no_body request body left wanted is whole = let nothing : IsBodyOf (refused wanted) body (Some left) = rw is at whole in nothing
+
+pub origins_are_refused : OriginsAreRefused
+origins_are_refused input left after h request body (bad_head none is empty) right fits e origin =
+    absurd (no_head_is_none input left after h none (right, e) fits)
+origins_are_refused input left after h request body (head k right_too fits_too asks all whole) right fits e origin =
+    let heads = heads_are_one (input ++ left) (body ++ left) after k h (right_too, from-head input body left k all) (right, e) in
+    let is = refused_by_origin h request origin (subst (λ x. HeadAsks x request) heads.0 asks) in
+    let empty = no_body request body left cross_origin is whole in
+    (is, empty, ap (λ l. l ++ left) (sym empty) ∙ heads.1)
 
 pub requests_are_one : RequestsAreOne
 requests_are_one input left other later request asked body text (bad_head none is empty) (bad_head none_too is_too empty_too) e =

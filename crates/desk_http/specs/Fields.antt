@@ -1,4 +1,4 @@
--- What the fields of a request's head say of its body.
+-- What the fields of a request's head say of its body, and of where the request comes from.
 use Rattle.std.specs.Prelude.{ℕ, List, [], ◌∷◌, length, Bool, ◌&&◌, codes, map, filter, nat_lt, if◌then◌else◌}
 use Rattle.std.specs.List.{list_all, list_any}
 use Rattle.std.specs.Str.{bytes_eq}
@@ -20,9 +20,17 @@ has_name name text = bytes_eq (map to_ascii_lowercase text) name
 abbrev pub is_named : List ℕ → NamedValue → Bool
 is_named name field = has_name name field.0
 
+-- some field has this name
+abbrev pub has_field : List ℕ → List NamedValue → Bool
+has_field name fields = list_any (is_named name) fields
+
 -- some field names a transfer encoding
 abbrev pub has_transfer_encoding : List NamedValue → Bool
-has_transfer_encoding fields = list_any (is_named (codes "transfer-encoding")) fields
+has_transfer_encoding fields = has_field (codes "transfer-encoding") fields
+
+-- Some field names an origin, whatever its value. Browsers send one with what a page posts to another place.
+abbrev pub has_origin : List NamedValue → Bool
+has_origin fields = has_field (codes "origin") fields
 
 -- the values of the fields of this name, in their order
 abbrev pub values_of : List ℕ → List NamedValue → List (List ℕ)

@@ -6,9 +6,9 @@ use Rattle.httparse.specs.Grammar.{RequestHead, IsRequestHead, print_request}
 use Rattle.httparse.specs.Spans.{name_and_value}
 use Rattle.desk_http.specs.declared.fields.BodyLength.{BodyLength}
 use Rattle.desk_http.specs.declared.fields.BodyLength.TheVariants.{Absent, Number, TooLong, Bad}
-use Rattle.desk_http.specs.Fields.{NamedValue, has_transfer_encoding, body_length}
+use Rattle.desk_http.specs.Fields.{NamedValue, has_origin, has_transfer_encoding, body_length}
 use Rattle.desk_http.specs.Heads.{IsNoHead, IsWithinLimits}
-use Rattle.desk_http.specs.Responses.{Response, no_head, no_route, other_method, no_length, too_long}
+use Rattle.desk_http.specs.Responses.{Response, no_head, cross_origin, no_route, other_method, no_length, too_long}
 use Rattle.desk_http.specs.Targets.{Resource, messages, reports, bands, Names, method_of, path_of}
 
 -- what is asked for: a message of so many octets to be delivered, or a report; or nothing that is served, and this response refuses it
@@ -35,11 +35,15 @@ asked_by_resource messages fields = asked_of_messages fields
 asked_by_resource (reports owner month) fields = owner_report owner month
 asked_by_resource (bands gateway) fields = band_report gateway
 
--- first what is named, then its method, then what is asked of it
-abbrev pub asked_of : Option Resource → List ℕ → List NamedValue → Request
-asked_of None method fields = refused no_route
-asked_of (Some resource) method fields =
+-- what is named, then its method, then what is asked of it
+abbrev pub asked_of_named : Option Resource → List ℕ → List NamedValue → Request
+asked_of_named None method fields = refused no_route
+asked_of_named (Some resource) method fields =
     if bytes_eq method (method_of resource) then asked_by_resource resource fields else refused (other_method (method_of resource))
+
+-- A request with an origin is refused first, whatever it names and by whatever method: nothing of it is read past its head.
+abbrev pub asked_of : Option Resource → List ℕ → List NamedValue → Request
+asked_of named method fields = if has_origin fields then refused cross_origin else asked_of_named named method fields
 
 -- the head asks for this
 abbrev pub HeadAsks : RequestHead → Request → Type 0

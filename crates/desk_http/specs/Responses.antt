@@ -40,6 +40,9 @@ plain status line = record { status = status; kind = codes "text/plain"; allow =
 abbrev pub no_head : Response
 no_head = plain 400 (codes "head\n")
 
+abbrev pub cross_origin : Response
+cross_origin = plain 403 (codes "origin\n")
+
 abbrev pub no_route : Response
 no_route = plain 404 (codes "route\n")
 

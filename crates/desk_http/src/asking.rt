@@ -2,12 +2,12 @@
 ghost use Rattle.std.specs.Prelude.{◌≡◌, ℕ, List, length, map, IfOk};
 ghost use Rattle.std.specs.List.{All};
 ghost use Rattle.httparse.specs.Spans.{IsHeaderWithin, header_bytes};
-ghost use Rattle.desk_http.specs.Requests.{asked_by_resource, asked_of, asked_of_messages};
+ghost use Rattle.desk_http.specs.Requests.{asked_by_resource, asked_of, asked_of_messages, asked_of_named};
 ghost use Rattle.desk_http.specs.Targets.{path_of};
 ghost use Rattle.desk_http.specs.steps.Requests.{request_of};
 ghost use Rattle.desk_http.specs.steps.Targets.{named_in_path, resource_of};
 
-use crate::fields::{BodyLength, body_length, has_transfer_encoding};
+use crate::fields::{BodyLength, body_length, has_origin, has_transfer_encoding};
 use crate::targets::{Route, method_of, path_of, route_of};
 use httparse::spans::HeaderSpan;
 use matchit::InsertError;
@@ -16,6 +16,8 @@ use std::alloc::Global;
 /// What a request's head asks for, or why it is refused at once.
 #[derive(Clone, Copy)]
 pub(crate) enum Asked {
+    /// A field names an origin: a page of a browser asks.
+    CrossOrigin,
     NoRoute,
     /// The route is asked for by another method than its own.
     OtherMethod(Route),
@@ -41,6 +43,24 @@ pub(crate) fn asked_of(
     requires { All (IsHeaderWithin (length octets.now)) headers.now }
     ensures { IfOk result (λ asked. request_of (path_of target.now) asked
         ≡ asked_of (named_in_path (path_of target.now)) method.now (map (header_bytes octets.now) headers.now)) }
+{
+    if has_origin(octets, headers) {
+        return Ok(Asked::CrossOrigin);
+    }
+    asked_of_target(alloc, method, target, octets, headers)
+}
+
+/// What a head without an origin asks for.
+fn asked_of_target(
+    alloc: Global,
+    method: &[u8],
+    target: &str,
+    octets: &[u8],
+    headers: &[HeaderSpan],
+) -> Result<Asked, InsertError>
+    requires { All (IsHeaderWithin (length octets.now)) headers.now }
+    ensures { IfOk result (λ asked. request_of (path_of target.now) asked
+        ≡ asked_of_named (named_in_path (path_of target.now)) method.now (map (header_bytes octets.now) headers.now)) }
 {
     let Some(route) = route_of(alloc, path_of(target))? else {
         return Ok(Asked::NoRoute);

@@ -1,11 +1,11 @@
-//! What the fields of a request's head say of its body.
+//! What the fields of a request's head say of its body, and of where the request comes from.
 ghost use Rattle.std.specs.Prelude.{◌≡◌, length, map, min, true};
 ghost use Rattle.std.specs.List.{All, list_all};
 ghost use Rattle.std.specs.Char.{is_ascii_digit, to_ascii_lowercase};
 ghost use Rattle.std.specs.Str.Parse.{digits_value};
 ghost use Rattle.httparse.specs.Spans.{IsHeaderWithin, header_bytes};
-ghost use Rattle.desk_http.specs.Fields.{has_name, is_number, length_of, body_length, has_transfer_encoding};
-ghost use Rattle.desk_http.specs.steps.Fields.{length_with, length_after, names_encoding};
+ghost use Rattle.desk_http.specs.Fields.{body_length, has_field, has_name, has_origin, has_transfer_encoding, is_number, length_of};
+ghost use Rattle.desk_http.specs.steps.Fields.{length_after, length_with, or_named};
 
 use desk_engine::LONGEST_MESSAGE;
 use httparse::spans::HeaderSpan;
@@ -30,21 +30,41 @@ pub(crate) fn has_transfer_encoding(octets: &[u8], headers: &[HeaderSpan]) -> bo
     requires { All (IsHeaderWithin (length octets.now)) headers.now }
     ensures { result ≡ has_transfer_encoding (map (header_bytes octets.now) headers.now) }
 {
+    has_field(octets, headers, b"transfer-encoding")
+}
+
+/// Whether a field names an origin.
+pub(crate) fn has_origin(octets: &[u8], headers: &[HeaderSpan]) -> bool
+    requires { All (IsHeaderWithin (length octets.now)) headers.now }
+    ensures { result ≡ has_origin (map (header_bytes octets.now) headers.now) }
+{
+    has_field(octets, headers, b"origin")
+}
+
+/// Whether a field has this name, in any case. The name is given in lower case.
+#[tactic(auto, using(crate::proofs::FieldSteps::named_by_all))]
+fn has_field(octets: &[u8], headers: &[HeaderSpan], name: &[u8]) -> bool
+    requires within { All (IsHeaderWithin (length octets.now)) headers.now }
+    requires lower { map to_ascii_lowercase name.now ≡ name.now }
+    ensures { result ≡ has_field name.now (map (header_bytes octets.now) headers.now) }
+{
     let mut found = false;
     for header in headers {
-        found = names_encoding(octets, found, *header);
+        found = or_named(octets, found, *header, name);
     }
     found
 }
 
-fn names_encoding(octets: &[u8], so_far: bool, header: HeaderSpan) -> bool
-    requires { IsHeaderWithin (length octets.now) header }
-    ensures { result ≡ names_encoding so_far (header_bytes octets.now header) }
+fn or_named(octets: &[u8], so_far: bool, header: HeaderSpan, name: &[u8]) -> bool
+    requires within { IsHeaderWithin (length octets.now) header }
+    requires lower { map to_ascii_lowercase name.now ≡ name.now }
+    ensures { result ≡ or_named name.now so_far (header_bytes octets.now header) }
 {
-    so_far || has_name(header.name.of(octets), b"transfer-encoding")
+    so_far || has_name(header.name.of(octets), name)
 }
 
 /// The length that the fields give.
+#[tactic(auto, using(crate::proofs::FieldSteps::length_by_all))]
 pub(crate) fn body_length(octets: &[u8], headers: &[HeaderSpan]) -> BodyLength
     requires { All (IsHeaderWithin (length octets.now)) headers.now }
     ensures { result ≡ body_length (map (header_bytes octets.now) headers.now) }
@@ -115,6 +135,7 @@ fn has_digits(text: &[u8]) -> bool
 }
 
 /// The number that digits write, or one more than a body may have, so that no number of digits overflows.
+#[tactic(auto, using(crate::proofs::Digits::capped_more))]
 fn capped(text: &[u8]) -> u32
     requires { list_all is_ascii_digit text.now ≡ true }
     ensures { result ≡ min (digits_value 10 text.now) 65537 }

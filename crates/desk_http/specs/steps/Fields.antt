@@ -1,15 +1,15 @@
--- What the fields so far say of a body, as they are gone through.
-use Rattle.std.specs.Prelude.{List, Bool, false, ◌||◌, codes, fold, if◌then◌else◌}
+-- What the fields so far say, as they are gone through.
+use Rattle.std.specs.Prelude.{ℕ, List, Bool, false, ◌||◌, codes, fold, if◌then◌else◌}
 use Rattle.desk_http.specs.declared.fields.BodyLength.{BodyLength}
 use Rattle.desk_http.specs.declared.fields.BodyLength.TheVariants.{Absent, Bad}
 use Rattle.desk_http.specs.Fields.{NamedValue, is_named, length_of}
 
-abbrev pub names_encoding : Bool → NamedValue → Bool
-names_encoding so_far field = so_far || is_named (codes "transfer-encoding") field
+abbrev pub or_named : List ℕ → Bool → NamedValue → Bool
+or_named name so_far field = so_far || is_named name field
 
--- some field so far names a transfer encoding
-abbrev pub encoding_so_far : List NamedValue → Bool
-encoding_so_far fields = fold names_encoding false fields
+-- some field so far has this name
+abbrev pub named_so_far : List ℕ → List NamedValue → Bool
+named_so_far name fields = fold (or_named name) false fields
 
 abbrev pub length_with : BodyLength → BodyLength → BodyLength
 length_with Absent new = new

@@ -1,13 +1,14 @@
 -- What the answers of the code stand for, where the request has this path.
 use Rattle.std.specs.Prelude.{ℕ, List}
 use Rattle.desk_http.specs.declared.asking.Asked.{Asked}
-use Rattle.desk_http.specs.declared.asking.Asked.TheVariants.{NoRoute, OtherMethod, NoLength, BadLength, TooLong, Deliver, OwnerReport, BandReport}
+use Rattle.desk_http.specs.declared.asking.Asked.TheVariants.{CrossOrigin, NoRoute, OtherMethod, NoLength, BadLength, TooLong, Deliver, OwnerReport, BandReport}
 use Rattle.desk_http.specs.Requests.{Request, refused, message, owner_report, band_report}
-use Rattle.desk_http.specs.Responses.{no_head, no_route, other_method, no_length, too_long}
+use Rattle.desk_http.specs.Responses.{no_head, cross_origin, no_route, other_method, no_length, too_long}
 use Rattle.desk_http.specs.Targets.{method_of}
 use Rattle.desk_http.specs.steps.Targets.{after_slash, before_slash, names_of, resource_of}
 
 abbrev pub request_of : List ℕ → Asked → Request
+request_of path CrossOrigin = refused cross_origin
 request_of path NoRoute = refused no_route
 request_of path (OtherMethod route) = refused (other_method (method_of (resource_of path route)))
 request_of path NoLength = refused no_length

@@ -1,4 +1,4 @@
-use Rattle.desk_http.proofs.OneRequest.{named_is_one, requests_are_one}
+use Rattle.desk_http.proofs.OneRequest.{named_is_one, origins_are_refused, requests_are_one}
 use Rattle.desk_http.proofs.laws.requests_are_one.Goals as goal
 
 pub returns-clause-named : goal.returns-clause-named
@@ -6,3 +6,6 @@ returns-clause-named c = named_is_one
 
 pub returns-clause-one : goal.returns-clause-one
 returns-clause-one c = requests_are_one
+
+pub returns-clause-origin : goal.returns-clause-origin
+returns-clause-origin c = origins_are_refused
