@@ -1,18 +1,20 @@
 -- What is asked, where the arguments are given, and how a run of it ends.
-use Rattle.std.proofs.Common.{◌≡◌, ℕ, List, Option, None, Result, Ok, Err, inl, inr, refl, sym, subst}
+use Rattle.std.proofs.Common.{◌≡◌, ℕ, List, Option, None, Result, Ok, Err, inl, inr, refl, sym, subst, ◌∙◌}
 use Rattle.std.proofs.KnownBytes.{Keeps-refl}
-use Rattle.std.specs.Prelude.{◌⊎◌}
+use Rattle.std.specs.Prelude.{◌⊎◌, String}
+use Rattle.std.specs.declared.io.Error.{Error}
+use Rattle.std.specs.declared.vec.IntoIter.{IntoIter}
 use Rattle.clap.specs.Walk.{Text}
 use Rattle.sqlite.specs.Held.{Held}
 use Rattle.sqlite_trees.specs.declared.store.Store.{Ghosts}
 use Rattle.desk_cli.specs.Ports.{AtPorts}
 use Rattle.desk_cli.specs.CommandLine.{named_by}
 use Rattle.desk_cli.specs.Doing.{AtPaths, DoesAsked}
-use Rattle.desk_cli.specs.Endings.{ending_of}
-use Rattle.desk_cli.specs.Faults.{ending_of_fault, ending_of_result}
-use Rattle.desk_cli.specs.Named.{Asked, Named, TellsNamed, asked_by, bad, names, refused}
-use Rattle.desk_cli.specs.Runs.{AsksFor, Given, IsNamed, Runs}
-use Rattle.desk_cli.specs.declared.commands.Command.{Command}
+use Rattle.desk_cli.specs.Faults.{EndsBy, ending_of_fault}
+use Rattle.desk_cli.specs.Named.{Asked, Named, TellsNamed, bad, names, refused}
+use Rattle.desk_cli.specs.Runs.{AsksFor, Given, IsNamed, Runs, given}
+use Rattle.desk_cli.specs.steps.Given.{IsNotGiven}
+use Rattle.desk_cli.specs.steps.Usages.{TellsUsage}
 use Rattle.desk_cli.specs.declared.endings.Ending.{Ending}
 use Rattle.desk_cli.specs.declared.endings.Ending.TheVariants.{Done, Refused, Misused, Failed}
 use Rattle.desk_cli.specs.declared.faults.Fault.{Fault}
@@ -48,52 +50,99 @@ fault_is_not_done Unavailable = tt
 fault_is_not_done File = tt
 fault_is_not_done Network = tt
 
+abbrev pub IsDone : Ending → Type 0
+IsDone Done = Unit {0}
+IsDone _ = ⊥
+
+fault_is_not_misused : (fault : Fault) → ending_of_fault fault ≡ Misused → ⊥
+fault_is_not_misused Exists is = cc
+fault_is_not_misused NotADesk is = cc
+fault_is_not_misused Schema is = cc
+fault_is_not_misused Owner is = cc
+fault_is_not_misused Gateway is = cc
+fault_is_not_misused Month is = cc
+fault_is_not_misused CsvSize is = cc
+fault_is_not_misused CsvEnd is = cc
+fault_is_not_misused CsvHeader is = cc
+fault_is_not_misused (CsvRecord n) is = cc
+fault_is_not_misused Unavailable is = cc
+fault_is_not_misused File is = cc
+fault_is_not_misused Network is = cc
+
 -- ---- runs
 
-module _ {S : Type 0} (g : Ghosts S) (paths : AtPaths S) (ports : AtPorts) (back : Option (Held S)) (left rest before after : Option (List ℕ)) where
-  does_all : (asked : Asked) (r : Result (Unit {0}) Fault) → Done ≡ ending_of_result r → DoesAsked g paths ports back left rest before after r asked
-      → DoesAsked {T = Unit {0}} g paths ports back left rest before after (Ok tt) asked
-  does_all asked (Ok x) is does = does
-  does_all asked (Err fault) is does = absurd (subst IsNotDone (sym is) (fault_is_not_done fault))
+-- What the writer of the fault line holds, and that writer before and after.
+module _ {F : Type 0} (contents : F → Option (List ℕ)) (untold told : F) where
+  -- a command never ends as misused
+  pub never_misused : (ending : Ending) (result : Result (Unit {0}) Fault) → EndsBy contents untold told ending result → ¬ (ending ≡ Misused)
+  never_misused ending (Ok x) ended is = absurd (subst IsDone (sym ended.0 ∙ is) tt)
+  never_misused ending (Err fault) ended is = absurd (fault_is_not_misused fault (sym ended.0 ∙ is))
 
-  -- a run that ends well has done what was asked
-  pub done_asked : (words : Given) (ending : Ending) → Runs g paths ports back left rest before after words ending → ending ≡ Done
-      → (asked : Asked) × AsksFor words asked × DoesAsked {T = Unit {0}} g paths ports back left rest before after (Ok tt) asked
-  done_asked words ending runs is = elim runs [
-    | inl asked ↦ (asked.0, asked.1, does_all asked.0 asked.2.result (subst (λ e. e ≡ ending_of_result asked.2.result) is asked.2.ending_is) asked.2.does)
-    | inr none ↦ elim none.ending_is [
-      | inl failed ↦ absurd (subst IsNotDone (is_failed failed) tt)
-      | inr misused ↦ absurd (subst IsNotDone (is_misused misused.0) tt)
-    ]
-  ]
-    where
-      is_failed : ending ≡ Failed → Failed ≡ Done
-      is_failed failed = cc
+  -- what is done is told of nothing
+  pub ends_quiet : (result : Result (Unit {0}) Fault) → EndsBy contents untold told Done result → told ≡ untold
+  ends_quiet (Ok x) ended = ended.1
+  ends_quiet (Err fault) ended = absurd (subst IsNotDone (sym ended.0) (fault_is_not_done fault))
 
-      is_misused : ending ≡ Misused → Misused ≡ Done
-      is_misused misused = cc
+  -- words that name no command, or weren't read for want of memory
+  names_none : (named : Named) (usage : Usage) (ending : Ending) → TellsNamed named (Err usage) → TellsUsage contents untold told ending usage
+      → EndsBy contents untold told ending (Err Unavailable) ⊎ ((ending ≡ Misused) × ((asked : Asked) → ¬ (named ≡ names asked)))
+  names_none named Memory ending tells is = inl is
+  names_none named NotText ending tells is = absurd tells
+  names_none named (Value value) ending tells is = inr (is, λ asked e. cc)
+  names_none (refused kinds) (Words error) ending tells is = inr (is, λ asked e. cc)
+  names_none (names other) (Words error) ending tells is = absurd tells
+  names_none (bad value) (Words error) ending tells is = absurd tells
 
-  -- the words name a command, and it was done
-  pub runs_command : (words : List Text) (command : Command) (ending : Ending) (r : Result (Unit {0}) Fault) → TellsNamed (named_by words) (Ok command) → ending ≡ ending_of_result r
-      → DoesAsked g paths ports back left rest before after r (asked_by command) → Runs g paths ports back left rest before after (Ok words) ending
-  runs_command words command ending r tells is does = inl (asked_by command, tells, record { result = r; ending_is = is; does = does })
+  -- arguments that std hasn't, or for whose texts there was no memory
+  given_none : {Y Z : Type 0} (arguments : Result (IntoIter (String Y) Z) Error) (usage : Usage) (ending : Ending) → IsNotGiven arguments usage → TellsUsage contents untold told ending usage
+      → EndsBy contents untold told ending (Err Unavailable) ⊎ ((ending ≡ Misused) × ((asked : Asked) → ¬ (AsksFor (given arguments) asked)))
+  given_none (Ok arguments) usage ending none is = inl (subst (TellsUsage contents untold told ending) none is)
+  given_none (Err error) Memory ending none is = inl is
+  given_none (Err error) NotText ending none is = inr (is, λ asked asks. asks)
+  given_none (Err error) (Words why) ending none is = absurd none
+  given_none (Err error) (Value value) ending none is = absurd none
 
--- words that name no command, or weren't read for want of memory
-names_none : (named : Named) (usage : Usage) (ending : Ending) → TellsNamed named (Err usage) → ending ≡ ending_of usage
-    → (ending ≡ Failed) ⊎ ((ending ≡ Misused) × ((asked : Asked) → ¬ (named ≡ names asked)))
-names_none named Memory ending tells is = inl is
-names_none named NotText ending tells is = absurd tells
-names_none named (Value value) ending tells is = inr (is, λ asked e. cc)
-names_none (refused kinds) (Words error) ending tells is = inr (is, λ asked e. cc)
-names_none (names other) (Words error) ending tells is = absurd tells
-names_none (bad value) (Words error) ending tells is = absurd tells
+  module _ {S : Type 0} (g : Ghosts S) (paths : AtPaths S) (ports : AtPorts) (back : Option (Held S)) (left rest before after : Option (List ℕ)) where
+    does_all : (asked : Asked) (r : Result (Unit {0}) Fault) → EndsBy contents untold told Done r → DoesAsked g paths ports back left rest before after r asked
+        → DoesAsked {T = Unit {0}} g paths ports back left rest before after (Ok tt) asked
+    does_all asked (Ok x) ended does = does
+    does_all asked (Err fault) ended does = absurd (subst IsNotDone (sym ended.0) (fault_is_not_done fault))
 
-module _ {S : Type 0} (g : Ghosts S) (paths : AtPaths S) (ports : AtPorts) (left before : Option (List ℕ)) where
-  -- nothing was done
-  pub runs_nothing : (words : List Text) (usage : Usage) (ending : Ending) → TellsNamed (named_by words) (Err usage) → ending ≡ ending_of usage
-      → Runs g paths ports None left left before before (Ok words) ending
-  runs_nothing words usage ending tells is =
-      inr (record { unopened = refl; unread = Keeps-refl left; unwritten = Keeps-refl before; ending_is = names_none (named_by words) usage ending tells is })
+    module _ (words : Given) (ending : Ending) (runs : Runs g paths ports back left rest before after contents untold told words ending) where
+      -- a run that ends well has done what was asked
+      pub done_asked : ending ≡ Done
+          → (asked : Asked) × AsksFor words asked × DoesAsked {T = Unit {0}} g paths ports back left rest before after (Ok tt) asked
+      done_asked is = elim runs [
+        | inl asked ↦ (asked.0, asked.1, does_all asked.0 asked.2.result (subst (λ e. EndsBy contents untold told e asked.2.result) is asked.2.ended) asked.2.says)
+        | inr none ↦ elim none.ending_is [
+          | inl failed ↦ absurd (subst IsNotDone (sym failed.0 ∙ is) tt)
+          | inr misused ↦ absurd (subst IsNotDone (sym misused.0 ∙ is) tt)
+        ]
+      ]
 
-  pub runs_out : (words : Given) (ending : Ending) → ending ≡ Failed → Runs g paths ports None left left before before words ending
-  runs_out words ending is = inr (record { unopened = refl; unread = Keeps-refl left; unwritten = Keeps-refl before; ending_is = inl is })
+      -- and unless the words name no command, the fault line says how it ended
+      pub tells_ending : ¬ (ending ≡ Misused) → (result : Result (Unit {0}) Fault) × EndsBy contents untold told ending result
+      tells_ending named = elim runs [
+        | inl asked ↦ (asked.2.result, asked.2.ended)
+        | inr none ↦ elim none.ending_is [
+          | inl failed ↦ (Err Unavailable, failed)
+          | inr misused ↦ absurd (named misused.0)
+        ]
+      ]
+
+      pub is_quiet : ending ≡ Done → told ≡ untold
+      is_quiet is =
+          let of = tells_ending (λ misused. absurd (subst IsNotDone (sym misused ∙ is) tt)) in
+          ends_quiet of.0 (subst (λ e. EndsBy contents untold told e of.0) is of.1)
+
+  module _ {S : Type 0} (g : Ghosts S) (paths : AtPaths S) (ports : AtPorts) (left before : Option (List ℕ)) where
+    -- nothing was done
+    pub runs_nothing : (words : List Text) (usage : Usage) (ending : Ending) → TellsNamed (named_by words) (Err usage) → TellsUsage contents untold told ending usage
+        → Runs g paths ports None left left before before contents untold told (Ok words) ending
+    runs_nothing words usage ending tells is =
+        inr (record { unopened = refl; unread = Keeps-refl left; unwritten = Keeps-refl before; ending_is = names_none (named_by words) usage ending tells is })
+
+    pub runs_not : {Y Z : Type 0} (arguments : Result (IntoIter (String Y) Z) Error) (usage : Usage) (ending : Ending) → IsNotGiven arguments usage
+        → TellsUsage contents untold told ending usage → Runs g paths ports None left left before before contents untold told (given arguments) ending
+    runs_not arguments usage ending none is =
+        inr (record { unopened = refl; unread = Keeps-refl left; unwritten = Keeps-refl before; ending_is = given_none arguments usage ending none is })

@@ -64,7 +64,10 @@ module _ {S : Type 0} (law : RulesAreKept) (g : Ghosts S) (back : Held S) (c : S
     pub imports_by_rules : (sender : List ℕ) (result : Result T Fault) → ImportsBy c heard sender (KeepsHeard g back c) (IsLeft g back c) left rest before after result
         → LeavesRules g back c
     imports_by_rules sender (Ok x) by = kept_by_rules _ by.kept
-    imports_by_rules sender (Err File) by = left_by_rules _ _ by.left_is
+    imports_by_rules sender (Err File) by = elim by [
+      | inl none ↦ kept_by_rules _ none.kept
+      | inr some ↦ elim some [ inl them ↦ kept_by_rules _ them.kept | inr them ↦ left_by_rules _ _ them.left_is ]
+    ]
     imports_by_rules sender (Err Unavailable) by = left_by_rules _ _ by.left_is
     imports_by_rules sender (Err CsvSize) by = kept_by_rules _ by.kept
     imports_by_rules sender (Err CsvEnd) by = kept_by_rules _ by.kept

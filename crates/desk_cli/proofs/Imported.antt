@@ -1,54 +1,67 @@
 -- What came of an import, and what is said of the file that the store is in.
-use Rattle.std.proofs.Common.{◌≡◌, ℕ, List, [], Option, Some, None, Result, Ok, Err, refl, sym, ◌∙◌, inl, inr, length, subst}
+use Rattle.std.proofs.Common.{◌≡◌, ◌∷◌, ◌++◌, ℕ, Bool, false, List, [], Option, Some, None, Result, Ok, Err, refl, sym, ◌∙◌, inl, inr, take, subst}
 use Rattle.std.proofs.KnownBytes.{Appends-nil, Consumes-nil}
-use Rattle.std.proofs.Math.Seq.{take-length}
-use Rattle.std.specs.Prelude.{⊤}
+use Rattle.std.proofs.lemmas.Bool.{true≢false}
 use Rattle.registry_core.specs.declared.messages.Envelope.{Envelope}
 use Rattle.registry_core.specs.Settings.{Settings}
+use Rattle.desk_store.specs.Calls.{IsCall}
+use Rattle.desk_store.specs.Meaning.{Meaning}
 use Rattle.desk_store.specs.declared.faults.StoreFault.{StoreFault}
 use Rattle.desk_wire.specs.declared.csv_faults.CsvFault.{CsvFault}
 use Rattle.desk_wire.specs.declared.csv_faults.CsvFault.TheVariants as csv
 use Rattle.desk_engine.specs.declared.csv_importing.ImportEnd.TheVariants as end
-use Rattle.desk_engine.specs.CsvImporting.{ImportEndsBy, ImportsFirst, RefusesReport}
+use Rattle.desk_engine.specs.CsvImporting.{ImportEndsBy, ImportsAll, ImportsFirst, RefusesReport, answer_envelopes}
+use Rattle.desk_engine.specs.Hearing.{StoreKeeps, StoreLeaves}
 use Rattle.desk_engine.specs.Importing.{heard_in_order}
+use Rattle.desk_cli.proofs.OnTables.{unshut_by}
+use Rattle.desk_cli.specs.OnTables.{WasOpened}
 use Rattle.desk_cli.proofs.Opened.{err, is_unavailable}
 use Rattle.desk_cli.specs.Faults.{fault_of_csv, fault_of_store}
 use Rattle.desk_cli.specs.commands.Importing.{ImportsBy}
 use Rattle.desk_cli.specs.declared.faults.Fault.{Fault}
 use Rattle.desk_cli.specs.declared.faults.Fault.TheVariants.{Exists, NotADesk, Schema, Owner, Gateway, Month, CsvSize, CsvEnd, CsvHeader, CsvRecord, Unavailable, File, Network}
 
+-- each answer has an octet, its LF
+some_octets : (xs : List ℕ) (x : ℕ) (ys : List ℕ) → xs ++ x ∷ ys ≡ [] → ⊥
+some_octets [] x ys is = cc
+some_octets (y ∷ xs) x ys is = cc
+
+none_answered : (c : Settings) (heard es : List Envelope) → answer_envelopes c heard es ≡ [] → es ≡ []
+none_answered c heard [] is = refl
+none_answered c heard (e ∷ es) is = absurd (some_octets _ _ _ is)
+
+-- A store that no fault of the disk has shut leaves no message in doubt.
+pub undoubted : {K : Type 0} (m : Meaning K) (c : Settings) (heard : List Envelope) (old new : K) → WasOpened m old c heard → {foreign : Bool} → IsCall m old new false foreign
+    → (all : List Envelope) (doubt : Option Envelope) → StoreLeaves m c heard old new all doubt → StoreKeeps m c heard old new all
+undoubted m c heard old new was call all doubt leaves = record {
+  leaves = record {
+    order = leaves.order;
+    crash = λ before survives. elim (leaves.crash before survives) [
+      | inl own ↦ inl own
+      | inr in_doubt ↦ absurd (true≢false (sym in_doubt.2.is_down ∙ (unshut_by m old new call refl ∙ was.store.up)))
+    ];
+  };
+  still = unshut_by m old new call refl;
+}
+
 -- ---- the end of an import, as the command tells it
 
 module _ (c : Settings) (heard : List Envelope) (sender : List ℕ) (Kept : List Envelope → Type 0) (Left : List Envelope → Option Envelope → Type 0) (rest_before rest before after : Option (List ℕ)) (T : Type 0) where
-  -- nothing is said of what was written
-  pub some_written : (Written : List ℕ → Type 0) → ImportsFirst c heard sender Kept Left rest_before rest before after Written → ImportsFirst c heard sender Kept Left rest_before rest before after (λ _. ⊤)
-  some_written Written by = record {
+  -- A read failed: there is no answer, so no record was heard.
+  pub read_failed : ((doubt : Option Envelope) → Left heard doubt → Kept heard) → ImportEndsBy c heard sender Kept Left rest_before rest before after end.Read
+      → ImportsBy c heard sender Kept Left rest_before rest before after (err {T = T} File)
+  read_failed settles by = inl (record {
     input = by.input;
     read = by.read;
-    envelopes = by.envelopes;
-    report = by.report;
-    count = by.count;
-    doubt = by.doubt;
-    in_doubt = by.in_doubt;
-    left_is = by.left_is;
-    answers = tt;
-  }
+    kept = settles by.doubt (subst (λ es. Left (heard_in_order c heard es) by.doubt) (none_answered c heard (take by.count by.envelopes) by.answers.0) by.left_is);
+    unwritten = by.answers.1;
+  })
 
   -- the answers couldn't be written, of all or of the first
-  pub unwritten : ((all : List Envelope) → Kept all → Left all None) → (why : Option StoreFault) → ImportEndsBy c heard sender Kept Left rest_before rest before after (end.Write why)
+  pub unwritten : (why : Option StoreFault) → ImportEndsBy c heard sender Kept Left rest_before rest before after (end.Write why)
       → ImportsBy c heard sender Kept Left rest_before rest before after (err {T = T} File)
-  unwritten leaves None by = record {
-    input = by.input;
-    read = by.read;
-    envelopes = by.envelopes;
-    report = inr by.report;
-    count = length by.envelopes;
-    doubt = None;
-    in_doubt = inl refl;
-    left_is = subst (λ es. Left (heard_in_order c heard es) None) (sym (take-length by.envelopes)) (leaves _ by.kept);
-    answers = tt;
-  }
-  unwritten leaves (Some fault) by = by.0
+  unwritten None by = inr (inl by)
+  unwritten (Some fault) by = inr (inr by.0)
 
   pub no_report : (why : CsvFault) → ImportEndsBy c heard sender Kept Left rest_before rest before after (end.NoReport why) → (fault : Fault) → fault ≡ fault_of_csv why
       → ImportsBy c heard sender Kept Left rest_before rest before after (err {T = T} fault)
@@ -74,6 +87,9 @@ module _ (c : Settings) (heard : List Envelope) (sender : List ℕ) (Kept Stands
   refuses : (why : CsvFault) → RefusesReport c heard sender Kept Left rest_before rest before after why → RefusesReport c heard sender Stands Stays rest_before rest before after why
   refuses why by = record { input = by.input; read = by.read; no_report = by.no_report; kept = kept _ by.kept; answers = by.answers }
 
+  every : (Written : List ℕ → Type 0) → ImportsAll c heard sender Kept Left rest_before rest before after Written → ImportsAll c heard sender Stands Stays rest_before rest before after Written
+  every Written by = record { input = by.input; read = by.read; whole = by.whole; envelopes = by.envelopes; report = by.report; kept = kept _ by.kept; answers = by.answers }
+
   first : (Written : List ℕ → Type 0) → ImportsFirst c heard sender Kept Left rest_before rest before after Written → ImportsFirst c heard sender Stands Stays rest_before rest before after Written
   first Written by = record {
     input = by.input;
@@ -89,9 +105,12 @@ module _ (c : Settings) (heard : List Envelope) (sender : List ℕ) (Kept Stands
 
   -- what is said of a store is said of the file that it is in
   pub carried : {T : Type 0} (r : Result T Fault) → ImportsBy c heard sender Kept Left rest_before rest before after r → ImportsBy c heard sender Stands Stays rest_before rest before after r
-  carried (Ok x) by = record { input = by.input; read = by.read; whole = by.whole; envelopes = by.envelopes; report = by.report; kept = kept _ by.kept; answers = by.answers }
+  carried (Ok x) by = every _ by
   carried (Err Unavailable) by = first _ by
-  carried (Err File) by = first _ by
+  carried (Err File) by = elim by [
+    | inl none ↦ inl (record { input = none.input; read = none.read; kept = kept _ none.kept; unwritten = none.unwritten })
+    | inr some ↦ elim some [ inl them ↦ inr (inl (every _ them)) | inr them ↦ inr (inr (first _ them)) ]
+  ]
   carried (Err CsvSize) by = refuses _ by
   carried (Err CsvEnd) by = refuses _ by
   carried (Err CsvHeader) by = refuses _ by

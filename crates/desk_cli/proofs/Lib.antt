@@ -1,6 +1,8 @@
 pub mod Asked
 pub mod ByRules
 pub mod ByStore
+pub mod Ended
+pub mod FaultLines
 pub mod FoundAgain
 pub mod Imported
 pub mod InFiles

@@ -13,11 +13,11 @@ use Rattle.sqlite_trees.specs.declared.store.Store.{Ghosts}
 use Rattle.desk_cli.specs.Ports.{AtPorts}
 use Rattle.desk_cli.specs.CommandLine.{named_by}
 use Rattle.desk_cli.specs.Doing.{AtPaths, DoesAsked}
-use Rattle.desk_cli.specs.Faults.{ending_of_result}
+use Rattle.desk_cli.specs.Faults.{Ends, EndsBy}
 use Rattle.desk_cli.specs.Named.{Asked, names}
 use Rattle.desk_cli.specs.declared.endings.Ending.{Ending}
 use Rattle.desk_cli.specs.declared.endings.Ending.TheVariants.{Failed, Misused}
-use Rattle.desk_cli.specs.declared.faults.Fault.{Fault}
+use Rattle.desk_cli.specs.declared.faults.Fault.TheVariants.{Unavailable}
 
 -- the words of the program, its own name first, or why they can't be had
 abbrev pub Given : Type 0
@@ -44,20 +44,20 @@ EndsUnread kind Misused = kind ≢ OutOfMemory
 EndsUnread kind _ = ⊥
 
 -- What is known of files; what is answered at the ports; the connection that a run gives back; what its reader has left before and
--- after, and what its writer holds before and after.
-module _ {S : Type 0} (g : Ghosts S) (paths : AtPaths S) (ports : AtPorts) (back : Option (Held S)) (left rest before after : Option (List ℕ)) where
+-- after, and what its writer holds before and after; what the writer of the fault line holds, and that writer before and after.
+module _ {S F : Type 0} (g : Ghosts S) (paths : AtPaths S) (ports : AtPorts) (back : Option (Held S)) (left rest before after : Option (List ℕ))
+    (contents : F → Option (List ℕ)) (untold told : F) where
   -- what was asked was done, and the program ended by how that ended
-  pub record Does (ending : Ending) (asked : Asked) : Type 0 where
-    pub result : Result (Unit {0}) Fault
-    pub ending_is : ending ≡ ending_of_result result
-    pub does : DoesAsked g paths ports back left rest before after result asked
+  abbrev pub Does : Ending → Asked → Type 0
+  Does ending asked = Ends contents untold told ending (λ result. DoesAsked g paths ports back left rest before after result asked)
 
-  -- Nothing was asked: no file was opened, and nothing was read or written. The words name no command, or memory ran out.
+  -- Nothing was asked: no file was opened, and nothing was read or written. Memory ran out, which the fault line says, or the words name
+  -- no command.
   pub record AsksNothing (words : Given) (ending : Ending) : Type 0 where
     pub unopened : back ≡ None
     pub unread : Keeps left rest
     pub unwritten : Keeps before after
-    pub ending_is : (ending ≡ Failed) ⊎ ((ending ≡ Misused) × ((asked : Asked) → ¬ (AsksFor words asked)))
+    pub ending_is : EndsBy contents untold told ending (Err Unavailable) ⊎ ((ending ≡ Misused) × ((asked : Asked) → ¬ (AsksFor words asked)))
 
   abbrev pub Runs : Given → Ending → Type 0
   Runs words ending = ((asked : Asked) × AsksFor words asked × Does ending asked) ⊎ AsksNothing words ending

@@ -1,13 +1,15 @@
 //! Why a command isn't done, and the line that says so.
-ghost use Rattle.std.specs.Prelude.{◌≡◌, Ok};
-ghost use Rattle.desk_cli.specs.Faults.{ending_of_fault, ending_of_result, fault_of_csv, fault_of_report, fault_of_store};
+ghost use Rattle.std.specs.Prelude.{◌≡◌, Some, IfOk, OnOk};
+ghost use Rattle.std.specs.Fmt.InlineText.{inline_text};
+ghost use Rattle.std.specs.Io.KnownBytes.{Appends};
+ghost use Rattle.desk_cli.specs.Faults.{EndsBy, IsBegun, ending_of_fault, fault_line, fault_of_csv, fault_of_report, fault_of_store, fault_word};
 
 use crate::endings::Ending;
 use desk_engine::ReportFault;
 use desk_store::StoreFault;
 use desk_wire::CsvFault;
-use std::fmt::{self, Display, Formatter};
-use std::io::Write;
+use std::fmt::{self, Display, Formatter, InlineText};
+use std::io::{self, ErrorKind, Write};
 
 /// Why a command isn't done. Its `Display` is what the fault line says after `desk: `.
 #[derive(Clone, Copy, PartialEq, Eq)]
@@ -53,6 +55,8 @@ impl Fault {
 }
 
 impl Display for Fault {
+    ghost output = { λ fault. Some (fault_word fault) };
+
     fn fmt<W: fmt::Write>(&self, f: &mut Formatter<W>) -> fmt::Result {
         match self {
             Fault::Exists => f.write_str("exists"),
@@ -112,17 +116,59 @@ impl From<CsvFault> for Fault {
     }
 }
 
-/// How the program ends after a command. Why it wasn't done stands on the fault line; where even this can't be written, the
-/// exit status still tells.
-pub fn end<F: Write>(faults: &mut F, done: Result<(), Fault>) -> Ending
-    ensures ending { result ≡ ending_of_result done }
-    ensures quiet { result ≡ Ending.Done → faults.new ≡ faults.old }
+/// How a command ends that gave this. Why it wasn't done stands on the fault line; where even this can't be written, the exit
+/// status still tells.
+pub(crate) fn end<F: Write>(faults: &mut F, done: Result<(), Fault>) -> Ending
+    ensures { EndsBy F.contents faults.old faults.new result done }
 {
     match done {
         Ok(()) => Ending::Done,
         Err(fault) => {
-            let _ = writeln!(faults, "desk: {fault}");
+            tell(faults, fault);
             fault.ending()
         }
     }
+}
+
+/// Writes the line that tells the fault, or as much of it as can be written.
+fn tell<F: Write>(faults: &mut F, fault: Fault)
+    ensures { IsBegun (F.contents faults.old) (F.contents faults.new) (fault_line fault) }
+{
+    match line_of(fault) {
+        Ok(line) => {
+            let _ = write_beginning(faults, line.as_str().as_bytes());
+        }
+        // No line is as long as that.
+        Err(_) => {}
+    }
+}
+
+/// The line that tells the fault, which needs no memory.
+fn line_of(fault: Fault) -> Result<InlineText<32>, fmt::Error>
+    ensures { IfOk result (λ line. inline_text line ≡ fault_line fault) }
+{
+    let mut line = InlineText::new();
+    fmt::Write::writeln(&mut line, format_args!("desk: {fault}"))?;
+    Ok(line)
+}
+
+/// Writes the text. A write that was interrupted is made again; after 2^64 - 1 of them it fails. With an error only a beginning
+/// of the text is written.
+fn write_beginning<W: Write>(writer: &mut W, text: &[u8]) -> io::Result<()>
+    ensures whole { OnOk result (Appends (W.contents writer.old) (W.contents writer.new) text.now) }
+    ensures begun { IsBegun (W.contents writer.old) (W.contents writer.new) text.now }
+{
+    let mut rest = text;
+    for _ in 0..u64::MAX {
+        if rest.is_empty() {
+            return Ok(());
+        }
+        match writer.write(rest) {
+            Ok(0) => return Err(ErrorKind::WriteZero.into()),
+            Ok(count) => rest = &rest[count..],
+            Err(e) if e.kind() == ErrorKind::Interrupted => {}
+            Err(e) => return Err(e),
+        }
+    }
+    Err(ErrorKind::TimedOut.into())
 }

@@ -3,6 +3,7 @@ ghost use Rattle.registry_core.specs.Heard.{state_of};
 ghost use Rattle.std.specs.Io.KnownBytes.{Keeps};
 ghost use Rattle.desk_http.specs.Reports.{IsBandAnswer};
 ghost use Rattle.desk_cli.specs.Doing.{DoesAsked, OnDeskFile, OnFile};
+ghost use Rattle.desk_cli.specs.Faults.{Ends};
 ghost use Rattle.desk_cli.specs.Named.{asked_by};
 ghost use Rattle.desk_cli.specs.OnTables.{IsLeft, KeepsHeard};
 ghost use Rattle.desk_cli.specs.Printing.{IsOwnersMonth, PrintsBy};
@@ -19,7 +20,8 @@ use crate::commands::{
     Command, bands_command, check_command, hear_command, import_command, init_command,
     lines_command, migrate_command, report_command, serve_command,
 };
-use crate::faults::Fault;
+use crate::endings::Ending;
+use crate::faults::end;
 use crate::files::Files;
 use crate::network::Network;
 use radio_core::Name;
@@ -29,111 +31,148 @@ use sqlite::{Alter, Connection};
 use std::alloc::Global;
 use std::io::{Read, Write};
 
-/// What came of a command, and the connection to its file, where it has one that could be opened.
-pub type Performed<S> = (Result<(), Fault>, Option<Connection<S>>);
+/// How a command ended, and the connection to its file, where it has one that could be opened.
+pub type Performed<S> = (Ending, Option<Connection<S>>);
 
-/// What a command does with the connection to its file, which is given back; or why the file can't be opened.
+/// What a command does with the connection to its file, which is given back; or why the file can't be opened, which is told.
 macro_rules! on_file {
-    ($opened:expr, |$conn:ident| $command:expr) => {
+    ($opened:expr, $faults:ident, |$conn:ident| $command:expr) => {
         match $opened {
             Ok($conn) => {
-                let (done, $conn) = $command;
-                (done, Some($conn))
+                let (ending, $conn) = $command;
+                (ending, Some($conn))
             }
-            Err(fault) => (Err(fault), None),
+            Err(fault) => (end($faults, Err(fault)), None),
         }
     };
 }
 
 /// Does what the command asks.
-pub(crate) fn perform<S: Alter, N: Files<S>, B: Network, R: Read, W: Write>(
+pub(crate) fn perform<S: Alter, N: Files<S>, B: Network, R: Read, W: Write, F: Write>(
     alloc: Global,
     command: &Command<'_>,
     files: N,
     network: &B,
     reader: &mut R,
     answers: &mut W,
+    faults: &mut F,
 ) -> Performed<S>
-    ensures { DoesAsked S.Store (N.paths files) (at_ports B.ports network.now B.Port.meaning B.Port.Reader.remaining B.Port.Writer.contents) result.1
-        (R.remaining reader.old) (R.remaining reader.new) (W.contents answers.old) (W.contents answers.new) result.0 (asked_by command.now) }
+    ensures { Ends F.contents faults.old faults.new result.0 (λ done. DoesAsked S.Store (N.paths files)
+        (at_ports B.ports network.now B.Port.meaning B.Port.Reader.remaining B.Port.Writer.contents) result.1
+        (R.remaining reader.old) (R.remaining reader.new) (W.contents answers.old) (W.contents answers.new) done (asked_by command.now)) }
 {
     rules_are_kept();
     match command {
-        Command::Lines { config } => (lines_command(alloc, config, reader, answers), None),
-        Command::Init { file, config } => init_file(alloc, files, file, *config),
-        Command::Migrate { file } => migrate_file(alloc, files, file),
-        Command::Hear { file } => hear_file(alloc, files, file, reader, answers),
+        Command::Lines { config } => {
+            (lines_command(alloc, config, reader, answers, faults), None)
+        }
+        Command::Init { file, config } => init_file(alloc, files, file, *config, faults),
+        Command::Migrate { file } => migrate_file(alloc, files, file, faults),
+        Command::Hear { file } => hear_file(alloc, files, file, reader, answers, faults),
         Command::Import { file, sender } => {
-            import_file(alloc, files, file, sender, reader, answers)
+            import_file(alloc, files, file, sender, reader, answers, faults)
         }
         Command::Serve {
             file,
             port,
             connections,
-        } => { serve_file(alloc, files, network, file, *port, *connections, answers) }
-        Command::Report { file, owner, month } => {
-            report_file(alloc, files, file, owner, month, answers)
+        } => {
+            serve_file(
+                alloc,
+                files,
+                network,
+                file,
+                *port,
+                *connections,
+                answers,
+                faults,
+            )
         }
-        Command::Bands { file, gateway } => bands_file(alloc, files, file, gateway, answers),
-        Command::Check { file } => check_file(alloc, files, file, answers),
+        Command::Report { file, owner, month } => {
+            report_file(alloc, files, file, owner, month, answers, faults)
+        }
+        Command::Bands { file, gateway } => {
+            bands_file(alloc, files, file, gateway, answers, faults)
+        }
+        Command::Check { file } => check_file(alloc, files, file, answers, faults),
     }
 }
 
-fn init_file<S: Alter, N: Files<S>>(
+fn init_file<S: Alter, N: Files<S>, F: Write>(
     alloc: Global,
     files: N,
     file: &str,
     config: Config,
+    faults: &mut F,
 ) -> Performed<S>
-    ensures { OnFile (N.paths files).makes (N.paths files).unmade result.1 result.0 file.now (Unit {0}) (λ conn back. InitsBy S.Store conn back config result.0) }
+    ensures { Ends F.contents faults.old faults.new result.0 (λ done. OnFile (N.paths files).makes (N.paths files).unmade result.1 done file.now
+        (Unit {0}) (λ conn back. InitsBy S.Store conn back config done)) }
 {
-    on_file!(files.make(file), |conn| init_command(alloc, conn, config))
+    on_file!(
+        files.make(file),
+        faults,
+        |conn| init_command(alloc, conn, config, faults)
+    )
 }
 
-fn migrate_file<S: Alter, N: Files<S>>(alloc: Global, files: N, file: &str) -> Performed<S>
-    ensures { OnFile (N.paths files).opens (N.paths files).unopened result.1 result.0 file.now (Unit {0}) (λ conn back. MigratesBy S.Store conn back result.0) }
+fn migrate_file<S: Alter, N: Files<S>, F: Write>(
+    alloc: Global,
+    files: N,
+    file: &str,
+    faults: &mut F,
+) -> Performed<S>
+    ensures { Ends F.contents faults.old faults.new result.0 (λ done. OnFile (N.paths files).opens (N.paths files).unopened result.1 done file.now
+        (Unit {0}) (λ conn back. MigratesBy S.Store conn back done)) }
 {
-    on_file!(files.open(file), |conn| migrate_command(alloc, conn))
+    on_file!(
+        files.open(file),
+        faults,
+        |conn| migrate_command(alloc, conn, faults)
+    )
 }
 
-fn hear_file<S: Alter, N: Files<S>, R: Read, W: Write>(
+fn hear_file<S: Alter, N: Files<S>, R: Read, W: Write, F: Write>(
     alloc: Global,
     files: N,
     file: &str,
     reader: &mut R,
     answers: &mut W,
+    faults: &mut F,
 ) -> Performed<S>
-    ensures { OnDeskFile S.Store (N.paths files) result.1 result.0 file.now
+    ensures { Ends F.contents faults.old faults.new result.0 (λ done. OnDeskFile S.Store (N.paths files) result.1 done file.now
         (Keeps (R.remaining reader.old) (R.remaining reader.new) × Keeps (W.contents answers.old) (W.contents answers.new))
         (λ back c heard. HearsBy S.Store back c heard (R.remaining reader.old) (R.remaining reader.new)
-        (W.contents answers.old) (W.contents answers.new) result.0) }
+        (W.contents answers.old) (W.contents answers.new) done)) }
 {
     on_file!(
         files.open(file),
-        |conn| hear_command(alloc, conn, reader, answers)
+        faults,
+        |conn| hear_command(alloc, conn, reader, answers, faults)
     )
 }
 
-fn import_file<S: Alter, N: Files<S>, R: Read, W: Write>(
+fn import_file<S: Alter, N: Files<S>, R: Read, W: Write, F: Write>(
     alloc: Global,
     files: N,
     file: &str,
     sender: &Name,
     reader: &mut R,
     answers: &mut W,
+    faults: &mut F,
 ) -> Performed<S>
-    ensures { OnDeskFile S.Store (N.paths files) result.1 result.0 file.now
+    ensures { Ends F.contents faults.old faults.new result.0 (λ done. OnDeskFile S.Store (N.paths files) result.1 done file.now
         (Keeps (R.remaining reader.old) (R.remaining reader.new) × Keeps (W.contents answers.old) (W.contents answers.new))
         (λ back c heard. ImportsBy c heard sender.now (KeepsHeard S.Store back c) (IsLeft S.Store back c)
-        (R.remaining reader.old) (R.remaining reader.new) (W.contents answers.old) (W.contents answers.new) result.0) }
+        (R.remaining reader.old) (R.remaining reader.new) (W.contents answers.old) (W.contents answers.new) done)) }
 {
     on_file!(
         files.open(file),
-        |conn| import_command(alloc, conn, sender, reader, answers)
+        faults,
+        |conn| import_command(alloc, conn, sender, reader, answers, faults)
     )
 }
 
-fn serve_file<S: Alter, N: Files<S>, B: Network, W: Write>(
+fn serve_file<S: Alter, N: Files<S>, B: Network, W: Write, F: Write>(
     alloc: Global,
     files: N,
     network: &B,
@@ -141,65 +180,76 @@ fn serve_file<S: Alter, N: Files<S>, B: Network, W: Write>(
     port: u16,
     connections: u32,
     answers: &mut W,
+    faults: &mut F,
 ) -> Performed<S>
-    ensures { OnDeskFile S.Store (N.paths files) result.1 result.0 file.now
+    ensures { Ends F.contents faults.old faults.new result.0 (λ done. OnDeskFile S.Store (N.paths files) result.1 done file.now
         (Keeps (W.contents answers.old) (W.contents answers.new))
         (λ back c heard. ServesBy c heard (KeepsHeard S.Store back c) (IsLeft S.Store back c)
-        (at_ports B.ports network.now B.Port.meaning B.Port.Reader.remaining B.Port.Writer.contents) port connections (W.contents answers.old) (W.contents answers.new) result.0) }
+        (at_ports B.ports network.now B.Port.meaning B.Port.Reader.remaining B.Port.Writer.contents) port connections (W.contents answers.old) (W.contents answers.new) done)) }
 {
     on_file!(
         files.open(file),
-        |conn| serve_command(alloc, conn, network, port, connections, answers)
+        faults,
+        |conn| serve_command(alloc, conn, network, port, connections, answers, faults)
     )
 }
 
-fn report_file<S: Alter, N: Files<S>, W: Write>(
+fn report_file<S: Alter, N: Files<S>, W: Write, F: Write>(
     alloc: Global,
     files: N,
     file: &str,
     owner: &str,
     month: &str,
     answers: &mut W,
+    faults: &mut F,
 ) -> Performed<S>
-    ensures { OnDeskFile S.Store (N.paths files) result.1 result.0 file.now
+    ensures { Ends F.contents faults.old faults.new result.0 (λ done. OnDeskFile S.Store (N.paths files) result.1 done file.now
         (Keeps (W.contents answers.old) (W.contents answers.new))
         (λ back c heard. PrintsBy (KeepsHeard S.Store back c heard) (IsLeft S.Store back c heard None)
-        (W.contents answers.old) (W.contents answers.new) (IsOwnersMonth (state_of c heard) owner.now month.now) result.0) }
+        (W.contents answers.old) (W.contents answers.new) (IsOwnersMonth (state_of c heard) owner.now month.now) done)) }
 {
     on_file!(
         files.open(file),
-        |conn| report_command(alloc, conn, owner, month, answers)
+        faults,
+        |conn| report_command(alloc, conn, owner, month, answers, faults)
     )
 }
 
-fn bands_file<S: Alter, N: Files<S>, W: Write>(
+fn bands_file<S: Alter, N: Files<S>, W: Write, F: Write>(
     alloc: Global,
     files: N,
     file: &str,
     gateway: &str,
     answers: &mut W,
+    faults: &mut F,
 ) -> Performed<S>
-    ensures { OnDeskFile S.Store (N.paths files) result.1 result.0 file.now
+    ensures { Ends F.contents faults.old faults.new result.0 (λ done. OnDeskFile S.Store (N.paths files) result.1 done file.now
         (Keeps (W.contents answers.old) (W.contents answers.new))
         (λ back c heard. PrintsBy (KeepsHeard S.Store back c heard) (IsLeft S.Store back c heard None)
-        (W.contents answers.old) (W.contents answers.new) (IsBandAnswer (state_of c heard) gateway.now) result.0) }
+        (W.contents answers.old) (W.contents answers.new) (IsBandAnswer (state_of c heard) gateway.now) done)) }
 {
     on_file!(
         files.open(file),
-        |conn| bands_command(alloc, conn, gateway, answers)
+        faults,
+        |conn| bands_command(alloc, conn, gateway, answers, faults)
     )
 }
 
-fn check_file<S: Alter, N: Files<S>, W: Write>(
+fn check_file<S: Alter, N: Files<S>, W: Write, F: Write>(
     alloc: Global,
     files: N,
     file: &str,
     answers: &mut W,
+    faults: &mut F,
 ) -> Performed<S>
-    ensures { OnDeskFile S.Store (N.paths files) result.1 result.0 file.now
+    ensures { Ends F.contents faults.old faults.new result.0 (λ done. OnDeskFile S.Store (N.paths files) result.1 done file.now
         (Keeps (W.contents answers.old) (W.contents answers.new))
         (λ back c heard. PrintsBy (KeepsHeard S.Store back c heard) (IsLeft S.Store back c heard None)
-        (W.contents answers.old) (W.contents answers.new) (IsCheck c heard) result.0) }
+        (W.contents answers.old) (W.contents answers.new) (IsCheck c heard) done)) }
 {
-    on_file!(files.open(file), |conn| check_command(alloc, conn, answers))
+    on_file!(
+        files.open(file),
+        faults,
+        |conn| check_command(alloc, conn, answers, faults)
+    )
 }

@@ -1,17 +1,18 @@
 //! The program's arguments, and what it does with them.
-ghost use Rattle.std.specs.Prelude.{◌≡◌, Ok, None, map, string_bytes, IfOk, IfErr};
+ghost use Rattle.std.specs.Prelude.{◌≡◌, ◌≢◌, Result, Ok, Err, None, map, string_bytes, IfOk, IfErr};
 ghost use Rattle.std.specs.IoError.{error_kind};
 ghost use Rattle.std.specs.Vec.Iter.{into_iter_items};
 ghost use Rattle.clap.specs.Walk.{texts};
 ghost use Rattle.desk_cli.specs.Doing.{DoesAsked};
-ghost use Rattle.desk_cli.specs.Endings.{ending_of};
+ghost use Rattle.desk_cli.specs.Faults.{EndsBy};
 ghost use Rattle.desk_cli.specs.Named.{Asked};
 ghost use Rattle.desk_cli.specs.Runs.{EndsUnread, Given, IsNamed, Runs, given};
 ghost use Rattle.desk_cli.specs.steps.Given.{IsNotGiven, IsUnread};
+ghost use Rattle.desk_cli.specs.steps.Usages.{TellsUsage};
 ghost use Rattle.desk_cli.specs.Ports.{at_ports};
 
 use crate::endings::{Ending, ending_of};
-use crate::faults::end;
+use crate::faults::{Fault, end};
 use crate::files::Files;
 use crate::network::Network;
 use crate::performing::perform;
@@ -35,12 +36,14 @@ pub fn run<E: Env + AllocGlobal, S: Alter, N: Files<S>, B: Network, R: Read, W: 
 ) -> (Ending, Option<Connection<S>>)
     // Some words name a command, and what it asks was done, by how it ended; or they name none, or can't be had.
     ensures runs { (words : Given) × Runs S.Store (N.paths files) (at_ports B.ports network.now B.Port.meaning B.Port.Reader.remaining B.Port.Writer.contents) result.1
-        (R.remaining reader.old) (R.remaining reader.new) (W.contents answers.old) (W.contents answers.new) words result.0 }
+        (R.remaining reader.old) (R.remaining reader.new) (W.contents answers.old) (W.contents answers.new) F.contents faults.old faults.new words result.0 }
     // So with status 0 what a command that words name asks was done.
     ensures done { result.0 ≡ Ending.Done → (asked : Asked) × IsNamed asked
         × DoesAsked {T = Unit {0}} S.Store (N.paths files) (at_ports B.ports network.now B.Port.meaning B.Port.Reader.remaining B.Port.Writer.contents) result.1
         (R.remaining reader.old) (R.remaining reader.new) (W.contents answers.old) (W.contents answers.new) (Ok tt) asked }
+    // Then nothing is written on the fault line. Unless the words name no command, it says why what they ask wasn't done.
     ensures quiet { result.0 ≡ Ending.Done → faults.new ≡ faults.old }
+    ensures told { result.0 ≢ Ending.Misused → (done : Result (Unit {0}) Fault) × EndsBy F.contents faults.old faults.new result.0 done }
     // Where the words name no command no file was opened, nothing was read, and nothing was answered.
     ensures misused { result.0 ≡ Ending.Misused
         → (reader.new ≡ reader.old) × (answers.new ≡ answers.old) × (result.1 ≡ None) }
@@ -68,8 +71,9 @@ pub fn run_given<S: Alter, N: Files<S>, B: Network, R: Read, W: Write, F: Write>
 ) -> (Ending, Option<Connection<S>>)
     // The words name a command, and what it asks was done, by how it ended; or they name none, or can't be had.
     ensures runs { Runs S.Store (N.paths files) (at_ports B.ports network.now B.Port.meaning B.Port.Reader.remaining B.Port.Writer.contents) result.1
-        (R.remaining reader.old) (R.remaining reader.new) (W.contents answers.old) (W.contents answers.new) (given arguments) result.0 }
+        (R.remaining reader.old) (R.remaining reader.new) (W.contents answers.old) (W.contents answers.new) F.contents faults.old faults.new (given arguments) result.0 }
     ensures quiet { result.0 ≡ Ending.Done → faults.new ≡ faults.old }
+    ensures told { result.0 ≢ Ending.Misused → (done : Result (Unit {0}) Fault) × EndsBy F.contents faults.old faults.new result.0 done }
     ensures misused { result.0 ≡ Ending.Misused
         → (reader.new ≡ reader.old) × (answers.new ≡ answers.old) × (result.1 ≡ None) }
     ensures unread { IfErr arguments (λ error. EndsUnread (error_kind error) result.0) }
@@ -91,8 +95,7 @@ fn run_strings<S: Alter, N: Files<S>, B: Network, R: Read, W: Write, F: Write>(
     faults: &mut F,
 ) -> (Ending, Option<Connection<S>>)
     ensures runs { Runs S.Store (N.paths files) (at_ports B.ports network.now B.Port.meaning B.Port.Reader.remaining B.Port.Writer.contents) result.1
-        (R.remaining reader.old) (R.remaining reader.new) (W.contents answers.old) (W.contents answers.new) (Ok (map string_bytes strings.now)) result.0 }
-    ensures quiet { result.0 ≡ Ending.Done → faults.new ≡ faults.old }
+        (R.remaining reader.old) (R.remaining reader.new) (W.contents answers.old) (W.contents answers.new) F.contents faults.old faults.new (Ok (map string_bytes strings.now)) result.0 }
     ensures misused { result.0 ≡ Ending.Misused
         → (reader.new ≡ reader.old) × (answers.new ≡ answers.old) × (result.1 ≡ None) }
 {
@@ -100,20 +103,23 @@ fn run_strings<S: Alter, N: Files<S>, B: Network, R: Read, W: Write, F: Write>(
         return (tell(&Usage::Memory, faults), None);
     };
     match read_words(alloc, &words) {
-        Ok(command) => {
-            let (done, conn) = perform(alloc, &command, files, network, reader, answers);
-            (end(faults, done), conn)
-        }
+        Ok(command) => { perform(alloc, &command, files, network, reader, answers, faults) }
         Err(usage) => (tell(&usage, faults), None),
     }
 }
 
+/// Says what is wrong with the words.
 fn tell<F: Write>(usage: &Usage, faults: &mut F) -> Ending
-    ensures { result ≡ ending_of usage.now }
+    ensures { TellsUsage F.contents faults.old faults.new result usage.now }
 {
-    // Where even this can't be written, the exit status still tells.
-    let _ = write!(faults, "{usage}");
-    ending_of(usage)
+    match usage {
+        Usage::Memory => end(faults, Err(Fault::Unavailable)),
+        _ => {
+            // Where even this can't be written, the exit status still tells.
+            let _ = write!(faults, "{usage}");
+            ending_of(usage)
+        }
+    }
 }
 
 /// Why the arguments can't be had.

@@ -1,11 +1,11 @@
 -- `desk import`: its words, and what it has done, by how it ended.
-use Rattle.std.specs.Prelude.{List, Ok, codes, ℕ, Option, Result, Err, ⊤}
+use Rattle.std.specs.Prelude.{◌⊎◌, List, Ok, codes, ℕ, Option, Result, Err, ⊤}
 use Rattle.clap.specs.Simple.{App, new_app, with_rule}
 use Rattle.clap.specs.Walk.{Row}
 use Rattle.desk_cli.specs.Named.{Named, import, named_as}
 use Rattle.desk_cli.specs.Options.{◌>>=◌, name_of, needed_rule, or_bad, place_rule, placed, value_at}
 use Rattle.desk_cli.specs.declared.usage.BadValue.TheVariants.{Sender}
-use Rattle.std.specs.Io.KnownBytes.{Appends}
+use Rattle.std.specs.Io.KnownBytes.{Appends, Consumes, Keeps}
 use Rattle.registry_core.specs.declared.messages.Envelope.{Envelope}
 use Rattle.registry_core.specs.Settings.{Settings}
 use Rattle.desk_wire.specs.declared.csv_faults.CsvFault.TheVariants as csv
@@ -31,10 +31,21 @@ import_named rows = named_as do
 -- are left, or these with one more; what a reader has left before and after, and what a writer holds before and after.
 module _ (c : Settings) (heard : List Envelope) (sender : List ℕ) (Kept : List Envelope → Type 0) (Left : List Envelope → Option Envelope → Type 0)
     (left rest before after : Option (List ℕ)) where
+  -- a read failed, and nothing was heard or written
+  pub record ReadsInVain : Type 0 where
+    pub input : List ℕ
+    pub read : Consumes left rest input
+    pub kept : Kept heard
+    pub unwritten : Keeps before after
+
+  -- A write failed. Every record was heard; or the store was unavailable for one, and those before it were heard.
+  abbrev pub WritesInVain : Type 0
+  WritesInVain = ImportsAll c heard sender Kept Left left rest before after (λ _. ⊤) ⊎ ImportsFirst c heard sender Kept Left left rest before after (λ _. ⊤)
+
   abbrev pub ImportsBy : {T : Type 0} → Result T Fault → Type 0
   ImportsBy (Ok x) = ImportsAll c heard sender Kept Left left rest before after (Appends before after)
   ImportsBy (Err Unavailable) = ImportsFirst c heard sender Kept Left left rest before after (Appends before after)
-  ImportsBy (Err File) = ImportsFirst c heard sender Kept Left left rest before after (λ _. ⊤)
+  ImportsBy (Err File) = ReadsInVain ⊎ WritesInVain
   ImportsBy (Err CsvSize) = RefusesReport c heard sender Kept Left left rest before after csv.Size
   ImportsBy (Err CsvEnd) = RefusesReport c heard sender Kept Left left rest before after csv.Unended
   ImportsBy (Err CsvHeader) = RefusesReport c heard sender Kept Left left rest before after csv.Header

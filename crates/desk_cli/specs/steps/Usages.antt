@@ -1,8 +1,12 @@
--- What words are told that clap refuses.
-use Rattle.std.specs.Prelude.{◌≡◌, ◌≢◌}
+-- What words are told that clap refuses, and how a program ends for which words name no command.
+use Rattle.std.specs.Prelude.{◌≡◌, ◌≢◌, ℕ, List, Option, Err}
 use Rattle.clap.specs.Values.{kind_of}
 use Rattle.clap.specs.declared.error.Error.{Error}
 use Rattle.clap.specs.declared.error.kind.ErrorKind.TheVariants.{OutOfMemory}
+use Rattle.desk_cli.specs.Faults.{EndsBy}
+use Rattle.desk_cli.specs.declared.endings.Ending.{Ending}
+use Rattle.desk_cli.specs.declared.endings.Ending.TheVariants.{Misused}
+use Rattle.desk_cli.specs.declared.faults.Fault.TheVariants.{Unavailable}
 use Rattle.desk_cli.specs.declared.usage.Usage.{Usage}
 use Rattle.desk_cli.specs.declared.usage.Usage.TheVariants.{Words, Value, NotText, Memory}
 
@@ -12,3 +16,9 @@ IsUsageOf error Memory = kind_of error ≡ OutOfMemory
 IsUsageOf error (Words same) = (same ≡ error) × (kind_of error ≢ OutOfMemory)
 IsUsageOf error (Value value) = ⊥
 IsUsageOf error NotText = ⊥
+
+-- The want of memory is told as any command's; of the text that is told of words nothing is said. What the writer of the fault line
+-- holds, and that writer before and after.
+abbrev pub TellsUsage : {F : Type 0} → (F → Option (List ℕ)) → F → F → Ending → Usage → Type 0
+TellsUsage contents untold told ending Memory = EndsBy contents untold told ending (Err Unavailable)
+TellsUsage contents untold told ending _ = ending ≡ Misused

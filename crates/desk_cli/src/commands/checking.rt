@@ -11,6 +11,8 @@ ghost use Rattle.registry_core.specs.Settings.{Settings};
 ghost use Rattle.desk_store.specs.Calls.{IsRead, Tells, fault_in};
 ghost use Rattle.desk_engine.specs.Reporting.{store_fault_in};
 ghost use Rattle.desk_tables.specs.Store.{meaning_of};
+ghost use Rattle.desk_cli.specs.Doing.{OnDesk};
+ghost use Rattle.desk_cli.specs.Faults.{Ends};
 ghost use Rattle.desk_cli.specs.Named.{TellsNamed};
 ghost use Rattle.desk_cli.specs.steps.CommandLine.{IsCommand};
 ghost use Rattle.desk_cli.specs.NoDesk.{HoldsNoDesk, RefusesFile};
@@ -20,7 +22,8 @@ ghost use Rattle.desk_cli.specs.commands.Checking.{IsCheck, check_app, check_nam
 ghost use Rattle.desk_cli.specs.steps.Checking.{IsCheckOf, TellsTotals};
 
 use super::Command;
-use crate::faults::Fault;
+use crate::endings::Ending;
+use crate::faults::{Fault, end};
 use crate::opening::opened;
 use crate::options::{command_on_file, placed};
 use crate::printing::print;
@@ -58,7 +61,25 @@ pub(crate) fn check_of<'a>(options: &ArgMatches<'a>) -> Result<Command<'a>, Usag
 ///
 /// With `File` the writer failed. Nothing is changed. What is no desk's of schema 2 is refused, by `NotADesk`, `Schema` or
 /// `Unavailable`, and stays as it is.
-pub fn check_command<S: Alter, W: Write>(
+pub fn check_command<S: Alter, W: Write, F: Write>(
+    alloc: Global,
+    conn: Connection<S>,
+    answers: &mut W,
+    faults: &mut F,
+) -> (Ending, Connection<S>)
+    requires idle { conn.in_transaction ≡ false }
+    requires unlimited { conn.step_limit ≡ None }
+    ensures { Ends F.contents faults.old faults.new result.0 (λ done. OnDesk S.Store conn result.1 done
+        (Keeps (W.contents answers.old) (W.contents answers.new))
+        (λ c heard. PrintsBy (KeepsHeard S.Store result.1 c heard) (IsLeft S.Store result.1 c heard None) (W.contents answers.old) (W.contents answers.new)
+        (IsCheck c heard) done)) }
+{
+    let (done, conn) = print_check(alloc, conn, answers);
+    (end(faults, done), conn)
+}
+
+/// What the desk holds is printed, and the connection given back.
+fn print_check<S: Alter, W: Write>(
     alloc: Global,
     conn: Connection<S>,
     answers: &mut W,

@@ -4,6 +4,8 @@ ghost use Rattle.std.specs.Io.KnownBytes.{Keeps};
 ghost use Rattle.clap.specs.Matches.{found_of};
 ghost use Rattle.clap.specs.Walk.{rows_of};
 ghost use Rattle.desk_cli.specs.commands.Hear.{hear_app, hear_named, HearsBy};
+ghost use Rattle.desk_cli.specs.Doing.{OnDesk};
+ghost use Rattle.desk_cli.specs.Faults.{Ends};
 ghost use Rattle.desk_cli.specs.Named.{TellsNamed};
 ghost use Rattle.desk_cli.specs.steps.CommandLine.{IsCommand};
 ghost use Rattle.sqlite.specs.Held.{state};
@@ -16,7 +18,8 @@ ghost use Rattle.desk_cli.specs.steps.Jobs.{answers};
 
 use super::Command;
 use crate::answering::answer_lines;
-use crate::faults::Fault;
+use crate::endings::Ending;
+use crate::faults::{Fault, end};
 use crate::jobs::{Job, by_store};
 use crate::options::{command_on_file, placed};
 use crate::usage::Usage;
@@ -49,7 +52,26 @@ pub(crate) fn hear_of<'a>(options: &ArgMatches<'a>) -> Result<Command<'a>, Usage
 /// failed: the first lines are heard, and how much of the last answer went out isn't known. With `Unavailable` exactly the
 /// lines before the one that found the desk so are answered. What is no desk's of schema 2 is refused, by `NotADesk`,
 /// `Schema` or `Unavailable`, and stays as it is.
-pub fn hear_command<S: Alter, R: Read, W: Write>(
+pub fn hear_command<S: Alter, R: Read, W: Write, F: Write>(
+    alloc: Global,
+    conn: Connection<S>,
+    reader: &mut R,
+    answers: &mut W,
+    faults: &mut F,
+) -> (Ending, Connection<S>)
+    requires idle { conn.in_transaction ≡ false }
+    requires unlimited { conn.step_limit ≡ None }
+    ensures { Ends F.contents faults.old faults.new result.0 (λ done. OnDesk S.Store conn result.1 done
+        (Keeps (R.remaining reader.old) (R.remaining reader.new) × Keeps (W.contents answers.old) (W.contents answers.new))
+        (λ c heard. HearsBy S.Store result.1 c heard (R.remaining reader.old) (R.remaining reader.new)
+        (W.contents answers.old) (W.contents answers.new) done)) }
+{
+    let (done, conn) = hear_lines(alloc, conn, reader, answers);
+    (end(faults, done), conn)
+}
+
+/// The messages of the reader are answered, and the connection is given back.
+fn hear_lines<S: Alter, R: Read, W: Write>(
     alloc: Global,
     conn: Connection<S>,
     reader: &mut R,

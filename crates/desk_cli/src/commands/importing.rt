@@ -3,6 +3,8 @@ ghost use Rattle.std.specs.Prelude.{◌≡◌, false, List, None};
 ghost use Rattle.clap.specs.Matches.{found_of};
 ghost use Rattle.clap.specs.Walk.{rows_of};
 ghost use Rattle.desk_cli.specs.commands.Importing.{import_app, import_named, ImportsBy};
+ghost use Rattle.desk_cli.specs.Doing.{OnDesk};
+ghost use Rattle.desk_cli.specs.Faults.{Ends};
 ghost use Rattle.desk_cli.specs.Named.{TellsNamed};
 ghost use Rattle.desk_cli.specs.steps.CommandLine.{IsCommand};
 ghost use Rattle.std.specs.Io.KnownBytes.{Keeps};
@@ -15,7 +17,8 @@ ghost use Rattle.desk_cli.specs.OnTables.{IsLeft, KeepsHeard};
 ghost use Rattle.desk_cli.specs.steps.Jobs.{imports};
 
 use super::Command;
-use crate::faults::Fault;
+use crate::endings::Ending;
+use crate::faults::{Fault, end};
 use crate::jobs::{Job, by_store};
 use crate::options::{command_on_file, name_at, needed, placed, with_word};
 use crate::usage::{BadValue, Usage};
@@ -50,10 +53,31 @@ pub(crate) fn import_of<'a>(options: &ArgMatches<'a>) -> Result<Command<'a>, Usa
 /// writes an answer for each, one a line, and gives the connection back.
 ///
 /// Nothing is read before the desk is open, and nothing is heard before the report is read whole. What is no report is told
-/// by one of the `Csv` faults. With `File` a read or a write failed, and with `Unavailable` exactly the answers of the
+/// by one of the `Csv` faults. With `File` either a read failed, and nothing is heard or written; or a write failed, and every
+/// record is heard, or those before the one that found the desk unavailable. With `Unavailable` exactly the answers of the
 /// records before the one that found the desk so were written. What is no desk's of schema 2 is refused, by `NotADesk`,
 /// `Schema` or `Unavailable`, and stays as it is.
-pub fn import_command<S: Alter, R: Read, W: Write>(
+pub fn import_command<S: Alter, R: Read, W: Write, F: Write>(
+    alloc: Global,
+    conn: Connection<S>,
+    sender: &Name,
+    reader: &mut R,
+    answers: &mut W,
+    faults: &mut F,
+) -> (Ending, Connection<S>)
+    requires idle { conn.in_transaction ≡ false }
+    requires unlimited { conn.step_limit ≡ None }
+    ensures { Ends F.contents faults.old faults.new result.0 (λ done. OnDesk S.Store conn result.1 done
+        (Keeps (R.remaining reader.old) (R.remaining reader.new) × Keeps (W.contents answers.old) (W.contents answers.new))
+        (λ c heard. ImportsBy c heard sender.now (KeepsHeard S.Store result.1 c) (IsLeft S.Store result.1 c)
+        (R.remaining reader.old) (R.remaining reader.new) (W.contents answers.old) (W.contents answers.new) done)) }
+{
+    let (done, conn) = hear_report(alloc, conn, sender, reader, answers);
+    (end(faults, done), conn)
+}
+
+/// The reader's report is heard, and the connection is given back.
+fn hear_report<S: Alter, R: Read, W: Write>(
     alloc: Global,
     conn: Connection<S>,
     sender: &Name,

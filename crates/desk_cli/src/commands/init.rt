@@ -3,11 +3,13 @@ ghost use Rattle.std.specs.Prelude.{◌≡◌, false, None};
 ghost use Rattle.clap.specs.Matches.{found_of};
 ghost use Rattle.clap.specs.Walk.{rows_of};
 ghost use Rattle.desk_cli.specs.commands.Init.{init_app, init_named, InitsBy};
+ghost use Rattle.desk_cli.specs.Faults.{Ends};
 ghost use Rattle.desk_cli.specs.Named.{TellsNamed};
 ghost use Rattle.desk_cli.specs.steps.CommandLine.{IsCommand};
 
 use super::Command;
-use crate::faults::Fault;
+use crate::endings::Ending;
+use crate::faults::{Fault, end};
 use crate::options::{command_with_settings, config_of, place, placed, with_word};
 use crate::usage::Usage;
 use clap::ArgMatches;
@@ -16,6 +18,7 @@ use registry_core::Config;
 use registry_core::laws::nothing_is_heard;
 use sqlite::{Alter, Connection};
 use std::alloc::{AllocError, Global};
+use std::io::Write;
 
 /// Its words: its name, the file, and the options of a desk's configuration.
 pub(crate) fn init_app<'a>(alloc: Global) -> Result<clap::Command<'a>, AllocError>
@@ -40,7 +43,22 @@ pub(crate) fn init_of<'a>(options: &ArgMatches<'a>) -> Result<Command<'a>, Usage
 ///
 /// `Exists` where one of the desk's names is taken there, else `NotADesk` where there is anything else, else `Unavailable`:
 /// then nothing is changed, and a crash leaves what was there, or the new desk.
-pub fn init_command<S: Alter>(
+pub fn init_command<S: Alter, F: Write>(
+    alloc: Global,
+    conn: Connection<S>,
+    config: Config,
+    faults: &mut F,
+) -> (Ending, Connection<S>)
+    requires idle { conn.in_transaction ≡ false }
+    requires unlimited { conn.step_limit ≡ None }
+    ensures { Ends F.contents faults.old faults.new result.0 (λ done. InitsBy S.Store conn result.1 config done) }
+{
+    let (done, conn) = make_desk(alloc, conn, config);
+    (end(faults, done), conn)
+}
+
+/// A desk is made, and the connection given back.
+fn make_desk<S: Alter>(
     alloc: Global,
     conn: Connection<S>,
     config: Config,

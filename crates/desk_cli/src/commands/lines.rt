@@ -5,13 +5,15 @@ ghost use Rattle.clap.specs.Walk.{rows_of};
 ghost use Rattle.registry_core.specs.State.{opening};
 ghost use Rattle.desk_store.specs.Lists.{kept_of, settings_of};
 ghost use Rattle.desk_cli.specs.commands.Lines.{AnswersLines, lines_app, lines_named};
+ghost use Rattle.desk_cli.specs.Faults.{Ends};
 ghost use Rattle.desk_cli.specs.Named.{TellsNamed};
 ghost use Rattle.desk_cli.specs.steps.CommandLine.{IsCommand};
 ghost use Rattle.desk_cli.specs.Options.{config_of};
 
 use super::Command;
 use crate::answering::answer_lines;
-use crate::faults::Fault;
+use crate::endings::Ending;
+use crate::faults::{Fault, end};
 use crate::options::{command_with_settings, config_of};
 use crate::usage::Usage;
 use clap::ArgMatches;
@@ -42,7 +44,22 @@ pub(crate) fn lines_of<'a>(options: &ArgMatches<'a>) -> Result<Command<'a>, Usag
 ///
 /// With `File` the reader or the writer failed. With `Unavailable` there was no memory, and then exactly the lines before are
 /// answered.
-pub fn lines_command<R: Read, W: Write>(
+pub fn lines_command<R: Read, W: Write, F: Write>(
+    alloc: Global,
+    config: &Config,
+    reader: &mut R,
+    answers: &mut W,
+    faults: &mut F,
+) -> Ending
+    ensures { Ends F.contents faults.old faults.new result (λ done. AnswersLines (R.remaining reader.old) (R.remaining reader.new)
+        (W.contents answers.old) (W.contents answers.new) config.now done) }
+{
+    let done = answer_in_memory(alloc, config, reader, answers);
+    end(faults, done)
+}
+
+/// The messages of the reader are answered, over lists made for it.
+fn answer_in_memory<R: Read, W: Write>(
     alloc: Global,
     config: &Config,
     reader: &mut R,

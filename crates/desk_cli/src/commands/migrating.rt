@@ -3,17 +3,20 @@ ghost use Rattle.std.specs.Prelude.{◌≡◌, false, None};
 ghost use Rattle.clap.specs.Matches.{found_of};
 ghost use Rattle.clap.specs.Walk.{rows_of};
 ghost use Rattle.desk_cli.specs.commands.Migrating.{migrate_app, migrate_named, MigratesBy};
+ghost use Rattle.desk_cli.specs.Faults.{Ends};
 ghost use Rattle.desk_cli.specs.Named.{TellsNamed};
 ghost use Rattle.desk_cli.specs.steps.CommandLine.{IsCommand};
 
 use super::Command;
-use crate::faults::Fault;
+use crate::endings::Ending;
+use crate::faults::{Fault, end};
 use crate::options::{command_on_file, placed};
 use crate::usage::Usage;
 use clap::ArgMatches;
 use desk_tables::Tables;
 use sqlite::{Alter, Connection};
 use std::alloc::{AllocError, Global};
+use std::io::Write;
 
 const EXAMPLE: &str = "\
 Nothing is printed. All commands but this one take files of schema 2 alone.
@@ -43,10 +46,21 @@ pub(crate) fn migrate_of<'a>(options: &ArgMatches<'a>) -> Result<Command<'a>, Us
 /// `NotADesk` where the row of meta isn't a desk's, `Schema` where it tells another version than 1, then `Exists` where the name
 /// of the table that schema 1 lacks is taken, and `NotADesk` where the rest isn't schema 1, else `Unavailable`: then nothing
 /// is changed, and a crash leaves what was there, or the desk moved.
-pub fn migrate_command<S: Alter>(
+pub fn migrate_command<S: Alter, F: Write>(
     alloc: Global,
     conn: Connection<S>,
-) -> (Result<(), Fault>, Connection<S>)
+    faults: &mut F,
+) -> (Ending, Connection<S>)
+    requires idle { conn.in_transaction ≡ false }
+    requires unlimited { conn.step_limit ≡ None }
+    ensures { Ends F.contents faults.old faults.new result.0 (λ done. MigratesBy S.Store conn result.1 done) }
+{
+    let (done, conn) = move_desk(alloc, conn);
+    (end(faults, done), conn)
+}
+
+/// The desk is moved, and the connection given back.
+fn move_desk<S: Alter>(alloc: Global, conn: Connection<S>) -> (Result<(), Fault>, Connection<S>)
     requires idle { conn.in_transaction ≡ false }
     requires unlimited { conn.step_limit ≡ None }
     ensures { MigratesBy S.Store conn result.1 result.0 }

@@ -4,6 +4,8 @@ ghost use Rattle.std.specs.Io.KnownBytes.{Keeps};
 ghost use Rattle.clap.specs.Matches.{found_of};
 ghost use Rattle.clap.specs.Walk.{rows_of};
 ghost use Rattle.desk_cli.specs.commands.Reports.{bands_app, bands_named, report_app, report_named};
+ghost use Rattle.desk_cli.specs.Doing.{OnDesk};
+ghost use Rattle.desk_cli.specs.Faults.{Ends};
 ghost use Rattle.desk_cli.specs.Named.{TellsNamed};
 ghost use Rattle.desk_cli.specs.steps.CommandLine.{IsCommand};
 ghost use Rattle.sqlite.specs.Held.{state};
@@ -18,7 +20,8 @@ ghost use Rattle.desk_cli.specs.Printing.{IsOwnersMonth, PrintsBy};
 ghost use Rattle.desk_cli.specs.steps.Jobs.{prints};
 
 use super::Command;
-use crate::faults::Fault;
+use crate::endings::Ending;
+use crate::faults::{Fault, end};
 use crate::jobs::{Job, by_store};
 use crate::options::{command_on_file, place, placed, with_word};
 use crate::printing::print;
@@ -76,7 +79,27 @@ pub(crate) fn bands_of<'a>(options: &ArgMatches<'a>) -> Result<Command<'a>, Usag
 /// A text that is no month's is `Month`, for any owner, and then an owner that nobody added is `Owner`. With `File` the
 /// writer failed. Nothing is changed. What is no desk's of schema 2 is refused, by `NotADesk`, `Schema` or `Unavailable`,
 /// and stays as it is.
-pub fn report_command<S: Alter, W: Write>(
+pub fn report_command<S: Alter, W: Write, F: Write>(
+    alloc: Global,
+    conn: Connection<S>,
+    owner: &str,
+    month: &str,
+    answers: &mut W,
+    faults: &mut F,
+) -> (Ending, Connection<S>)
+    requires idle { conn.in_transaction ≡ false }
+    requires unlimited { conn.step_limit ≡ None }
+    ensures { Ends F.contents faults.old faults.new result.0 (λ done. OnDesk S.Store conn result.1 done
+        (Keeps (W.contents answers.old) (W.contents answers.new))
+        (λ c heard. PrintsBy (KeepsHeard S.Store result.1 c heard) (IsLeft S.Store result.1 c heard None) (W.contents answers.old) (W.contents answers.new)
+        (IsOwnersMonth (state_of c heard) owner.now month.now) done)) }
+{
+    let (done, conn) = print_report(alloc, conn, owner, month, answers);
+    (end(faults, done), conn)
+}
+
+/// The report is printed, and the connection given back.
+fn print_report<S: Alter, W: Write>(
     alloc: Global,
     conn: Connection<S>,
     owner: &str,
@@ -124,7 +147,26 @@ impl Job for OwnersMonth<'_> {
 }
 
 /// Prints the report of a gateway's bands, likewise. A gateway that nobody added is `Gateway`.
-pub fn bands_command<S: Alter, W: Write>(
+pub fn bands_command<S: Alter, W: Write, F: Write>(
+    alloc: Global,
+    conn: Connection<S>,
+    gateway: &str,
+    answers: &mut W,
+    faults: &mut F,
+) -> (Ending, Connection<S>)
+    requires idle { conn.in_transaction ≡ false }
+    requires unlimited { conn.step_limit ≡ None }
+    ensures { Ends F.contents faults.old faults.new result.0 (λ done. OnDesk S.Store conn result.1 done
+        (Keeps (W.contents answers.old) (W.contents answers.new))
+        (λ c heard. PrintsBy (KeepsHeard S.Store result.1 c heard) (IsLeft S.Store result.1 c heard None) (W.contents answers.old) (W.contents answers.new)
+        (IsBandAnswer (state_of c heard) gateway.now) done)) }
+{
+    let (done, conn) = print_bands(alloc, conn, gateway, answers);
+    (end(faults, done), conn)
+}
+
+/// The bands are printed, and the connection is given back.
+fn print_bands<S: Alter, W: Write>(
     alloc: Global,
     conn: Connection<S>,
     gateway: &str,

@@ -10,6 +10,8 @@ ghost use Rattle.registry_core.specs.declared.messages.Envelope.{Envelope};
 ghost use Rattle.registry_core.specs.Settings.{Settings};
 ghost use Rattle.desk_engine.specs.InOrder.{WasInOrder};
 ghost use Rattle.desk_engine.specs.Hearing.{StoreKeeps, StoreLeaves};
+ghost use Rattle.desk_cli.specs.Doing.{OnDesk};
+ghost use Rattle.desk_cli.specs.Faults.{Ends};
 ghost use Rattle.desk_cli.specs.Named.{TellsNamed};
 ghost use Rattle.desk_cli.specs.steps.CommandLine.{IsCommand};
 ghost use Rattle.desk_cli.specs.steps.Jobs.{serves};
@@ -19,7 +21,8 @@ ghost use Rattle.desk_cli.specs.Ports.{at_ports};
 ghost use Rattle.desk_cli.specs.commands.Serving.{ServesBy, listening_line, serve_app, serve_named};
 
 use super::Command;
-use crate::faults::Fault;
+use crate::endings::Ending;
+use crate::faults::{Fault, end};
 use crate::jobs::{Job, by_store};
 use crate::network::Network;
 use crate::options::{command_on_file, connections_at, needed, placed, port_at, with_word};
@@ -70,7 +73,29 @@ pub(crate) fn serve_of<'a>(options: &ArgMatches<'a>) -> Result<Command<'a>, Usag
 /// The port is bound once the desk is open: `Network` where it can't be had, and `File` where the line can't be written. A
 /// connection that fails counts as served. What is no desk's of schema 2 is refused, by `NotADesk`, `Schema` or
 /// `Unavailable`, and stays as it is.
-pub fn serve_command<S: Alter, B: Network, W: Write>(
+pub fn serve_command<S: Alter, B: Network, W: Write, F: Write>(
+    alloc: Global,
+    conn: Connection<S>,
+    network: &B,
+    port: u16,
+    connections: u32,
+    answers: &mut W,
+    faults: &mut F,
+) -> (Ending, Connection<S>)
+    requires idle { conn.in_transaction ≡ false }
+    requires unlimited { conn.step_limit ≡ None }
+    ensures { Ends F.contents faults.old faults.new result.0 (λ done. OnDesk S.Store conn result.1 done
+        (Keeps (W.contents answers.old) (W.contents answers.new))
+        (λ c heard. ServesBy c heard (KeepsHeard S.Store result.1 c) (IsLeft S.Store result.1 c)
+        (at_ports B.ports network.now B.Port.meaning B.Port.Reader.remaining B.Port.Writer.contents)
+        port connections (W.contents answers.old) (W.contents answers.new) done)) }
+{
+    let (done, conn) = serve_desk(alloc, conn, network, port, connections, answers);
+    (end(faults, done), conn)
+}
+
+/// So many connections are served, and the connection is given back.
+fn serve_desk<S: Alter, B: Network, W: Write>(
     alloc: Global,
     conn: Connection<S>,
     network: &B,

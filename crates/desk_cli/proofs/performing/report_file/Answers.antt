@@ -1,7 +1,12 @@
-use Rattle.std.proofs.Common.{inl, refl}
+use Rattle.std.proofs.Common.{Err, ap, inl, inr, refl}
+use Rattle.std.proofs.KnownBytes.{Keeps-refl}
 use Rattle.desk_cli.proofs.performing.report_file.Goals as goal
 
 pub returns-in-Ok : goal.returns-in-Ok
 returns-in-Ok g c =
-    let done = c.report_command-done.ensures in
-    inl (c.in-Ok.conn, c.report_command-done.result.1, c.in-Ok.ensures.opened, refl, record { desk = done.prints; no_desk = done.no_desk; clean = done.clean })
+    let ended = c.report_command-ending.ensures in
+    record { result = ended.result; ended = ended.ended; says = inl (c.in-Ok.conn, c.report_command-ending.result.1, c.in-Ok.ensures.opened, refl, ended.says) }
+
+pub returns-in-Err : goal.returns-in-Err
+returns-in-Err g c =
+    record { result = Err c.in-Err.fault; ended = c.end.ensures; says = inr (c.in-Err.ensures.unopened, ap Err c.in-Err.ensures.fault, refl, Keeps-refl _) }

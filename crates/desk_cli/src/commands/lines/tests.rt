@@ -1,7 +1,6 @@
 //! Whole runs of `desk lines`, over readers and writers of the tests.
 use super::lines_command;
 use crate::endings::Ending;
-use crate::faults::end;
 use crate::tests::config;
 use crate::tests::holding::holds;
 use crate::tests::rows::{MALFORMED, REQUEST};
@@ -18,9 +17,8 @@ fn ran<R: Read, W: Write>(
     answers: &mut W,
 ) -> Result<(Ending, Vec<u8>), Fail> {
     let config = config(65_536).ok_or("no configuration")?;
-    let done = lines_command(alloc, &config, reader, answers);
     let mut faults = Vec::new(alloc);
-    let ending = end(&mut faults, done);
+    let ending = lines_command(alloc, &config, reader, answers, &mut faults);
     Ok((ending, faults))
 }
 

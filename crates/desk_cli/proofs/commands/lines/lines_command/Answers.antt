@@ -1,15 +1,4 @@
-use Rattle.std.proofs.Common.{[], refl}
-use Rattle.desk_engine.proofs.NewLists.{was_made}
-use Rattle.desk_cli.proofs.LinesAnswered.{answers_unopened, carried}
 use Rattle.desk_cli.proofs.commands.lines.lines_command.Goals as goal
 
 pub returns : goal.returns
-returns g c =
-    let config = c.args.config.now in
-    record {
-      answered = carried _ _ _ _ _ _ (λ all kept. tt) (λ all doubt left. tt) _ _ _ _ c.answer_lines.result (c.answer_lines.ensures.ends config []
-          (was_made config _ _ _ (c.nothing_is_heard.ensures config) c.deref_mut.ensures.value c.in-Ok.ensures.opens c.in-Ok.ensures.config));
-    }
-
-pub returns-in-Err : goal.returns-in-Err
-returns-in-Err g c = record { answered = answers_unopened c.args.config.now [] _ _ _ _ _ refl tt }
+returns g c = record { result = c.answer_in_memory-done.result; ended = c.end.ensures; says = c.answer_in_memory-done.ensures.answered }

@@ -1,4 +1,4 @@
-use Rattle.desk_cli.proofs.Imported.{no_report, some_written, stopped_at, unwritten}
+use Rattle.desk_cli.proofs.Imported.{no_report, read_failed, stopped_at, undoubted, unwritten}
 use Rattle.desk_cli.proofs.OnTables.{opened_in_order}
 use Rattle.desk_cli.proofs.commands.importing.ImportJob.run.Goals as goal
 
@@ -11,11 +11,11 @@ returns-in-NoReport-clause-does g c = λ config heard was sound.
 
 pub returns-in-Read-clause-does : goal.returns-in-Read-clause-does
 returns-in-Read-clause-does g c = λ config heard was sound.
-    some_written config heard c.args.self.now.sender.now _ _ _ _ _ _ (Unit {0}) _ (c.in-Read.ensures.ends config heard (opened_in_order _ _ _ _ _ was sound))
+    read_failed config heard c.args.self.now.sender.now _ _ _ _ _ _ (Unit {0}) (undoubted _ _ _ _ _ was c.in-Read.ensures.call heard) (c.in-Read.ensures.ends config heard (opened_in_order _ _ _ _ _ was sound))
 
 pub returns-in-Write-clause-does : goal.returns-in-Write-clause-does
 returns-in-Write-clause-does g c = λ config heard was sound.
-    unwritten config heard c.args.self.now.sender.now _ _ _ _ _ _ (Unit {0}) (λ all kept. kept.leaves) _ (c.in-Write.ensures.ends config heard (opened_in_order _ _ _ _ _ was sound))
+    unwritten config heard c.args.self.now.sender.now _ _ _ _ _ _ (Unit {0}) _ (c.in-Write.ensures.ends config heard (opened_in_order _ _ _ _ _ was sound))
 
 pub returns-in-Unavailable-clause-does : goal.returns-in-Unavailable-clause-does
 returns-in-Unavailable-clause-does g c = λ config heard was sound.
