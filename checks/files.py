@@ -104,9 +104,9 @@ def execute(file, text, words=""):
         conn.close()
 
 
-def rows_of(file):
-    tables = execute(file, "SELECT name FROM sqlite_schema WHERE type = 'table' ORDER BY rowid", "?mode=ro")
-    return {table: execute(file, f"SELECT * FROM {table} ORDER BY rowid", "?mode=ro") for (table,) in tables}
+def rows_of(file, words="?mode=ro"):
+    tables = execute(file, "SELECT name FROM sqlite_schema WHERE type = 'table' ORDER BY rowid", words)
+    return {table: execute(file, f"SELECT * FROM {table} ORDER BY rowid", words) for (table,) in tables}
 
 
 def replies(file):
@@ -368,6 +368,32 @@ def backups(desk):
     desk.wants(not Path("town.db-shm").exists() or desk.run("bands", file, "gw-a")[0] == 0, "a -shm that sqlite3 left is no hindrance")
 
 
+def moved(desk, file, count):
+    """sqlite3 finds all rows in a copy of the file alone."""
+    shutil.copy(file, "alone.db")
+    alone = rows_of("alone.db", "?immutable=1")
+    desk.wants(len(alone["reply"]) == count, f"{file} alone holds {len(alone['reply'])} messages, and not {count}")
+    desk.wants(alone == rows_of(file), f"{file} alone holds what it does with its log")
+
+
+def moved_logs(desk):
+    """When a command has ended, its log has been moved into the file."""
+    file, count = desk.made(given=""), MESSAGES.count("\n")
+    moved(desk, file, 0)
+    desk.ends(0, "", "hear", file, given=MESSAGES, written=ANSWERS)
+    moved(desk, file, count)
+    records = REPORT.count("\n") - 1
+    desk.wants(desk.run("import", file, "--sender", "bridge", given=REPORT)[0] == 0, "import")
+    moved(desk, file, count + records)
+    program, port = desk.serving(file, 1)
+    desk.wants(posted(port, LIMIT.replace('"TransactionID":6,', '"TransactionID":9000,')).find("Success") > 0, "a message over HTTP")
+    desk.ended(program)
+    moved(desk, file, count + records + 1)
+    first = schema_1(desk, "first.db")
+    desk.ends(0, "", "migrate", first)
+    moved(desk, first, replies(first))
+
+
 def full_disk(desk):
     """No file may grow: what can't be kept isn't answered, and the same lines again are heard once there is room."""
 
@@ -456,6 +482,7 @@ PARTS = [
     responses,
     killed,
     backups,
+    moved_logs,
     full_disk,
     full_output,
     this_machine_alone,
