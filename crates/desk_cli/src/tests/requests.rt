@@ -10,8 +10,8 @@ use super::rows::{OTHER_OWNER, REQUEST};
 use desk_http::{ServeEnd, serve_one};
 use desk_store::{Keeper, Lists};
 use responses::{
-    ADDED, CUT_BODY, DEVICE_ADDED, DEVICE_EXISTS, DEVICE_REUSED, MALFORMED, NO_HEAD, NO_LENGTH,
-    NO_ROUTE, NOT_BY_GET, NOT_BY_POST, REUSED, TOO_LONG, UNKNOWN_SENDER,
+    ADDED, CROSS_ORIGIN, CUT_BODY, DEVICE_ADDED, DEVICE_EXISTS, DEVICE_REUSED, MALFORMED, NO_HEAD,
+    NO_LENGTH, NO_ROUTE, NOT_BY_GET, NOT_BY_POST, REUSED, TOO_LONG, UNKNOWN_SENDER,
 };
 use std::alloc::Global;
 use std::process::Abort;
@@ -60,7 +60,26 @@ pub(super) fn expect<R: Abort + AllocGlobal, K: Keeper>(
 /// A request, how many octets of it are left unread, the status and the response.
 type Row = (&'static str, usize, u16, &'static str);
 
-static REFUSED: [Row; 29] = [
+static REFUSED: [Row; 32] = [
+    // A request of a browser's page, whatever it asks for. Its body is a message that would be heard.
+    (
+        "POST /v1/messages HTTP/1.1\r\nHost: 127.0.0.1:8080\r\nOrigin: http://127.0.0.1:8080\r\nContent-Length: 123\r\n\r\n{\"ProtocolVersion\":\"1.0\",\"SenderID\":\"office\",\"ReceiverID\":\"desk\",\"TransactionID\":1,\"MessageType\":\"OwnerAdd\",\"Owner\":\"town\"}",
+        123,
+        403,
+        CROSS_ORIGIN,
+    ),
+    (
+        "GET /v1/else HTTP/1.1\r\norigin:\r\n\r\n",
+        0,
+        403,
+        CROSS_ORIGIN,
+    ),
+    (
+        "GET /v1/reports/town/2024-02 HTTP/1.1\r\nORIGIN: null\r\n\r\n",
+        0,
+        403,
+        CROSS_ORIGIN,
+    ),
     ("GET /v1/messages HTTP/1.1\r\n\r\nabc", 3, 405, NOT_BY_GET),
     ("HEAD /v1/messages HTTP/1.1\r\n\r\n", 0, 405, NOT_BY_GET),
     (

@@ -24,6 +24,9 @@ pub(super) const MALFORMED: &str =
 pub(super) const NO_HEAD: &str =
     "HTTP/1.1 400 Bad Request\r\ncontent-type: text/plain\r\ncontent-length: 5\r\nconnection: close\r\n\r\nhead\n";
 
+pub(super) const CROSS_ORIGIN: &str =
+    "HTTP/1.1 403 Forbidden\r\ncontent-type: text/plain\r\ncontent-length: 7\r\nconnection: close\r\n\r\norigin\n";
+
 pub(super) const NO_ROUTE: &str =
     "HTTP/1.1 404 Not Found\r\ncontent-type: text/plain\r\ncontent-length: 6\r\nconnection: close\r\n\r\nroute\n";
 
