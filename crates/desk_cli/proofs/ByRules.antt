@@ -85,7 +85,8 @@ module _ {S : Type 0} (law : RulesAreKept) (g : Ghosts S) (back : Held S) (c : S
     pub serves_by_rules : (ports : AtPorts) (port n : ℕ) (result : Result T Fault) → ServesBy c heard (KeepsHeard g back c) (IsLeft g back c) ports port n before after result
         → LeavesRules g back c
     serves_by_rules ports port n (Ok x) by = left_by_rules _ _ by.0.left_is
-    serves_by_rules ports port n (Err Network) by = kept_by_rules _ by.1
+    serves_by_rules ports port n (Err Network) (inl by) = kept_by_rules _ by.1
+    serves_by_rules ports port n (Err Network) (inr by) = left_by_rules _ _ by.0.left_is
     serves_by_rules ports port n (Err File) by = kept_by_rules _ by
     serves_by_rules ports port n (Err Unavailable) by = left_by_rules _ _ by.0
     serves_by_rules ports port n (Err Exists) by = absurd by

@@ -3,7 +3,7 @@ use Rattle.std.specs.Prelude.{ℕ, List, Option}
 use Rattle.registry_core.specs.declared.messages.Envelope.{Envelope}
 use Rattle.registry_core.specs.Settings.{Settings}
 use Rattle.desk_http.specs.Answered.{Answers, Delivered, none_delivered}
-use Rattle.desk_http.specs.Served.{Connections, ServesEach}
+use Rattle.desk_http.specs.Served.{Connections, ServesEach, ServesFewer}
 
 -- ---- what the ports of a network mean
 
@@ -20,16 +20,27 @@ unknown_ports = record { listens = λ network port listening. Unit {0}; refuses 
 
 -- ---- what is answered at them
 
--- which ports can't be had; and how so many connections at a port were answered, after what had been heard, to which this was delivered
+-- which ports can't be had; and how so many connections at a port were answered, after what had been heard, to which this was delivered; or
+-- fewer of them, after which no other came
 pub record AtPorts : Type 1 where
   pub refused : ℕ → Type 0
   pub answered : ℕ → Settings → List Envelope → ℕ → Delivered → Type 0
+  pub given_up : ℕ → Settings → List Envelope → ℕ → Delivered → Type 0
 
 -- At a port of a network so many connections were answered so, from when it is listened at.
 abbrev pub AnswersEach : {N L R W : Type 0} → Ports N L → N → Connections L R W → (R → Option (List ℕ)) → (W → Option (List ℕ)) → ℕ → Settings → List Envelope → ℕ → Delivered → Type 0
 AnswersEach {N} {L} ports network l remaining contents port c heard n delivered =
     (before after : L) × ports.listens network port before × ServesEach l remaining contents (Answers c heard) n none_delivered delivered before after
 
+-- Fewer were answered so, and then as many accepts failed as end the serving.
+abbrev pub AnswersFewer : {N L R W : Type 0} → Ports N L → N → Connections L R W → (R → Option (List ℕ)) → (W → Option (List ℕ)) → ℕ → Settings → List Envelope → ℕ → Delivered → Type 0
+AnswersFewer {N} {L} ports network l remaining contents port c heard n delivered =
+    (before after : L) × ports.listens network port before × ServesFewer l remaining contents (Answers c heard) n none_delivered delivered before after
+
 -- what a network says of its ports, in one
 abbrev pub at_ports : {N L R W : Type 0} → Ports N L → N → Connections L R W → (R → Option (List ℕ)) → (W → Option (List ℕ)) → AtPorts
-at_ports ports network l remaining contents = record { refused = ports.refuses network; answered = AnswersEach ports network l remaining contents }
+at_ports ports network l remaining contents = record {
+  refused = ports.refuses network;
+  answered = AnswersEach ports network l remaining contents;
+  given_up = AnswersFewer ports network l remaining contents;
+}

@@ -5,4 +5,5 @@ pub mod Given
 pub mod Jobs
 pub mod Options
 pub mod Printing
+pub mod Serving
 pub mod Usages

@@ -38,7 +38,7 @@ pub enum Fault {
     Unavailable,
     /// FILE can't be opened, or a read or write of the standard streams failed.
     File,
-    /// The port can't be had.
+    /// The port can't be had, or no connection can be accepted at it.
     Network,
 }
 

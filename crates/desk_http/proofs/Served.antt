@@ -1,5 +1,5 @@
 -- What connections that are served one after another do to a store, and what they are answered.
-use Rattle.std.proofs.Common.{◌≡◌, ◌+◌, ℕ, zero, suc, Bool, true, false, cond, List, [], ◌∷◌, ◌++◌, Option, Some, None, Ok, Err, inl, inr, refl, ap, sym, subst, arith, ◌∙◌}
+use Rattle.std.proofs.Common.{◌≡◌, ℕ, zero, suc, Bool, true, false, cond, List, [], ◌∷◌, ◌++◌, Option, Some, None, Result, Ok, Err, inl, inr, refl, ap, sym, subst, ◌∙◌}
 use Rattle.std.proofs.lemmas.List.{append-nil}
 use Rattle.std.specs.Io.KnownBytes.{Consumes}
 use Rattle.std.specs.Prelude.{◌||◌}
@@ -16,13 +16,14 @@ use Rattle.desk_engine.specs.Laws.{CallsHearInOrder, NoCallHearsNothing, ReadsHe
 use Rattle.desk_engine.specs.Outcomes.{delivery_of, doubt_of_text, doubt_read, outcome_fault}
 use Rattle.desk_engine.specs.Reporting.{store_fault_in}
 use Rattle.desk_engine.specs.Told.{envelope_of_text}
+use Rattle.desk_http.specs.declared.network_faults.NetworkFault.{NetworkFault}
 use Rattle.desk_http.specs.declared.serving.ServeEnd.{ServeEnd}
 use Rattle.desk_http.specs.declared.serving.ServeEnd.TheVariants.{Done, Closed, Read, Write, Memory}
 use Rattle.desk_http.specs.Requests.{IsReadAs, Request, refused, message, owner_report, band_report}
 use Rattle.desk_http.specs.Responses.{Response}
 use Rattle.desk_http.specs.Serving.{IsDelivered, ServesRequest, ServingEndsBy}
 use Rattle.desk_http.specs.Answered.{Answers, Delivered, and_then, none_delivered}
-use Rattle.desk_http.specs.Served.{Connections, HearsDeliveries, HearsEach, ServesEach, ServesNext, delivered_by}
+use Rattle.desk_http.specs.Served.{Connections, HearsDeliveries, HearsEach, ServesAll, ServesConnection, ServesEach, delivered_by}
 
 heard_all-append : (c : Settings) (heard : List Envelope) (ds more : List Delivery) → heard_all c heard (ds ++ more) ≡ heard_all c (heard_all c heard ds) more
 heard_all-append c heard [] more = refl
@@ -38,14 +39,6 @@ no_doubt c text outcome is = elim (envelope_of_text c text) as (λ wanted. doubt
 no_doubts : (first second : Bool) (a b : Option Envelope) → (first ≡ false → a ≡ None) → (second ≡ false → b ≡ None) → (first || second) ≡ false → cond first a b ≡ None
 no_doubts true second a b p q is = absurd (let k : true ≡ false = is in cc)
 no_doubts false second a b p q is = q is
-
--- one connection more
-pub one_more : {L R W K : Type 0} (l : Connections L R W) (remaining : R → Option (List ℕ)) (contents : W → Option (List ℕ)) (Does : K → K → Request → List ℕ → Response → Type 0)
-    (n : ℕ) (old mid new : K) (before between after : L) → ServesEach l remaining contents Does n old mid before between
-    → ServesNext l remaining contents Does mid new between after → ServesEach l remaining contents Does (n + 1) old new before after
-one_more l remaining contents Does n old mid new before between after served next =
-    let one : suc n ≡ n + 1 = omega arith in
-    subst (λ k. ServesEach l remaining contents Does k old new before after) one (mid, between, served, next)
 
 -- nothing more was delivered
 nothing_more : (these : Delivered) → (these.disk ≡ false → these.doubt ≡ None) → these ≡ and_then these none_delivered
@@ -125,10 +118,9 @@ module _ {K : Type 0} (m : Meaning K) (in_order : CallsHearInOrder m) (reads : R
   end_hears old new serves closed before after Memory hears ends = hears_none old new ends.0
 
   module _ {L R W : Type 0} (l : Connections L R W) (remaining : R → Option (List ℕ)) (contents : W → Option (List ℕ)) where
-    next_hears : (old new : K) (before after : L) → ServesNext l remaining contents (ServesRequest m) old new before after → HearsDeliveries m old new
-    next_hears old new before after (inl one) =
+    next_hears : (old new : K) (before after : L) → ServesConnection l remaining contents (ServesRequest m) old new before after → HearsDeliveries m old new
+    next_hears old new before after one =
         end_hears old new _ _ _ _ one.end (λ response served. request_hears old new served.2 served.3 response served.5) one.served
-    next_hears old new before after (inr failed) = hears_none old new failed.0
 
     each_hears : (n : ℕ) (old new : K) (before after : L) → ServesEach l remaining contents (ServesRequest m) n old new before after → HearsDeliveries m old new
     each_hears zero old new before after served = hears_none old new served.0
@@ -179,11 +171,11 @@ module _ {K : Type 0} (m : Meaning K) (in_order : CallsHearInOrder m) (reads : R
       end_answers old new serves answers closed held holds Memory hears told ends = (sym (nothing_more before undoubted), ends.1)
 
       module _ {L R W : Type 0} (l : Connections L R W) (remaining : R → Option (List ℕ)) (contents : W → Option (List ℕ)) where
-        next_answers : (old new : K) (first last : L) (served : ServesNext l remaining contents (ServesRequest m) old new first last)
+        next_answers : (old new : K) (first last : L) (served : ServesConnection l remaining contents (ServesRequest m) old new first last)
             → WasInOrder m c (heard_all c heard before.deliveries) old new
-            → ServesNext l remaining contents (Answers c heard) before (and_then before (delivered_by (next_hears l remaining contents old new first last served) c)) first last
+            → ServesConnection l remaining contents (Answers c heard) before (and_then before (delivered_by (next_hears l remaining contents old new first last served) c)) first last
         unfolding next_hears hears_none
-        next_answers old new first last (inl one) was = inl (record {
+        next_answers old new first last one was = record {
           meanwhile = one.meanwhile;
           reader = one.reader;
           left = one.left;
@@ -197,8 +189,7 @@ module _ {K : Type 0} (m : Meaning K) (in_order : CallsHearInOrder m) (reads : R
               _ _ _ one.end _
               (λ response served. (served.0, served.1, served.2, served.3, served.4, request_answers old new served.2 served.3 response served.5 was)) one.served;
           goes = one.goes;
-        })
-        next_answers old new first last (inr failed) was = inr (sym (nothing_more before undoubted), failed.1)
+        }
 
     each_answers : {L R W : Type 0} (l : Connections L R W) (remaining : R → Option (List ℕ)) (contents : W → Option (List ℕ)) (n : ℕ) (old new : K) (before after : L)
         (served : ServesEach l remaining contents (ServesRequest m) n old new before after) → WasInOrder m c heard old new
@@ -214,9 +205,13 @@ module _ {K : Type 0} (m : Meaning K) (in_order : CallsHearInOrder m) (reads : R
           next_answers (delivered_by first c) (λ up. first.undoubted up c) l remaining contents mid new between after next (between_both old mid new first second was),
         )
 
-  pub hears_each : {L R W : Type 0} (l : Connections L R W) (remaining : R → Option (List ℕ)) (contents : W → Option (List ℕ)) (n : ℕ) (old new : K) (before after : L)
-      → ServesEach l remaining contents (ServesRequest m) n old new before after → HearsEach m l remaining contents n old new before after
-  hears_each l remaining contents n old new before after served = record {
+  pub hears_each : {L R W : Type 0} (l : Connections L R W) (remaining : R → Option (List ℕ)) (contents : W → Option (List ℕ)) {T : Type 0} (n : ℕ) (old new : K) (before after : L) (result : Result T NetworkFault)
+      → ServesAll l remaining contents (ServesRequest m) n old new before after result → HearsEach m l remaining contents n old new before after result
+  hears_each l remaining contents n old new before after (Ok x) served = record {
     hears = each_hears l remaining contents n old new before after served;
     answers = λ c heard was. each_answers c heard l remaining contents n old new before after served was;
+  }
+  hears_each l remaining contents n old new before after (Err fault) (count, fewer, between, served, none) = record {
+    hears = each_hears l remaining contents count old new before between served;
+    answers = λ c heard was. (count, fewer, between, each_answers c heard l remaining contents count old new before between served was, none);
   }

@@ -1,5 +1,5 @@
 -- Connections that are served one after another, and what they do to a store.
-use Rattle.std.specs.Prelude.{◌≡◌, ◌⊎◌, ℕ, zero, suc, Bool, false, List, [], Option, None}
+use Rattle.std.specs.Prelude.{◌≡◌, ◌<◌, ℕ, zero, suc, Bool, false, List, [], Option, None, Result, Ok, Err}
 use Rattle.std.specs.Io.KnownBytes.{Consumes, IsAtEnd}
 use Rattle.registry_core.specs.declared.messages.Envelope.{Envelope}
 use Rattle.registry_core.specs.Settings.{Settings}
@@ -7,6 +7,7 @@ use Rattle.desk_store.specs.Meaning.{Meaning}
 use Rattle.desk_engine.specs.Deliveries.{Delivery, heard_all}
 use Rattle.desk_engine.specs.Hearing.{Hears}
 use Rattle.desk_engine.specs.InOrder.{WasInOrder}
+use Rattle.desk_http.specs.declared.network_faults.NetworkFault.{NetworkFault}
 use Rattle.desk_http.specs.declared.serving.ServeEnd.{ServeEnd}
 use Rattle.desk_http.specs.Requests.{IsReadAs, Request}
 use Rattle.desk_http.specs.Responses.{Response}
@@ -19,7 +20,7 @@ use Rattle.desk_http.specs.Answered.{Answers, Delivered, none_delivered}
 pub record Connections (L R W : Type 0) : Type 1 where
   -- this connection came, with what it is read by and written by
   pub comes : L → L → R → W → Type 0
-  -- one failed to come
+  -- an accept failed: none came
   pub fails : L → L → Type 0
   -- this one was let go, with what is left to read and what was written, after it was served so
   pub goes : L → L → R → W → ServeEnd → Type 0
@@ -31,6 +32,27 @@ unknown = record {
   fails = λ before after. Unit {0};
   goes = λ before after reader writer end. Unit {0};
 }
+
+-- ---- accepts
+
+-- so many accepts that fail one after another end the serving
+abbrev pub most_failed_accepts : ℕ
+most_failed_accepts = 64
+
+module _ {L R W : Type 0} (l : Connections L R W) where
+  -- so many accepts failed, one after another
+  abbrev pub FailsEach : ℕ → L → L → Type 0
+  FailsEach zero before after = after ≡ before
+  FailsEach (suc n) before after = (between : L) × FailsEach n before between × l.fails between after
+
+  -- after fewer failures than end the serving this connection came
+  abbrev pub ComesNext : L → L → R → W → Type 0
+  ComesNext before after reader writer =
+      (failures : ℕ) × (failures < most_failed_accepts) × (between : L) × FailsEach failures before between × l.comes between after reader writer
+
+  -- no connection came: as many accepts failed as end the serving
+  abbrev pub NoneComes : L → L → Type 0
+  NoneComes before after = FailsEach most_failed_accepts before after
 
 -- ---- one after another
 
@@ -44,7 +66,7 @@ module _ {L R W K : Type 0} (l : Connections L R W) (remaining : R → Option (L
       (Consumes (remaining reader) (remaining left) [] × IsAtEnd (remaining left))
       (contents writer) (contents written) end
 
-  -- A connection came, was served once, and was let go with what the serving left of it, by how it ended.
+  -- The next connection came, was served once, and was let go with what the serving left of it, by how it ended.
   pub record ServesConnection (old new : K) (before after : L) : Type 0 where
     pub meanwhile : L
     pub reader : R
@@ -52,18 +74,23 @@ module _ {L R W K : Type 0} (l : Connections L R W) (remaining : R → Option (L
     pub writer : W
     pub written : W
     pub end : ServeEnd
-    pub comes : l.comes before meanwhile reader writer
+    pub comes : ComesNext l before meanwhile reader writer
     pub served : ServesOnce old new reader left writer written end
     pub goes : l.goes meanwhile after left written end
-
-  -- The same; or the connection failed to come, and nothing was done.
-  abbrev pub ServesNext : K → K → L → L → Type 0
-  ServesNext old new before after = ServesConnection old new before after ⊎ ((new ≡ old) × l.fails before after)
 
   -- so many connections, one after another
   abbrev pub ServesEach : ℕ → K → K → L → L → Type 0
   ServesEach zero old new before after = (new ≡ old) × (after ≡ before)
-  ServesEach (suc n) old new before after = (mid : K) × (between : L) × ServesEach n old mid before between × ServesNext mid new between after
+  ServesEach (suc n) old new before after = (mid : K) × (between : L) × ServesEach n old mid before between × ServesConnection mid new between after
+
+  -- Fewer connections, and after the last of them no other came.
+  abbrev pub ServesFewer : ℕ → K → K → L → L → Type 0
+  ServesFewer n old new before after = (count : ℕ) × (count < n) × (between : L) × ServesEach count old new before between × NoneComes l between after
+
+  -- So many connections, by how the serving ended.
+  abbrev pub ServesAll : {T : Type 0} → ℕ → K → K → L → L → Result T NetworkFault → Type 0
+  ServesAll n old new before after (Ok x) = ServesEach n old new before after
+  ServesAll n old new before after (Err fault) = ServesFewer n old new before after
 
 -- ---- what they do to a store
 
@@ -85,8 +112,8 @@ pub record HearsDeliveries {K : Type 0} (m : Meaning K) (old new : K) : Type 0 w
 abbrev pub delivered_by : {K : Type 0} {m : Meaning K} {old new : K} → HearsDeliveries m old new → Settings → Delivered
 delivered_by by c = record { deliveries = by.deliveries; disk = by.disk; doubt = by.doubtful c }
 
--- So many connections: what they did to the store, and what each of them was answered where the store was in order for a heard list.
-pub record HearsEach {L R W K : Type 0} (m : Meaning K) (l : Connections L R W) (remaining : R → Option (List ℕ)) (contents : W → Option (List ℕ)) (n : ℕ) (old new : K) (before after : L) : Type 0 where
+-- So many connections, or fewer after which no other came: what they did to the store, and what each of them was answered where the store was in order for a heard list.
+pub record HearsEach {L R W K : Type 0} (m : Meaning K) (l : Connections L R W) (remaining : R → Option (List ℕ)) (contents : W → Option (List ℕ)) {T : Type 0} (n : ℕ) (old new : K) (before after : L) (result : Result T NetworkFault) : Type 0 where
   pub hears : HearsDeliveries m old new
   pub answers : (c : Settings) (heard : List Envelope) → WasInOrder m c heard old new
-      → ServesEach l remaining contents (Answers c heard) n none_delivered (delivered_by hears c) before after
+      → ServesAll l remaining contents (Answers c heard) n none_delivered (delivered_by hears c) before after result

@@ -1,47 +1,86 @@
 //! Connections one after another: one request each.
-ghost use Rattle.std.specs.Prelude.{◌≡◌};
-ghost use Rattle.desk_http.specs.Served.{HearsEach, ServesEach, ServesNext};
+ghost use Rattle.std.specs.Prelude.{◌≡◌, MatchResult};
+ghost use Rattle.desk_http.specs.Served.{ComesNext, HearsEach, NoneComes, ServesAll, ServesConnection};
 ghost use Rattle.desk_http.specs.Serving.{ServesRequest};
 
 use crate::listening::Listening;
+use crate::network_faults::NetworkFault;
 use crate::serving::serve_one;
 use desk_engine::laws::calls_hear_in_order;
 use desk_store::Keeper;
 use std::alloc::Global;
 
-/// Serves so many connections, one after another: each by one request. One that fails counts.
+/// So many accepts that fail one after another end the serving.
+const MOST_FAILED_ACCEPTS: u32 = 64;
+
+/// Serves so many connections, one after another: each by one request. One that fails after it came counts. An accept that
+/// fails doesn't; with the 64th that fails in a row serving ends by `Accepts`, and what was served before stays served.
+#[tactic(auto, using(crate::proofs::Served::hears_each))]
 pub fn serve_connections<K: Keeper, L: Listening>(
     alloc: Global,
     keeper: &mut K,
     listening: &mut L,
     connections: u32,
-)
+) -> Result<(), NetworkFault>
     ensures same { K.meaning.configuration keeper.new ≡ K.meaning.configuration keeper.old }
     ensures was_sound { K.meaning.sound keeper.new → K.meaning.sound keeper.old }
-    ensures served { ServesEach L.meaning L.Reader.remaining L.Writer.contents (ServesRequest K.meaning) connections
-        keeper.old keeper.new listening.old listening.new }
+    ensures served { ServesAll L.meaning L.Reader.remaining L.Writer.contents (ServesRequest K.meaning) connections
+        keeper.old keeper.new listening.old listening.new result }
 
     // What the messages among them do to a store that was in order, and what each connection is answered.
     ensures hears { HearsEach K.meaning L.meaning L.Reader.remaining L.Writer.contents connections
-        keeper.old keeper.new listening.old listening.new }
+        keeper.old keeper.new listening.old listening.new result }
 {
     calls_hear_in_order::<K>();
+    serve_each(alloc, keeper, listening, connections)
+}
+
+/// Serves so many connections, one after another.
+fn serve_each<K: Keeper, L: Listening>(
+    alloc: Global,
+    keeper: &mut K,
+    listening: &mut L,
+    connections: u32,
+) -> Result<(), NetworkFault>
+    ensures { ServesAll L.meaning L.Reader.remaining L.Writer.contents (ServesRequest K.meaning) connections
+        keeper.old keeper.new listening.old listening.new result }
+{
     for _ in 0..connections {
-        serve_next(alloc, keeper, listening);
+        serve_next(alloc, keeper, listening)?;
     }
+    Ok(())
 }
 
 /// Serves the connection that comes next.
-fn serve_next<K: Keeper, L: Listening>(alloc: Global, keeper: &mut K, listening: &mut L)
-    ensures { ServesNext L.meaning L.Reader.remaining L.Writer.contents (ServesRequest K.meaning)
-        keeper.old keeper.new listening.old listening.new }
+fn serve_next<K: Keeper, L: Listening>(
+    alloc: Global,
+    keeper: &mut K,
+    listening: &mut L,
+) -> Result<(), NetworkFault>
+    ensures { MatchResult result
+        (λ _. ServesConnection L.meaning L.Reader.remaining L.Writer.contents (ServesRequest K.meaning) keeper.old keeper.new listening.old listening.new)
+        (λ _. (keeper.new ≡ keeper.old) × NoneComes L.meaning listening.old listening.new) }
 {
-    let Ok((reader, writer)) = listening.accept(alloc) else {
-        return;
-    };
-    let mut reader = reader;
-    let mut writer = writer;
+    let (mut reader, mut writer) = accept_next(alloc, listening)?;
     let end = serve_one(alloc, keeper, &mut reader, &mut writer);
     // Of a response that doesn't go out nothing more can be told.
     let _ = listening.finish(reader, writer, end);
+    Ok(())
+}
+
+/// The connection that comes next, whatever number of accepts below the most fail before it.
+fn accept_next<L: Listening>(
+    alloc: Global,
+    listening: &mut L,
+) -> Result<(L::Reader, L::Writer), NetworkFault>
+    ensures { MatchResult result
+        (λ connection. ComesNext L.meaning listening.old listening.new connection.0 connection.1)
+        (λ _. NoneComes L.meaning listening.old listening.new) }
+{
+    for _ in 0..MOST_FAILED_ACCEPTS {
+        if let Ok(connection) = listening.accept(alloc) {
+            return Ok(connection);
+        }
+    }
+    Err(NetworkFault::Accepts)
 }

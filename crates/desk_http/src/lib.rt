@@ -8,10 +8,12 @@ mod fields;
 mod heads;
 pub mod laws;
 mod listening;
+mod network_faults;
 mod responses;
 mod serving;
 mod targets;
 
 pub use connections::serve_connections;
 pub use listening::Listening;
+pub use network_faults::NetworkFault;
 pub use serving::{ServeEnd, serve_one};

@@ -16,7 +16,7 @@ pub trait Listening {
     /// What comes, and what goes.
     ghost meaning: { Connections Self Self.Reader Self.Writer };
 
-    /// The connection that comes next. An error is a connection that failed.
+    /// The connection that comes next. An error is one that failed before it came, and is no connection.
     fn accept(&mut self, alloc: Global) -> io::Result<(Self::Reader, Self::Writer)>
         ensures comes { IfOk result (λ connection. meaning.comes self.old self.new connection.0 connection.1) }
         ensures fails { OnErr result (meaning.fails self.old self.new) };

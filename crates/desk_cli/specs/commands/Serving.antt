@@ -1,5 +1,5 @@
 -- `desk serve`: its words, and what it has done, by how it ended.
-use Rattle.std.specs.Prelude.{◌≡◌, ℕ, List, [], ◌∷◌, ◌++◌, false, Option, None, Result, Ok, Err, codes}
+use Rattle.std.specs.Prelude.{◌≡◌, ◌⊎◌, ℕ, List, [], ◌∷◌, ◌++◌, false, Option, None, Result, Ok, Err, codes}
 use Rattle.std.specs.Fmt.{decimal}
 use Rattle.std.specs.Io.KnownBytes.{Appends, Keeps}
 use Rattle.clap.specs.Simple.{App, new_app, with_rule}
@@ -42,18 +42,20 @@ listening_line port = codes "listening 127.0.0.1:" ++ (decimal port ++ line_feed
 -- What had been heard; what says that these are kept, and that these are left, or these with one more; the ports, which of them, and how many
 -- connections; what a writer holds before and after.
 module _ (c : Settings) (heard : List Envelope) (Kept : List Envelope → Type 0) (Left : List Envelope → Option Envelope → Type 0) (ports : AtPorts) (port n : ℕ) (before after : Option (List ℕ)) where
-  -- The connections were answered, and what they delivered was heard, in this order. A fault of the disk leaves one message in doubt.
-  pub record HearsServed : Type 0 where
+  -- Connections were answered so, and what they delivered was heard, in this order. A fault of the disk leaves one message in doubt.
+  pub record HearsServed (Answered : Delivered → Type 0) : Type 0 where
     pub delivered : Delivered
-    pub answered : ports.answered port c heard n delivered
+    pub answered : Answered delivered
     pub undoubted : delivered.disk ≡ false → delivered.doubt ≡ None
     pub kept : delivered.disk ≡ false → Kept (heard_all c heard delivered.deliveries)
     pub left_is : Left (heard_all c heard delivered.deliveries) delivered.doubt
 
-  -- By how it ended. Where it failed no connection was served.
+  -- By how it ended. With `Network` the port couldn't be had, or fewer connections came and were answered. With another fault none was served.
   abbrev pub ServesBy : {T : Type 0} → Result T Fault → Type 0
-  ServesBy (Ok x) = HearsServed × Appends before after (listening_line port)
-  ServesBy (Err Network) = ports.refused port × Kept heard × Keeps before after
+  ServesBy (Ok x) = HearsServed (ports.answered port c heard n) × Appends before after (listening_line port)
+  ServesBy (Err Network) =
+      (ports.refused port × Kept heard × Keeps before after)
+      ⊎ (HearsServed (ports.given_up port c heard n) × Appends before after (listening_line port))
   ServesBy (Err File) = Kept heard
   ServesBy (Err Unavailable) = Left heard None × Keeps before after
   ServesBy (Err _) = ⊥

@@ -15,6 +15,7 @@ ghost use Rattle.desk_cli.specs.Faults.{Ends};
 ghost use Rattle.desk_cli.specs.Named.{TellsNamed};
 ghost use Rattle.desk_cli.specs.steps.CommandLine.{IsCommand};
 ghost use Rattle.desk_cli.specs.steps.Jobs.{serves};
+ghost use Rattle.desk_cli.specs.steps.Serving.{ended};
 ghost use Rattle.desk_cli.specs.NoDesk.{HoldsNoDesk, RefusesFile};
 ghost use Rattle.desk_cli.specs.OnTables.{IsLeft, KeepsHeard};
 ghost use Rattle.desk_cli.specs.Ports.{at_ports};
@@ -29,7 +30,7 @@ use crate::options::{command_on_file, connections_at, needed, placed, port_at, w
 use crate::usage::{BadValue, Usage};
 use clap::ArgMatches;
 use desk_engine::write_whole;
-use desk_http::serve_connections;
+use desk_http::{NetworkFault, serve_connections};
 use desk_store::Keeper;
 use sqlite::{Alter, Connection};
 use std::alloc::{AllocError, Global};
@@ -71,7 +72,8 @@ pub(crate) fn serve_of<'a>(options: &ArgMatches<'a>) -> Result<Command<'a>, Usag
 /// the connection back. Before the first it writes `listening 127.0.0.1:` with the port, and an LF.
 ///
 /// The port is bound once the desk is open: `Network` where it can't be had, and `File` where the line can't be written. A
-/// connection that fails counts as served. What is no desk's of schema 2 is refused, by `NotADesk`, `Schema` or
+/// connection that fails after it came counts as served. An accept that fails doesn't; with the 64th in a row the command ends
+/// by `Network`, and what was served before stays served. What is no desk's of schema 2 is refused, by `NotADesk`, `Schema` or
 /// `Unavailable`, and stays as it is.
 pub fn serve_command<S: Alter, B: Network, W: Write, F: Write>(
     alloc: Global,
@@ -149,8 +151,17 @@ impl<B: Network> Job for Serve<'_, B> {
             Ok(()) => {}
             Err(_) => return Err(Fault::File),
         }
-        serve_connections(alloc, keeper, &mut listening, self.connections);
-        Ok(())
+        ended(serve_connections(alloc, keeper, &mut listening, self.connections))
+    }
+}
+
+/// How the command ends, by how the serving of its connections did.
+fn ended(served: Result<(), NetworkFault>) -> Result<(), Fault>
+    ensures { result ≡ ended served }
+{
+    match served {
+        Ok(()) => Ok(()),
+        Err(NetworkFault::Accepts) => Err(Fault::Network),
     }
 }
 

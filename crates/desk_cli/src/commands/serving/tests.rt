@@ -9,7 +9,7 @@ use crate::tests::requests::responses::{ADDED, DEVICE_ADDED, EMPTY_REPORT, REUSE
 use crate::tests::requests::{DEVICE_ADD, posted};
 use crate::tests::rows::{OTHER_OWNER, REQUEST};
 use crate::tests::streams::Pieces;
-use desk_http::{Listening, ServeEnd, serve_connections};
+use desk_http::{Listening, NetworkFault, ServeEnd, serve_connections};
 use desk_store::Lists;
 use std::alloc::Global;
 use std::io::{self, ErrorKind, Write};
@@ -106,11 +106,12 @@ impl<'a> Listening for Peers<'a> {
     }
 }
 
-/// Serves these peers over a new desk, and leaves so many of them unserved: how the others were served.
+/// Serves these peers over a new desk, ends so, and leaves so many of them unserved: how the others were served.
 fn serve_visits<R: AllocGlobal>(
     rt: &R,
     visits: &[Option<Visit<'_>>],
     connections: u32,
+    ends: Result<(), NetworkFault>,
     unserved: usize,
 ) -> Result<Vec<Served>, Fail> {
     let mut lists = opening::<Lists>(rt.alloc(), 65_536)?;
@@ -118,7 +119,9 @@ fn serve_visits<R: AllocGlobal>(
         coming: visits,
         served: Vec::new(rt.alloc()),
     };
-    serve_connections(rt.alloc(), &mut *lists, &mut peers, connections);
+    if serve_connections(rt.alloc(), &mut *lists, &mut peers, connections) != ends {
+        return Err("the serving ended otherwise".into());
+    }
     let Peers { coming, served } = peers;
     if coming.len() != unserved {
         return Err("another number of peers was served".into());
@@ -146,7 +149,7 @@ fn peers_in_order(rt: HostRuntime) -> Result<(), Fail> {
         Some(Visit::of(device.as_bytes())),
         Some(Visit::of(report)),
     ];
-    let served = serve_visits(&rt, &visits, 3, 1)?;
+    let served = serve_visits(&rt, &visits, 3, Ok(()), 1)?;
     expect(
         &rt,
         &served,
@@ -182,7 +185,7 @@ fn peers_that_fail(rt: HostRuntime) -> Result<(), Fail> {
         Some(Visit::of(other.as_bytes())),
     ];
     // One more is asked for than comes.
-    let served = serve_visits(&rt, &visits, 8, 0)?;
+    let served = serve_visits(&rt, &visits, 6, GIVEN_UP, 0)?;
     expect(
         &rt,
         &served,
@@ -197,9 +200,45 @@ fn peers_that_fail(rt: HostRuntime) -> Result<(), Fail> {
     Ok(())
 }
 
+const GIVEN_UP: Result<(), NetworkFault> = Err(NetworkFault::Accepts);
+
+/// The peer comes after so many accepts that fail, and once more after so many: two connections end so, and are served so.
+fn after_failures<R: AllocGlobal + Abort>(
+    rt: &R,
+    visit: Visit<'_>,
+    failures: (usize, usize),
+    ends: Result<(), NetworkFault>,
+    unserved: usize,
+    wanted: &[(ServeEnd, &str)],
+) -> Result<(), Fail> {
+    let mut visits = Vec::new(rt.alloc());
+    for _ in 0..failures.0 {
+        visits.push(None)?;
+    }
+    visits.push(Some(visit))?;
+    for _ in 0..failures.1 {
+        visits.push(None)?;
+    }
+    visits.push(Some(visit))?;
+    let served = serve_visits(rt, visits.as_slice(), 2, ends, unserved)?;
+    expect(rt, &served, wanted);
+    Ok(())
+}
+
+/// None of those that fail counts as served, also where they are one fewer than end the serving.
+#[test]
+fn accepts_that_fail(rt: HostRuntime) -> Result<(), Fail> {
+    let owner = posted(rt.alloc(), REQUEST, "")?;
+    let visit = Visit::of(owner.as_bytes());
+    let added = (ServeEnd::Done(200), ADDED);
+    after_failures(&rt, visit, (63, 63), Ok(()), 0, &[added, added])?;
+    after_failures(&rt, visit, (63, 64), GIVEN_UP, 1, &[added])?;
+    after_failures(&rt, visit, (64, 0), GIVEN_UP, 2, &[])
+}
+
 #[test]
 fn no_peers(rt: HostRuntime) -> Result<(), Fail> {
-    let served = serve_visits(&rt, &[Some(Visit::of(b""))], 0, 1)?;
+    let served = serve_visits(&rt, &[Some(Visit::of(b""))], 0, Ok(()), 1)?;
     expect(&rt, &served, &[]);
     Ok(())
 }

@@ -158,9 +158,9 @@ static ROWS: [Row; 18] = [
             b"desk", b"serve", b"f.db", b"--port", b"8080", b"--count", b"2",
         ],
         "",
-        Ending::Done,
+        Ending::Failed,
         "listening 127.0.0.1:8080\n",
-        "",
+        "desk: network\n",
     ),
     (
         &[

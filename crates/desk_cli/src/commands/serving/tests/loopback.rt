@@ -31,7 +31,9 @@ fn answered(rt: &HostRuntime, pieces: &[&[u8]]) -> Result<Vec<u8>, Fail> {
     let mut port = Sockets::new(rt).listen(0)?;
     let mut client = client(rt, port.address()?, pieces)?;
     let mut lists = opening::<Lists>(rt.alloc(), 65_536)?;
-    serve_connections(rt.alloc(), &mut *lists, &mut port, 1);
+    if serve_connections(rt.alloc(), &mut *lists, &mut port, 1).is_err() {
+        return Err("no connection comes".into());
+    }
     let mut response = Vec::new(rt.alloc());
     client.read_to_end(&mut response)?;
     Ok(response)

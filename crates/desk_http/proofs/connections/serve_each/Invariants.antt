@@ -1,6 +1,6 @@
 use Rattle.desk_http.specs.Serving.{ServesRequest}
 use Rattle.desk_http.specs.Served.{ServesEach}
-use Rattle.desk_http.proofs.connections.serve_connections.Given as goal
+use Rattle.desk_http.proofs.connections.serve_each.Given as goal
 
 -- so many were served so far
 abbrev pub invariant-loop : goal.invariant-loop
