@@ -440,14 +440,14 @@ def this_machine_alone(desk):
 
 
 def slow_clients(desk):
-    """Who says nothing is let go after ten seconds, and who says an octet now and then after thirty; then others are served."""
+    """Who says nothing is let go after one second, and who says an octet now and then after ten; then others are served."""
     file = desk.made(given="")
     program, port = desk.serving(file, 4)
     begun = time.monotonic()
     with socket.create_connection(("127.0.0.1", port), timeout=60) as connection:
         desk.wants(received(connection) == b"", "who says nothing gets no response")
     took = time.monotonic() - begun
-    desk.wants(9 < took < 12, f"who says nothing is let go after {took:.1f} s")
+    desk.wants(0.9 < took < 3, f"who says nothing is let go after {took:.1f} s")
     desk.wants(posted(port, MESSAGES.splitlines()[0]) + "\n" == ANSWERS[: nth(ANSWERS, 1)], "the next is served")
     begun = time.monotonic()
     with socket.create_connection(("127.0.0.1", port), timeout=0.1) as connection:
@@ -461,7 +461,7 @@ def slow_clients(desk):
             except OSError:
                 break
     took = time.monotonic() - begun
-    desk.wants(27 < took < 45, f"who says an octet every two seconds is let go after {took:.1f} s")
+    desk.wants(9 < took < 15, f"who says an octet every two seconds is let go after {took:.1f} s")
     second = ANSWERS[nth(ANSWERS, 1) : nth(ANSWERS, 2)]
     desk.wants(posted(port, MESSAGES.splitlines()[1]) + "\n" == second, "the next is served")
     desk.ended(program)

@@ -10,43 +10,86 @@ use std::io::{self, BufReader, BufWriter, ErrorKind, Read, Write};
 use std::net::{Ipv4Addr, Net, OpenListener, OpenStream, Shutdown, SocketAddr, SocketAddrV4};
 use std::time::{Clock, Duration, Instant};
 
-/// So many seconds a read or a write waits for the peer, at most.
-const LONGEST_WAIT: u64 = 10;
+/// A connection's first octet comes in so many seconds, or the connection is let go.
+const FIRST_OCTET: u64 = 1;
 
-/// So many seconds a connection lasts, at most.
-const LONGEST_CONNECTION: u64 = 30;
+/// Each read after the first octet and each write waits so many seconds for the peer, at most.
+const LONGEST_WAIT: u64 = 5;
+
+/// A request is read and its response written in so many seconds, at most.
+const LONGEST_REQUEST: u64 = 10;
+
+/// Once its response is written, what a peer still sends is read for so many seconds, at most.
+const LONGEST_DRAIN: u64 = 1;
 
 /// So many reads wait for a peer that closes, at most.
 const READS_BEFORE_CLOSE: usize = 64;
 
-/// A stream of a connection that came at a moment.
+/// What a stream waits for.
+#[derive(Clone, Copy)]
+enum Awaited {
+    FirstOctet,
+    Request,
+    Close,
+}
+
+impl Awaited {
+    /// How long it waits as a whole, at most.
+    fn longest(self) -> Duration {
+        Duration::from_secs(match self {
+            Awaited::FirstOctet => FIRST_OCTET,
+            Awaited::Request => LONGEST_REQUEST,
+            Awaited::Close => LONGEST_DRAIN,
+        })
+    }
+}
+
+/// A stream that waits for its peer no longer than its times allow, counted from a moment.
 #[derive(Drop)]
 pub struct Timed<'a, C, S> {
     clock: &'a C,
-    came: Instant,
+    since: Instant,
+    awaited: Awaited,
     stream: S,
 }
 
 impl<C: Clock, S> Timed<'_, C, S> {
-    /// How long the next read or write may wait.
+    /// How long the next read or write may wait. `TimedOut` where no time is left.
     fn wait(&self) -> io::Result<Duration> {
-        let whole = Duration::from_secs(LONGEST_CONNECTION);
-        let left = whole.saturating_sub(self.came.elapsed(self.clock)?);
+        let longest = self.awaited.longest();
+        let left = longest.saturating_sub(self.since.elapsed(self.clock)?);
         if left.is_zero() {
             return Err(ErrorKind::TimedOut.into());
         }
         Ok(left.min(Duration::from_secs(LONGEST_WAIT)))
     }
+
+    /// From now on the stream waits for the peer to close.
+    fn await_close(&mut self) -> io::Result<()> {
+        self.since = Instant::now(self.clock)?;
+        self.awaited = Awaited::Close;
+        Ok(())
+    }
 }
 
 impl<C: Clock, S: Read + OpenStream> Read for Timed<'_, C, S> {
+    // What the stream below gives, octet for octet.
+    ghost remaining = { λ timed. S.remaining timed.stream };
+
     fn read(&mut self, buf: &mut [u8]) -> io::Result<usize> {
         self.stream.set_read_timeout(Some(self.wait()?))?;
-        self.stream.read(buf)
+        let count = self.stream.read(buf)?;
+        if let Awaited::FirstOctet = self.awaited {
+            self.awaited = Awaited::Request;
+        }
+        Ok(count)
     }
 }
 
 impl<C: Clock, S: Write + OpenStream> Write for Timed<'_, C, S> {
+    // What the stream below takes, octet for octet.
+    ghost contents = { λ timed. S.contents timed.stream };
+
     fn write(&mut self, buf: &[u8]) -> io::Result<usize> {
         self.stream.set_write_timeout(Some(self.wait()?))?;
         self.stream.write(buf)
@@ -59,10 +102,12 @@ impl<C: Clock, S: Write + OpenStream> Write for Timed<'_, C, S> {
 
 /// Reads on until the peer closes, so that it gets what was written to it: a socket that is closed with octets unread
 /// resets its connection.
-fn read_to_close<R: Read>(reader: &mut R) -> io::Result<()> {
+fn read_to_close<C: Clock, S: Read + OpenStream>(reader: Timed<'_, C, S>) -> io::Result<()> {
+    let mut reader = reader;
+    reader.await_close()?;
     let mut unread = [0u8; 4096];
     for _ in 0..READS_BEFORE_CLOSE {
-        if read_some(reader, &mut unread)? == 0 {
+        if read_some(&mut reader, &mut unread)? == 0 {
             return Ok(());
         }
     }
@@ -83,11 +128,17 @@ impl<'a, C: Clock, L: OpenListener> Port<'a, C, L> {
         self.listener.local_addr()
     }
 
-    /// A stream of the connection, with its clock.
-    fn timed(&self, came: Instant, stream: L::Stream) -> Timed<'a, C, L::Stream> {
+    /// A stream of a connection that came then, with this port's clock.
+    fn timed(
+        &self,
+        since: Instant,
+        awaited: Awaited,
+        stream: L::Stream,
+    ) -> Timed<'a, C, L::Stream> {
         Timed {
             clock: self.clock,
-            came,
+            since,
+            awaited,
             stream,
         }
     }
@@ -107,8 +158,10 @@ where
         let (stream, _) = self.listener.accept()?;
         let came = Instant::now(self.clock)?;
         let other = stream.try_clone()?;
-        let reader = BufReader::new(alloc, self.timed(came, stream))?;
-        let writer = BufWriter::new(alloc, self.timed(came, other))?;
+        let reader = self.timed(came, Awaited::FirstOctet, stream);
+        let writer = self.timed(came, Awaited::Request, other);
+        let reader = BufReader::new(alloc, reader)?;
+        let writer = BufWriter::new(alloc, writer)?;
         Ok((reader, writer))
     }
 
@@ -116,14 +169,18 @@ where
         &mut self,
         reader: Self::Reader,
         mut writer: Self::Writer,
-        _end: ServeEnd,
+        end: ServeEnd,
     ) -> io::Result<()> {
         let flushed = writer.flush();
         // Apart: a writer that is dropped would send what a flush failed to.
         let (sender, _) = writer.into_parts();
         flushed?;
         sender.stream.shutdown(Shutdown::Write)?;
-        read_to_close(&mut reader.into_inner())
+        match end {
+            ServeEnd::Done(_) => read_to_close(reader.into_inner()),
+            // There is no response that could be lost.
+            _ => Ok(()),
+        }
     }
 }
 
@@ -153,3 +210,6 @@ impl<'a, R: Net + Clock> Network for Sockets<'a, R> {
         })
     }
 }
+
+#[cfg(test)]
+mod tests;

@@ -37,7 +37,9 @@ use std::alloc::{AllocError, Global};
 use std::io::{self, Read, Write};
 
 const EXAMPLE: &str = "\
-Each read and each write of a connection has ten seconds, and a connection thirty as a whole.
+A connection's first octet has one second, each further read and each write five, and a
+request ten as a whole. A request with a header field Origin, as a browser sends it for a
+page of another place, is answered 403.
 
 Example:
   desk serve town.db --port 8080 --count 100";

@@ -11,7 +11,7 @@ use desk_store::Lists;
 use std::io::{self, Read, Write};
 use std::net::{Shutdown, SocketAddr, TcpStream};
 use std::test::Fail;
-use std::time::Duration;
+use std::time::{Duration, Instant};
 
 /// A client that has sent these pieces, and sends nothing more.
 fn client(rt: &HostRuntime, address: SocketAddr, pieces: &[&[u8]]) -> io::Result<TcpStream> {
@@ -48,6 +48,27 @@ fn a_head_in_pieces(rt: HostRuntime) -> Result<(), Fail> {
     let pieces = [&input[..1], &input[1..30], &input[30..31], &input[31..]];
     let response = answered(&rt, &pieces)?;
     holds(&rt, response.as_slice() == ADDED.as_bytes(), ADDED);
+    Ok(())
+}
+
+/// A client that says nothing is let go after a second, and the next is served.
+#[test]
+fn a_silent_client(rt: HostRuntime) -> Result<(), Fail> {
+    let input = posted(rt.alloc(), REQUEST, "")?;
+    let mut port = Sockets::new(&rt).listen(0)?;
+    let silent = TcpStream::connect(&rt, port.address()?)?;
+    let mut client = client(&rt, port.address()?, &[input.as_bytes()])?;
+    let mut lists = opening::<Lists>(rt.alloc(), 65_536)?;
+    let began = Instant::now(&rt)?;
+    let served = serve_connections(rt.alloc(), &mut *lists, &mut port, 2);
+    let took = began.elapsed(&rt)?;
+    holds(&rt, served.is_ok(), "both are served");
+    let in_time = took >= Duration::from_secs(1) && took < Duration::from_secs(4);
+    holds(&rt, in_time, "how long it takes");
+    let mut response = Vec::new(rt.alloc());
+    client.read_to_end(&mut response)?;
+    holds(&rt, response.as_slice() == ADDED.as_bytes(), ADDED);
+    drop(silent);
     Ok(())
 }
 
