@@ -89,9 +89,6 @@ module _ {K : Type 0} (m : Meaning K) where
 
   -- ---- one after another
 
-  pub calls_none : (k : K) → IsCall m k k false false
-  calls_none k = record { same = refl; was_sound = λ sound. sound; shut = refl; strange = refl }
-
   pub call_then : (old mid new : K) (disk foreign : Bool) → IsCall m old mid false false → IsCall m mid new disk foreign → IsCall m old new disk foreign
   call_then old mid new disk foreign first second = record {
     same = second.same ∙ first.same;

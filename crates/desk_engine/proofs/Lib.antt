@@ -19,9 +19,7 @@ pub mod Places
 pub mod Readings
 pub mod RepeatedTexts
 pub mod Replies
-pub mod ReportFaults
 pub mod ReportLaw
 pub mod RisingLists
 pub mod Runs
-pub mod StoreFaults
 pub mod Unread

@@ -19,7 +19,7 @@ use Rattle.desk_engine.specs.Deliveries.{heard_after, heard_read}
 use Rattle.desk_engine.specs.InOrder.{HasNoRoom, IsInOrder, Survives, doubt_after}
 use Rattle.desk_engine.specs.Lines.{line_feed, has_line_feed, delivery_of_line, whole_lines, last_line, all_lines, heard_line, answer_line, heard_lines, answer_lines, IsBeginning, HasHeardLines, HasAnswered, LinesEndBy}
 use Rattle.desk_engine.specs.Outcomes.{delivery_of, doubt_of_text, doubt_read, is_unavailable}
-use Rattle.desk_engine.specs.steps.Lines.{fault_of_stop, line_with, part, lines_end_of, TakesLine, HasReadTo}
+use Rattle.desk_engine.specs.steps.Lines.{line_with, part, lines_end_of, TakesLine, HasReadTo}
 use Rattle.desk_engine.specs.Told.{text_of, told_of_text, envelope_of_text}
 use Rattle.desk_engine.proofs.LineCuts as cuts
 use Rattle.desk_engine.proofs.LineParts as parts
@@ -297,17 +297,3 @@ octets-done input octets done rest is = append_assoc input done rest ∙ ap (λ 
 pub consumes-none : (a b c : Option (List ℕ)) (input chunk : List ℕ) (n : ℕ) → Consumes a b input → Consumes b c (take n chunk) → n ≡ 0 → Consumes a c input
 consumes-none a b c input chunk n p q none =
     subst (Consumes a c) (append-nil input) (Consumes-trans a b c input [] p (subst (λ k. Consumes b c (take k chunk)) none q))
-
--- ---- how a run ended
-
--- a write that failed is no fault of the store
-pub write_is_quiet : {T : Type 0} (result : Result T Stop) → IfErr result (λ stop. stop ≡ Write) → fault_of_stop result ≡ None
-write_is_quiet (Ok x) failed = refl
-write_is_quiet (Err stop) failed = rw failed refl
-
-pub stop_is_not_done : (stop : Stop) → ¬ (lines_end_of stop ≡ lines_end.Done)
-stop_is_not_done Write is = cc
-stop_is_not_done (Unavailable fault) is = cc
-
-pub read_is_not_done : ¬ (lines_end.Read ≡ lines_end.Done)
-read_is_not_done is = cc
