@@ -38,7 +38,7 @@ use Rattle.desk_rows.proofs.OrderLemmas.Euis.{octets_above}
 use Rattle.desk_rows.proofs.Ordered.{Asked, rising, head, first_sorted, map_same, map_twice}
 use Rattle.desk_rows.proofs.Ranges.{rows_all, rows_alike}
 use Rattle.desk_rows.proofs.ReadLemmas.{truth_again}
-use Rattle.desk_rows.proofs.SpanQueries.{above}
+use Rattle.desk_rows.specs.steps.Texts.{above}
 use Rattle.desk_rows.proofs.Terms.{is, and_true, text_equal}
 
 abbrev first_text : List ℕ

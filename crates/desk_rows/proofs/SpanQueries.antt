@@ -1,6 +1,6 @@
 -- Queries of spans: a gateway's bookings in a band, and those near a start.
-use Rattle.std.proofs.Common.{◌≡◌, ◌==◌, ◌&&◌, ◌<◌, ◌^◌, ℕ, pos, List, [], ◌∷◌, map, codes, Vec, Bool, true, false, cond, not, Result, bytes_eq, refl, sym, ap, ap₂, ◌∙◌}
-use Rattle.std.proofs.Common.{arith, Less, Equal, Greater, int_cmp}
+use Rattle.std.proofs.Common.{◌≡◌, ◌==◌, ◌&&◌, ◌<◌, ◌^◌, ℕ, pos, List, [], ◌∷◌, map, Vec, Bool, true, false, cond, not, Result, bytes_eq, refl, sym, ap, ap₂, ◌∙◌}
+use Rattle.std.proofs.Common.{Less, Equal, Greater, int_cmp}
 use Rattle.std.specs.declared.alloc.Global.{Global}
 use Rattle.std.specs.Ordering.{is_gt, is_lt, ordering_then}
 use Rattle.std.specs.Prelude.{ℤ, int_lt}
@@ -11,10 +11,8 @@ use Rattle.sqlite_value.specs.declared.keys.Collation.TheVariants.{Binary}
 use Rattle.sqlite_sql.specs.declared.ops.BinaryOp.TheVariants.{Compare}
 use Rattle.sqlite_sql.specs.declared.ops.CompareOp.TheVariants.{Gt, Lt}
 use Rattle.sqlite_sql.specs.Ops.{is_true, binary}
-use Rattle.sqlite_sql.specs.Term.{Term, col, op2}
-use Rattle.sqlite.specs.Listing.{understood}
+use Rattle.sqlite_sql.specs.Term.{Term, col}
 use Rattle.sqlite.specs.State.{State}
-use Rattle.sqlite_tied.specs.Compute.{everything}
 use Rattle.duty_core.specs.Near.{is_near, starts_between}
 use Rattle.duty_core.specs.Range.{IsStart}
 use Rattle.duty_core.specs.Use.{Interval}
@@ -28,13 +26,13 @@ use Rattle.desk_rows.specs.Rows.{BookingRow, IsBooking, booking_cells, number}
 use Rattle.desk_rows.specs.order.Arranged.{booking_span, by_start, is_near_at, near_by, spans_by}
 use Rattle.desk_rows.specs.steps.Queries.{FindsAll}
 use Rattle.desk_rows.specs.steps.Shown.{near_booking_shown, span_shown}
-use Rattle.desk_rows.specs.steps.Texts.{AsksFor, bookings_asked, undropped}
+use Rattle.desk_rows.specs.steps.Texts.{AsksFor, bookings_asked, near_asked}
 use Rattle.desk_rows.specs.declared.faults.RowFault.{RowFault}
 use Rattle.desk_rows.proofs.AnsweredUplinks.{stands}
-use Rattle.desk_rows.proofs.Lookups.{IsLookup, says_so}
+use Rattle.desk_rows.proofs.Lookups.{says_so}
 use Rattle.desk_rows.proofs.OrderLemmas.Orders.{not_both}
 use Rattle.desk_rows.proofs.Ordered.{rising}
-use Rattle.desk_rows.proofs.Ranges.{IsSpan, all_by, reads_by_start, rows_alike, reads_spans}
+use Rattle.desk_rows.proofs.Ranges.{IsSpan, reads_by_start, rows_alike, reads_spans}
 use Rattle.desk_rows.proofs.ReadLemmas.{truth_again}
 use Rattle.desk_rows.proofs.StatementTexts.{lookup_is}
 use Rattle.desk_rows.proofs.Terms.{is, and_true, text_equal, number_equal}
@@ -70,12 +68,6 @@ module _ {sql : List ℕ} {names : List (List ℕ)} (means : AsksFor sql 2 booki
 
 -- ---- between two starts
 
-abbrev pub above : ℕ → ℕ → Term
-above place param = op2 (Compare Gt Binary) (col 1 place) (col 0 param)
-
-abbrev pub below : ℕ → ℕ → Term
-below place param = op2 (Compare Lt Binary) (col 1 place) (col 0 param)
-
 gt_lt : (a b : ℤ) → is_gt (int_cmp a b) ≡ int_lt b a
 gt_lt a b = by (int_lt a b) (int_lt b a) refl refl
   where
@@ -102,16 +94,6 @@ int_below a b = truth_again _ ∙ ap is_lt (value_cmp-Int a b) ∙ lt_lt a b
 
 -- ---- near a start
 
-abbrev near_text : List ℕ
-near_text = codes "SELECT start, airtime, band FROM booking WHERE gateway = ?1 AND start > ?2 AND start < ?3 AND state <> 2 ORDER BY start, number"
-
-abbrev near_project : List Term
-near_project = col 1 7 ∷ col 1 8 ∷ col 1 6 ∷ []
-
-near_lookup : IsLookup near_text 3 (all_by (17 ∷ []) (is 3 0 ∷ above 7 1 ∷ below 7 2 ∷ undropped ∷ []) near_project booking_order)
-unfolding understood everything
-near_lookup = record { names = _; compiled = _; means = refl; command = refl; plain = (refl, refl); whole = omega arith; given = refl; unlisted = refl }
-
 near_moved : (g a b s : Bool) → (g && (a && (b && s))) ≡ ((g && s) && (a && b))
 near_moved false a b s = refl
 near_moved true false b true = refl
@@ -124,12 +106,12 @@ near_moved true true true false = refl
 abbrev pub IsNearBooking : NearBooking → Type 0
 IsNearBooking near = IsStart near.span.start × (near.span.len < 2 ^ 32)
 
-module _ {old new : State} (gateway : List ℕ) (after before : ℤ) where
-  between : {result : Result (Vec NearBooking Global) RowFault} → FindsAll near_text (Text gateway ∷ Int after ∷ Int before ∷ []) old new
+module _ {sql : List ℕ} {names : List (List ℕ)} (means : AsksFor sql 3 near_asked names) {old new : State} (gateway : List ℕ) (after before : ℤ) where
+  between : {result : Result (Vec NearBooking Global) RowFault} → FindsAll sql (Text gateway ∷ Int after ∷ Int before ∷ []) old new
       (λ n. n) near_booking_shown IsNearBooking result
       → Reads old new result (λ r near. near.items ≡ near_by (by_start (λ (b : BookingRow). (booking_span b).start))
       (λ b. stands_at gateway b.booking && starts_between after before (booking_span b)) r.bookings)
-  between found = reads_by_start near_lookup (Text gateway ∷ Int after ∷ Int before ∷ []) refl refl booking_cells (λ r. r.bookings) (λ r has. has.ten.booking)
+  between found = reads_by_start (lookup_is means) (Text gateway ∷ Int after ∷ Int before ∷ []) refl refl booking_cells (λ r. r.bookings) (λ r has. has.ten.booking)
       (λ b. stands_at gateway b.booking && starts_between after before (booking_span b))
       (λ b. ap₂ (λ s t. s && t) (text_equal b.1.booking.gateway gateway) (ap₂ (λ s t. s && t) (int_above (booking_span b.1).start after)
       (ap₂ (λ s t. s && t) (int_below (booking_span b.1).start before) (and_true _ ∙ stands b.1.booking.standing)))
@@ -142,7 +124,7 @@ module _ {old new : State} (gateway : List ℕ) (after before : ℤ) where
 
   -- what lies between the two starts is what is near the one
   pub reads_near : (start : ℤ) → ((a : Interval) → IsStart a.start → is_near start a ≡ starts_between after before a)
-      → {result : Result (Vec NearBooking Global) RowFault} → FindsAll near_text (Text gateway ∷ Int after ∷ Int before ∷ []) old new
+      → {result : Result (Vec NearBooking Global) RowFault} → FindsAll sql (Text gateway ∷ Int after ∷ Int before ∷ []) old new
       (λ n. n) near_booking_shown IsNearBooking result
       → Reads old new result (λ r near. near.items ≡ near_by (by_start (λ (b : BookingRow). (booking_span b).start)) (is_near_at gateway start) r.bookings)
   reads_near start near found = says_so (between found)

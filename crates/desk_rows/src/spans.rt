@@ -9,7 +9,7 @@ ghost use Rattle.registry_core.specs.Reports.{interval_of};
 ghost use Rattle.desk_rows.specs.Calls.{Reads};
 ghost use Rattle.desk_rows.specs.order.Arranged.{booking_span, by_start, is_near_at, is_uplink_of, near_by, spans_by};
 ghost use Rattle.desk_rows.specs.steps.Shown.{near_booking_shown, span_shown};
-ghost use Rattle.desk_rows.specs.steps.Texts.{AsksFor, bookings_asked};
+ghost use Rattle.desk_rows.specs.steps.Texts.{AsksFor, bookings_asked, near_asked};
 
 use crate::columns::{band_at, span_at};
 use crate::faults::RowFault;
@@ -73,6 +73,14 @@ pub fn bookings_of<S: Alter>(
     find_all(alloc, conn, bookings_text(), &[text(gateway), band(of)])
 }
 
+/// The text of the look-up of a gateway's bookings between two starts.
+#[tactic(auto, unfolding(sqlite::specs::Listing::understood, sqlite_tied::specs::Compute::everything))]
+fn near_text() -> &'static str
+    ensures { AsksFor result.now 3 near_asked (codes "start" ∷ codes "airtime" ∷ codes "band" ∷ []) }
+{
+    "SELECT start, airtime, band FROM booking WHERE gateway = ?1 AND start > ?2 AND start < ?3 AND state <> 2 ORDER BY start, number"
+}
+
 /// The gateway's bookings that aren't dropped and start near the given start, in microseconds since 1970 UTC, in order of start:
 /// equal starts in order of number.
 pub fn near<S: Alter>(
@@ -88,7 +96,7 @@ pub fn near<S: Alter>(
     find_all(
         alloc,
         conn,
-        "SELECT start, airtime, band FROM booking WHERE gateway = ?1 AND start > ?2 AND start < ?3 AND state <> 2 ORDER BY start, number",
+        near_text(),
         &[text(gateway), integer(range.after), integer(range.before)],
     )
 }

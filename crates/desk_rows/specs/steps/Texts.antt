@@ -4,7 +4,7 @@ use Rattle.sqlite_value.specs.declared.keys.Collation.TheVariants.{Binary}
 use Rattle.sqlite_value.specs.declared.keys.Key.{Key}
 use Rattle.sqlite_value.specs.declared.value.Value.TheVariants.{Int}
 use Rattle.sqlite_sql.specs.declared.ops.BinaryOp.TheVariants.{Compare}
-use Rattle.sqlite_sql.specs.declared.ops.CompareOp.TheVariants.{Eq, Ne}
+use Rattle.sqlite_sql.specs.declared.ops.CompareOp.TheVariants.{Eq, Gt, Lt, Ne}
 use Rattle.sqlite_sql.specs.Term.{Term, lit, col, op2}
 use Rattle.sqlite_sql.specs.Query.{Query, Join, inner, end}
 use Rattle.sqlite_schema.specs.declared.schema.Schema.{Schema}
@@ -103,6 +103,17 @@ answer_asked = by_rowid 17 (is 2 0 ∷ undropped ∷ []) (lit (Int (pos 1)) ∷ 
 -- start and airtime of the bookings of a gateway in a band that aren't dropped, by start and then by number
 abbrev pub bookings_asked : Asked (17 ∷ [])
 bookings_asked = all_by (17 ∷ []) (is 3 0 ∷ is 6 1 ∷ undropped ∷ []) (col 1 7 ∷ col 1 8 ∷ []) ((col 1 7, rising) ∷ (col 1 0, rising) ∷ [])
+
+-- a column is above a parameter, and below one
+abbrev pub above : ℕ → ℕ → Term
+above place param = op2 (Compare Gt Binary) (col 1 place) (col 0 param)
+
+abbrev pub below : ℕ → ℕ → Term
+below place param = op2 (Compare Lt Binary) (col 1 place) (col 0 param)
+
+-- start, airtime and band of a gateway's bookings between two starts that aren't dropped, by start and then by number
+abbrev pub near_asked : Asked (17 ∷ [])
+near_asked = all_by (17 ∷ []) (is 3 0 ∷ above 7 1 ∷ below 7 2 ∷ undropped ∷ []) (col 1 7 ∷ col 1 8 ∷ col 1 6 ∷ []) ((col 1 7, rising) ∷ (col 1 0, rising) ∷ [])
 
 -- both texts of the reply to a sender's number
 abbrev pub reply_asked : Asked (3 ∷ [])

@@ -13,4 +13,4 @@ returns g c =
     let near : (a : Interval) → IsStart a.start → is_near (pos c.args.start) a ≡ starts_between range.after range.before a = search rules in
     let after : owned c.integer.result ≡ Int range.after = search rules in
     let before : owned c.integer-2.result ≡ Int range.before = search rules in
-    reads_near c.args.gateway.now range.after range.before (pos c.args.start) near (rw (c.text.ensures.same, after, before) at c.find_all.ensures)
+    reads_near c.near_text.ensures c.args.gateway.now range.after range.before (pos c.args.start) near (rw (c.text.ensures.same, after, before) at c.find_all.ensures)
