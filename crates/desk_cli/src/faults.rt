@@ -172,3 +172,6 @@ fn write_beginning<W: Write>(writer: &mut W, text: &[u8]) -> io::Result<()>
     }
     Err(ErrorKind::TimedOut.into())
 }
+
+#[cfg(test)]
+mod tests;

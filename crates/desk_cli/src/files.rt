@@ -4,8 +4,10 @@ ghost use Rattle.sqlite_wal.specs.Files.{image_at};
 ghost use Rattle.desk_cli.specs.Doing.{AtPaths, known_alike};
 ghost use Rattle.desk_cli.specs.InFiles.{Shows};
 
+use crate::causes::line_for_terminal;
 use crate::faults::Fault;
 use sqlite::{Alter, Connection, FileFrom, FileStore, Start};
+use std::cell::Cell;
 use std::path::Path;
 
 /// Opens one file as a database, by its path.
@@ -30,11 +32,13 @@ pub trait Files<S: Alter>: Drop + Sized {
         ensures fault { IfErr result (λ fault. fault ≡ Fault.File) };
 }
 
-/// The files of the machine. `start` stands for what they hold when they are opened.
+/// The files of the machine. `start` stands for what they hold when they are opened. Where one can't be opened, `why` gets a line
+/// for the terminal, if there is one.
 #[derive(Drop)]
 pub(crate) struct HostFiles<'a, T: Start> {
     pub rt: &'a HostRuntime,
     pub start: T,
+    pub why: &'a Cell<Option<String>>,
 }
 
 impl<T: Start> Files<FileStore<FileFrom<T>>> for HostFiles<'_, T> {
@@ -43,6 +47,7 @@ impl<T: Start> Files<FileStore<FileFrom<T>>> for HostFiles<'_, T> {
 
     fn open(self, path: &str) -> Result<Connection<FileStore<FileFrom<T>>>, Fault> {
         if !Path::new(path).is_file(self.rt) {
+            self.why.set(line_for_terminal(self.rt, path, None));
             return Err(Fault::File);
         }
         self.make(path)
@@ -51,7 +56,10 @@ impl<T: Start> Files<FileStore<FileFrom<T>>> for HostFiles<'_, T> {
     fn make(self, path: &str) -> Result<Connection<FileStore<FileFrom<T>>>, Fault> {
         match Connection::open_from(self.rt, path, false, self.start) {
             Ok(conn) => Ok(conn),
-            Err(_) => Err(Fault::File),
+            Err((error, _)) => {
+                self.why.set(line_for_terminal(self.rt, path, Some(error)));
+                Err(Fault::File)
+            }
         }
     }
 }

@@ -2,6 +2,7 @@
 #![tactic(auto)]
 
 mod answering;
+mod causes;
 mod commands;
 mod endings;
 mod faults;
@@ -26,6 +27,8 @@ mod words;
 use files::HostFiles;
 use sockets::Sockets;
 use sqlite::{Start, Unknown};
+use std::cell::Cell;
+use std::io::Write;
 use std::process::ExitCode;
 
 fn main(rt: HostRuntime) -> ExitCode {
@@ -34,7 +37,12 @@ fn main(rt: HostRuntime) -> ExitCode {
 
 /// Runs the program on this machine. `start` stands for what a file holds when it is opened.
 fn run_on<T: Start>(rt: &HostRuntime, start: T) -> ExitCode {
-    let files = HostFiles { rt, start };
+    let why = Cell::new(None);
+    let files = HostFiles {
+        rt,
+        start,
+        why: &why,
+    };
     let (ending, conn) = program::run(
         rt,
         files,
@@ -43,6 +51,10 @@ fn run_on<T: Start>(rt: &HostRuntime, start: T) -> ExitCode {
         &mut rt.stdout(),
         &mut rt.stderr(),
     );
+    if let Some(line) = why.take() {
+        // The line before says that it is the file; this one is for a user at a terminal.
+        let _ = writeln!(&mut rt.stderr(), "{line}");
+    }
     if let Some(conn) = conn {
         // All is committed: where the log can't be moved into the file now, the next start does it.
         let _ = conn.close();
