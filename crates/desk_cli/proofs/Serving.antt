@@ -47,12 +47,12 @@ served_by m ports network l remaining contents n c heard old new first last port
 
 module _ (c : Settings) (heard : List Envelope) (Kept Stands : List Envelope → Type 0) (Left Stays : List Envelope → Option Envelope → Type 0)
     (kept : (all : List Envelope) → Kept all → Stands all) (left : (all : List Envelope) (doubt : Option Envelope) → Left all doubt → Stays all doubt)
-    (ports : AtPorts) (port n : ℕ) (before after : Option (List ℕ)) {T : Type 0} where
+    (ports : AtPorts) (port n : ℕ) (before after : Option (List ℕ)) where
   carried_served : (Answered : Delivered → Type 0) → HearsServed c heard Kept Left ports port n before after Answered → HearsServed c heard Stands Stays ports port n before after Answered
   carried_served Answered by =
       record { delivered = by.delivered; answered = by.answered; undoubted = by.undoubted; kept = λ is. kept _ (by.kept is); left_is = left _ _ by.left_is }
 
-  pub carried : (r : Result T Fault) → ServesBy c heard Kept Left ports port n before after r → ServesBy c heard Stands Stays ports port n before after r
+  pub carried : {T : Type 0} (r : Result T Fault) → ServesBy c heard Kept Left ports port n before after r → ServesBy c heard Stands Stays ports port n before after r
   carried (Ok x) by = (carried_served _ by.0, by.1)
   carried (Err Network) (inl by) = inl (by.0, kept _ by.1, by.2)
   carried (Err Network) (inr by) = inr (carried_served _ by.0, by.1)

@@ -102,7 +102,7 @@ impl<C: Clock, S: Write + OpenStream> Write for Timed<'_, C, S> {
 
 /// Reads on until the peer closes, so that it gets what was written to it: a socket that is closed with octets unread
 /// resets its connection.
-fn read_to_close<C: Clock, S: Read + OpenStream>(reader: Timed<'_, C, S>) -> io::Result<()> {
+fn read_to_close<C: Clock, S: Read + OpenStream + Drop>(reader: Timed<'_, C, S>) -> io::Result<()> {
     let mut reader = reader;
     reader.await_close()?;
     let mut unread = [0u8; 4096];

@@ -78,8 +78,8 @@ static WAITS: [(Awaited, u64, Option<u64>); 10] = [
 ];
 
 /// How a call of a stream ends that waits so long, or no longer.
-fn ends(result: io::Result<usize>, wait: Option<u64>) -> bool {
-    match (result, wait) {
+fn ends(call: io::Result<usize>, wait: Option<u64>) -> bool {
+    match (call, wait) {
         (Ok(count), Some(_)) => count == 1,
         (Err(error), None) => error.kind() == ErrorKind::TimedOut,
         _ => false,
