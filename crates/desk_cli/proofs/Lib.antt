@@ -16,3 +16,4 @@ pub mod Reported
 pub mod Serving
 pub mod Tellings
 pub mod TotalsPrinted
+pub mod Unsound

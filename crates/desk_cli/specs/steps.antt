@@ -6,4 +6,5 @@ pub mod Jobs
 pub mod Options
 pub mod Printing
 pub mod Serving
+pub mod Unsound
 pub mod Usages

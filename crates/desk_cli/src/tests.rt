@@ -5,8 +5,9 @@ mod csv_reports;
 mod data_frames;
 mod downlinks;
 mod ends;
+pub(crate) mod failing;
 mod fsk;
-mod fuses;
+pub(crate) mod fuses;
 pub(crate) mod holding;
 mod hours;
 pub(crate) mod importing;
@@ -14,16 +15,20 @@ mod joins;
 mod keys;
 mod limits;
 mod lines;
+mod many;
 mod migrating;
 mod radio_rules;
 mod reports;
 pub(crate) mod requests;
+pub(crate) mod room;
 pub(crate) mod rows;
 mod runs;
-mod stops;
+mod second_schema;
+pub(crate) mod stops;
 mod stored_lines;
 pub(crate) mod streams;
 mod sweeping;
+pub(crate) mod switched;
 mod texts;
 
 use desk_engine::{Outcome, deliver};
@@ -37,6 +42,7 @@ use sqlite::{Alter, Connection, MemStore};
 use std::alloc::Global;
 use std::process::Abort;
 use std::test::Fail;
+use stops::rows_in;
 
 /// A store that tests can make.
 pub(crate) trait Opened: Keeper + Drop + Sized {
@@ -56,6 +62,20 @@ impl Opened for Tables<MemStore> {
     }
 }
 
+/// A store that can be closed and opened again.
+pub(crate) trait Reopened: Opened {
+    /// The rows of the store, as a text, once it is closed; and the store, opened again.
+    fn reopened(alloc: Global, store: Box<Self>) -> Result<(String, Box<Self>), Fail>;
+}
+
+impl Reopened for Tables<MemStore> {
+    fn reopened(alloc: Global, store: Box<Self>) -> Result<(String, Box<Self>), Fail> {
+        let mut conn = Box::into_inner(store).close();
+        let rows = rows_in(alloc, &mut conn)?;
+        Ok((rows, found(alloc, conn)?))
+    }
+}
+
 /// The connection, with no limit of steps and in no transaction.
 pub(crate) fn ready<S: Alter + Drop>(conn: Connection<S>) -> Result<Connection<S>, &'static str>
     ensures idle { IfOk result (λ conn. conn.in_transaction ≡ false) }
@@ -71,7 +91,7 @@ pub(crate) fn ready<S: Alter + Drop>(conn: Connection<S>) -> Result<Connection<S
 }
 
 /// A desk on tables, in a database that has nothing.
-fn made<S: Alter + Drop>(
+pub(crate) fn made<S: Alter + Drop>(
     alloc: Global,
     conn: Connection<S>,
     config: Config,
@@ -81,7 +101,10 @@ fn made<S: Alter + Drop>(
 }
 
 /// The desk on tables that the database has.
-fn found<S: Alter + Drop>(alloc: Global, conn: Connection<S>) -> Result<Box<Tables<S>>, Fail> {
+pub(crate) fn found<S: Alter + Drop>(
+    alloc: Global,
+    conn: Connection<S>,
+) -> Result<Box<Tables<S>>, Fail> {
     let tables = Tables::open(alloc, ready(conn)?).map_err(|_| "not opened")?;
     Ok(Box::new(alloc, tables)?)
 }
@@ -134,7 +157,7 @@ fn hear_each<R: Abort + AllocGlobal, K: Keeper>(rt: &R, keeper: &mut K, deliveri
 }
 
 /// The same by a desk on tables. The connection to what it then holds.
-fn told_each<R: Abort + AllocGlobal, S: Alter + Drop>(
+pub(crate) fn told_each<R: Abort + AllocGlobal, S: Alter + Drop>(
     rt: &R,
     tables: Box<Tables<S>>,
     deliveries: &[Delivery],

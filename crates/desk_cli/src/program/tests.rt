@@ -3,6 +3,9 @@ ghost use Rattle.std.specs.Prelude.{◌≡◌, ◌≢◌, false, None, IfOk};
 ghost use Rattle.desk_cli.specs.Doing.{known_alike};
 ghost use Rattle.desk_http.specs.Served.{unknown};
 
+mod fused;
+mod held;
+mod host_files;
 mod one_file;
 
 use super::run;
@@ -17,7 +20,7 @@ use desk_http::{Listening, ServeEnd};
 use sqlite::{Alter, Connection, MemStore};
 use std::alloc::Global;
 use std::env::FillError;
-use std::io::{self, ErrorKind};
+use std::io::{self, ErrorKind, Read, Write};
 use std::rt::Env;
 use std::test::Fail;
 
@@ -124,6 +127,20 @@ impl Network for OnePort {
 
 const NETWORK: OnePort = OnePort { free: 8080 };
 
+/// The program runs with these arguments: how it ends, what is on standard error, and the connection to its file.
+pub(super) fn ran<R: AllocGlobal, S: Alter + Drop, N: Files<S>, I: Read, W: Write>(
+    rt: &R,
+    words: &[&[u8]],
+    files: N,
+    reader: &mut I,
+    answers: &mut W,
+) -> (Ending, Vec<u8>, Option<Connection<S>>) {
+    let process = (Started { words }, rt.alloc());
+    let mut faults = Vec::new(rt.alloc());
+    let (ending, conn) = run(&process, files, &NETWORK, reader, answers, &mut faults);
+    (ending, faults, conn)
+}
+
 /// A line that no message has.
 const INPUT: &str = "{\n";
 
@@ -142,6 +159,16 @@ const NO_COMMAND_OF_LINES: &str =
 
 const EMPTY_WORD: &str =
     "error: unexpected argument '' found\n\nUsage: desk lines [OPTIONS]\n\nFor more information, try '--help'.\n";
+
+/// None, or more than there are from the base on.
+const ADDRESSES: &str =
+    "error: --addresses is at least 1, and ends at address ffffffff or before\n\nFor more information, try '--help'.\n";
+
+const RECEIVER: &str =
+    "error: --receiver takes 1 to 32 ASCII letters, digits, '-', '_' and '.'\n\nFor more information, try '--help'.\n";
+
+const OPERATOR: &str =
+    "error: --operator takes 1 to 32 ASCII letters, digits, '-', '_' and '.'\n\nFor more information, try '--help'.\n";
 
 /// The other helps stand in `checks/words.py`, with what is printed of other words.
 const LINES_HELP: &str = "\
@@ -165,7 +192,7 @@ const NO_TEXT: &str = "error: a word isn't UTF-8\n";
 /// Words, how the program ends, its answers, and what is on its fault line.
 type Row = (&'static [&'static [u8]], Ending, &'static str, &'static str);
 
-static ROWS: [Row; 11] = [
+static ROWS: [Row; 15] = [
     (&[], Ending::Misused, "", NO_COMMAND),
     (&[b"desk"], Ending::Misused, "", NO_COMMAND),
     (&[b"lines"], Ending::Misused, "", NO_COMMAND_OF_LINES),
@@ -189,6 +216,37 @@ static ROWS: [Row; 11] = [
         Ending::Misused,
         "",
         LINES_HELP,
+    ),
+    (
+        &[b"desk", b"lines", b"--addresses", b"0"],
+        Ending::Misused,
+        "",
+        ADDRESSES,
+    ),
+    (
+        &[
+            b"desk",
+            b"lines",
+            b"--base",
+            b"ffffffff",
+            b"--addresses",
+            b"2",
+        ],
+        Ending::Misused,
+        "",
+        ADDRESSES,
+    ),
+    (
+        &[b"desk", b"lines", b"--receiver", b"two words"],
+        Ending::Misused,
+        "",
+        RECEIVER,
+    ),
+    (
+        &[b"desk", b"lines", b"--operator", b"two words"],
+        Ending::Misused,
+        "",
+        OPERATOR,
     ),
     (&[b"desk", b"lines", b"\xff"], Ending::Misused, "", NO_TEXT),
     (&[b"\xff", b"lines"], Ending::Misused, "", NO_TEXT),

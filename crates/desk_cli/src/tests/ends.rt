@@ -4,7 +4,7 @@ use super::lines::{REUSED, expect_written};
 use super::requests::responses::{self, ADDED};
 use super::requests::{expect, posted};
 use super::rows::{ADDED as OWNER_ADDED, OTHER_OWNER, REQUEST};
-use super::streams::{Failing, Pieces};
+use super::streams::{Failing, Interrupted, Pieces};
 use super::{Opened, opening};
 use desk_engine::{LinesEnd, run_lines};
 use desk_http::{ServeEnd, serve_one};
@@ -126,4 +126,17 @@ fn ends_fail_over_lists(rt: HostRuntime) -> Result<(), Fail> {
 #[test]
 fn ends_fail_over_tables(rt: HostRuntime) -> Result<(), Fail> {
     ends_fail::<HostRuntime, Tables<MemStore>>(&rt)
+}
+
+/// Reads that are interrupted a hundred times in a row go on.
+#[test]
+fn a_request_that_is_interrupted(rt: HostRuntime) -> Result<(), Fail> {
+    let input = posted(rt.alloc(), REQUEST, "")?;
+    let mut lists = opening::<Lists>(rt.alloc(), 65_536)?;
+    let mut reader = Interrupted::new(input.as_bytes());
+    let mut written = Vec::new(rt.alloc());
+    let end = serve_one(rt.alloc(), &mut *lists, &mut reader, &mut written);
+    holds_at(&rt, end == ServeEnd::Done(200), 0);
+    holds_at(&rt, written.as_slice() == ADDED.as_bytes(), 1);
+    Ok(())
 }

@@ -22,7 +22,7 @@ const MANY: u64 = 10_000;
 
 /// What is done with a database. One function does it with a database in files: a proof that names a connection over files and makes
 /// a call with it takes long.
-trait Step {
+pub(crate) trait Step {
     fn take<R: Abort + AllocGlobal, S: Alter + Drop>(
         &mut self,
         rt: &R,
@@ -50,7 +50,7 @@ fn files_of<D: Disk + Drop>(conn: Connection<FileStore<D>>) -> Files<D> {
 }
 
 /// The step is taken, where the files can be opened. Whether it was, and what is left of the files.
-fn in_files<R: Abort + AllocGlobal, D: Disk + Drop, T: Step>(
+pub(crate) fn in_files<R: Abort + AllocGlobal, D: Disk + Drop, T: Step>(
     rt: &R,
     files: Files<D>,
     step: &mut T,
@@ -70,7 +70,7 @@ fn file_of(alloc: Global, octets: &[u8]) -> Result<Memory, Fail> {
 }
 
 /// Files that have nothing.
-fn empty(alloc: Global) -> Files<Memory> {
+pub(crate) fn empty(alloc: Global) -> Files<Memory> {
     Files {
         log: Memory::new(alloc),
         db: Memory::new(alloc),
@@ -78,7 +78,7 @@ fn empty(alloc: Global) -> Files<Memory> {
 }
 
 /// Copies of the files, of which the log passes so many calls on, or the first file does.
-fn fused(
+pub(crate) fn fused(
     alloc: Global,
     files: &Files<Memory>,
     is_log: bool,
@@ -215,7 +215,7 @@ impl Step for GoesOn<'_> {
 }
 
 /// The rows of a desk that isn't stopped: of one that has heard nothing, and after each message.
-fn rows_after_each<R: Abort + AllocGlobal>(
+pub(super) fn rows_after_each<R: Abort + AllocGlobal>(
     rt: &R,
     deliveries: &[Delivery],
 ) -> Result<Vec<String>, Fail> {

@@ -1,10 +1,12 @@
 //! Gateway reports: the worked one three times, one that goes on after refusals, and one of a sender that nobody added.
 use super::holding::holds;
-use super::{Opened, expect, with_device};
+use super::{Opened, Reopened, expect, with_device};
 use desk_engine::{Imported, import};
 use desk_store::Keeper;
+use desk_tables::Tables;
 use desk_wire::read_report;
 use radio_core::Name;
+use sqlite::MemStore;
 use std::alloc::Global;
 use std::process::Abort;
 use std::test::Fail;
@@ -121,4 +123,21 @@ pub(super) fn reports_are_heard_in_order<R: Abort + AllocGlobal, K: Opened>(
         b"stranger",
         &STRANGERS_ANSWERS,
     )
+}
+
+/// The worked report once more leaves each row of each table as it is.
+fn rows_stay<R: Abort + AllocGlobal, K: Reopened>(rt: &R) -> Result<(), Fail> {
+    let mut keeper = with_device::<R, K>(rt)?;
+    let (report, answers) = (WORKED.as_bytes(), &WORKED_ANSWERS);
+    expect_imported(rt, &mut *keeper, report, b"bridge", answers)?;
+    let (rows, mut keeper) = K::reopened(rt.alloc(), keeper)?;
+    expect_imported(rt, &mut *keeper, report, b"bridge", answers)?;
+    let (again, _) = K::reopened(rt.alloc(), keeper)?;
+    holds(rt, again == rows, "the rows");
+    Ok(())
+}
+
+#[test]
+fn a_second_import_changes_no_row(rt: HostRuntime) -> Result<(), Fail> {
+    rows_stay::<HostRuntime, Tables<MemStore>>(&rt)
 }

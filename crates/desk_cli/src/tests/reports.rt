@@ -14,14 +14,14 @@ use radio_core::{Band, Eui, Name};
 use std::process::Abort;
 use std::test::Fail;
 
-const OWNER_HEADER: &str =
+pub(super) const OWNER_HEADER: &str =
     "dev_eui,uplinks,b1_us,b1_peak_us,b2_us,b2_peak_us,b3_us,b3_peak_us,b4_us,b4_peak_us,b5_us,b5_peak_us,b6_us,b6_peak_us\n";
 
 const BANDS_UNUSED: &str =
     "band,limit_us,bookings,booked_us,peak_us\nB1,3600000,0,0,0\nB2,36000000,0,0,0\nB3,36000000,0,0,0\nB4,3600000,0,0,0\nB5,360000000,0,0,0\nB6,36000000,0,0,0\n";
 
 /// One join accept is booked in B3.
-const BANDS_BOOKED: &str =
+pub(super) const BANDS_BOOKED: &str =
     "band,limit_us,bookings,booked_us,peak_us\nB1,3600000,0,0,0\nB2,36000000,0,0,0\nB3,36000000,1,46336,46336\nB4,3600000,0,0,0\nB5,360000000,0,0,0\nB6,36000000,0,0,0\n";
 
 /// And one data frame, an hour's use of which is its own, in B5.
@@ -33,7 +33,7 @@ const BANDS_DROPPED: &str =
     "band,limit_us,bookings,booked_us,peak_us\nB1,3600000,0,0,0\nB2,36000000,0,0,0\nB3,36000000,0,0,0\nB4,3600000,0,0,0\nB5,360000000,1,991232,991232\nB6,36000000,0,0,0\n";
 
 /// The worked month: a join and a data frame of one hour.
-const WORKED_LINE: &str = "0004a30b001a2b3c,2,0,0,0,0,102912,102912,0,0,0,0,0,0\n";
+pub(super) const WORKED_LINE: &str = "0004a30b001a2b3c,2,0,0,0,0,102912,102912,0,0,0,0,0,0\n";
 
 const UNUSED_LINE: &str = "0004a30b001a2b3c,0,0,0,0,0,0,0,0,0,0,0,0,0\n";
 
@@ -159,7 +159,7 @@ static ORDER: [Step; 2] = [
 ];
 
 /// The report is the header and the rest that is wanted, or there is none for this reason.
-fn is_wanted(
+pub(super) fn is_wanted(
     report: &Result<Vec<u8>, ReportFault>,
     header: &str,
     wanted: &Result<&str, ReportFault>,

@@ -59,12 +59,12 @@ static TABLES: [&str; 11] = [
 ];
 
 /// The ten messages, each once.
-pub(super) fn deliveries(alloc: Global) -> Result<Vec<Delivery>, Fail> {
+pub(crate) fn deliveries(alloc: Global) -> Result<Vec<Delivery>, Fail> {
     with_each_of(alloc, Vec::new(alloc), &MESSAGES)
 }
 
 /// Messages of each type, each once: the ten, and those after them.
-pub(super) fn all_deliveries(alloc: Global) -> Result<Vec<Delivery>, Fail> {
+pub(crate) fn all_deliveries(alloc: Global) -> Result<Vec<Delivery>, Fail> {
     with_each_of(alloc, deliveries(alloc)?, &MORE)
 }
 
@@ -81,7 +81,7 @@ fn with_each_of(
     Ok(deliveries)
 }
 
-pub(super) fn rows_in<S: Alter>(alloc: Global, conn: &mut Connection<S>) -> Result<String, Fail> {
+pub(crate) fn rows_in<S: Alter>(alloc: Global, conn: &mut Connection<S>) -> Result<String, Fail> {
     let mut text = String::new(alloc);
     for query in &TABLES {
         let rows = conn.query_all(query, &[])?;
@@ -91,7 +91,7 @@ pub(super) fn rows_in<S: Alter>(alloc: Global, conn: &mut Connection<S>) -> Resu
 }
 
 /// The database of a desk that has heard the deliveries.
-pub(super) fn heard<R: Abort + AllocGlobal>(
+pub(crate) fn heard<R: Abort + AllocGlobal>(
     rt: &R,
     deliveries: &[Delivery],
 ) -> Result<Connection<MemStore>, Fail> {

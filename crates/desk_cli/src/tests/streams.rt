@@ -1,4 +1,5 @@
-//! A reader and a writer that fail.
+//! Readers and writers that fail, are interrupted, or hold back.
+use std::alloc::Global;
 use std::io;
 use std::io::{ErrorKind, Read, Write};
 
@@ -59,6 +60,70 @@ impl Write for Failing {
     }
 
     fn flush(&mut self) -> io::Result<()> {
+        Ok(())
+    }
+}
+
+/// Gives its octets ten at most at a time, each time after a hundred interruptions.
+#[derive(Drop)]
+pub(crate) struct Interrupted<'a> {
+    left: &'a [u8],
+    until_read: u32,
+}
+
+impl<'a> Interrupted<'a> {
+    pub(crate) fn new(left: &'a [u8]) -> Self {
+        Interrupted {
+            left,
+            until_read: 100,
+        }
+    }
+}
+
+impl Read for Interrupted<'_> {
+    fn read(&mut self, buf: &mut [u8]) -> io::Result<usize> {
+        if self.until_read > 0 {
+            self.until_read -= 1;
+            return Err(ErrorKind::Interrupted.into());
+        }
+        self.until_read = 100;
+        let count = self.left.len().min(10).min(buf.len());
+        buf[..count].copy_from_slice(&self.left[..count]);
+        self.left = &self.left[count..];
+        Ok(count)
+    }
+}
+
+/// Holds back what it takes until it is flushed. A flush may fail.
+#[derive(Drop)]
+pub(crate) struct Holding {
+    held: Vec<u8>,
+    pub(crate) given: Vec<u8>,
+    fails: bool,
+}
+
+impl Holding {
+    pub(crate) fn new(alloc: Global, fails: bool) -> Self {
+        Holding {
+            held: Vec::new(alloc),
+            given: Vec::new(alloc),
+            fails,
+        }
+    }
+}
+
+impl Write for Holding {
+    fn write(&mut self, buf: &[u8]) -> io::Result<usize> {
+        self.held.extend_from_slice(buf)?;
+        Ok(buf.len())
+    }
+
+    fn flush(&mut self) -> io::Result<()> {
+        if self.fails {
+            return Err(ErrorKind::BrokenPipe.into());
+        }
+        self.given.extend_from_slice(&self.held)?;
+        self.held.clear();
         Ok(())
     }
 }

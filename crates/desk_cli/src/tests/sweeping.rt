@@ -3,7 +3,8 @@ use super::holding::holds;
 use duty_core::Span;
 use radio_core::{Band, DataRate, Name, Octets, Rate};
 use registry_core::{
-    Answer, Kind, Message, Reception, Role, Uplink, UplinkView, View, Whole, Window, decide,
+    Answer, BandLimit, Kind, Message, Reception, Refusal, Role, Uplink, UplinkView, View, Whole,
+    Window, decide,
 };
 use std::alloc::Global;
 use std::test::Fail;
@@ -94,5 +95,28 @@ fn a_million_downlinks_are_swept(rt: HostRuntime) -> Result<(), Fail> {
     holds(&rt, airtime == 991_232 && band == Band::B5, "the airtime");
     holds(&rt, booking == 1_000_001, "the booking");
     holds(&rt, start == END + 2_000_000, "the start");
+    Ok(())
+}
+
+/// A limit of the band for the gateway of the same view, decided.
+fn limit_answer(view: &View, most: u64) -> Result<Answer, Fail> {
+    let message = Message::LimitSet {
+        gateway: Name::new(b"gw-a").ok_or("no name")?,
+        limit: BandLimit::new(Band::B5, most).ok_or("too great")?,
+    };
+    let (_, answer) = decide(&message, view);
+    Ok(answer)
+}
+
+/// No hour holds more than 180 of the million, which is 90,000,000 microseconds.
+#[test]
+fn a_limit_of_a_million_downlinks_is_swept(rt: HostRuntime) -> Result<(), Fail> {
+    let mut view = view(rt.alloc())?;
+    view.role = Role::Operator;
+    let answer = limit_answer(&view, 90_000_000)?;
+    holds(&rt, matches!(answer, Answer::Success), "that it is set");
+    let answer = limit_answer(&view, 89_999_999)?;
+    let is_duty = matches!(answer, Answer::Refused(Refusal::Duty));
+    holds(&rt, is_duty, "that it is refused");
     Ok(())
 }

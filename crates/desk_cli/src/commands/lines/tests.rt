@@ -3,10 +3,10 @@ use super::lines_command;
 use crate::endings::Ending;
 use crate::tests::config;
 use crate::tests::holding::holds;
-use crate::tests::rows::{MALFORMED, REQUEST};
-use crate::tests::streams::{Failing, Pieces};
+use crate::tests::rows::{ADDED, MALFORMED, OWNERS, REQUEST, delivery_of};
+use crate::tests::streams::{Failing, Holding, Interrupted, Pieces};
 use std::alloc::Global;
-use std::io::{self, ErrorKind, Read, Write};
+use std::io::{Read, Write};
 use std::process::Abort;
 use std::test::Fail;
 
@@ -20,20 +20,6 @@ fn ran<R: Read, W: Write>(
     let mut faults = Vec::new(alloc);
     let ending = lines_command(alloc, &config, reader, answers, &mut faults);
     Ok((ending, faults))
-}
-
-/// Takes all, and fails to hand it on.
-#[derive(Drop)]
-struct HoldingWriter;
-
-impl Write for HoldingWriter {
-    fn write(&mut self, buf: &[u8]) -> io::Result<usize> {
-        Ok(buf.len())
-    }
-
-    fn flush(&mut self) -> io::Result<()> {
-        Err(ErrorKind::BrokenPipe.into())
-    }
 }
 
 /// The run failed, by a stream.
@@ -64,7 +50,55 @@ fn a_write_that_fails(rt: HostRuntime) -> Result<(), Fail> {
 #[test]
 fn a_flush_that_fails(rt: HostRuntime) -> Result<(), Fail> {
     let mut reader = REQUEST.as_bytes();
-    let (ending, faults) = ran(rt.alloc(), &mut reader, &mut HoldingWriter)?;
+    let (ending, faults) = ran(rt.alloc(), &mut reader, &mut Holding::new(rt.alloc(), true))?;
     expect_failed(&rt, ending, &faults);
     Ok(())
+}
+
+/// The lines are answered so, each on a line, and all is done.
+fn expect_answered<R: Abort + AllocGlobal, I: Read>(
+    rt: &R,
+    reader: &mut I,
+    wanted: &str,
+) -> Result<(), Fail> {
+    let mut answers = Holding::new(rt.alloc(), false);
+    let (ending, faults) = ran(rt.alloc(), reader, &mut answers)?;
+    holds(rt, ending == Ending::Done, wanted);
+    holds(rt, faults.is_empty(), "standard error");
+    holds(rt, answers.given.as_slice() == wanted.as_bytes(), wanted);
+    Ok(())
+}
+
+#[test]
+fn no_lines(rt: HostRuntime) -> Result<(), Fail> {
+    expect_answered(&rt, &mut "".as_bytes(), "")
+}
+
+/// The worked request, and then owners and each error of a text, in one run.
+#[test]
+fn owners_in_one_run(rt: HostRuntime) -> Result<(), Fail> {
+    let mut input = format!(in rt.alloc(); "{REQUEST}\n")?;
+    let mut wanted = format!(in rt.alloc(); "{ADDED}\n")?;
+    for row in &OWNERS {
+        let delivery = delivery_of(rt.alloc(), row)?;
+        push_line(&mut input, delivery.text.as_str())?;
+        push_line(&mut wanted, delivery.wanted.as_str())?;
+    }
+    expect_answered(&rt, &mut input.as_bytes(), wanted.as_str())
+}
+
+fn push_line(text: &mut String, line: &str) -> Result<(), Fail> {
+    text.push_str(line)?;
+    text.push('\n')?;
+    Ok(())
+}
+
+#[test]
+fn reads_that_are_interrupted(rt: HostRuntime) -> Result<(), Fail> {
+    let wanted = format!(in rt.alloc(); "{ADDED}\n")?;
+    expect_answered(
+        &rt,
+        &mut Interrupted::new(REQUEST.as_bytes()),
+        wanted.as_str(),
+    )
 }

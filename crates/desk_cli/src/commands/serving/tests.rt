@@ -3,14 +3,18 @@ ghost use Rattle.desk_http.specs.Served.{unknown};
 
 mod loopback;
 
+use crate::tests::failing::FAILURES;
 use crate::tests::holding::holds;
 use crate::tests::opening;
-use crate::tests::requests::responses::{ADDED, DEVICE_ADDED, EMPTY_REPORT, REUSED};
+use crate::tests::requests::responses::{
+    ADDED, DEVICE_ADDED, EMPTY_REPORT, NO_GATEWAY, REUSED, UNAVAILABLE,
+};
 use crate::tests::requests::{DEVICE_ADD, posted};
 use crate::tests::rows::{OTHER_OWNER, REQUEST};
 use crate::tests::streams::Pieces;
+use crate::tests::switched::Switched;
 use desk_http::{Listening, NetworkFault, ServeEnd, serve_connections};
-use desk_store::Lists;
+use desk_store::{Keeper, Lists};
 use std::alloc::Global;
 use std::io::{self, ErrorKind, Write};
 use std::process::Abort;
@@ -115,14 +119,27 @@ fn serve_visits<R: AllocGlobal>(
     unserved: usize,
 ) -> Result<Vec<Served>, Fail> {
     let mut lists = opening::<Lists>(rt.alloc(), 65_536)?;
+    serve_by(rt, &mut *lists, visits, connections, ends, unserved)
+}
+
+/// The same by this store.
+fn serve_by<R: AllocGlobal, K: Keeper>(
+    rt: &R,
+    keeper: &mut K,
+    visits: &[Option<Visit<'_>>],
+    connections: u32,
+    ends: Result<(), NetworkFault>,
+    unserved: usize,
+) -> Result<Vec<Served>, Fail> {
     let mut peers = Peers {
         coming: visits,
         served: Vec::new(rt.alloc()),
     };
-    if serve_connections(rt.alloc(), &mut *lists, &mut peers, connections) != ends {
+    let ended = serve_connections(rt.alloc(), keeper, &mut peers, connections);
+    let Peers { coming, served } = peers;
+    if ended != ends {
         return Err("the serving ended otherwise".into());
     }
-    let Peers { coming, served } = peers;
     if coming.len() != unserved {
         return Err("another number of peers was served".into());
     }
@@ -240,5 +257,38 @@ fn accepts_that_fail(rt: HostRuntime) -> Result<(), Fail> {
 fn no_peers(rt: HostRuntime) -> Result<(), Fail> {
     let served = serve_visits(&rt, &[Some(Visit::of(b""))], 0, Ok(()), 1)?;
     expect(&rt, &served, &[]);
+    Ok(())
+}
+
+/// How connections are served by a store that fails for good.
+static DOWN: [(ServeEnd, &str); 3] = [
+    (ServeEnd::Done(503), UNAVAILABLE),
+    (ServeEnd::Done(503), UNAVAILABLE),
+    (ServeEnd::Done(503), UNAVAILABLE),
+];
+
+/// And by one of which the first call failed.
+static ONCE: [(ServeEnd, &str); 3] = [
+    (ServeEnd::Done(503), UNAVAILABLE),
+    (ServeEnd::Done(200), ADDED),
+    (ServeEnd::Done(404), NO_GATEWAY),
+];
+
+/// The first call of the store fails. The next connections are served, and find the store as it is then.
+#[test]
+fn a_store_that_fails(rt: HostRuntime) -> Result<(), Fail> {
+    let owner = posted(rt.alloc(), REQUEST, "")?;
+    let visits = [
+        Some(Visit::of(owner.as_bytes())),
+        Some(Visit::of(owner.as_bytes())),
+        Some(Visit::of(b"GET /v1/bands/gw-a HTTP/1.1\r\n\r\n")),
+    ];
+    for failure in &FAILURES {
+        let lists = opening::<Lists>(rt.alloc(), 65_536)?;
+        let mut switched = Switched::new(lists, *failure, 0);
+        let served = serve_by(&rt, &mut switched, &visits, 3, Ok(()), 0)?;
+        let wanted = if failure.stays() { &DOWN } else { &ONCE };
+        expect(&rt, &served, wanted);
+    }
     Ok(())
 }

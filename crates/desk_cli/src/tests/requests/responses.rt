@@ -51,20 +51,20 @@ pub(super) const BAD_MONTH: &str =
 pub(super) const NO_OWNER: &str =
     "HTTP/1.1 404 Not Found\r\ncontent-type: text/plain\r\ncontent-length: 6\r\nconnection: close\r\n\r\nowner\n";
 
-pub(super) const NO_GATEWAY: &str =
+pub(crate) const NO_GATEWAY: &str =
     "HTTP/1.1 404 Not Found\r\ncontent-type: text/plain\r\ncontent-length: 8\r\nconnection: close\r\n\r\ngateway\n";
 
-pub(super) const UNAVAILABLE: &str =
+pub(crate) const UNAVAILABLE: &str =
     "HTTP/1.1 503 Service Unavailable\r\ncontent-type: text/plain\r\ncontent-length: 12\r\nconnection: close\r\n\r\nunavailable\n";
 
 pub(crate) const EMPTY_REPORT: &str =
     "HTTP/1.1 200 OK\r\ncontent-type: text/csv\r\ncontent-length: 118\r\nconnection: close\r\n\r\ndev_eui,uplinks,b1_us,b1_peak_us,b2_us,b2_peak_us,b3_us,b3_peak_us,b4_us,b4_peak_us,b5_us,b5_peak_us,b6_us,b6_peak_us\n";
 
-pub(super) const OWNER_REPORT: &str =
+pub(crate) const OWNER_REPORT: &str =
     "HTTP/1.1 200 OK\r\ncontent-type: text/csv\r\ncontent-length: 171\r\nconnection: close\r\n\r\ndev_eui,uplinks,b1_us,b1_peak_us,b2_us,b2_peak_us,b3_us,b3_peak_us,b4_us,b4_peak_us,b5_us,b5_peak_us,b6_us,b6_peak_us\n0004a30b001a2b3c,2,0,0,0,0,102912,102912,0,0,0,0,0,0\n";
 
 pub(super) const UNUSED_BANDS: &str =
     "HTTP/1.1 200 OK\r\ncontent-type: text/csv\r\ncontent-length: 148\r\nconnection: close\r\n\r\nband,limit_us,bookings,booked_us,peak_us\nB1,3600000,0,0,0\nB2,36000000,0,0,0\nB3,36000000,0,0,0\nB4,3600000,0,0,0\nB5,360000000,0,0,0\nB6,36000000,0,0,0\n";
 
-pub(super) const BAND_REPORT: &str =
+pub(crate) const BAND_REPORT: &str =
     "HTTP/1.1 200 OK\r\ncontent-type: text/csv\r\ncontent-length: 156\r\nconnection: close\r\n\r\nband,limit_us,bookings,booked_us,peak_us\nB1,3600000,0,0,0\nB2,36000000,0,0,0\nB3,36000000,1,46336,46336\nB4,3600000,0,0,0\nB5,360000000,0,0,0\nB6,36000000,0,0,0\n";

@@ -1,0 +1,64 @@
+//! Commands whose output is held back until it is flushed, whose input is interrupted, and whose file has no room.
+use super::fused::{ROWS, Row};
+use super::{OneFile, ran};
+use crate::endings::Ending;
+use crate::tests::holding::{holds, holds_at};
+use crate::tests::room::without_room;
+use crate::tests::stops::{all_deliveries, deliveries, heard};
+use crate::tests::streams::{Holding, Interrupted};
+use sqlite::{Alter, Connection};
+use std::process::Abort;
+use std::test::Fail;
+
+/// The command reads between interruptions, and its output is held back; a flush fails, or none does: how it ends, what came out, and
+/// what is on standard error.
+fn ended<R: Abort + AllocGlobal, S: Alter + Drop>(
+    rt: &R,
+    row: &Row,
+    conn: Connection<S>,
+    fails: bool,
+) -> (Ending, Vec<u8>, Vec<u8>) {
+    let (words, input, _) = row;
+    let file = OneFile { conn: Some(conn) };
+    let mut reader = Interrupted::new(input.as_bytes());
+    let mut answers = Holding::new(rt.alloc(), fails);
+    let (ending, faults, _) = ran(rt, words, file, &mut reader, &mut answers);
+    (ending, answers.given, faults)
+}
+
+/// What is flushed comes out; where a flush fails nothing does, and the command ends by its output.
+#[test]
+fn commands_flush_what_they_answer(rt: HostRuntime) -> Result<(), Fail> {
+    let all = deliveries(rt.alloc())?;
+    let before = all.get(..5).ok_or("no messages")?;
+    for (place, row) in ROWS.iter().enumerate() {
+        let (ending, given, faults) = ended(&rt, row, heard(&rt, before)?, false);
+        holds_at(&rt, ending == Ending::Done && faults.is_empty(), place);
+        holds_at(&rt, given.as_slice() == row.2.as_bytes(), place);
+        let (ending, given, faults) = ended(&rt, row, heard(&rt, before)?, true);
+        holds_at(&rt, ending == Ending::Failed && given.is_empty(), place);
+        holds_at(&rt, faults.as_slice() == b"desk: file\n".as_slice(), place);
+    }
+    Ok(())
+}
+
+/// One message more than may be heard.
+#[test]
+fn a_message_has_no_room(rt: HostRuntime) -> Result<(), Fail> {
+    let all = all_deliveries(rt.alloc())?;
+    let conn = without_room(&rt, all.get(..12).ok_or("no messages")?)?;
+    let next = all.get(12).ok_or("no message")?;
+    let words: [&[u8]; 3] = [b"desk", b"hear", b"f.db"];
+    let file = OneFile { conn: Some(conn) };
+    let mut answers = Vec::new(rt.alloc());
+    let mut reader = next.text.as_bytes();
+    let (ending, faults, _) = ran(&rt, &words, file, &mut reader, &mut answers);
+    holds(
+        &rt,
+        ending == Ending::Failed && answers.is_empty(),
+        "the ending",
+    );
+    let is_right = faults.as_slice() == b"desk: unavailable\n".as_slice();
+    holds(&rt, is_right, "standard error");
+    Ok(())
+}
