@@ -40,6 +40,9 @@ server=
 # In the evening a gateway brings what it heard: a frame that it had told of already, and two that are new.
 "$desk" import town.db --sender bridge <"$examples/evening-report.csv"
 
+# Another gateway brings a frame that is older than the device's last one. It is refused as late, and the status is 0.
+"$desk" import town.db --sender bridge <"$examples/late-report.csv"
+
 # The device gets another owner. The same lines once more are told the same, and change nothing.
 "$desk" hear town.db <"$examples/5-move.jsonl"
 "$desk" hear town.db <"$examples/5-move.jsonl"
