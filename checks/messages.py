@@ -1,13 +1,12 @@
 #!/usr/bin/env python3
-"""Sees that docs/MESSAGES.md says what the desk answers, and that docs/HANDBOOK.md says the same.
+"""Checks that docs/PROTOCOL.md says what the desk answers.
 
     checks/messages.py [--program FILE]
 
-The page's blocks `request` are handed, in the order in which they stand, to one run of the command that the page names. What the
-program writes has to be the lines of the page's blocks `answer`, in order, and nothing else; and the run has to end with status 0.
-Where a heading tells a refusal, one of the answers below it has to have that ResultCode and Description. There has to be such a
-heading for each refusal that has an answer, and a success of each message. Of the handbook each request has to be one of the page,
-with the page's answer below it, one of each message; and its table has to tell the page's ResultCode and Description of each refusal.
+The page's blocks `request` are handed, in their order, to one run of the command that the page names. What the program prints has to be
+the lines of the page's blocks `answer`, in order, and nothing else; and the run has to end with status 0. Below a heading of a refusal
+one of the answers has to have its ResultCode and Description. There has to be such a heading for each refusal that has an answer, and a
+success of each message.
 
 The program is `./desk`, which is proved and built first where it isn't current, or with --program the built one in FILE.
 """
@@ -20,16 +19,13 @@ import sys
 
 from common import ROOT, add_program, text_of
 
-PAGE = ROOT / "docs" / "MESSAGES.md"
-HANDBOOK = ROOT / "docs" / "HANDBOOK.md"
+PAGE = ROOT / "docs" / "PROTOCOL.md"
 MESSAGES = ["SenderAdd", "OwnerAdd", "GatewayAdd", "DeviceAdd", "DeviceMove", "JoinHeard", "FrameHeard", "DownBook", "DownDone", "LimitSet"]
 ANSWERED_REFUSALS = range(1, 32)
 
 COMMAND = re.compile(r"    \./desk (.+)")
 # ### 18: `JoinReqFailed`, `nonce`
 REFUSAL = re.compile(r"### (\d+): `(\w+)`(?:, `(\w+)`)?")
-# | 18 | JoinReqFailed, nonce | what it means | what to check |
-TOLD = re.compile(r"\| (\d+) \| (\w+)(?:, (\w+))? \|.*")
 
 
 def read_page(lines):
@@ -84,23 +80,6 @@ def missing(answers, told):
             yield f"there is no success of {message}"
 
 
-def differences_of_handbook(requests, answers, told):
-    """Says where the handbook has another answer than the page, or another refusal."""
-    lines = HANDBOOK.read_text().splitlines()
-    _, asked, answered, _ = read_page(lines)
-    of_page = dict(zip(filter(None, requests), (line for _, line in answers)))
-    for request, (number, answer) in zip(asked, answered, strict=True):
-        if of_page.get(request) != answer:
-            yield f"{HANDBOOK.name}:{number}: {PAGE.name} doesn't have this request with this answer"
-    messages = [json.loads(request)["MessageType"] for request in asked]
-    if sorted(messages) != sorted(MESSAGES):
-        yield f"{HANDBOOK.name} doesn't have one request of each message: {', '.join(messages)}"
-    refusals = {(int(found[1]), found[2], found[3] or "") for found in map(TOLD.fullmatch, lines) if found}
-    of_answers = {refusal for refusal in refusals if refusal[0] in ANSWERED_REFUSALS}
-    for number, code, description in sorted(of_answers ^ set(told)):
-        yield f"{HANDBOOK.name} and {PAGE.name} differ in refusal {number}: {code}, {description or 'nothing'}"
-
-
 def main():
     words = argparse.ArgumentParser(description=__doc__.splitlines()[0])
     add_program(words)
@@ -109,7 +88,6 @@ def main():
     if not given or not requests:
         sys.exit(f"{PAGE.name} has no command or no requests")
     faults = [*differences(answers, run(program, given, requests)), *untrue_headings(told), *missing(answers, told)]
-    faults += differences_of_handbook(requests, answers, told)
     for fault in faults:
         print(fault)
     outcome = f"{len(faults)} faults" if faults else "all as the page says"

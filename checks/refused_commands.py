@@ -15,7 +15,7 @@ After calls are refused the files are taken twice: as a process leaves them that
 that wasn't synced.
 
 The cases are `init`, `hear` of no message, which is an opening, and then, of the requests or calls after it, `hear` of each request of
-docs/MESSAGES.md on a file that has heard those before it, which are of all ten messages and told in all ways, `import`, `report`,
+docs/PROTOCOL.md on a file that has heard those before it, which are of all ten messages and told in all ways, `import`, `report`,
 `bands`, `check`, `migrate` of a file of schema 1, and `serve`: a message and both reports, each by two connections. A request by HTTP
 is answered, or told 503, or its connection ends; for want of memory the second connection is then answered, and after a call that is
 refused it is told 503 too. For want of memory there is one case more, `lines` of all of the page's requests, where no file is left to
