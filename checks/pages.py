@@ -31,6 +31,7 @@ LENGTHS = {
     "docs/PERFORMANCE.md": 100,
     "docs/PROVING.md": 100,
     "docs/GLOSSARY.md": 60,
+    "examples/bridge/README.md": 80,
 }
 CRATE_README = 40
 # our former word, and what to write
