@@ -71,19 +71,19 @@ fault_is_not_misused Network is = cc
 
 -- ---- runs
 
--- What the writer of the fault line holds, and that writer before and after.
+-- What the writer of standard error holds, and that writer before and after.
 module _ {F : Type 0} (contents : F → Option (List ℕ)) (untold told : F) where
   -- a command never ends as misused
   pub never_misused : (ending : Ending) (result : Result (Unit {0}) Fault) → EndsBy contents untold told ending result → ¬ (ending ≡ Misused)
   never_misused ending (Ok x) ended is = absurd (subst IsDone (sym ended.0 ∙ is) tt)
   never_misused ending (Err fault) ended is = absurd (fault_is_not_misused fault (sym ended.0 ∙ is))
 
-  -- what is done is told of nothing
+  -- a command that is done reports no error
   pub ends_quiet : (result : Result (Unit {0}) Fault) → EndsBy contents untold told Done result → told ≡ untold
   ends_quiet (Ok x) ended = ended.1
   ends_quiet (Err fault) ended = absurd (subst IsNotDone (sym ended.0) (fault_is_not_done fault))
 
-  -- words that name no command, or weren't read for want of memory
+  -- arguments that name no command, or weren't read because memory ran out
   names_none : (named : Named) (usage : Usage) (ending : Ending) → TellsNamed named (Err usage) → TellsUsage contents untold told ending usage
       → EndsBy contents untold told ending (Err Unavailable) ⊎ ((ending ≡ Misused) × ((asked : Asked) → ¬ (named ≡ names asked)))
   names_none named Memory ending tells is = inl is
@@ -120,7 +120,7 @@ module _ {F : Type 0} (contents : F → Option (List ℕ)) (untold told : F) whe
         ]
       ]
 
-      -- and unless the words name no command, the fault line says how it ended
+      -- and unless the arguments name no command, standard error says how it ended
       pub tells_ending : ¬ (ending ≡ Misused) → (result : Result (Unit {0}) Fault) × EndsBy contents untold told ending result
       tells_ending named = elim runs [
         | inl asked ↦ (asked.2.result, asked.2.ended)

@@ -30,7 +30,7 @@ none_answered : (c : Settings) (heard es : List Envelope) → answer_envelopes c
 none_answered c heard [] is = refl
 none_answered c heard (e ∷ es) is = absurd (some_octets _ _ _ is)
 
--- A store that no fault of the disk has shut leaves no message in doubt.
+-- A store that hasn't failed has no in-flight message.
 pub undoubted : {K : Type 0} (m : Meaning K) (c : Settings) (heard : List Envelope) (old new : K) → WasOpened m old c heard → {foreign : Bool} → IsCall m old new false foreign
     → (all : List Envelope) (doubt : Option Envelope) → StoreLeaves m c heard old new all doubt → StoreKeeps m c heard old new all
 undoubted m c heard old new was call all doubt leaves = record {

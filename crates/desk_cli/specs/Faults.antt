@@ -1,4 +1,4 @@
--- Why a command isn't done: the line that says so, how the program then ends, and what a store's fault is told as.
+-- Why a command isn't done: its line on standard error, its exit status, and the error that stands for each error of a store.
 use Rattle.std.specs.Prelude.{◌≡◌, ◌++◌, ◌∷◌, ℕ, List, [], Option, Result, Ok, Err, codes}
 use Rattle.std.specs.Fmt.{decimal}
 use Rattle.std.specs.Io.KnownBytes.{Appends}
@@ -21,7 +21,7 @@ ending_of_fault File = ending.Failed
 ending_of_fault Network = ending.Failed
 ending_of_fault _ = ending.Refused
 
--- ---- the fault line
+-- ---- the line on standard error
 
 -- what is said of it
 abbrev pub fault_word : Fault → List ℕ
@@ -52,20 +52,20 @@ pub record IsBegun (before after : Option (List ℕ)) (text : List ℕ) : Type 0
 
 -- ---- how a command ends
 
--- What the writer of the fault line holds, and the writer before and after.
+-- What the writer of standard error holds, and the writer before and after.
 module _ {F : Type 0} (contents : F → Option (List ℕ)) (before after : F) where
-  -- By its result: it is done, and no fault is told; or it isn't, and the line that says why is written.
+  -- By its result: it is done, and nothing is written; or it isn't, and the line that says why is written.
   abbrev pub EndsBy : Ending → Result (Unit {0}) Fault → Type 0
   EndsBy ends (Ok x) = (ends ≡ ending.Done) × (after ≡ before)
   EndsBy ends (Err fault) = (ends ≡ ending_of_fault fault) × IsBegun (contents before) (contents after) (fault_line fault)
 
-  -- It ended by a result, of which this is said.
+  -- It ended by a result that satisfies this.
   pub record Ends (ends : Ending) (Says : Result (Unit {0}) Fault → Type 0) : Type 0 where
     pub result : Result (Unit {0}) Fault
     pub ended : EndsBy ends result
     pub says : Says result
 
--- ---- what faults of the crates below are told as
+-- ---- the errors of the crates below
 
 -- refusals 32 to 34, and that there is something already
 abbrev pub fault_of_store : StoreFault → Fault

@@ -20,8 +20,8 @@ unknown_ports = record { listens = λ network port listening. Unit {0}; refuses 
 
 -- ---- what is answered at them
 
--- which ports can't be had; and how so many connections at a port were answered, after what had been heard, to which this was delivered; or
--- fewer of them, after which no other came
+-- which ports can't be bound; and how this number of connections at a port were answered by a desk with this log, and what they delivered;
+-- or fewer connections, if no other came
 pub record AtPorts : Type 1 where
   pub refused : ℕ → Type 0
   pub answered : ℕ → Settings → List Envelope → ℕ → Delivered → Type 0

@@ -44,15 +44,15 @@ EndsUnread kind Misused = kind ≢ OutOfMemory
 EndsUnread kind _ = ⊥
 
 -- What is known of files; what is answered at the ports; the connection that a run gives back; what its reader has left before and
--- after, and what its writer holds before and after; what the writer of the fault line holds, and that writer before and after.
+-- after, and what its writer holds before and after; what the writer of standard error holds, and that writer before and after.
 module _ {S F : Type 0} (g : Ghosts S) (paths : AtPaths S) (ports : AtPorts) (back : Option (Held S)) (left rest before after : Option (List ℕ))
     (contents : F → Option (List ℕ)) (untold told : F) where
   -- what was asked was done, and the program ended by how that ended
   abbrev pub Does : Ending → Asked → Type 0
   Does ending asked = Ends contents untold told ending (λ result. DoesAsked g paths ports back left rest before after result asked)
 
-  -- Nothing was asked: no file was opened, and nothing was read or written. Memory ran out, which the fault line says, or the words name
-  -- no command.
+  -- Nothing was asked: no file was opened, and nothing was read or written. Memory ran out, which standard error says, or the arguments
+  -- name no command.
   pub record AsksNothing (words : Given) (ending : Ending) : Type 0 where
     pub unopened : back ≡ None
     pub unread : Keeps left rest

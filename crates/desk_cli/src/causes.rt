@@ -5,7 +5,7 @@ use std::fmt::{self, Display, Formatter};
 use std::fs::{self, OpenOptions};
 use std::io::{self, ErrorKind, IsTerminal};
 
-/// Why a file can't be opened. Its `Display` is what the terminal is told.
+/// Why a file can't be opened. Its `Display` is the line for a terminal.
 #[derive(Clone, Copy, PartialEq, Eq)]
 enum Cause {
     Missing,

@@ -116,8 +116,8 @@ impl From<CsvFault> for Fault {
     }
 }
 
-/// How a command ends that gave this. Why it wasn't done stands on the fault line; where even this can't be written, the exit
-/// status still tells.
+/// The exit status of a command with this result. If it failed, the line on standard error says why; if that can't be written, the
+/// exit status is all there is.
 pub(crate) fn end<F: Write>(faults: &mut F, done: Result<(), Fault>) -> Ending
     ensures { EndsBy F.contents faults.old faults.new result done }
 {
@@ -130,7 +130,7 @@ pub(crate) fn end<F: Write>(faults: &mut F, done: Result<(), Fault>) -> Ending
     }
 }
 
-/// Writes the line that tells the fault, or as much of it as can be written.
+/// Writes the error's line, or as much of it as can be written.
 fn tell<F: Write>(faults: &mut F, fault: Fault)
     ensures { IsBegun (F.contents faults.old) (F.contents faults.new) (fault_line fault) }
 {
@@ -143,7 +143,7 @@ fn tell<F: Write>(faults: &mut F, fault: Fault)
     }
 }
 
-/// The line that tells the fault, which needs no memory.
+/// The error's line. Takes no memory.
 fn line_of(fault: Fault) -> Result<InlineText<32>, fmt::Error>
     ensures { IfOk result (λ line. inline_text line ≡ fault_line fault) }
 {

@@ -32,8 +32,8 @@ pub trait Files<S: Alter>: Drop + Sized {
         ensures fault { IfErr result (λ fault. fault ≡ Fault.File) };
 }
 
-/// The files of the machine. `start` stands for what they hold when they are opened. Where one can't be opened, `why` gets a line
-/// for the terminal, if there is one.
+/// The files of the machine. `start` represents what they hold when they are opened. If one can't be opened and there is a
+/// terminal, `why` gets a line for it.
 #[derive(Drop)]
 pub(crate) struct HostFiles<'a, T: Start> {
     pub rt: &'a HostRuntime,

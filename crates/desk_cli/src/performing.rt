@@ -34,7 +34,7 @@ use std::io::{Read, Write};
 /// How a command ended, and the connection to its file, where it has one that could be opened.
 pub type Performed<S> = (Ending, Option<Connection<S>>);
 
-/// What a command does with the connection to its file, which is given back; or why the file can't be opened, which is told.
+/// Runs a command on the connection to its file, which it gives back; or reports why the file can't be opened.
 macro_rules! on_file {
     ($opened:expr, $faults:ident, |$conn:ident| $command:expr) => {
         match $opened {

@@ -41,7 +41,7 @@ pub fn run<E: Env + AllocGlobal, S: Alter, N: Files<S>, B: Network, R: Read, W: 
     ensures done { result.0 ≡ Ending.Done → (asked : Asked) × IsNamed asked
         × DoesAsked {T = Unit {0}} S.Store (N.paths files) (at_ports B.ports network.now B.Port.meaning B.Port.Reader.remaining B.Port.Writer.contents) result.1
         (R.remaining reader.old) (R.remaining reader.new) (W.contents answers.old) (W.contents answers.new) (Ok tt) asked }
-    // Then nothing is written on the fault line. Unless the words name no command, it says why what they ask wasn't done.
+    // Then nothing is written to standard error. Otherwise it says why the command failed, unless the arguments name none.
     ensures quiet { result.0 ≡ Ending.Done → faults.new ≡ faults.old }
     ensures told { result.0 ≢ Ending.Misused → (done : Result (Unit {0}) Fault) × EndsBy F.contents faults.old faults.new result.0 done }
     // Where the words name no command no file was opened, nothing was read, and nothing was answered.
@@ -115,7 +115,7 @@ fn tell<F: Write>(usage: &Usage, faults: &mut F) -> Ending
     match usage {
         Usage::Memory => end(faults, Err(Fault::Unavailable)),
         _ => {
-            // Where even this can't be written, the exit status still tells.
+            // If this can't be written either, the exit status is all there is.
             let _ = write!(faults, "{usage}");
             ending_of(usage)
         }

@@ -10,19 +10,19 @@ use std::io::{self, BufReader, BufWriter, ErrorKind, Read, Write};
 use std::net::{Ipv4Addr, Net, OpenListener, OpenStream, Shutdown, SocketAddr, SocketAddrV4};
 use std::time::{Clock, Duration, Instant};
 
-/// A connection's first octet comes in so many seconds, or the connection is let go.
+/// Seconds until a connection's first octet; after them the connection is closed.
 const FIRST_OCTET: u64 = 1;
 
-/// Each read after the first octet and each write waits so many seconds for the peer, at most.
+/// Seconds that a read after the first octet, or a write, waits for the peer at most.
 const LONGEST_WAIT: u64 = 5;
 
-/// A request is read and its response written in so many seconds, at most.
+/// Seconds for reading a request and writing its response, at most.
 const LONGEST_REQUEST: u64 = 10;
 
-/// Once its response is written, what a peer still sends is read for so many seconds, at most.
+/// Seconds for which what a peer sends after its response is read, at most.
 const LONGEST_DRAIN: u64 = 1;
 
-/// So many reads wait for a peer that closes, at most.
+/// Reads that wait for a peer to close, at most.
 const READS_BEFORE_CLOSE: usize = 64;
 
 /// What a stream waits for.

@@ -52,7 +52,7 @@ module _ {K : Type 0} (m : Meaning K) where
   there c heard old mid new read sound was =
       record { its = was.its ∙ sym read.same; sound = was.sound; order = record { list = was.order.list; kept = read.held _ sound was.order.kept } }
 
-  -- ---- the store couldn't tell
+  -- ---- the store is unavailable
 
   pub untold_store : KeepsRules m → (old new : K) (e : Envelope) (fault : StoreFault) → IsRead m old new (Some fault)
       → Hears m old new (is_disk (Some fault)) (is_foreign (Some fault)) (λ c heard. heard) (λ c. doubt_of e (Unavailable fault))

@@ -1,4 +1,4 @@
--- The text of an envelope is read as the envelope, and so it is told and heard.
+-- The text of an envelope is read as the envelope, so it is answered and heard as the envelope is.
 use Rattle.std.proofs.Common.{◌≡◌, ℕ, ◌≤◌, Bool, true, false, cond, List, length, Ok, Err, ap, arith}
 use Rattle.std.specs.Prelude.{nat_lt}
 use Rattle.std.proofs.lemmas.Bool.Decides.{nat_tests}

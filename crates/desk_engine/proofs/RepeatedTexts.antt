@@ -1,4 +1,4 @@
--- A message that was answered is answered the same again, wherever it stands later in a list.
+-- A message that was answered is answered the same again, at any later place of a list.
 use Rattle.std.proofs.Common.{◌≡◌, ℕ, zero, suc, ◌<◌, true, false, cond, List, [], ◌∷◌, ◌++◌, Option, Some, None, Ok, refl, ap, sym, ◌∙◌, subst, inl, inr, arith, append_assoc}
 use Rattle.std.specs.Prelude.{find, is_some, unwrap_or}
 use Rattle.std.proofs.lemmas.Bool.{cases_Bool}
@@ -21,7 +21,7 @@ use Rattle.desk_engine.proofs.HeardTexts.{deliveries_add_at_the_end}
 use Rattle.desk_engine.proofs.Places.{cases_option, has_pair-pair_place, same_envelope, stands_for}
 use Rattle.desk_engine.proofs.Replies.{heard_with-new, reply-known, reply-stranger, unless-again}
 
--- ---- the beginning of a heard list is one
+-- ---- a beginning of the log is a log
 
 are_front : (c : Settings) (before xs ys : List Envelope) → AreHeard c before (xs ++ ys) → AreHeard c before xs
 are_front c before [] ys h = tt
@@ -30,7 +30,7 @@ are_front c before (e ∷ xs) ys h = (h.0, h.1, h.2, are_front c (before ++ e �
 is_front : (c : Settings) (xs ys : List Envelope) → IsHeard c (xs ++ ys) → IsHeard c xs
 is_front c xs ys h = record { few = omega (arith, h.few, length-append xs ys); each = are_front c [] xs ys h.each }
 
--- ---- where an envelope stands, and what it was answered there
+-- ---- the place of an envelope, and its answer there
 
 record IsHeardAt (c : Settings) (heard : List Envelope) (e : Envelope) (answer : Answer) : Type 0 where
   before : List Envelope

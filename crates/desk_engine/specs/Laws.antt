@@ -54,7 +54,7 @@ KeptAnswersStay = (c : Settings) (heard : List Envelope) (d : Delivery) (e : Env
 abbrev pub delivered : List ℕ → Delivery
 delivered text = record { text = text; unavailable = false }
 
--- An envelope's own text is told what the envelope is told, and what is heard of the text is the envelope.
+-- An envelope's own text is answered as the envelope is, and hearing the text hears the envelope.
 abbrev pub MessagesAreDelivered : Type 0
 MessagesAreDelivered = (c : Settings) (heard : List Envelope) (e : Envelope) → IsSettings c → IsEnvelope e → let text : List ℕ = message_text c.receiver e in
     (told_of_text c heard text ≡ told_of_envelope c heard e) × (heard_after c heard (delivered text) ≡ heard_with c heard e)

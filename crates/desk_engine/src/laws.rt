@@ -33,7 +33,7 @@ pub fn calls_hear_in_order<K: Keeper>()
     stores_keep_rules::<K>();
 }
 
-/// What a store holds that is in order goes by the registry's rules.
+/// What a store represents satisfies the registry's rules.
 pub(crate) fn stores_keep_rules<K: Keeper>()
     ensures { KeepsRules K.meaning }
 {
@@ -46,8 +46,8 @@ pub fn kept_answers_stay()
     ensures { KeptAnswersStay }
 {}
 
-/// The text that `write_message` writes of an envelope is told what `hear` tells of the envelope, and the envelope is what is
-/// heard of it.
+/// The text that `write_message` writes for an envelope is answered as `hear` answers the envelope, and hearing the text hears
+/// the envelope.
 pub fn messages_are_delivered()
     ensures { MessagesAreDelivered }
 {

@@ -35,12 +35,12 @@ unknown = record {
 
 -- ---- accepts
 
--- so many accepts that fail one after another end the serving
+-- this many failed accepts in a row end the serving
 abbrev pub most_failed_accepts : ℕ
 most_failed_accepts = 64
 
 module _ {L R W : Type 0} (l : Connections L R W) where
-  -- so many accepts failed, one after another
+  -- this many accepts failed, one after another
   abbrev pub FailsEach : ℕ → L → L → Type 0
   FailsEach zero before after = after ≡ before
   FailsEach (suc n) before after = (between : L) × FailsEach n before between × l.fails between after
@@ -112,7 +112,7 @@ pub record HearsDeliveries {K : Type 0} (m : Meaning K) (old new : K) : Type 0 w
 abbrev pub delivered_by : {K : Type 0} {m : Meaning K} {old new : K} → HearsDeliveries m old new → Settings → Delivered
 delivered_by by c = record { deliveries = by.deliveries; disk = by.disk; doubt = by.doubtful c }
 
--- So many connections, or fewer after which no other came: what they did to the store, and what each of them was answered where the store was in order for a heard list.
+-- This many connections, or fewer if no other came: what they did to the store, and what each was answered if the store represented a log.
 pub record HearsEach {L R W K : Type 0} (m : Meaning K) (l : Connections L R W) (remaining : R → Option (List ℕ)) (contents : W → Option (List ℕ)) {T : Type 0} (n : ℕ) (old new : K) (before after : L) (result : Result T NetworkFault) : Type 0 where
   pub hears : HearsDeliveries m old new
   pub answers : (c : Settings) (heard : List Envelope) → WasInOrder m c heard old new

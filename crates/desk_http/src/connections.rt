@@ -10,11 +10,11 @@ use desk_engine::laws::calls_hear_in_order;
 use desk_store::Keeper;
 use std::alloc::Global;
 
-/// So many accepts that fail one after another end the serving.
+/// This many failed accepts in a row end the serving.
 const MOST_FAILED_ACCEPTS: u32 = 64;
 
-/// Serves so many connections, one after another: each by one request. One that fails after it came counts. An accept that
-/// fails doesn't; with the 64th that fails in a row serving ends by `Accepts`, and what was served before stays served.
+/// Serves `connections` connections, one after another, one request each. One that fails after it was accepted counts. An accept
+/// that fails doesn't; after 64 failures in a row it returns `Accepts`, and what was served before stays served.
 #[tactic(auto, using(crate::proofs::Served::hears_each))]
 pub fn serve_connections<K: Keeper, L: Listening>(
     alloc: Global,
@@ -35,7 +35,7 @@ pub fn serve_connections<K: Keeper, L: Listening>(
     serve_each(alloc, keeper, listening, connections)
 }
 
-/// Serves so many connections, one after another.
+/// Serves `connections` connections, one after another.
 fn serve_each<K: Keeper, L: Listening>(
     alloc: Global,
     keeper: &mut K,

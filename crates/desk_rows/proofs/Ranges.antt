@@ -1,4 +1,4 @@
--- Queries of many rows: what is told of all rows of an answer, and of those in order of start.
+-- Queries of many rows: what holds of all rows of an answer, and of those in order of start.
 use Rattle.std.proofs.Common.{◌≡◌, inl, inr, ℕ, pos, List, [], ◌∷◌, ◌++◌, map, filter, length, Bool, true, false, Vec, None, Ok, Err, Result, IfOk, IfErr, refl}
 use Rattle.std.proofs.Common.{sym, ap, subst, ◌∙◌, map-id, ◌<◌, ◌^◌, Ordering, Less, Equal, int_cmp}
 use Rattle.std.specs.declared.alloc.Global.{Global}

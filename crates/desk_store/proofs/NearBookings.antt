@@ -105,7 +105,7 @@ at_itself x = (Decides-int_eq x.span.start x.span.start).1 refl
 filter_first : (p : NearBooking → Bool) (x : NearBooking) (xs : List NearBooking) → p x ≡ true → filter p (x ∷ xs) ≡ x ∷ filter p xs
 filter_first p x xs is = rw is refl
 
--- lists of which those of each start are the same have the same bookings
+-- lists with the same bookings at each start have the same bookings
 same_by_together : (n : ℕ) (xs ys : List NearBooking) → length xs ≤ n → Together xs ys → IsPermutation xs ys
 same_by_together n [] [] short t = IsPermutation-refl []
 same_by_together n [] (y ∷ ys) short t = absurd (omega (arith, ap length (t (start_of y)), ap length (filter_first (at (start_of y)) y ys (at_itself y))))

@@ -168,7 +168,7 @@ fn is_on_air(booking: &Booking) -> bool
     booking.standing != Standing::Dropped
 }
 
-/// The band of the booking that stands there and when it is on the air, if it isn't dropped.
+/// The band of the booking at this place and when it is on the air, if it isn't dropped.
 fn near_booking_at(bookings: &[Booking], place: &Place) -> Option<NearBooking>
     ensures { result ≡ near_booking_at bookings.now place.now }
 {
@@ -193,7 +193,7 @@ fn near_at(
         .collect(alloc)
 }
 
-/// When the booking that stands there is on the air, if it isn't dropped and is in the band.
+/// When the booking at this place is on the air, if it isn't dropped and is in the band.
 fn booking_span_at(bookings: &[Booking], place: &Place, band: Band) -> Option<Span>
     ensures { result ≡ booking_span_at bookings.now band place.now }
 {

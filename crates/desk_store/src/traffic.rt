@@ -108,7 +108,7 @@ impl Traffic {
     }
 }
 
-/// So many bookings more answer the uplink: its session counts them, if it is a data uplink.
+/// This many more bookings answer the uplink; its session counts them if it is a data uplink.
 fn grow(downs: &mut Tally, uplink: &Uplink, more: u64) -> Result<(), AllocError>
     ensures ok { OnOk result ((session : ℕ) → tallied downs.new session
         ≡ (if is_data_of session uplink.now

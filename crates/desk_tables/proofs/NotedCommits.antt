@@ -153,7 +153,7 @@ module _ {S : Type 0} (g : Ghosts S) (old : Tables S) (e : Envelope) (message : 
     first : HasCleanDisk (state g new) → HasCleanDisk (state g old.conn)
     first clean = omega (arith, commits.clean, settles.survives.clean, clean)
 
-    -- the connection still stands, and nothing is written
+    -- the connection is still open, and nothing is written
     still_settled : HasCleanDisk (state g new) → (was : IsReady (state g old.conn)) → (state g old.conn).step_limit ≡ None → is_disk (Some told) ≡ false
         → IsSettled (state g new) × ((state g new).now ≡ (state g old.conn).now)
     still_settled clean was unlimited not_disk =

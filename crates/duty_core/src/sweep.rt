@@ -40,7 +40,7 @@ pub fn sweep_peak(spans: &[Span]) -> u128
     swept_peak(spans)
 }
 
-/// The peak, by one sweep where the ends don't fall either.
+/// The peak, by the sweep (linear) if the ends don't fall either.
 #[tactic(auto, using(crate::proofs::Sliding::with_none), unfolding(crate::specs::Computed::peak_of))]
 fn swept_peak(spans: &[Span]) -> u128
     requires { StartsAscend spans.now }
@@ -64,7 +64,7 @@ pub fn sweep_fits(spans: &[Span], new: Span, most: u64) -> bool
     swept_fits(spans, new, most)
 }
 
-/// Whether the new span fits, by one sweep where the ends don't fall either.
+/// Whether the new span fits, by the sweep (linear) if the ends don't fall either.
 #[tactic(auto, using(crate::proofs::Sliding::within_both))]
 fn swept_fits(spans: &[Span], new: Span, most: u64) -> bool
     requires { StartsAscend spans.now }

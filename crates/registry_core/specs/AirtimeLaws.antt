@@ -26,7 +26,7 @@ abbrev pub HasDownlinkSize : Kind → ℕ → Type 0
 HasDownlinkSize Join n = (n ≡ 17) ⊎ (n ≡ 33)
 HasDownlinkSize Data n = 12 ≤ n
 
--- the frame has so many octets, and the data rate carries them
+-- the frame has this number of octets, and the data rate carries them
 pub record IsDownlinkSize (kind : Kind) (dr : DataRate) (n : ℕ) : Type 0 where
   pub frame : HasDownlinkSize kind n
   pub carried : n ≤ max_length dr

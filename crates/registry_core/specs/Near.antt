@@ -7,7 +7,7 @@ use Rattle.registry_core.specs.declared.facts.Booking.{Booking}
 use Rattle.registry_core.specs.declared.views.NearBooking.{NearBooking}
 use Rattle.registry_core.specs.Bookings.{stands_at}
 
--- the booking stands at the gateway and begins near the start
+-- the booking is the gateway's and begins near the start
 abbrev pub stands_near : List ℕ → ℤ → Booking → Bool
 stands_near gateway start booking = stands_at gateway booking && is_near start booking.span
 

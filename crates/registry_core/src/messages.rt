@@ -89,7 +89,7 @@ pub enum Message {
     },
 }
 
-/// So many messages are ever heard (this project's limit).
+/// Messages that a desk hears, at most (this project's limit).
 pub const MOST_HEARD: usize = 9_007_199_254_740_991;
 
 /// A message with its sender and the sender's transaction number.

@@ -42,7 +42,7 @@ listening_line port = codes "listening 127.0.0.1:" ++ (decimal port ++ line_feed
 -- What had been heard; what says that these are kept, and that these are left, or these with one more; the ports, which of them, and how many
 -- connections; what a writer holds before and after.
 module _ (c : Settings) (heard : List Envelope) (Kept : List Envelope → Type 0) (Left : List Envelope → Option Envelope → Type 0) (ports : AtPorts) (port n : ℕ) (before after : Option (List ℕ)) where
-  -- Connections were answered so, and what they delivered was heard, in this order. A fault of the disk leaves one message in doubt.
+  -- Connections were answered so, and what they delivered was heard, in this order. A disk error leaves one message in flight.
   pub record HearsServed (Answered : Delivered → Type 0) : Type 0 where
     pub delivered : Delivered
     pub answered : Answered delivered

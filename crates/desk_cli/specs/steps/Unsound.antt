@@ -1,4 +1,4 @@
--- A store that is never sound: it says what it was made with, when it is down and when it is no desk, and nothing of what it holds. One for tests.
+-- A store for tests that is never sound: it reports its configuration, that it has failed, and that it isn't a desk, and nothing of its rows.
 use Rattle.std.specs.Prelude.{Bool}
 use Rattle.registry_core.specs.Settings.{Settings}
 use Rattle.desk_store.specs.Meaning.{Meaning}

@@ -1,4 +1,4 @@
--- What words are told that clap refuses, and how a program ends for which words name no command.
+-- What clap prints for arguments that it refuses, and how a program ends whose arguments name no command.
 use Rattle.std.specs.Prelude.{◌≡◌, ◌≢◌, ℕ, List, Option, Err}
 use Rattle.clap.specs.Values.{kind_of}
 use Rattle.clap.specs.declared.error.Error.{Error}
@@ -17,7 +17,7 @@ IsUsageOf error (Words same) = (same ≡ error) × (kind_of error ≢ OutOfMemor
 IsUsageOf error (Value value) = ⊥
 IsUsageOf error NotText = ⊥
 
--- The want of memory is told as any command's; of the text that is told of words nothing is said. What the writer of the fault line
+-- If memory runs out, it ends as any command does. Nothing is said of the text of a usage error. What the writer of standard error
 -- holds, and that writer before and after.
 abbrev pub TellsUsage : {F : Type 0} → (F → Option (List ℕ)) → F → F → Ending → Usage → Type 0
 TellsUsage contents untold told ending Memory = EndsBy contents untold told ending (Err Unavailable)

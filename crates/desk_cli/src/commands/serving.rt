@@ -70,13 +70,13 @@ pub(crate) fn serve_of<'a>(options: &ArgMatches<'a>) -> Result<Command<'a>, Usag
     })
 }
 
-/// Serves so many connections at a port of 127.0.0.1, one after another, by the desk of the connection's database, and gives
+/// Serves `connections` connections at a port of 127.0.0.1, one after another, by the desk of the connection's database, and gives
 /// the connection back. Before the first it writes `listening 127.0.0.1:` with the port, and an LF.
 ///
-/// The port is bound once the desk is open: `Network` where it can't be had, and `File` where the line can't be written. A
-/// connection that fails after it came counts as served. An accept that fails doesn't; with the 64th in a row the command ends
-/// by `Network`, and what was served before stays served. What is no desk's of schema 2 is refused, by `NotADesk`, `Schema` or
-/// `Unavailable`, and stays as it is.
+/// The port is bound once the desk is open. Returns `Network` if it can't be bound, and `File` if the line can't be written. A
+/// connection that fails after it was accepted counts. An accept that fails doesn't; after 64 failures in a row the command
+/// returns `Network`, and what was served before stays served. A database that isn't a desk of schema 2 stays as it is:
+/// `NotADesk`, `Schema` or `Unavailable`.
 pub fn serve_command<S: Alter, B: Network, W: Write, F: Write>(
     alloc: Global,
     conn: Connection<S>,
@@ -98,7 +98,7 @@ pub fn serve_command<S: Alter, B: Network, W: Write, F: Write>(
     (end(faults, done), conn)
 }
 
-/// So many connections are served, and the connection is given back.
+/// Opens the desk and serves `connections` connections by it. Gives the database's connection back.
 fn serve_desk<S: Alter, B: Network, W: Write>(
     alloc: Global,
     conn: Connection<S>,
@@ -125,7 +125,7 @@ fn serve_desk<S: Alter, B: Network, W: Write>(
     by_store(alloc, conn, &job, &mut io::empty(), answers)
 }
 
-/// So many connections at a port of the network are served.
+/// Binds the port and serves `connections` connections at it.
 #[derive(Drop)]
 struct Serve<'a, B> {
     network: &'a B,

@@ -6,7 +6,7 @@ use std::alloc::Global;
 use std::io::{self, ErrorKind, Write};
 use std::test::Fail;
 
-/// Takes one octet at a time, each time after an interruption, and so many in all.
+/// Takes one octet at a time, each after an interruption, up to a number of octets.
 #[derive(Drop)]
 struct Slow {
     taken: Vec<u8>,

@@ -1,4 +1,4 @@
-//! How long a stream waits, by a clock that stands and a stream that wants to be told so.
+//! How long a stream waits, by a clock of a fixed time and a stream that checks the timeout it is given.
 use super::{Awaited, Timed};
 use crate::tests::holding::holds;
 use std::io::{self, ErrorKind, Read, Write};
@@ -6,7 +6,7 @@ use std::net::OpenStream;
 use std::test::Fail;
 use std::time::{Clock, Duration, Instant};
 
-/// Reads so many milliseconds, always.
+/// A clock that always reads the same number of milliseconds.
 #[derive(Drop)]
 struct Standing {
     millis: u64,
@@ -22,7 +22,7 @@ impl Clock for Standing {
     }
 }
 
-/// Gives one octet after another and takes each, once it is told to wait so many milliseconds.
+/// Gives one octet after another and takes each, if its timeout is this number of milliseconds.
 #[derive(Drop)]
 struct Wanting {
     millis: u64,

@@ -1,5 +1,5 @@
 //! A store that fails at one call, in each way, while messages of each type are delivered in each way: what is answered then, what
-//! stands once it is opened again, and that the same messages are then answered as they are without a failure.
+//! the store holds once it is opened again, and that the same messages are then answered as they are without a failure.
 mod asking;
 mod commands;
 
@@ -231,7 +231,7 @@ fn lines_of(alloc: Global, deliveries: &[Delivery]) -> Result<(String, String), 
     Ok((input, wanted))
 }
 
-/// As the records of a report, by `import`: the answers before the stop, and why it stopped.
+/// As the records of a report, by `import`: the answers before the error, and the error.
 struct ByImport;
 
 impl Way for ByImport {

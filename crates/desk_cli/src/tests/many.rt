@@ -12,7 +12,7 @@ use sqlite::{Connection, MemStore, params};
 use std::process::Abort;
 use std::test::Fail;
 
-/// So many rows are put into a table.
+/// Rows that are put into a table.
 const COUNT: i64 = 70_000;
 
 /// The last rows are on the air twice as long as those before: from this one on. So whoever asks for 65,536 rows alone, which is

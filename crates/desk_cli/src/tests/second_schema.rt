@@ -1,4 +1,4 @@
-//! Tables that no desk of this program made: by the statements of schema 2, filled row by row. They are opened, with the rows and the
+//! Tables that this program didn't make: by the statements of schema 2, filled row by row. They are opened, with the rows and the
 //! answers of the desk that heard the messages. A data frame at DR7 is among them.
 use super::data_frames::HEARD;
 use super::downlinks::{DEVICE_EUI, UP_1};

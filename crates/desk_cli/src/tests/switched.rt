@@ -20,7 +20,7 @@ pub(crate) enum Failure {
     Disk,
     /// The disk fails once the call has done all, and each later call fails so.
     DiskAfter,
-    /// What is stored turns out to be no desk's.
+    /// What is stored turns out not to be a desk.
     NotADesk,
 }
 
@@ -40,7 +40,7 @@ impl Failure {
     }
 }
 
-/// A store, of which one call fails.
+/// A store whose one call fails.
 #[derive(Drop)]
 pub(crate) struct Switched<K: Keeper> {
     /// The store behind the switch.
@@ -55,7 +55,7 @@ pub(crate) struct Switched<K: Keeper> {
 }
 
 impl<K: Keeper> Switched<K> {
-    /// The store, of which the call after this many fails.
+    /// The store; after this many calls the next one fails.
     pub(crate) fn new(inner: Box<K>, failure: Failure, calls: u64) -> Switched<K> {
         Switched {
             inner,

@@ -24,7 +24,7 @@ use Rattle.desk_engine.specs.declared.outcomes.Outcome.TheVariants.{Answered, Re
 use Rattle.desk_engine.specs.Told.{Told, AnswerText, RefusalText, told_of_refusal}
 use Rattle.desk_engine.specs.InOrder.{HasNoRoom, HoldsRules, IsInOrder, Survives, WasInOrder, entries_of, kept_after}
 
--- whatever a store holds that is in order goes by the registry's rules
+-- whatever a store represents satisfies the registry's rules
 abbrev pub KeepsRules : {K : Type 0} → Meaning K → Type 0
 KeepsRules {K} m = (c : Settings) (heard : List Envelope) (keeper : K) → m.sound keeper → IsInOrder m c keeper heard → HoldsRules m keeper
 

@@ -6,7 +6,7 @@ use Rattle.desk_http.specs.declared.serving.ServeEnd.TheVariants.{Done, Write}
 use Rattle.desk_http.specs.Responses.{Response, response_text}
 use Rattle.desk_engine.specs.declared.report_faults.ReportFault.{ReportFault}
 
--- This response was written whole, or a write of it failed. It is told as one that there is, so that a search finds it.
+-- This response was written whole, or a write of it failed. Said of some response, so that the search finds it.
 abbrev pub WritesResponse : Response → Option (List ℕ) → Option (List ℕ) → ServeEnd → Type 0
 WritesResponse response before after (Done status) = (written : Response) × (status ≡ written.status) × (written ≡ response) × Appends before after (response_text written)
 WritesResponse response before after Write = (written : Response) × (written ≡ response)

@@ -40,7 +40,7 @@ booking_span b = b.booking.span
 abbrev pub near_by : (ℕ × BookingRow → ℕ × BookingRow → Ordering) → (BookingRow → Bool) → List BookingRow → List NearBooking
 near_by order test rows = map (λ row. near_shown row.1.booking) (rows_by order test rows)
 
--- the booking stands at the gateway and is near the start
+-- the booking is the gateway's and is near the start
 abbrev pub is_near_at : List ℕ → ℤ → BookingRow → Bool
 is_near_at gateway start b = stands_near gateway start b.booking
 

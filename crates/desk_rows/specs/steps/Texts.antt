@@ -74,7 +74,7 @@ abbrev pub params_from : ℕ → ℕ → List (List ℕ)
 params_from n zero = []
 params_from n (suc many) = param n ∷ params_from (n + 1) many
 
--- what the resolver makes of a text that is one query, with so many parameters and these names of columns
+-- what the resolver makes of a text that is one query, with this number of parameters and these names of columns
 abbrev pub finding : List ℕ → ℕ → {trees : List ℕ} → Asked trees → List (List ℕ) → Compiled
 finding sql many a names = record {
   command = Select (record { lets = []; body = query_of a }) names;

@@ -24,7 +24,7 @@ IsBookingIndex bookings index = IsStartIndex (λ booking. booking.span.start) by
 abbrev pub near_booking : Booking → Option NearBooking
 near_booking booking = if not (is_dropped booking.standing) then Some (near_shown booking) else None
 
--- and that of the booking that stands there
+-- and that of the booking at this place
 abbrev pub near_booking_at : List Booking → Place → Option NearBooking
 near_booking_at bookings place = option_and_then near_booking (item_at bookings place.number)
 
@@ -32,6 +32,6 @@ near_booking_at bookings place = option_and_then near_booking (item_at bookings 
 abbrev pub span_in_band : Band → Booking → Option Interval
 span_in_band band booking = if not (is_dropped booking.standing) && band_number booking.band == band_number band then Some booking.span else None
 
--- and that of the booking that stands there
+-- and that of the booking at this place
 abbrev pub booking_span_at : List Booking → Band → Place → Option Interval
 booking_span_at bookings band place = option_and_then (span_in_band band) (item_at bookings place.number)

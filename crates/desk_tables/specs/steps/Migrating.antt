@@ -16,7 +16,7 @@ use Rattle.desk_tables.specs.steps.Calls.{IsInside}
 abbrev pub AreRowsBefore : State → Trees → Type 0
 AreRowsBefore old trees = (r : Rows) → HoldsFirst old.now r → TreesHold trees r
 
--- and it isn't told that they are no desk's
+-- and the error isn't that they aren't a desk
 abbrev pub AreMoved : State → Result (Unit {0}) RowFault → Trees → Type 0
 AreMoved old result trees = AreRowsBefore old trees × IfErr result IsEven
 
@@ -28,7 +28,7 @@ pub record MakesSecond (old new : State) (result : Result (Unit {0}) RowFault) :
   pub in_order : HasCleanDisk new → IsInside old → old.step_limit ≡ None → (r : Rows) → HoldsFirst old.now r → IfErr result IsEven
 
 -- On a connection that is open, it ends with the rows of the tables before in schema 2, all of it committed, or it leaves what was
--- committed. A crash leaves what it left before, or these rows, which it doesn't where it is told that they are no desk's.
+-- committed. A crash leaves what it left before, or these rows; not these if the error is that they aren't a desk.
 pub record Moves (old new : State) (result : Result (Unit {0}) RowFault) : Type 0 where
   pub clean : doubt old.is_clean ≤ doubt new.is_clean
   pub mode : new.in_transaction ≡ false

@@ -110,7 +110,7 @@ impl<'a> Listening for Peers<'a> {
     }
 }
 
-/// Serves these peers over a new desk, ends so, and leaves so many of them unserved: how the others were served.
+/// Serves these peers over a new desk, and returns how. It ends with `ends` and leaves `unserved` peers.
 fn serve_visits<R: AllocGlobal>(
     rt: &R,
     visits: &[Option<Visit<'_>>],
@@ -219,7 +219,7 @@ fn peers_that_fail(rt: HostRuntime) -> Result<(), Fail> {
 
 const GIVEN_UP: Result<(), NetworkFault> = Err(NetworkFault::Accepts);
 
-/// The peer comes after so many accepts that fail, and once more after so many: two connections end so, and are served so.
+/// The peer comes after the first number of failed accepts, and once more after the second: how two connections are served.
 fn after_failures<R: AllocGlobal + Abort>(
     rt: &R,
     visit: Visit<'_>,
@@ -267,7 +267,7 @@ static DOWN: [(ServeEnd, &str); 3] = [
     (ServeEnd::Done(503), UNAVAILABLE),
 ];
 
-/// And by one of which the first call failed.
+/// And by a peer whose first call failed.
 static ONCE: [(ServeEnd, &str); 3] = [
     (ServeEnd::Done(503), UNAVAILABLE),
     (ServeEnd::Done(200), ADDED),

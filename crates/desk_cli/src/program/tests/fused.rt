@@ -1,4 +1,4 @@
-//! Commands on a desk's file of which one of the two files fails after each number of calls.
+//! Commands on a desk's file: one of its two files fails after each number of calls.
 use super::{OneFile, ran};
 use crate::endings::Ending;
 use crate::tests::fuses::{Step, empty, fused, in_files};

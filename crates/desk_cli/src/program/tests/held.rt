@@ -1,4 +1,4 @@
-//! Commands whose output is held back until it is flushed, whose input is interrupted, and whose file has no room.
+//! Commands whose output is held back until it is flushed, whose input is interrupted, and whose disk is full.
 use super::fused::{ROWS, Row};
 use super::{OneFile, ran};
 use crate::endings::Ending;

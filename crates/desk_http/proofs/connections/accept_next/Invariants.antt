@@ -1,6 +1,6 @@
 use Rattle.desk_http.specs.Served.{FailsEach}
 use Rattle.desk_http.proofs.connections.accept_next.Given as goal
 
--- so many failed so far
+-- the accepts that failed so far
 abbrev pub invariant-loop : goal.invariant-loop
 invariant-loop g l = FailsEach g.L.Listening.meaning l.counter l.fn.listening l.listening
