@@ -8,7 +8,7 @@ pub mod InRange
 pub mod Kept
 pub mod NameTexts
 pub mod PlainValues
-pub mod PutMembers
+pub mod Printed
 pub mod ReadBack
 pub mod Sizes
 pub mod WorkedRows

@@ -1,15 +1,15 @@
 -- The text of a message is read as that message.
-use Rattle.std.proofs.Common.{◌≡◌, ℕ, ◌<◌, ◌≤◌, ◌^◌, List, nat_lt, true, Option, Some, None, IfSome, Ok, IsUtf8, codes, refl, ap, subst, ◌∙◌, arith}
+use Rattle.std.proofs.Common.{◌≡◌, ℕ, ◌<◌, ◌≤◌, ◌^◌, List, nat_lt, true, Option, Some, None, IfSome, Ok, IsUtf8, codes, refl, ap, ◌∙◌, arith}
 use Rattle.std.specs.Str.{bytes_eq}
 use Rattle.std.proofs.lemmas.Str.{is_utf8-from_IsUtf8}
 use Rattle.std.proofs.lemmas.Bool.{le-leb, lt-ltb}
 use Rattle.std.proofs.lemmas.Slice.Eq.{bytes_eq-Decides}
-use Rattle.serde_json.specs.Data.{Data, string, boolean, Members, no_members}
+use Rattle.serde_json.specs.Data.{Data, string, number, unsigned, boolean, Members, member}
 use Rattle.serde_json.specs.Read.{read, of_json, max_depth}
 use Rattle.json.specs.Tree.{depth}
 use Rattle.serde_json.specs.Written.{compact_text, outline}
 use Rattle.serde_json.proofs.Numbers.{number_of-decimal}
-use Rattle.json.proofs.Printed.Utf8.{IsUtf8-are_ascii}
+use Rattle.json.proofs.Printed.Utf8.{are_ascii, IsUtf8-are_ascii}
 use Rattle.radio_core.specs.declared.bands.Band.{Band}
 use Rattle.radio_core.specs.declared.bands.Band.TheVariants.{B1, B2, B3, B4, B5, B6}
 use Rattle.radio_core.specs.Bands.{limit_of}
@@ -37,14 +37,12 @@ use Rattle.desk_wire.specs.TypeNames.{type_name_of}
 use Rattle.desk_wire.specs.Verdicts.{join_verdict_name, join_verdict_named}
 use Rattle.desk_wire.specs.Windows.{window_number, window_numbered}
 use Rattle.desk_wire.specs.Writing.{heard_value, message_value, message_text}
-use Rattle.desk_wire.specs.steps.Putting.{with_body, with_report, with_envelope}
 use Rattle.desk_wire.specs.Laws.{MessageReadsBack}
 use Rattle.desk_wire.specs.declared.reading.CommonMembers.{CommonMembers}
 use Rattle.desk_wire.proofs.DataRateNumbers.{data_rate_numbered-dr_number, dr_number-fits}
 use Rattle.desk_wire.proofs.HexTexts.{IsUtf8-octet_digits, octets_in-octet_digits, IsUtf8-eui_digits, eui_in-eui_digits}
 use Rattle.desk_wire.proofs.NameTexts.{IsUtf8-name}
-use Rattle.desk_wire.proofs.PlainValues.{IsPlain, HasPlain, nothing_plain, plain_put, text_put, whole_put, IsUtf8-compact_text, read-compact_text}
-use Rattle.desk_wire.proofs.PutMembers.{put_message}
+use Rattle.desk_wire.proofs.PlainValues.{IsPlain, HasPlain, nothing_plain, plain_member, text_member, number_member, IsUtf8-compact_text, read-compact_text}
 
 -- ---- the value is plain
 
@@ -64,27 +62,6 @@ IsUtf8-band_name B4 = IsUtf8-are_ascii _ refl
 IsUtf8-band_name B5 = IsUtf8-are_ascii _ refl
 IsUtf8-band_name B6 = IsUtf8-are_ascii _ refl
 
-IsUtf8-type_name_of : (m : Message) → IsUtf8 (type_name_of m)
-IsUtf8-type_name_of (SenderAdd sender role) = IsUtf8-are_ascii _ refl
-IsUtf8-type_name_of (OwnerAdd owner) = IsUtf8-are_ascii _ refl
-IsUtf8-type_name_of (GatewayAdd gateway) = IsUtf8-are_ascii _ refl
-IsUtf8-type_name_of (DeviceAdd dev_eui join_eui owner) = IsUtf8-are_ascii _ refl
-IsUtf8-type_name_of (DeviceMove dev_eui owner) = IsUtf8-are_ascii _ refl
-IsUtf8-type_name_of (JoinHeard report verdict) = IsUtf8-are_ascii _ refl
-IsUtf8-type_name_of (FrameHeard report verdict) = IsUtf8-are_ascii _ refl
-IsUtf8-type_name_of (DownBook uplink gateway window octets) = IsUtf8-are_ascii _ refl
-IsUtf8-type_name_of (DownDone booking sent) = IsUtf8-are_ascii _ refl
-IsUtf8-type_name_of (LimitSet gateway limit) = IsUtf8-are_ascii _ refl
-
-with_envelope-plain : (type_name receiver sender : List ℕ) (n : ℕ) → IsUtf8 type_name → IsName receiver → IsName sender → n < 2 ^ 64
-    → HasPlain (with_envelope type_name sender receiver n no_members)
-with_envelope-plain type_name receiver sender n t r s fits =
-    whole_put (codes "TransactionID") n refl fits
-    (text_put (codes "SenderID") sender refl (IsUtf8-name sender s)
-    (text_put (codes "ReceiverID") receiver refl (IsUtf8-name receiver r)
-    (text_put (codes "ProtocolVersion") (codes "1.0") refl (IsUtf8-are_ascii _ refl)
-    (text_put (codes "MessageType") type_name refl t nothing_plain))))
-
 whole_fits : (n : ℕ) → IsWhole n → n < 2 ^ 64
 whole_fits n h = omega (arith, h)
 
@@ -96,15 +73,6 @@ record FitsWords (report : Report) : Type 0 where
 
 fits_words : (report : Report) → IsReport report → FitsWords report
 fits_words report h = record { time = whole_fits report.time h.time; freq = omega (arith, h.freq); dr = omega (arith, dr_number-fits report.rate.dr) }
-
-with_report-plain : (report : Report) (ms : Members) → IsReport report → HasPlain ms → HasPlain (with_report report ms)
-with_report-plain report ms r h =
-    let fits : FitsWords report = fits_words report r in
-    whole_put (codes "Time") report.time refl fits.time
-    (text_put (codes "PHYPayload") (octet_digits report.octets) refl (IsUtf8-octet_digits report.octets)
-    (text_put (codes "Gateway") report.gateway refl (IsUtf8-name report.gateway r.gateway)
-    (whole_put (codes "Freq") report.rate.freq refl fits.freq
-    (whole_put (codes "DataRate") (dr_number report.rate.dr) refl fits.dr h))))
 
 whole_or_null-plain : (number : Option ℕ) → IfSome number (λ n. n < 2 ^ 32) → IsPlain (whole_or_null number)
 whole_or_null-plain (Some n) fits = omega (arith, fits)
@@ -126,41 +94,79 @@ most_fits limit h = omega (arith, h, bounded limit.band)
     bounded B5 = omega arith
     bounded B6 = omega arith
 
-with_body-plain : (m : Message) (ms : Members) → IsMessage m → HasPlain ms → HasPlain (with_body m ms)
-with_body-plain (SenderAdd sender role) ms s h =
-    text_put (codes "Sender") sender refl (IsUtf8-name sender s)
-    (text_put (codes "Role") (role_name role) refl (IsUtf8-role_name role) h)
-with_body-plain (OwnerAdd owner) ms o h = text_put (codes "Owner") owner refl (IsUtf8-name owner o) h
-with_body-plain (GatewayAdd gateway) ms g h = text_put (codes "Gateway") gateway refl (IsUtf8-name gateway g) h
-with_body-plain (DeviceAdd dev_eui join_eui owner) ms m h =
-    text_put (codes "Owner") owner refl (IsUtf8-name owner m.2)
-    (text_put (codes "JoinEUI") (eui_digits join_eui) refl (IsUtf8-eui_digits join_eui)
-    (text_put (codes "DevEUI") (eui_digits dev_eui) refl (IsUtf8-eui_digits dev_eui) h))
-with_body-plain (DeviceMove dev_eui owner) ms m h =
-    text_put (codes "Owner") owner refl (IsUtf8-name owner m.1)
-    (text_put (codes "DevEUI") (eui_digits dev_eui) refl (IsUtf8-eui_digits dev_eui) h)
-with_body-plain (JoinHeard report verdict) ms r h =
-    text_put (codes "Verdict") (join_verdict_name verdict) refl (IsUtf8-join_verdict_name verdict) (with_report-plain report ms r h)
-with_body-plain (FrameHeard report verdict) ms m h =
-    plain_put (codes "Verdict") (whole_or_null verdict) refl (whole_or_null-plain verdict m.1) (with_report-plain report ms m.0 h)
-with_body-plain (DownBook uplink gateway window octets) ms m h =
-    whole_put (codes "Window") (window_number window) refl (window_fits window)
-    (whole_put (codes "Uplink") uplink refl (whole_fits uplink m.0)
-    (text_put (codes "PHYPayload") (octet_digits octets) refl (IsUtf8-octet_digits octets)
-    (text_put (codes "Gateway") gateway refl (IsUtf8-name gateway m.1) h)))
-with_body-plain (DownDone booking sent) ms b h =
-    plain_put (codes "Sent") (boolean sent) refl tt
-    (whole_put (codes "Booking") booking refl (whole_fits booking b) h)
-with_body-plain (LimitSet gateway limit) ms m h =
-    whole_put (codes "Limit") limit.most refl (most_fits limit m.1)
-    (text_put (codes "Gateway") gateway refl (IsUtf8-name gateway m.0)
-    (text_put (codes "Band") (band_name limit.band) refl (IsUtf8-band_name limit.band) h))
+module _ (receiver sender : List ℕ) (n : ℕ) (r : IsName receiver) (s : IsName sender) (fits : n < 2 ^ 64) where
+  typed : (name : List ℕ) {ms : Members} → are_ascii name ≡ true → HasPlain ms → HasPlain (member (codes "MessageType") (string name) ms)
+  typed name a h = text_member (codes "MessageType") name refl (IsUtf8-are_ascii name a) h
 
-plain : (receiver sender : List ℕ) (n : ℕ) (m : Message) → IsName receiver → IsName sender → n < 2 ^ 64 → IsMessage m
-    → IsPlain (message_value receiver sender n m)
-plain receiver sender n m r s fits h =
-    let whole = with_body-plain m _ h (with_envelope-plain (type_name_of m) receiver sender n (IsUtf8-type_name_of m) r s fits) in
-    subst IsPlain (put_message receiver sender n m) whole.members
+  addressed : {ms : Members} → HasPlain ms → HasPlain (member (codes "ProtocolVersion") (string (codes "1.0")) (member (codes "ReceiverID") (string receiver) ms))
+  addressed h = text_member (codes "ProtocolVersion") (codes "1.0") refl (IsUtf8-are_ascii _ refl) (text_member (codes "ReceiverID") receiver refl (IsUtf8-name receiver r) h)
+
+  sent : {ms : Members} → HasPlain ms → HasPlain (member (codes "SenderID") (string sender) ms)
+  sent h = text_member (codes "SenderID") sender refl (IsUtf8-name sender s) h
+
+  numbered : {ms : Members} → HasPlain ms → HasPlain (member (codes "TransactionID") (number (unsigned n)) ms)
+  numbered h = number_member (codes "TransactionID") n refl fits h
+
+  heard-plain : (name : List ℕ) (report : Report) (verdict : Data) → are_ascii name ≡ true → IsReport report → IsPlain verdict
+      → IsPlain (heard_value receiver sender n name report verdict)
+  heard-plain name report verdict a h p =
+      let w : FitsWords report = fits_words report h in
+      (number_member (codes "DataRate") (dr_number report.rate.dr) refl w.dr
+      (number_member (codes "Freq") report.rate.freq refl w.freq
+      (text_member (codes "Gateway") report.gateway refl (IsUtf8-name report.gateway h.gateway)
+      (typed name a
+      (text_member (codes "PHYPayload") (octet_digits report.octets) refl (IsUtf8-octet_digits report.octets)
+      (addressed
+      (sent
+      (number_member (codes "Time") report.time refl w.time
+      (numbered
+      (plain_member (codes "Verdict") verdict refl p nothing_plain)))))))))).members
+
+  plain : (m : Message) → IsMessage m → IsPlain (message_value receiver sender n m)
+  plain (SenderAdd added role) h =
+      (typed (codes "SenderAdd") refl (addressed
+      (text_member (codes "Role") (role_name role) refl (IsUtf8-role_name role)
+      (text_member (codes "Sender") added refl (IsUtf8-name added h)
+      (sent (numbered nothing_plain)))))).members
+  plain (OwnerAdd owner) h =
+      (typed (codes "OwnerAdd") refl
+      (text_member (codes "Owner") owner refl (IsUtf8-name owner h)
+      (addressed (sent (numbered nothing_plain))))).members
+  plain (GatewayAdd gateway) h =
+      (text_member (codes "Gateway") gateway refl (IsUtf8-name gateway h)
+      (typed (codes "GatewayAdd") refl (addressed (sent (numbered nothing_plain))))).members
+  plain (DeviceAdd dev_eui join_eui owner) h =
+      (text_member (codes "DevEUI") (eui_digits dev_eui) refl (IsUtf8-eui_digits dev_eui)
+      (text_member (codes "JoinEUI") (eui_digits join_eui) refl (IsUtf8-eui_digits join_eui)
+      (typed (codes "DeviceAdd") refl
+      (text_member (codes "Owner") owner refl (IsUtf8-name owner h.2)
+      (addressed (sent (numbered nothing_plain))))))).members
+  plain (DeviceMove dev_eui owner) h =
+      (text_member (codes "DevEUI") (eui_digits dev_eui) refl (IsUtf8-eui_digits dev_eui)
+      (typed (codes "DeviceMove") refl
+      (text_member (codes "Owner") owner refl (IsUtf8-name owner h.1)
+      (addressed (sent (numbered nothing_plain)))))).members
+  plain (JoinHeard report verdict) h =
+      heard-plain (codes "JoinHeard") report (string (join_verdict_name verdict)) refl h (IsUtf8-join_verdict_name verdict)
+  plain (FrameHeard report verdict) h =
+      heard-plain (codes "FrameHeard") report (whole_or_null verdict) refl h.0 (whole_or_null-plain verdict h.1)
+  plain (DownBook uplink gateway window octets) h =
+      (text_member (codes "Gateway") gateway refl (IsUtf8-name gateway h.1)
+      (typed (codes "DownBook") refl
+      (text_member (codes "PHYPayload") (octet_digits octets) refl (IsUtf8-octet_digits octets)
+      (addressed (sent (numbered
+      (number_member (codes "Uplink") uplink refl (whole_fits uplink h.0)
+      (number_member (codes "Window") (window_number window) refl (window_fits window) nothing_plain)))))))).members
+  plain (DownDone booking was_sent) h =
+      (number_member (codes "Booking") booking refl (whole_fits booking h)
+      (typed (codes "DownDone") refl (addressed (sent
+      (plain_member (codes "Sent") (boolean was_sent) refl tt
+      (numbered nothing_plain)))))).members
+  plain (LimitSet gateway limit) h =
+      (text_member (codes "Band") (band_name limit.band) refl (IsUtf8-band_name limit.band)
+      (text_member (codes "Gateway") gateway refl (IsUtf8-name gateway h.0)
+      (number_member (codes "Limit") limit.most refl (most_fits limit h.1)
+      (typed (codes "LimitSet") refl (addressed (sent (numbered nothing_plain))))))).members
 
 -- ---- the text is read as the value
 
@@ -217,7 +223,7 @@ value_of-message : (receiver sender : List ℕ) (n : ℕ) (m : Message) → IsNa
     → let d : Data = message_value receiver sender n m in value_of (compact_text d) ≡ Some d
 value_of-message receiver sender n m r s fits h =
     let d : Data = message_value receiver sender n m in
-    let p : IsPlain d = plain receiver sender n m r s fits h in
+    let p : IsPlain d = plain receiver sender n r s fits m h in
     value_of-text d p (read-compact_text d p (depth-outline receiver sender n m) (of_json-outline receiver sender n m fits h))
 
 -- ---- the members are found

@@ -1,4 +1,3 @@
 -- What the clauses of private functions say.
 pub mod CsvReports
-pub mod Outcomes
-pub mod Putting
+pub mod Texts

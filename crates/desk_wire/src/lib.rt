@@ -12,7 +12,7 @@ mod heads;
 mod hexadecimal;
 pub mod laws;
 mod members;
-mod outcomes;
+mod objects;
 mod reading;
 mod reports;
 mod results;

@@ -1,22 +1,18 @@
-//! Members of JSON objects: read in their forms, and put beside others.
-ghost use Rattle.std.specs.Prelude.{◌≡◌, ◌^◌, OnOk, option_map};
-ghost use Rattle.serde_json.specs.Data.{string, put};
-ghost use Rattle.serde_json.specs.View.{view, members_view};
+//! The members of a JSON object, each read in its form.
+ghost use Rattle.std.specs.Prelude.{◌≡◌, ◌^◌, option_map};
+ghost use Rattle.serde_json.specs.View.{view};
 ghost use Rattle.registry_core.specs.Wholes.{whole_limit};
-ghost use Rattle.desk_wire.specs.Hexadecimal.{octet_digits, eui_digits, addr_digits};
-ghost use Rattle.desk_wire.specs.Members.{text_at, name_at, type_name_at, whole_at, is_null_at, whole_or_null_at, data_rate_at, octets_at, eui_at, role_at, join_verdict_at, window_at, band_named_at, limit_at, boolean_at, whole_or_null};
-ghost use Rattle.desk_wire.specs.steps.Putting.{with_envelope};
+ghost use Rattle.desk_wire.specs.Members.{text_at, name_at, type_name_at, whole_at, is_null_at, whole_or_null_at, data_rate_at, octets_at, eui_at, role_at, join_verdict_at, window_at, band_named_at, limit_at, boolean_at};
 
 use crate::bands::band_named;
-use crate::hexadecimal::{addr_digits, eui_digits, eui_of, octet_digits, octets_of};
+use crate::hexadecimal::{eui_of, octets_of};
 use crate::roles::role_named;
 use crate::type_names::TypeName;
 use crate::verdicts::join_verdict_named;
 use crate::windows::window_numbered;
-use radio_core::{Band, DataRate, DevAddr, Eui, Name, Octets};
+use radio_core::{Band, DataRate, Eui, Name, Octets};
 use registry_core::{BandLimit, JoinVerdict, Role, Whole, Window};
-use serde_json::{Map, Value, put};
-use std::alloc::{AllocError, Global};
+use serde_json::Value;
 
 pub(crate) fn text_at<'v>(value: &'v Value, member: &str) -> Option<&'v str>
     ensures { option_map (λ text. text.now) result ≡ text_at member.now (view value.now) }
@@ -119,102 +115,4 @@ pub(crate) fn boolean_at(value: &Value, member: &str) -> Option<bool>
     ensures { result ≡ boolean_at member.now (view value.now) }
 {
     value.get(member)?.as_bool()
-}
-
-pub(crate) fn put_text(
-    alloc: Global,
-    members: &mut Map<String, Value>,
-    member: &str,
-    text: &str,
-) -> Result<(), AllocError>
-    ensures { OnOk result (members_view members.new.entries ≡ put member.now (string text.now)
-        (members_view members.old.entries)) }
-{
-    put(members, alloc, member, Value::try_from_str(alloc, text)?)
-}
-
-pub(crate) fn put_u32_or_null(
-    alloc: Global,
-    members: &mut Map<String, Value>,
-    member: &str,
-    number: Option<u32>,
-) -> Result<(), AllocError>
-    ensures { OnOk result (members_view members.new.entries
-        ≡ put member.now (whole_or_null number) (members_view members.old.entries)) }
-{
-    let value = match number {
-        Some(number) => Value::from(number),
-        None => Value::Null,
-    };
-    put(members, alloc, member, value)
-}
-
-pub(crate) fn put_octets(
-    alloc: Global,
-    members: &mut Map<String, Value>,
-    member: &str,
-    octets: &Octets,
-) -> Result<(), AllocError>
-    ensures { OnOk result (members_view members.new.entries
-        ≡ put member.now (string (octet_digits octets.now)) (members_view members.old.entries)) }
-{
-    put(
-        members,
-        alloc,
-        member,
-        Value::String(octet_digits(alloc, octets.get())?),
-    )
-}
-
-pub(crate) fn put_eui(
-    alloc: Global,
-    members: &mut Map<String, Value>,
-    member: &str,
-    eui: Eui,
-) -> Result<(), AllocError>
-    ensures { OnOk result (members_view members.new.entries
-        ≡ put member.now (string (eui_digits eui)) (members_view members.old.entries)) }
-{
-    put(
-        members,
-        alloc,
-        member,
-        Value::String(eui_digits(alloc, eui)?),
-    )
-}
-
-pub(crate) fn put_addr(
-    alloc: Global,
-    members: &mut Map<String, Value>,
-    member: &str,
-    addr: DevAddr,
-) -> Result<(), AllocError>
-    ensures { OnOk result (members_view members.new.entries
-        ≡ put member.now (string (addr_digits addr)) (members_view members.old.entries)) }
-{
-    put(
-        members,
-        alloc,
-        member,
-        Value::String(addr_digits(alloc, addr)?),
-    )
-}
-
-/// The members of the envelope. An `Err` leaves some of them put.
-pub(crate) fn put_envelope(
-    alloc: Global,
-    members: &mut Map<String, Value>,
-    type_name: &str,
-    sender: &Name,
-    receiver: &Name,
-    transaction: u32,
-) -> Result<(), AllocError>
-    ensures { OnOk result (members_view members.new.entries ≡ with_envelope type_name.now sender.now
-        receiver.now transaction (members_view members.old.entries)) }
-{
-    put_text(alloc, members, "MessageType", type_name)?;
-    put_text(alloc, members, "ProtocolVersion", "1.0")?;
-    put_text(alloc, members, "ReceiverID", receiver.as_str())?;
-    put_text(alloc, members, "SenderID", sender.as_str())?;
-    put(members, alloc, "TransactionID", Value::from(transaction))
 }

@@ -1,14 +1,12 @@
-//! What a gateway reports of a frame: read from members, and put beside others.
-ghost use Rattle.std.specs.Prelude.{◌≡◌, OnOk};
-ghost use Rattle.serde_json.specs.View.{view, members_view};
+//! What a gateway reports of a frame, read from the members of a message.
+ghost use Rattle.std.specs.Prelude.{◌≡◌};
+ghost use Rattle.serde_json.specs.View.{view};
 ghost use Rattle.desk_wire.specs.Reports.{rate_of, report_of};
-ghost use Rattle.desk_wire.specs.steps.Putting.{with_report};
 
-use crate::members::{data_rate_at, name_at, octets_at, put_octets, put_text, u32_at, whole_at};
+use crate::members::{data_rate_at, name_at, octets_at, u32_at, whole_at};
 use radio_core::Rate;
 use registry_core::Report;
-use serde_json::{Map, Value, put};
-use std::alloc::{AllocError, Global};
+use serde_json::Value;
 
 #[tactic(auto, unfolding(crate::specs::Reports::rate_of))]
 fn rate_of(value: &Value) -> Option<Rate>
@@ -33,25 +31,4 @@ pub(crate) fn report_of(value: &Value) -> Option<Report>
         rate,
         octets,
     })
-}
-
-/// An `Err` leaves some of the members put.
-pub(crate) fn put_report(
-    alloc: Global,
-    members: &mut Map<String, Value>,
-    report: &Report,
-) -> Result<(), AllocError>
-    ensures { OnOk result (members_view members.new.entries ≡ with_report report.now
-        (members_view members.old.entries)) }
-{
-    put(
-        members,
-        alloc,
-        "DataRate",
-        Value::from(report.rate.dr.get()),
-    )?;
-    put(members, alloc, "Freq", Value::from(report.rate.freq))?;
-    put_text(alloc, members, "Gateway", report.gateway.as_str())?;
-    put_octets(alloc, members, "PHYPayload", &report.octets)?;
-    put(members, alloc, "Time", Value::from(report.time.get()))
 }
