@@ -11,4 +11,5 @@ pub mod PlainValues
 pub mod Printed
 pub mod ReadBack
 pub mod Sizes
+pub mod TreeData
 pub mod WorkedRows

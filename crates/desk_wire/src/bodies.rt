@@ -1,6 +1,6 @@
 //! The members of each type, read as a message.
 ghost use Rattle.std.specs.Prelude.{◌≡◌};
-ghost use Rattle.serde_json.specs.View.{view};
+ghost use Rattle.desk_wire.specs.steps.TreeData.{view};
 ghost use Rattle.desk_wire.specs.Bodies.{sender_add_of, owner_add_of, gateway_add_of, device_add_of, device_move_of, join_heard_of, frame_heard_of, down_book_of, down_done_of, limit_set_of};
 
 use crate::members::{
@@ -8,11 +8,11 @@ use crate::members::{
     u32_or_null_at, whole_at, window_at,
 };
 use crate::reports::report_of;
+use json::Value;
 use registry_core::Message;
-use serde_json::Value;
 
 #[tactic(auto, unfolding(crate::specs::Bodies::sender_add_of))]
-pub(crate) fn sender_add_of(value: &Value) -> Option<Message>
+pub(crate) fn sender_add_of(value: &Value<'_>) -> Option<Message>
     ensures { result ≡ sender_add_of (view value.now) }
 {
     let sender = name_at(value, "Sender")?;
@@ -21,7 +21,7 @@ pub(crate) fn sender_add_of(value: &Value) -> Option<Message>
 }
 
 #[tactic(auto, unfolding(crate::specs::Bodies::owner_add_of))]
-pub(crate) fn owner_add_of(value: &Value) -> Option<Message>
+pub(crate) fn owner_add_of(value: &Value<'_>) -> Option<Message>
     ensures { result ≡ owner_add_of (view value.now) }
 {
     let owner = name_at(value, "Owner")?;
@@ -29,7 +29,7 @@ pub(crate) fn owner_add_of(value: &Value) -> Option<Message>
 }
 
 #[tactic(auto, unfolding(crate::specs::Bodies::gateway_add_of))]
-pub(crate) fn gateway_add_of(value: &Value) -> Option<Message>
+pub(crate) fn gateway_add_of(value: &Value<'_>) -> Option<Message>
     ensures { result ≡ gateway_add_of (view value.now) }
 {
     let gateway = name_at(value, "Gateway")?;
@@ -37,7 +37,7 @@ pub(crate) fn gateway_add_of(value: &Value) -> Option<Message>
 }
 
 #[tactic(auto, unfolding(crate::specs::Bodies::device_add_of))]
-pub(crate) fn device_add_of(value: &Value) -> Option<Message>
+pub(crate) fn device_add_of(value: &Value<'_>) -> Option<Message>
     ensures { result ≡ device_add_of (view value.now) }
 {
     let dev_eui = eui_at(value, "DevEUI")?;
@@ -51,7 +51,7 @@ pub(crate) fn device_add_of(value: &Value) -> Option<Message>
 }
 
 #[tactic(auto, unfolding(crate::specs::Bodies::device_move_of))]
-pub(crate) fn device_move_of(value: &Value) -> Option<Message>
+pub(crate) fn device_move_of(value: &Value<'_>) -> Option<Message>
     ensures { result ≡ device_move_of (view value.now) }
 {
     let dev_eui = eui_at(value, "DevEUI")?;
@@ -60,7 +60,7 @@ pub(crate) fn device_move_of(value: &Value) -> Option<Message>
 }
 
 #[tactic(auto, unfolding(crate::specs::Bodies::join_heard_of))]
-pub(crate) fn join_heard_of(value: &Value) -> Option<Message>
+pub(crate) fn join_heard_of(value: &Value<'_>) -> Option<Message>
     ensures { result ≡ join_heard_of (view value.now) }
 {
     let report = report_of(value)?;
@@ -69,7 +69,7 @@ pub(crate) fn join_heard_of(value: &Value) -> Option<Message>
 }
 
 #[tactic(auto, unfolding(crate::specs::Bodies::frame_heard_of))]
-pub(crate) fn frame_heard_of(value: &Value) -> Option<Message>
+pub(crate) fn frame_heard_of(value: &Value<'_>) -> Option<Message>
     ensures { result ≡ frame_heard_of (view value.now) }
 {
     let report = report_of(value)?;
@@ -78,7 +78,7 @@ pub(crate) fn frame_heard_of(value: &Value) -> Option<Message>
 }
 
 #[tactic(auto, unfolding(crate::specs::Bodies::down_book_of))]
-pub(crate) fn down_book_of(value: &Value) -> Option<Message>
+pub(crate) fn down_book_of(value: &Value<'_>) -> Option<Message>
     ensures { result ≡ down_book_of (view value.now) }
 {
     let uplink = whole_at(value, "Uplink")?;
@@ -94,7 +94,7 @@ pub(crate) fn down_book_of(value: &Value) -> Option<Message>
 }
 
 #[tactic(auto, unfolding(crate::specs::Bodies::down_done_of))]
-pub(crate) fn down_done_of(value: &Value) -> Option<Message>
+pub(crate) fn down_done_of(value: &Value<'_>) -> Option<Message>
     ensures { result ≡ down_done_of (view value.now) }
 {
     let booking = whole_at(value, "Booking")?;
@@ -103,7 +103,7 @@ pub(crate) fn down_done_of(value: &Value) -> Option<Message>
 }
 
 #[tactic(auto, unfolding(crate::specs::Bodies::limit_set_of))]
-pub(crate) fn limit_set_of(value: &Value) -> Option<Message>
+pub(crate) fn limit_set_of(value: &Value<'_>) -> Option<Message>
     ensures { result ≡ limit_set_of (view value.now) }
 {
     let gateway = name_at(value, "Gateway")?;

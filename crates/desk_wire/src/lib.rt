@@ -7,6 +7,7 @@ mod bodies;
 mod csv_faults;
 mod csv_reports;
 mod decimals;
+mod documents;
 mod faults;
 mod heads;
 mod hexadecimal;

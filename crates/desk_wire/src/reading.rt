@@ -1,19 +1,20 @@
 //! Texts read as envelopes.
-ghost use Rattle.std.specs.Prelude.{◌≡◌, IfOk, option_map};
-ghost use Rattle.serde_json.specs.View.{view};
-ghost use Rattle.desk_wire.specs.Reading.{common_members_of, message_of, envelope_addressed, envelope_of, value_of, reads, Gives};
+ghost use Rattle.std.specs.Prelude.{◌≡◌};
+ghost use Rattle.desk_wire.specs.steps.TreeData.{view};
+ghost use Rattle.desk_wire.specs.Reading.{common_members_of, message_of, envelope_addressed, envelope_of, reads, Gives};
 
 use crate::bodies::{
     device_add_of, device_move_of, down_book_of, down_done_of, frame_heard_of, gateway_add_of,
     join_heard_of, limit_set_of, owner_add_of, sender_add_of,
 };
+use crate::documents::value_of;
 use crate::faults::WireFault;
 use crate::heads::Head;
 use crate::members::{name_at, text_at, type_name_at, u32_at};
+use json::{Scratch, Value};
 use radio_core::Name;
 use registry_core::{Envelope, Message};
-use serde_json::Value;
-use std::alloc::{AllocError, Global};
+use std::alloc::Global;
 
 /// The members that every message has: whether ProtocolVersion is `1.0`, ReceiverID, and the head.
 #[derive(Clone, Copy)]
@@ -48,30 +49,15 @@ struct CommonMembers {
 pub fn read_message(alloc: Global, text: &[u8], receiver: &Name) -> Result<Envelope, WireFault>
     ensures { Gives result (reads receiver.now text.now) }
 {
-    match value_of(alloc, text) {
+    let mut scratch = Scratch::new(alloc);
+    match value_of(alloc, text, &mut scratch) {
         Ok(Some(value)) => envelope_of(receiver, &value),
         Ok(None) => Err(WireFault::Malformed),
         Err(_) => Err(WireFault::Memory),
     }
 }
 
-/// The value that a text is, where it is JSON.
-fn value_of(alloc: Global, text: &[u8]) -> Result<Option<Value>, AllocError>
-    ensures { IfOk result (λ value. option_map view value ≡ value_of text.now) }
-{
-    match Value::from_slice(alloc, text) {
-        Ok(value) => Ok(Some(value)),
-        Err(e) => {
-            if e.is_memory() {
-                Err(AllocError)
-            } else {
-                Ok(None)
-            }
-        }
-    }
-}
-
-fn envelope_of(receiver: &Name, value: &Value) -> Result<Envelope, WireFault>
+fn envelope_of(receiver: &Name, value: &Value<'_>) -> Result<Envelope, WireFault>
     ensures { result
         ≡ envelope_of receiver.now (common_members_of (view value.now)) (view value.now) }
 {
@@ -82,7 +68,7 @@ fn envelope_of(receiver: &Name, value: &Value) -> Result<Envelope, WireFault>
 }
 
 #[tactic(auto, unfolding(crate::specs::Reading::common_members_of))]
-fn common_members_of(value: &Value) -> Option<CommonMembers>
+fn common_members_of(value: &Value<'_>) -> Option<CommonMembers>
     ensures { result ≡ common_members_of (view value.now) }
 {
     let is_current = text_at(value, "ProtocolVersion")? == "1.0";
@@ -105,7 +91,7 @@ fn common_members_of(value: &Value) -> Option<CommonMembers>
 fn envelope_addressed(
     receiver: &Name,
     common: CommonMembers,
-    value: &Value,
+    value: &Value<'_>,
 ) -> Result<Envelope, WireFault>
     ensures { result ≡ envelope_addressed receiver.now common (view value.now) }
 {
@@ -124,7 +110,7 @@ fn envelope_addressed(
 }
 
 #[tactic(auto, unfolding(crate::specs::Reading::message_of))]
-fn message_of(head: Head, value: &Value) -> Result<Message, WireFault>
+fn message_of(head: Head, value: &Value<'_>) -> Result<Message, WireFault>
     ensures { result ≡ message_of head (view value.now) }
 {
     let message = match head.type_name.as_str() {

@@ -1,15 +1,15 @@
 //! What a gateway reports of a frame, read from the members of a message.
 ghost use Rattle.std.specs.Prelude.{◌≡◌};
-ghost use Rattle.serde_json.specs.View.{view};
+ghost use Rattle.desk_wire.specs.steps.TreeData.{view};
 ghost use Rattle.desk_wire.specs.Reports.{rate_of, report_of};
 
 use crate::members::{data_rate_at, name_at, octets_at, u32_at, whole_at};
+use json::Value;
 use radio_core::Rate;
 use registry_core::Report;
-use serde_json::Value;
 
 #[tactic(auto, unfolding(crate::specs::Reports::rate_of))]
-fn rate_of(value: &Value) -> Option<Rate>
+fn rate_of(value: &Value<'_>) -> Option<Rate>
     ensures { result ≡ rate_of (view value.now) }
 {
     let freq = u32_at(value, "Freq")?;
@@ -18,7 +18,7 @@ fn rate_of(value: &Value) -> Option<Rate>
 }
 
 #[tactic(auto, unfolding(crate::specs::Reports::report_of))]
-pub(crate) fn report_of(value: &Value) -> Option<Report>
+pub(crate) fn report_of(value: &Value<'_>) -> Option<Report>
     ensures { result ≡ report_of (view value.now) }
 {
     let gateway = name_at(value, "Gateway")?;
