@@ -7,6 +7,7 @@ pub mod HexTexts
 pub mod InRange
 pub mod Kept
 pub mod NameTexts
+pub mod OneLine
 pub mod PlainValues
 pub mod Printed
 pub mod ReadBack

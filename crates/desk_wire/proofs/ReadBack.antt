@@ -122,7 +122,7 @@ module _ (receiver sender : List ℕ) (n : ℕ) (r : IsName receiver) (s : IsNam
       (numbered
       (plain_member (codes "Verdict") verdict refl p nothing_plain)))))))))).members
 
-  plain : (m : Message) → IsMessage m → IsPlain (message_value receiver sender n m)
+  pub plain : (m : Message) → IsMessage m → IsPlain (message_value receiver sender n m)
   plain (SenderAdd added role) h =
       (typed (codes "SenderAdd") refl (addressed
       (text_member (codes "Role") (role_name role) refl (IsUtf8-role_name role)

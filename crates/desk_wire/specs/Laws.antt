@@ -1,5 +1,6 @@
 -- What holds of reading and writing together.
-use Rattle.std.specs.Prelude.{◌≡◌, ◌≢◌, ◌≤◌, ℕ, List, length, Ok, Err}
+use Rattle.std.specs.Prelude.{◌≡◌, ◌≢◌, ◌≤◌, ◌==◌, ℕ, List, [], false, length, Ok, Err}
+use Rattle.std.specs.List.{list_any}
 use Rattle.registry_core.specs.declared.messages.Envelope.{Envelope}
 use Rattle.registry_core.specs.Ranges.{IsName, IsEnvelope}
 use Rattle.desk_wire.specs.declared.faults.WireFault.TheVariants.{Memory}
@@ -22,3 +23,8 @@ ReadsNoMemory = (receiver text : List ℕ) → reads receiver text ≢ Err Memor
 -- the text of an envelope has at most 65,536 octets
 abbrev pub MessagesFit : Type 0
 MessagesFit = (receiver : List ℕ) (e : Envelope) → IsName receiver → IsEnvelope e → length (message_text receiver e) ≤ 65536
+
+-- the text of an envelope is one line: it is not empty, and no octet of it is LF
+abbrev pub MessagesAreLines : Type 0
+MessagesAreLines = (receiver : List ℕ) (e : Envelope) → IsName receiver → IsEnvelope e
+    → (message_text receiver e ≢ []) × (list_any (λ x. x == 10) (message_text receiver e) ≡ false)

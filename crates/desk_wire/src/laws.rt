@@ -1,5 +1,5 @@
 //! Laws of the definitions: each is the contract of a function that does nothing.
-ghost use Rattle.desk_wire.specs.Laws.{MessageReadsBack, MessagesFit, ReadsInRange, ReadsNoMemory};
+ghost use Rattle.desk_wire.specs.Laws.{MessageReadsBack, MessagesAreLines, MessagesFit, ReadsInRange, ReadsNoMemory};
 
 /// What is written is read as the same envelope.
 #[tactic(auto, using(crate::proofs::ReadBack::message_reads_back))]
@@ -11,6 +11,12 @@ pub fn message_reads_back()
 #[tactic(auto, using(crate::proofs::Fitting::messages_fit))]
 pub fn messages_fit()
     ensures { MessagesFit }
+{}
+
+/// The text of an envelope is one line: it is not empty and holds no LF.
+#[tactic(auto, using(crate::proofs::OneLine::messages_are_lines))]
+pub fn messages_are_lines()
+    ensures { MessagesAreLines }
 {}
 
 /// What is read is in the ranges that the types keep.
