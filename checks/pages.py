@@ -32,6 +32,7 @@ LENGTHS = {
     "docs/PROVING.md": 100,
     "docs/GLOSSARY.md": 60,
     "examples/bridge/README.md": 80,
+    "bench/native/README.md": 40,
 }
 CRATE_README = 40
 # our former word, and what to write
