@@ -5,7 +5,7 @@
 
 Texts of 65,536 octets go through `desk lines`, many copies of one in a run, and the time of a run of one copy is taken off. Heads of
 8,192 octets go to `desk serve` octet by octet, each sent alone, and at once. Reports of 16,777,216 octets go to `desk import`, and end
-in a record that is none, so that nothing is heard. What is told of each has to be what it should be.
+in a record that is none, so that nothing is heard. Each has to be answered as it should be.
 
 It prints milliseconds of a processor, in the program and in the kernel for it, the least of the runs, and the dearest of each kind.
 """

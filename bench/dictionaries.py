@@ -180,7 +180,7 @@ class Desk:
         return bytes.fromhex(message["PHYPayload"]), band_of(message["Freq"], message["DataRate"])
 
     def booked(self, message, kind, session, octets, band, index, key):
-        """The new uplink, which stands in the index under the key."""
+        """The new uplink, which is in the index under the key."""
         length = airtime(message["DataRate"], len(octets), True)
         uplink = {"number": len(self.uplinks) + 1, "kind": kind, "session": session, "octets": octets, "airtime": length}
         uplink.update(band=band, copies={}, answered=False)

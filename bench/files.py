@@ -3,14 +3,14 @@
 
     bench/files.py [--program PATH] [--folder FOLDER] [--seed 1] [--sizes 20000,200000] [--runs 1] [--only hear,serve,import,report]
 
-The messages are those of normal operation (normal_operation.py), on new files in a folder that is removed at the end; FOLDER says on
-which disk. Each message is one commit, which is on the disk before its answer. Beside `hear` stands a plain Python program over the
-sqlite3 module with the same tables, which makes as many commits (peer.py). A command's start, which opens the file, is told apart:
+The messages are those of normal operation (normal_operation.py), on new files in a folder that is removed at the end; FOLDER names
+the disk. Each message is one commit, which is on the disk before its answer. `hear` is compared with a plain Python program over the
+sqlite3 module with the same tables, which makes as many commits (peer.py). A command's start, which opens the file, is measured apart:
 it is what the same command takes on the same file with nothing to do, `hear` on empty input and `import` of a header alone.
 All answers and reports have to be those of the plain program over dictionaries (dictionaries.py), and each status 0.
 
 The growth is how the time without the start grows from the size above it, by how the size does: 1 where each message costs the same.
-Speeds tell of the disk and of what else runs: compare only figures of one run. --sizes are those of `hear` and of `report`'s uplinks.
+Speeds depend on the disk and on what else runs: compare only figures of one run. --sizes are those of `hear` and of `report`'s uplinks.
 """
 
 import argparse
@@ -223,7 +223,7 @@ def measure_report(table, desk, folder, sizes, seed):
 def main():
     words = argparse.ArgumentParser(description=__doc__, formatter_class=argparse.RawDescriptionHelpFormatter)
     add_program(words, metavar="PATH")
-    words.add_argument("--folder", type=Path, help="where the files stand while it runs")
+    words.add_argument("--folder", type=Path, help="where the files are meanwhile")
     words.add_argument("--seed", type=int, default=1)
     words.add_argument("--sizes", default="20000,200000")
     words.add_argument("--runs", type=int, default=1, help="of `hear` and peer.py by turns, on new files")

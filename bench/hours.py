@@ -1,9 +1,9 @@
 #!/usr/bin/env python3
-"""Measures what looks at hours: a downlink on a gateway with many bookings. Of reports files.py tells.
+"""Measures what looks at hours: a downlink on a gateway with many bookings. files.py measures reports.
 
     bench/hours.py
 
-It prints the microseconds of one DownBook on a gateway with so many bookings. It is timed through `desk lines`: of two streams
+It prints the microseconds of one DownBook by how many bookings the gateway has. It is timed through `desk lines`: of two streams
 the one ends with 50,000 of them more, each refused since it collides with a booking, so that the bookings stay as many. All times
 are the least of five runs.
 """
@@ -32,7 +32,7 @@ class OneGateway(Stream):
 
 
 def downlinks(count):
-    """A stream that ends with so many bookings at one gateway, and one with downlinks more that collide with the last."""
+    """A stream that ends with that many bookings at one gateway, and one with further downlinks that collide with the last."""
     stream = OneGateway(1)
     stream.register()
     for device in range(DEVICES):
@@ -59,7 +59,7 @@ def downlinks(count):
 
 
 def seconds(lines, refused):
-    """The processor's seconds, the least of the runs. The last lines are refused, so many."""
+    """The processor's seconds, the least of the runs. The last `refused` lines are refused."""
     least = None
     with tempfile.TemporaryFile() as given, tempfile.TemporaryFile() as told:
         given.write("".join(line + "\n" for line in lines).encode())

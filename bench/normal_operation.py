@@ -4,9 +4,9 @@
     bench/normal_operation.py [--program FILE] [--sizes 2000,10000,50000] [--seed 1] [--write FILE]
 
 A stream is one owner, 8 gateways and 200 devices, which join, and then send data frames that 1 to 3 gateways hear. Every
-tenth data frame is answered in its first window, and each downlink is told as sent. Now and then the operator sets the
+tenth data frame is answered in its first window, and each downlink is reported as sent. Now and then the operator sets the
 limit of a gateway's band: lower and higher again where there are downlinks, and 0 where there are none. For each size it
-prints the lines a second, how the time grows from size to size, and the peak memory, and beside them how many times as
+prints the lines a second, how the time grows from size to size, and the peak memory, and how many times as
 long a plain Python program over dictionaries takes (dictionaries.py). Every answer has to be a success, and the two
 programs have to give the same octets. With --write the largest stream goes into a file, and nothing is measured.
 """
@@ -31,7 +31,7 @@ DEVICES = 200
 # 2024-02-01 00:00 UTC, in microseconds
 BEGINNING = 1_706_745_600_000_000
 
-# after so many data frames a limit is set, at the gateways in turn, in each round of them the next of these
+# after this many data frames a limit is set, at the gateways in turn, in each round of them the next of these
 FRAMES_A_LIMIT = 500
 LIMITS = [("B3", 18_000_000), ("B1", 0), ("B3", 36_000_000), ("B1", 3_600_000)]
 
@@ -127,7 +127,7 @@ class Stream:
 
 
 def normal_operation(size, seed, limits=True):
-    """So many lines, from the opening state on. Without limits no line is a LimitSet, and the others are the same ones."""
+    """`size` lines, from the opening state on. Without limits no line is a LimitSet, and the others are the same ones."""
     stream = Stream(seed)
     stream.register()
     for device in range(DEVICES):

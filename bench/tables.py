@@ -1,5 +1,5 @@
 #!/usr/bin/env python3
-"""Measures the desk on lists and on tables in memory: messages a second. Of tables in a file files.py tells.
+"""Measures the desk on lists and on tables in memory: messages a second. files.py measures tables in a file.
 
     bench/tables.py [--sizes 2000,20000,200000] [--seed 1] [--built]
 

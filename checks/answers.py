@@ -47,7 +47,7 @@ def checked(folder, function, limit):
 
 
 def try_one(folder, answers, limit):
-    """Returns whether the proof by hand is needed, and what to say of it."""
+    """Returns whether the proof by hand is needed, and what to print of it."""
     function, file = "::".join(answers.parent.parts), folder / "proofs" / answers
     text = file.read_text()
     # another text, so that nothing is taken over from an earlier check

@@ -3,8 +3,8 @@
 
     checks/both_stores.py [--size 20000] [--seed 1] [--built] [--program FILE]
 
-So many messages of mixed operation (mixed_operation.py) go to each store: to the file in two runs of `desk hear`, the
-second of which opens what the first one closed. All answers, and both reports on all owners, months and gateways, have
+--size messages of mixed operation (mixed_operation.py) go to each store: to the file in two runs of `desk hear`, and the
+second opens what the first one closed. All answers, and both reports on all owners, months and gateways, have
 to be the same octets. Then the real SQLite reads the file, and each row of its eleven tables has to be that of a plain
 Python program that heard the same messages (bench/dictionaries.py).
 
@@ -52,7 +52,7 @@ def told_by(store, lines):
     if ran.returncode != 0:
         sys.exit(f"{store}: {ran.returncode}\n{ran.stdout[-2000:]}{ran.stderr}")
     told = ran.stdout.splitlines()
-    # the times stand behind all of it, and the test's own last lines behind them
+    # the times come after all of it, and the test's own last lines after them
     return told[: next(place for place, line in enumerate(told) if TIMES.match(line))]
 
 

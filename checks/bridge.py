@@ -3,7 +3,7 @@
 
     checks/bridge.py [--program FILE] [--seeds 1 2 3] [--frames 600] [--devices 40] [--gateways 4] [--kills 6]
 
-For each seed a desk serves a new file, examples/bridge/bridge.py runs beside it, and examples/bridge/simulate.py is the town:
+For each seed a desk serves a new file, examples/bridge/bridge.py runs with it, and examples/bridge/simulate.py is the town:
 gateways whose datagrams get lost, come twice and come late, and devices that join and send data frames. Bridge, desk or both are
 ended by SIGKILL at random moments and started again. The unit tests of the bridge run first.
 
@@ -83,7 +83,7 @@ class Running:
 
 
 class Killer(threading.Thread):
-    """Kills the bridge, the desk, or both, in turns, so many times within the seconds in which the town sends."""
+    """Kills the bridge, the desk, or both, in turns, `kills` times within the seconds in which the town sends."""
 
     def __init__(self, bridge, desk, kills, seconds, chance):
         super().__init__(daemon=True)
@@ -183,7 +183,7 @@ def run_town(program, folder, town, given, seed):
     desk = Running("the desk", [program, "serve", file, "--port", str(port), "--count", "1000000"], log)
     words = [sys.executable, EXAMPLE / "bridge.py", folder, "run", "--desk", f"127.0.0.1:{port}", "--listen", f"127.0.0.1:{town.bridge[1]}"]
     bridge = Running("the bridge", words, log)
-    # each device sends once in about so many seconds
+    # about how many seconds pass between two frames of a device
     seconds = given.frames / given.devices * simulate.DATA_PAUSE_SECONDS
     killer = Killer(bridge, desk, given.kills, seconds, random.Random(seed))
     try:
@@ -339,7 +339,7 @@ def transmissions_are_bookings(books, town):
         first, second = simulate.WINDOWS[kind != DATA]
         on_air = {first: (heard.frequency, heard.datr), second: SECOND_WINDOW}.get(start - ended)
         if on_air != (sent.frequency, sent.datr):
-            yield f"{sent} isn't as booking {number} says, {on_air}"
+            yield f"{sent} isn't as in booking {number}, {on_air}"
         if simulate.airtime(sent.datr, len(sent.phy_payload), is_up=False) != airtime:
             yield f"{sent} has another time on air than booking {number}, {airtime}"
         if sent.has_crc and sent.datr != simulate.FSK:

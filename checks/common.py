@@ -42,7 +42,7 @@ def add_program(words, metavar="FILE"):
 
 
 def ready(program):
-    """Its whole path, after a first call, which may prove and build it, and says so."""
+    """Its whole path, after a first call, which may prove and build it and then prints that."""
     path = program.resolve()
     subprocess.run([path, "lines"], stdin=subprocess.DEVNULL, check=True)
     return path
@@ -63,7 +63,7 @@ def copy_to(file, to):
 
 
 def removed(file):
-    """Removes the file and what stands beside it by its name."""
+    """Removes the file, and the others in its folder whose names begin with its name."""
     for path in file.parent.glob(f"{file.name}*"):
         path.unlink()
 

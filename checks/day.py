@@ -1,10 +1,10 @@
 #!/usr/bin/env python3
-"""Runs examples/day.sh, and sees that it prints what examples/day.txt says.
+"""Runs examples/day.sh, and checks that it prints what is in examples/day.txt.
 
     checks/day.py [--program FILE]
 
 The day runs with a free port, in a fresh folder. It has to end with status 0 within a minute, to print the lines of day.txt and
-nothing else, to say nothing on standard error, and to leave the folder as it was. The program is `./desk`, which is proved and
+nothing else, to print nothing on standard error, and to leave the folder as it was. The program is `./desk`, which is proved and
 built first where it isn't current, or with --program the built one in FILE.
 """
 
@@ -51,7 +51,7 @@ def main():
         sys.exit(f"{difference}\nstatus {day.returncode}, standard error:\n{told}")
     if day.returncode or told or left:
         sys.exit(f"{DAY.name} ended with status {day.returncode}, left {left}, and on standard error:\n{told}")
-    print(f"{DAY.name}: {len(written.splitlines())} lines, all as {WANTED.name} says")
+    print(f"{DAY.name}: {len(written.splitlines())} lines, all as in {WANTED.name}")
 
 
 if __name__ == "__main__":

@@ -1,5 +1,5 @@
 #!/usr/bin/env python3
-"""Sees that a test fails with edits of the gate that are refused where a proof by hand no longer fits.
+"""Checks that a test fails with edits of the gate that are refused where a proof by hand no longer fits.
 
     checks/failing_tests.py [--jobs 2] [EDIT ..]
 
@@ -67,7 +67,7 @@ TESTS = {
 
 
 def ran(test, edit=None):
-    """Runs the test with the edit, if there is one. Returns whether it passed, or None where it came to no end, and what was told last."""
+    """Runs the test with the edit, if there is one. Returns whether it passed, or None where it came to no end, and what was printed last."""
     with tempfile.TemporaryDirectory(prefix="failing-tests-") as temporary:
         folder = Path(temporary)
         shutil.copy(ROOT / "crates.txt", folder)
@@ -86,7 +86,7 @@ def ran(test, edit=None):
 
 
 def failing(edit):
-    """Returns whether the test that stands beside the edit fails with it, and what to say of it."""
+    """Returns whether the test of the edit fails with it, and what to print of it."""
     try:
         is_passed, last = ran(TESTS[edit], edit)
     except NotTried as why:
@@ -97,7 +97,7 @@ def failing(edit):
 
 
 def passing(test):
-    """Returns whether the test passes with no edit, and what to say of it."""
+    """Returns whether the test passes with no edit, and what to print of it."""
     is_passed, last = ran(test)
     return bool(is_passed), f"{test} passes" if is_passed else f"{test}: DOES NOT PASS with no edit: {last[:200]}"
 
@@ -109,7 +109,7 @@ def main():
     given = words.parse_args()
     unknown = [edit for edit in given.edits if edit not in TESTS]
     if unknown:
-        sys.exit(f"no test stands beside {', '.join(unknown)}")
+        sys.exit(f"no test belongs to {', '.join(unknown)}")
     edits = given.edits or list(TESTS)
     with ThreadPoolExecutor(given.jobs) as lanes:
         passed = report(lanes.map(passing, sorted({TESTS[edit] for edit in edits})))
@@ -119,7 +119,7 @@ def main():
 
 
 def report(results):
-    """Prints what is said of each. Returns how many are well, and how many there are."""
+    """Prints the line of each. Returns how many are well, and how many there are."""
     well = all_of_them = 0
     for is_well, said in results:
         print(said, flush=True)

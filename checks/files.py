@@ -1,10 +1,10 @@
 #!/usr/bin/env python3
-"""Sees that the commands on a file end as docs/HANDBOOK.md says, over real files, sockets and signals.
+"""Checks that the commands on a file end as docs/HANDBOOK.md describes, over real files, sockets and signals.
 
     checks/files.py [--program FILE] [--only NAME,..]
 
-Each part stands in a function below, with what it does, and begins in a folder of its own. All parts are run, and what isn't as the
-handbook says is printed; then the status is 1. `slow_clients` takes a minute and a half. The program is `./desk`, which is proved
+Each part is a function below, with what it does, and begins in a folder of its own. All parts are run, and what isn't as in the
+handbook is printed; then the status is 1. `slow_clients` takes a minute and a half. The program is `./desk`, which is proved
 and built first where it isn't current, or with --program the built one in FILE.
 """
 
@@ -38,7 +38,7 @@ ENDED = 20
 
 
 class Desk:
-    """The program, and what wasn't as the handbook says."""
+    """The program, and what wasn't as in the handbook."""
 
     def __init__(self, program):
         self.program = program
@@ -50,7 +50,7 @@ class Desk:
             self.faults.append(what)
 
     def run(self, *words, given="", **more):
-        """Its status, what it wrote, and what it told on standard error."""
+        """Its status, standard output and standard error."""
         ran = subprocess.run([self.program, *map(str, words)], input=given, capture_output=True, text=True, timeout=600, **more)
         return ran.returncode, ran.stdout, ran.stderr
 
@@ -86,7 +86,7 @@ class Desk:
 
 
 def nth(text, count):
-    """Where so many lines of the text end."""
+    """Where that many lines of the text end."""
     return sum(map(len, text.splitlines(keepends=True)[:count]))
 
 
@@ -122,14 +122,14 @@ def making(desk):
     desk.ends(1, "desk: exists\n", "init", file)
     desk.wants(octets_of(file)["town.db"] == before["town.db"], "init of a desk's file leaves it as it was")
     desk.ends(0, "", "hear", file, given=MESSAGES, written=ANSWERS)
-    desk.wants(replies(file) == MESSAGES.count("\n"), "messages told again are kept once")
+    desk.wants(replies(file) == MESSAGES.count("\n"), "messages sent again are stored once")
 
 
 def options(desk):
     """The four options are kept in the file."""
     desk.ends(0, "", "init", "port.db", "--receiver", "desk-2", "--operator", "harbour", "--base", "01B00000", "--addresses", "7")
     found = execute(Path("port.db"), "SELECT version, receiver, operator, base, addresses FROM meta", "?mode=ro")
-    desk.wants(found == [(2, "desk-2", "harbour", 0x01B0_0000, 7)], f"the file tells {found}")
+    desk.wants(found == [(2, "desk-2", "harbour", 0x01B0_0000, 7)], f"the file has {found}")
 
 
 def missing(desk):
@@ -142,7 +142,7 @@ def missing(desk):
 
 
 def strangers(desk):
-    """Files that are no desk's are refused, and left as they are."""
+    """Files that are no desk are refused, and left as they are."""
     Path("text.db").write_text("no database at all\n" * 1000)
     execute("other.db", "CREATE TABLE note (id INTEGER PRIMARY KEY)")
     version = desk.made("version.db", REGISTRY)
@@ -175,13 +175,13 @@ def schema_1(desk, name):
 
 
 def without_room():
-    """The log has no room for a transaction, and the first file has none at all."""
+    """The log is out of space for a transaction, and the first file has none at all."""
     signal.signal(signal.SIGXFSZ, signal.SIG_IGN)
     resource.setrlimit(resource.RLIMIT_FSIZE, (8_192, 8_192))
 
 
 def earlier(desk):
-    """A file of schema 1 is refused by every command but `migrate`, by that one where there is no room, and left as it is."""
+    """A file of schema 1 is refused by every command but `migrate`, by that one where the disk is full, and left as it is."""
     file = schema_1(desk, "town.db")
     before = file.read_bytes()
     for words in (["hear"], ["import", "--sender", "bridge"], ["report", "town", "2024-02"], ["bands", "gw-a"], ["check"]):
@@ -260,7 +260,7 @@ def reports(desk):
 
 
 def importing(desk):
-    """What is refused of a report imports nothing; an unknown sender is told in the answers."""
+    """What is refused of a report imports nothing; an unknown sender is reported in the answers."""
     file = desk.made()
     words = "import", file, "--sender", "bridge"
     for fault, given in [
@@ -294,9 +294,9 @@ def held(desk):
         execute(file, "SELECT * FROM meta", "?mode=ro")
         desk.wants(False, "sqlite3 reads a file that a program has")
     except sqlite3.OperationalError as error:
-        desk.wants(str(error) == "database is locked", f"sqlite3 says {error}")
+        desk.wants(str(error) == "database is locked", f"sqlite3 prints {error}")
     other = subprocess.run(["sqlite3", f"file:{file}?mode=ro", ".backup copy.db"], capture_output=True, text=True)
-    desk.wants("locked" in other.stderr, f"sqlite3's .backup says {other.stderr!r}")
+    desk.wants("locked" in other.stderr, f"sqlite3's .backup prints {other.stderr!r}")
     desk.ends(3, "desk: network\n", "serve", desk.made("other.db", ""), "--port", str(port), "--count", "1")
     desk.wants(body(asked(port, get("/v1/bands/gw-a"))) == (EXAMPLES / "band-report.csv").read_text(), "the bands by HTTP")
     desk.wants(body(asked(port, get("/v1/reports/town/2024-02"))) == (EXAMPLES / "owner-report.csv").read_text(), "the report by HTTP")
@@ -406,7 +406,7 @@ def full_disk(desk):
     file = desk.made(given=REGISTRY)
     status, written, told = desk.run("hear", file, given=MESSAGES * 2 + more_messages(2000), preexec_fn=limited)
     desk.wants((status, told) == (3, "desk: unavailable\n"), f"without room it ends with {status} {told!r}")
-    desk.wants(written.startswith(ANSWERS * 2), "the answers before stand")
+    desk.wants(written.startswith(ANSWERS * 2), "the answers before are there")
     answered = written.count("\n")
     desk.wants(answered < 2000, f"{answered} answers were written")
     status, again, told = desk.run("hear", file, given=MESSAGES * 2 + more_messages(2000))
@@ -440,14 +440,14 @@ def this_machine_alone(desk):
 
 
 def slow_clients(desk):
-    """Who says nothing is let go after one second, and who says an octet now and then after ten; then others are served."""
+    """Who sends nothing is let go after one second, and who sends an octet now and then after ten; then others are served."""
     file = desk.made(given="")
     program, port = desk.serving(file, 4)
     begun = time.monotonic()
     with socket.create_connection(("127.0.0.1", port), timeout=60) as connection:
-        desk.wants(received(connection) == b"", "who says nothing gets no response")
+        desk.wants(received(connection) == b"", "who sends nothing gets no response")
     took = time.monotonic() - begun
-    desk.wants(0.9 < took < 3, f"who says nothing is let go after {took:.1f} s")
+    desk.wants(0.9 < took < 3, f"who sends nothing is let go after {took:.1f} s")
     desk.wants(posted(port, MESSAGES.splitlines()[0]) + "\n" == ANSWERS[: nth(ANSWERS, 1)], "the next is served")
     begun = time.monotonic()
     with socket.create_connection(("127.0.0.1", port), timeout=0.1) as connection:
@@ -461,7 +461,7 @@ def slow_clients(desk):
             except OSError:
                 break
     took = time.monotonic() - begun
-    desk.wants(9 < took < 15, f"who says an octet every two seconds is let go after {took:.1f} s")
+    desk.wants(9 < took < 15, f"who sends an octet every two seconds is let go after {took:.1f} s")
     second = ANSWERS[nth(ANSWERS, 1) : nth(ANSWERS, 2)]
     desk.wants(posted(port, MESSAGES.splitlines()[1]) + "\n" == second, "the next is served")
     desk.ended(program)
@@ -503,10 +503,10 @@ def main():
             os.chdir(folder)
             try:
                 part(desk)
-            except Exception as error:  # a part that can't go on is a fault, and the next ones are run
+            except Exception as error:  # a part that can't go on counts as failed, and the next ones are run
                 desk.wants(False, f"{part.__name__} can't go on: {error!r}")
             os.chdir(ROOT)
-    print(f"{len(chosen)} parts, {len(desk.faults)} faults")
+    print(f"{len(chosen)} parts, {len(desk.faults)} errors")
     sys.exit(bool(desk.faults))
 
 

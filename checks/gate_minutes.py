@@ -1,15 +1,15 @@
 #!/usr/bin/env python3
-"""Runs the gate from nothing, and tells where its processor time goes.
+"""Runs the gate from nothing, and prints where its processor time goes.
 
     checks/gate_minutes.py [--jobs 1] [--log FILE] [--huge-pages]
 
-It clones the commit that is checked out into a folder of its own, runs `rt ci` there with so many checks side by side, and looks four
-times a second at what each process has taken. Nothing that earlier runs kept is taken over, where rt can be told so. What rt says goes
+It clones the commit that is checked out into a folder of its own, runs `rt ci` there with --jobs checks side by side, and looks four
+times a second at what each process has taken. Nothing that earlier runs kept is taken over, if rt has an option for that. What rt prints goes
 to the log. With --huge-pages, for which it has to be run by root, the kernel gives every program huge pages until the run ends, and
-then goes by what it was told before.
+then has its former setting again.
 
 It prints minutes of a processor, crate by crate: of the first check, the check with its tests, the check before its first edit, and the
-edits; and then what the run took in all, as the system counted it. Where rt tries a crate's first edit from nothing no check is told
+edits; and then what the run took in all, as the system counted it. Where rt tries a crate's first edit from nothing no check is listed
 before it, and the edits took that much more. A machine whose processors others share takes up to twice as long as one that is alone.
 It fails where the gate does.
 """
@@ -98,7 +98,7 @@ def huge_pages(are_wanted):
 def main():
     words = argparse.ArgumentParser(description=__doc__.splitlines()[0])
     words.add_argument("--jobs", type=int, default=1, help="how many checks run side by side (default: 1)")
-    words.add_argument("--log", type=Path, default=Path("gate.log"), help="where what rt says goes (default: gate.log)")
+    words.add_argument("--log", type=Path, default=Path("gate.log"), help="the file for what rt prints (default: gate.log)")
     words.add_argument("--huge-pages", action="store_true", help="have the kernel give every program huge pages meanwhile")
     given = words.parse_args()
     with huge_pages(given.huge_pages), tempfile.TemporaryDirectory(prefix="gate-") as folder, given.log.open("w") as log:

@@ -1,11 +1,11 @@
 #!/usr/bin/env python3
-"""Kills the desk at random moments, and sees that what was answered is in the file.
+"""Kills the desk at random moments, and checks that what was answered is in the file.
 
     checks/kills.py [--program FILE] [--kills 300] [--seed 1]
 
 One file hears a stream of mixed operation (mixed_operation.py), by `desk hear` and by `desk serve` in turns. Each run is ended by
 SIGKILL at a random moment, mostly while messages are being answered, sometimes while the file is being opened. Now and then a second
-program asks for the file meanwhile, and is told `desk: file`. After each kill the real SQLite reads the file: the messages that were
+program opens the file meanwhile, and ends with `desk: file`. After each kill the real SQLite reads the file: the messages that were
 heard, in their order and with their answers, are those that a plain Python program (bench/dictionaries.py) has heard of the lines
 that were answered, or these and that of the next line. The next run goes on behind the last answer that was read.
 
@@ -35,7 +35,7 @@ LONGEST_RUN = 0.06
 
 
 class Model:
-    """What a desk that isn't killed answers, and what it has heard after so many lines."""
+    """What a desk that isn't killed answers, and what it has heard after each number of lines."""
 
     def __init__(self, lines):
         self.desk = dictionaries.Desk()
@@ -52,7 +52,7 @@ def replies_in(file):
 
 
 class Runs:
-    """Runs on one file, each of which ends by a kill."""
+    """Runs on one file. Each ends by a kill."""
 
     def __init__(self, program, file, lines, model, chance):
         self.program, self.file, self.lines, self.model, self.chance = program, file, lines, model, chance
@@ -64,11 +64,11 @@ class Runs:
         return subprocess.Popen([self.program, *map(str, words)], stdin=subprocess.PIPE, stdout=subprocess.PIPE, stderr=subprocess.PIPE)
 
     def meets(self, answer):
-        wants(answer == self.model.answers[self.place], f"line {self.place} is answered by\n{answer}\nand not by\n{self.model.answers[self.place]}")
+        wants(answer == self.model.answers[self.place], f"line {self.place} gets\n{answer}\nand not\n{self.model.answers[self.place]}")
         self.place += 1
 
     def ends(self, program):
-        """What stands after the kill."""
+        """What is there after the kill."""
         program.communicate()
         wants(program.returncode == -signal.SIGKILL, f"the program ended by itself: {program.returncode}")
         self.kills += 1
@@ -82,7 +82,7 @@ class Runs:
         """A second program on the same file, which harms nothing."""
         second = subprocess.run([self.program, "check", str(self.file)], capture_output=True, text=True)
         if program.poll() is None:
-            wants((second.returncode, second.stdout, second.stderr) == (3, "", "desk: file\n"), f"a second program is told {second}")
+            wants((second.returncode, second.stdout, second.stderr) == (3, "", "desk: file\n"), f"a second program ends with {second}")
             self.turned_away += 1
 
     def by_hear(self, seconds):
@@ -133,7 +133,7 @@ class Runs:
                 wanted = self.model.answers[self.place :]
             wants(len(answers) == len(wanted), f"{len(answers)} answers to {len(wanted)} lines of the rest")
             for place, (answer, told) in enumerate(zip(answers, wanted)):
-                wants(answer == told, f"line {place} of the rest is answered by\n{answer}\nand not by\n{told}")
+                wants(answer == told, f"line {place} of the rest gets\n{answer}\nand not\n{told}")
         with reading(self.file) as conn:
             for table, wanted in rows.items():
                 found = conn.execute(f"SELECT * FROM {table}").fetchall()

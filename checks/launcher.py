@@ -3,14 +3,15 @@
 
     checks/launcher.py
 
-It makes a repository of three crates in a temporary folder, with the script and with a stand-in for rt, which proves nothing and
+It makes a repository of three crates in a temporary folder, with the script and with a fake rt, which proves nothing and
 builds a small program. It checks what the script passes on to the program, `build` and `install` with their errors, builds that fail,
 builds that are interrupted by a signal, sources that change, calls at the same time, and what a terminal shows. It prints how many
 cases there are, and fails at the first that is wrong. It takes half a minute.
 
-It can't see whether the real rt prints and leaves what the stand-in does.
+It can't see whether the real rt prints and leaves what the fake one does.
 """
 
+import argparse
 import os
 import pty
 import shutil
@@ -86,7 +87,7 @@ def holds(condition, what):
 
 
 class Repository:
-    """A repository of three crates with the script, and a stand-in for rt."""
+    """A repository of three crates with the script, and a fake rt."""
 
     def __init__(self, folder):
         self.folder = folder
@@ -153,8 +154,8 @@ def passes_on():
         said = [line.rsplit(" (", 1)[0] for line in ran.stderr.splitlines()]
         holds((ran.returncode, ran.stdout) == (7, "['a', 'b c', '--d=é'] x\ny\n"), f"a first call ends with {ran}")
         of_crates = [f"desk: {name} is proved and built" for name in CRATES]
-        holds([line for line in said if line.endswith("proved and built")] == of_crates, f"a first call says {ran.stderr}")
-        holds("waiting for nothing" in ran.stderr and "been proved" not in ran.stderr, f"a first call says {ran.stderr}")
+        holds([line for line in said if line.endswith("proved and built")] == of_crates, f"a first call prints {ran.stderr}")
+        holds("waiting for nothing" in ran.stderr and "been proved" not in ran.stderr, f"a first call prints {ran.stderr}")
         holds([words.split()[0] for _, words in it.called()] == ["all", "run"], f"rt was called as {it.called()}")
         ran = it.run()
         holds((ran.returncode, ran.stdout, ran.stderr) == (7, "[] \n", "an error\n"), f"a second call ends with {ran}")
@@ -247,7 +248,7 @@ def orphaned():
             pid = it.called()[-1][0]
         holds(is_alive(pid), "rt ended with the call that was killed")
         ran = it.run()
-        holds(not is_alive(pid) and "waits for it" in ran.stderr, f"after a call that was killed the next says {ran.stderr}")
+        holds(not is_alive(pid) and "waits for it" in ran.stderr, f"after a call that was killed the next prints {ran.stderr}")
         holds(ran.returncode == 7 and it.count() == 4, f"after a call that was killed the next ends with {ran}")
 
 
@@ -273,7 +274,7 @@ def together():
         other = it.run()
         one.communicate()
         holds((one.returncode, other.returncode, it.count()) == (7, 7, 2), "of two calls both build")
-        holds("waits for it" in other.stderr, f"the call that waits says {other.stderr}")
+        holds("waits for it" in other.stderr, f"the call that waits prints {other.stderr}")
 
 
 def at_terminal():
@@ -292,6 +293,7 @@ def at_terminal():
 
 
 def main():
+    argparse.ArgumentParser(description=__doc__, formatter_class=argparse.RawDescriptionHelpFormatter).parse_args()
     passes_on()
     commands()
     failures()

@@ -1,5 +1,5 @@
 #!/usr/bin/env python3
-"""Checks that docs/PROTOCOL.md says what the desk answers.
+"""Checks that the answers in docs/PROTOCOL.md are those of the desk.
 
     checks/messages.py [--program FILE]
 
@@ -57,7 +57,7 @@ def run(program, words, requests):
 
 
 def differences(answers, written):
-    """Says where the answers aren't the lines that were written."""
+    """Prints where the answers aren't the lines that were written."""
     for (number, answer), line in zip(answers, written):
         if answer != line:
             yield f"{PAGE.name}:{number}: the page has\n  {answer}\nand the desk answers\n  {line}"
@@ -68,7 +68,7 @@ def differences(answers, written):
 def untrue_headings(told):
     for (number, code, description), results in told.items():
         if {"ResultCode": code, "Description": description} not in results:
-            yield f"refusal {number}: the heading tells {code} and {description or 'nothing'}, and no answer below it does"
+            yield f"refusal {number}: the heading has {code} and {description or 'nothing'}, and no answer below it does"
 
 
 def missing(answers, told):
@@ -90,7 +90,7 @@ def main():
     faults = [*differences(answers, run(program, given, requests)), *untrue_headings(told), *missing(answers, told)]
     for fault in faults:
         print(fault)
-    outcome = f"{len(faults)} faults" if faults else "all as the page says"
+    outcome = f"{len(faults)} errors" if faults else "all as on the page"
     print(f"{len(requests)} requests, {len(answers)} answers, {len(told)} refusals: {outcome}")
     sys.exit(bool(faults))
 

@@ -1,14 +1,14 @@
 #!/usr/bin/env python3
-"""Moves a file of schema 1 to schema 2, and sees that nothing of it is lost, kills included.
+"""Moves a file of schema 1 to schema 2, and checks that nothing of it is lost, kills included.
 
     checks/migrations.py --old PROGRAM [--program FILE] [--messages 200000] [--kills 50] [--seed 1] [--folder FOLDER]
 
-PROGRAM is one of before there were limits. It makes a file of schema 1, which hears so many messages of mixed operation
+PROGRAM is one of before there were limits. It makes a file of schema 1, which hears --messages messages of mixed operation
 as it takes them (mixed_operation.py), answered as a plain Python program answers them (bench/dictionaries.py). Copies of
 that file go to the program that is tried:
 
-- `hear` and `migrate` refuse what they have to refuse, and leave the file as it was, octet for octet. In the log beside
-  it they leave no transaction; each opening writes its head anew.
+- `hear` and `migrate` refuse what they have to refuse, and leave the file as it was, octet for octet. In its
+  log they leave no transaction; each opening writes its head anew.
 - `migrate` moves a copy, and is timed. The real SQLite finds that file whole, with the schema of a file that the program
   makes itself, with each row of the ten tables as it was, but for meta's version, and with no limit. `check` counts what
   PROGRAM counts. The whole stream delivered again gets the first answers, octet for octet, and changes no row. Then
@@ -18,7 +18,7 @@ that file go to the program that is tried:
   file whose program was killed too, so that its log holds the last messages.
 
 The program is `./desk`, which is proved and built first where it isn't current, or with --program the built one in
-FILE. FOLDER says on which disk the copies stand.
+FILE. The copies are in FOLDER, so that it names the disk.
 """
 
 import argparse
@@ -52,7 +52,7 @@ class Program:
         self.path = path
 
     def run(self, *words, given=""):
-        """Its status, what it wrote, and what it told on standard error."""
+        """Its status, standard output and standard error."""
         ran = subprocess.run([self.path, *map(str, words)], input=given, capture_output=True, text=True)
         return ran.returncode, ran.stdout, ran.stderr
 
@@ -98,7 +98,7 @@ def schema_of(conn):
 
 
 def rows_of(conn, table, version):
-    """Its rows with their rowids, of meta as if it told this version."""
+    """Its rows with their rowids, of meta as if it had this version."""
     columns = f"id, {version}, receiver, operator, base, addresses" if table == "meta" else "*"
     return conn.execute(f"SELECT rowid, {columns} FROM {table} ORDER BY rowid")
 
@@ -153,7 +153,7 @@ def heard_and_killed(old, file):
 def refused(new, command, told, file):
     before = file.read_bytes()
     new.ends(1, f"desk: {told}\n", command, file)
-    wants(is_left(file, before), f"{command} tells {told}, and changes the file")
+    wants(is_left(file, before), f"{command} reports {told}, and changes the file")
 
 
 def refusals(new, first):
@@ -163,7 +163,7 @@ def refusals(new, first):
     execute(other, "CREATE TABLE note (id INTEGER PRIMARY KEY)")
     new.ends(3, "desk: file\n", "migrate", first.with_name("nothing.db"))
     new.ends(3, "desk: file\n", "migrate", text)
-    # the command, what it tells, and what sqlite3 does to a copy before
+    # the command, what it reports, and what sqlite3 does to a copy before
     cases = [
         ("hear", "schema", ""),
         ("migrate", "exists", BAND_LIMIT),
@@ -251,7 +251,7 @@ def main():
     words.add_argument("--messages", type=int, default=200_000)
     words.add_argument("--kills", type=int, default=50)
     words.add_argument("--seed", type=int, default=1)
-    words.add_argument("--folder", type=Path, help="where the files stand while it runs")
+    words.add_argument("--folder", type=Path, help="where the files are meanwhile")
     given = words.parse_args()
     old, new = Program(given.old.resolve()), Program(ready(given.program))
     begun = time.monotonic()

@@ -1,9 +1,9 @@
 """Messages as a desk meets them: operation with repeats, copies, changed messages, late and lost frames, refused downlinks,
 limits that are set and refused.
 
-`mixed_operation(size, seed)` gives so many lines, from the opening state on, the same ones for the same seed, and the plain
+`mixed_operation(size, seed)` gives `size` lines, from the opening state on, the same ones for the same seed, and the plain
 Python program (bench/dictionaries.py) that heard them, with its answers. With `old=True` no line is a LimitSet, and none
-tells of FSK: a program that makes files of schema 1 takes neither. With fewer devices a short stream is more than their
+reports FSK: a program that makes files of schema 1 takes neither. With fewer devices a short stream is more than their
 joins. Each line is a message in its form, but for a Limit that is too great, or NO_MESSAGE, to which that program has no
 answer.
 """

@@ -10,7 +10,7 @@ and longer. The desk gets some of them as they are, and the changed ones between
 requests by `desk serve` one a connection, and reports by `desk import` one a run.
 
 It must never end by a signal or by itself, and has to answer each message and each whole request, with no more memory
-than MEMORY to be had. What it tells as heard is then delivered alone to a new desk: it is told the same, and each row of
+than MEMORY to be had. What it reports as heard is then delivered alone to a new desk: its answers are the same, and each row of
 the eleven tables is the same. The program is `./desk`, which is proved and built first where it isn't current, or with
 --program the built one in FILE.
 """
@@ -168,7 +168,7 @@ def is_heard(answer):
 
 
 def with_changed(lines, count, chance):
-    """The lines in order, and between them so many changed ones."""
+    """The lines in order, and between them changed ones, as many as `count`."""
     each = count // len(lines) + 1
     texts = []
     for line in lines:
@@ -186,7 +186,7 @@ def told_again(program, folder, name, lines, answers, file):
     told = ran.written.splitlines()
     wants(ran.status == 0 and len(told) == len(answers), f"{len(told)} answers to {len(answers)} texts that were heard")
     for line, answer, other in zip(lines, answers, told):
-        wants(answer == other, f"{line[:400]} is told\n{answer}, and alone\n{other}")
+        wants(answer == other, f"{line[:400]} is answered\n{answer}, and alone\n{other}")
     wants(rows_in(alone) == rows_in(file), "what was heard leaves other rows alone")
 
 
@@ -200,11 +200,11 @@ def messages(program, folder, lines, count, chance):
     heard = [(text, answer) for text, answer in zip(texts, answers) if is_heard(answer)]
     told_again(program, folder, "messages-alone.db", *map(list, zip(*heard)), file)
     codes = {tuple(json.loads(answer)["Result"].values()) for answer in answers}
-    print(f"{len(texts)} messages, {len(heard)} of them heard or repeated, told in {len(codes)} ways")
+    print(f"{len(texts)} messages, {len(heard)} of them heard or repeated, answered in {len(codes)} ways")
 
 
 def body_of(request):
-    """The body of a request that was taken: empty lines may stand before its head, and a line of the head may end with LF alone."""
+    """The body of a request that was taken: empty lines may come before its head, and a line of the head may end with LF alone."""
     parts = re.match(rb"(?:\r?\n)*(.*?\n)\r?\n(.*)$", request, re.S)
     length = int(re.search(rb"^content-length:[ \t]*(\d+)", parts[1], re.I | re.M)[1])
     return parts[2][:length]
@@ -228,7 +228,7 @@ def requests(program, folder, lines, count, chance):
         head, _, text_told = response.partition(b"\r\n\r\n")
         status = head.split(b" ")[1] if head else b"none"
         statuses[status] = statuses.get(status, 0) + 1
-        wants(status != b"503", f"{text[:200]} is told 503")
+        wants(status != b"503", f"{text[:200]} gets 503")
         wants(response or not text, f"no response to {text[:200]}")
         if status == b"200" and b"application/json" in head:
             heard.append(body_of(text))
@@ -269,7 +269,7 @@ def reports(program, folder, lines, count, chance):
         wants((ran.status == 0) == (told == "") and (ran.status == 0 or not ran.written), f"an import ends with {ran.status} {told} {ran.written[:200]}")
         if ran.status == 0:
             again = Ran([program, "import", alone, *words], text)
-            wants((again.status, again.written) == (0, ran.written), "a report is told otherwise alone")
+            wants((again.status, again.written) == (0, ran.written), "a report is answered otherwise alone")
         else:
             wants(ran.status == 1 and told.startswith("desk: csv "), f"an import ends with {ran.status} {told}")
     wants(rows_in(alone) == rows_in(file), "reports that were refused leave something")

@@ -1,11 +1,11 @@
 #!/usr/bin/env python3
-"""Opens a file of an earlier program of the same schema, and sees that nothing of it changes.
+"""Opens a file of an earlier program of the same schema, and checks that nothing of it changes.
 
     checks/older_files.py --old PROGRAM [--program FILE] [--messages 3000] [--seed 1]
 
-PROGRAM, one of before DR7, makes a file and hears so many messages of mixed operation as it takes them (mixed_operation.py). The
+PROGRAM, one of before DR7, makes a file and hears --messages messages of mixed operation as it takes them (mixed_operation.py). The
 program that is tried counts what PROGRAM counts, and gives the whole stream once more its first answers; the real SQLite then reads
-the same rows. A text with DataRate 7, which PROGRAM refuses and doesn't keep, is heard under its number, and told the same again.
+the same rows. A text with DataRate 7, which PROGRAM refuses and doesn't keep, is heard under its number, and a repeat gets the same answer.
 
 The program is `./desk`, which is proved and built first where it isn't current, or with --program the built one in FILE.
 """

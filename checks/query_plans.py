@@ -4,7 +4,7 @@
     checks/query_plans.py [--program FILE]
 
 It takes the texts of the statements from `crates/desk_rows/src/*.rt`, has the program make a file and hear the day's messages in it,
-and asks `EXPLAIN QUERY PLAN` there of each SELECT and UPDATE. What begins with CREATE has to stand in the file as it is written,
+and asks `EXPLAIN QUERY PLAN` there of each SELECT and UPDATE. What begins with CREATE has to be in the file as it is written,
 that of a move from an older schema too. A plan that scans a table or sorts rows fails, but for a look at the first row in the order
 of the rowid, which SQLite calls a scan too and ends after one row, for meta, which has one row, and for the sort of a device's
 uplinks in a range of time. It prints a line for each statement and at the end how many there were, and by which key or index.
@@ -27,12 +27,12 @@ GOES_ON = re.compile(r"\\\n\s*")
 # The first row in the order of the rowid, or the last; and the table of one row.
 ENDS = re.compile(r"^SELECT (\w+) FROM \w+ ORDER BY \1( DESC)? LIMIT 1$")
 ONE_ROW = re.compile(r"^SELECT [^?]* FROM meta$")
-# The uplinks are found by an index session by session, and those of several sessions have to be put in order: as many as are told.
+# The uplinks are found by an index session by session, and those of several sessions have to be sorted: as many as are reported.
 OF_SESSIONS = re.compile(r"^SELECT [^?]* FROM session JOIN uplink ON uplink\.session = session\.number ")
 
 
 def statements():
-    """Each text of the sources, with the file that it stands in."""
+    """Each text of the sources, with its file."""
     for path in sorted(SOURCES.glob("*.rt")):
         for text in TEXT.findall(GOES_ON.sub("", path.read_text())):
             yield path.name, text

@@ -1,5 +1,5 @@
 #!/usr/bin/env python3
-"""Refuses each request for memory of the commands on a file in turn, or stops the machine at each call of a desk's two files.
+"""Refuses each request for memory of the commands on a file in turn, or crashes the machine at each call of a desk's two files.
 
     checks/refused_commands.py [--what memory | log | file] [--program FILE] [--jobs 2] [--seed 1] [--only NAME,..] [--folder FOLDER]
 
@@ -15,10 +15,10 @@ After calls are refused the files are taken twice: as a process leaves them that
 that wasn't synced.
 
 The cases are `init`, `hear` of no message, which is an opening, and then, of the requests or calls after it, `hear` of each request of
-docs/PROTOCOL.md on a file that has heard those before it, which are of all ten messages and told in all ways, `import`, `report`,
+docs/PROTOCOL.md on a file that has heard those before it, which are of all ten messages and answered in all ways, `import`, `report`,
 `bands`, `check`, `migrate` of a file of schema 1, and `serve`: a message and both reports, each by two connections. A request by HTTP
-is answered, or told 503, or its connection ends; for want of memory the second connection is then answered, and after a call that is
-refused it is told 503 too. For want of memory there is one case more, `lines` of all of the page's requests, where no file is left to
+is answered, by 503 too, or its connection ends; if memory was refused the second connection is then answered, and after a call that is
+refused it gets 503 too. If memory is refused there is one case more, `lines` of all of the page's requests, where no file is left to
 be read; after calls that are refused it is `hear` of a stream of mixed operation (mixed_operation.py: repeats, copies, changed and
 refused messages, downlinks, limits), at every third call.
 
@@ -39,11 +39,11 @@ from refusing import Calls, Memory, requests_of
 
 BUILT = ROOT / "crates" / "desk_cli" / "out" / "desk_cli"
 EXAMPLES = ROOT / "examples"
-# the cases of which each request is refused
+# the cases whose requests are refused one by one
 WHOLE = ["init", "opening", "lines"]
 # a stream of mixed operation, of so few devices that it is more than their joins
 SIZE, DEVICES = 60, 3
-# of its calls one of so many is refused, since each run hears it
+# one call in as many is refused, since each run hears the stream
 STREAM_STEP = 3
 # of a database's first page, which the program writes with its first octet last
 FIRST_OCTETS = b"SQLite format 3\0"
@@ -78,7 +78,7 @@ class Program:
         self.path, self.refusal = path, refusal
 
     def run(self, words, given, refused=0):
-        """Its status, what it wrote, what it told, and how many requests it made."""
+        """Its status, standard output, standard error, and how many requests it made."""
         command, file, *options = words
         words = [self.path, *map(str, words)]
         environment = self.refusal.refusing(file, refused)
@@ -99,7 +99,7 @@ class Case:
     def __init__(self, name, file, command, *options, given="", written="", again=None, stays=False):
         self.name, self.file, self.command, self.options = name, file, command, options
         self.given, self.written = given, written
-        # whether want of memory leaves the rows of before
+        # whether a refused request for memory leaves the rows of before
         self.stays = stays
         # how it ends once more where it has done all
         self.again = again or (0, "", written)
@@ -220,7 +220,7 @@ class Served(Case):
         self.request, self.wanted = request, wanted
 
     def serve(self, program, file, refused):
-        """Its status, the two bodies or responses, what it told, and how many requests it made."""
+        """Its status, the two bodies or responses, standard error, and how many requests it made."""
         port = free_port()
         words = [program.path, "serve", str(file), "--port", str(port), "--count", "2"]
         environment = program.refusal.refusing(file, refused)
@@ -374,7 +374,7 @@ def main():
     words.add_argument("--jobs", type=int, default=2)
     words.add_argument("--seed", type=int, default=1, help="of the stream")
     words.add_argument("--only", default="", metavar="NAME,..", help="the cases whose names begin so")
-    words.add_argument("--folder", type=Path, help="where the files stand while it runs")
+    words.add_argument("--folder", type=Path, help="where the files are meanwhile")
     given = words.parse_args()
     if not given.program:
         ready(ROOT / "desk")

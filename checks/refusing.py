@@ -37,7 +37,7 @@ void *realloc(void *block, size_t size) {
 }
 """
 
-# What a file held when it was synced last stands beside it, by a name that ends in -synced.
+# What a file held when it was synced last is in a second file, whose name ends in -synced.
 FILES = """
 typedef __SIZE_TYPE__ size_t;
 typedef long ssize_t;
@@ -120,7 +120,7 @@ int fsync(int fd) { return sync_by(FSYNC, fd); }
 int fdatasync(int fd) { return sync_by(FDATASYNC, fd); }
 """
 
-# the last line that either tells on standard error
+# the last line that either prints on standard error
 REQUESTS = re.compile(r"^requests: (\d+)\n\Z", re.M)
 
 
@@ -135,7 +135,7 @@ def build(folder, name, text):
 
 
 def requests_of(told):
-    """How many requests or calls there were, and what else was told on standard error; no number where the program didn't end by itself."""
+    """How many requests or calls there were, and what else was printed on standard error; no number where the program didn't end by itself."""
     found = REQUESTS.search(told)
     return (int(found[1]), told[: found.start()]) if found else (None, told)
 
@@ -161,7 +161,7 @@ class Memory:
 
 
 class Calls:
-    """The calls of one of a desk's two files are refused from one on. `loses` says whether the machine stops too, and what wasn't synced is lost."""
+    """The calls of one of a desk's two files are refused from one on. With `loses` the machine crashes too, and what wasn't synced is lost."""
 
     lasts = True
     # how many calls of an opening a command's own case has too, at most

@@ -1,20 +1,20 @@
 #!/usr/bin/env python3
-"""Opens files that hold no desk of this version: each is refused, and left as it was, but for an empty one.
+"""Opens files that are no desk of this version: each is refused, and left as it was, but for an empty one.
 
     checks/strange_files.py [--program FILE]
 
 A text, a file of zeros, somebody's database, and a desk's file: of version 7, of schema 1, with the tables of the one
 schema and the version of the other, without its row of meta, with a bad name in it, with a table more, and of version
 7 with a table more. `desk check`, `hear`, `import`, `report`, `bands` and `serve` get each of them. The port of `serve`
-is taken, so that it would tell of that if it bound the port before it has opened the file. An empty file is refused
+is taken, so that it would report that if it bound the port before it has opened the file. An empty file is refused
 too, and is a database without tables then. `desk init` makes no desk in somebody's database, whether or not an index or
 a view of it has a name of the desk's, in other letters.
 
-And a desk's file of which one value is out of its range, in the columns that messages and reports read: a message or a
+Then a desk's file with one value out of its range, in the columns that messages and reports read: a message or a
 report that needs the row finds no desk, and leaves all rows as they are.
 
 `desk migrate` gets files of schema 1 that are changed so that it can't move them, the numbers by which it counts their
-rows among it: it tells why, and the file is as it was.
+rows among it: it reports why, and the file is as it was.
 
 The program is `./desk`, which is proved and built first where it isn't current, or with --program the built one in
 FILE.
@@ -37,7 +37,7 @@ EXISTS = 1, "desk: exists\n"
 SCHEMA = 1, "desk: schema\n"
 FILE = 3, "desk: file\n"
 
-# what sqlite3 does to a desk's file, and what the program tells of it then
+# what sqlite3 does to a desk's file, and what the program then reports
 CHANGED = [
     ("another version", "UPDATE meta SET version = 7", SCHEMA),
     ("schema 1", TO_SCHEMA_1, SCHEMA),
@@ -49,7 +49,7 @@ CHANGED = [
     ("another version and a table more", "UPDATE meta SET version = 7; CREATE TABLE note (id INTEGER) STRICT", SCHEMA),
 ]
 
-# what sqlite3 does to a file of schema 1 that has heard messages, and what `migrate` tells of it then
+# what sqlite3 does to a file of schema 1 that has heard messages, and what `migrate` then reports
 UNMOVED = [
     ("a table `band_limit`", "CREATE TABLE band_limit (id INTEGER PRIMARY KEY)", EXISTS),
     ("a table more", "CREATE TABLE note (id INTEGER PRIMARY KEY) STRICT", NOT_A_DESK),
@@ -61,14 +61,14 @@ UNMOVED = [
     ("a booking with another number", "UPDATE booking SET number = -number", NOT_A_DESK),
 ]
 
-# what is in somebody's database beside its table, and what `init` tells of it
+# what is in somebody's database apart from its table, and what `init` reports
 UNMADE = [
     ("nothing", "", NOT_A_DESK),
     ("an index with a name of the desk's", "CREATE INDEX Booking_Start ON note (id)", EXISTS),
     ("a view with a name of the desk's", "CREATE VIEW Owner AS SELECT id FROM note", EXISTS),
 ]
 
-# beside `serve`, whose words have a port
+# without `serve`, whose arguments have a port
 COMMANDS = [
     ["check", "town.db"],
     ["hear", "town.db"],
@@ -200,7 +200,7 @@ def out_of_range(program, whole, folder):
         removed(file)
         copy_to(whole, file)
         if asked(program, file, needs).returncode:
-            sys.exit(f"{needs[0]}: isn't answered by the desk as it is")
+            sys.exit(f"{needs[0]}: the desk as it is doesn't answer it")
         removed(file)
         copy_to(whole, file)
         execute(file, change)
@@ -209,7 +209,7 @@ def out_of_range(program, whole, folder):
             sys.exit(f"{change}: {needs[0]} ends with {ran.returncode} {ran.stdout!r} {ran.stderr!r}")
         if rows_of(file) != before:
             sys.exit(f"{change}: {needs[0]} has changed a row")
-    print(f"{len(OUT_OF_RANGE)} values out of range: each told, and nothing changed")
+    print(f"{len(OUT_OF_RANGE)} values out of range: each reported, and nothing changed")
 
 
 def main():
@@ -232,7 +232,7 @@ def main():
         for what, text, wanted in UNMADE:
             removed(file)
             execute(file, f"CREATE TABLE note (id INTEGER PRIMARY KEY); {text}")
-            refused(program, [["init", "town.db"]], f"init beside a table and {what}", file, wanted)
+            refused(program, [["init", "town.db"]], f"init with a table and {what}", file, wanted)
         for what, text, wanted in CHANGED:
             removed(file)
             subprocess.run([program, "init", file], check=True)

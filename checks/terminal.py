@@ -1,5 +1,5 @@
 #!/usr/bin/env python3
-"""Sees that a terminal is told which file can't be opened, and why; and that standard error has the one line elsewhere.
+"""Checks that a terminal shows which file can't be opened, and why; and that standard error has the one line elsewhere.
 
     checks/terminal.py [--program FILE]
 
@@ -78,7 +78,7 @@ def main():
             ran = subprocess.run([program, *command], stdin=subprocess.DEVNULL, capture_output=True, text=True, preexec_fn=before)
             wants((ran.returncode, ran.stderr, ran.stdout) == (3, TOLD, ""), f"{command} ends with {ran}")
             tried += 1
-    print(f"{tried} files can't be opened: a terminal is told why, and standard error has one line elsewhere")
+    print(f"{tried} files can't be opened: a terminal shows why, and standard error has one line elsewhere")
 
 
 if __name__ == "__main__":

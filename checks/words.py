@@ -1,12 +1,12 @@
 #!/usr/bin/env python3
-"""Runs the program with words that name a command and with words that name none, and sees what it makes of them.
+"""Runs the program with arguments that name a command and with arguments that name none, and checks what it does with them.
 
     checks/words.py [--program FILE]
 
-What stands here: what each help says, letter for letter; words that a command takes, and what `init` then makes of its values; words
-that clap's rules refuse, told by how clap begins its error; and values out of their form or their range, told by the program's own
-line. A run that names no command ends with status 2, writes nothing to standard output, and leaves no file. Which words name which
-command with which values is proved; what is printed of them isn't.
+It has the text of each help, letter for letter; arguments that a command takes, and what `init` then makes of its values; arguments
+that clap refuses, with the beginning of clap's error; and values out of their form or their range, with the program's own line. A run
+that names no command ends with status 2, writes nothing to standard output, and leaves no file. Which arguments name which command
+with which values is proved; what is printed of them isn't.
 
 The program is `./desk`, which is proved and built first where it isn't current, or with --program the built one in FILE.
 """
@@ -193,7 +193,7 @@ Example:
 """,
 }
 
-# Other words for the first of them.
+# Other names for the first of them.
 WHOLE_HELP = ["-h", "help"]
 
 USAGES = {
@@ -203,9 +203,9 @@ USAGES = {
     "lines --file x": f"error: unexpected argument '--file' found\n\nUsage: desk lines [OPTIONS]{SEE_HELP}",
 }
 
-# ---- words that a command takes
+# ---- arguments that a command takes
 
-# Of a file that isn't there a command says so, and not that its words are wrong.
+# If a file isn't there a command reports that, and not that its arguments are wrong.
 TAKEN = [
     "migrate town.db",
     "hear town.db",
@@ -244,7 +244,7 @@ MADE = [
     ("--operator desk", ("desk", "desk", "01a00000", "65536")),
 ]
 
-# ---- words that clap's rules refuse, by how its error begins
+# ---- arguments that clap refuses, by how its error begins
 
 REFUSED = {
     "error: a command is needed": ["", "--"],
@@ -291,7 +291,7 @@ REFUSED = {
     ],
 }
 
-# ---- values out of their form or range: the first one is told
+# ---- values out of their form or range: the first one is reported
 
 BAD = {
     "--receiver takes 1 to 32 ASCII letters, digits, '-', '_' and '.'": [
@@ -358,7 +358,7 @@ BAD = {
     ],
 }
 
-# What no line of words can hold: a value with a space, and a word that is no text.
+# What no line of arguments can have: a value with a space, and an argument that is no text.
 ODD = [
     (["lines", "--addresses", " 1"], f"error: --addresses takes a number up to 4294967295, in digits{SEE_HELP}"),
     (["lines", "--operator", "a b"], f"error: --operator takes 1 to 32 ASCII letters, digits, '-', '_' and '.'{SEE_HELP}"),
@@ -388,7 +388,7 @@ class Desk:
 
 
 def words_of(line):
-    """What stands between the spaces of a line. An empty line has no word."""
+    """The arguments of a line, which are separated by single spaces. An empty line has none."""
     return line.split(" ") if line else []
 
 
@@ -434,7 +434,7 @@ def main():
         sees_what_is_printed(desk)
         sees_what_is_refused(desk)
         sees_what_is_taken(desk)
-        print(f"{desk.runs} runs, all as told")
+        print(f"{desk.runs} runs, all as they should be")
 
 
 if __name__ == "__main__":

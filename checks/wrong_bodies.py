@@ -3,22 +3,22 @@
 
     checks/wrong_bodies.py [--must-fail] [--list] [--together] [--jobs 1] [CRATE ..]
 
-The wrong bodies of a crate stand in `checks/wrong-bodies/CRATE/`, each an edit in the form of those that the gate tries: a line
-`file: src/x.rt`, and then pairs of lines `old: TEXT` and `new: TEXT`. Each old text has to stand exactly once in what the pairs
+The wrong bodies of a crate are in `checks/wrong-bodies/CRATE/`, each an edit in the form of those that the gate tries: a line
+`file: src/x.rt`, and then pairs of lines `old: TEXT` and `new: TEXT`. Each old text has to be exactly once in what the pairs
 before it made of the file.
 
 The repository is only read: its crates are copied into a folder that is removed at the end. There each crate that is named, or
 each, is proved, over the work that earlier checks kept in `out/`, and then each of its edits is made in turn, `rt check` is run,
-and the edit is taken back. A line for each edit says that it was refused, and at which function and goal, or that a proof by hand
+and the edit is taken back. A line for each edit reports that it was refused, and at which function and goal, or that a proof by hand
 no longer fits, and where; that it was PROVED; or that it was NOT TRIED, since it doesn't apply or compile.
 
 With --together edits of different functions are made in one copy, and `rt check --only` proves these functions alone. An edit is
-refused there where a goal of a function that it changes isn't proved, or an error stands in the function's own proof. A function whose
+refused there where a goal of a function that it changes isn't proved, or an error is in the function's own proof. A function whose
 goals wait for the proof of one that it calls is tried once more without those that were refused. What isn't refused so is tried by
 itself afterwards, by a whole check: it changes no function's body, or has to be refused where the function is called.
 
 With --must-fail the edits of `crates/CRATE/must-fail/` are taken too. With --list it only sees that each edit applies. With --jobs N
-so many crates are tried side by side. It fails where an edit isn't refused, or with --list doesn't apply.
+N crates are tried side by side. It fails where an edit isn't refused, or with --list doesn't apply.
 """
 
 import argparse
@@ -51,7 +51,7 @@ def all_below(crate, named):
 
 
 def crates():
-    """Returns all of the repository's crates that each crate stands on, by its name, lowest first."""
+    """Returns all of the repository's crates that each crate depends on, by its name, lowest first."""
     named = {}
     for line in (ROOT / "crates.txt").read_text().splitlines():
         if ":" in line and not line.startswith("#"):
@@ -95,7 +95,7 @@ def edited(edit, folder, before={}):
             raise NotTried(f"there is no file {file}")
         text = texts.get(file, before.get(file)) or (folder / file).read_text()
         if text.count(old) != 1:
-            raise NotTried(f"an old text stands {text.count(old)} times in {file}, not once: {old}")
+            raise NotTried(f"an old text is there {text.count(old)} times in {file}, not once: {old}")
         texts[file] = text.replace(old, new)
     if all(text == (folder / file).read_text() for file, text in texts.items()):
         raise NotTried("it changes nothing")
@@ -103,7 +103,7 @@ def edited(edit, folder, before={}):
 
 
 def copied(crate, known, folder):
-    """Copies the crates, with what was built of this one and of those that it stands on. Returns the crate's folder there."""
+    """Copies the crates, with what was built of this one and of those that it depends on. Returns the crate's folder there."""
     shutil.copy(ROOT / "crates.txt", folder)
     for name in known:
         built = {crate: [], **{below: ["incremental"] for below in known[crate]}}
@@ -125,12 +125,12 @@ def refusal(ran):
         return None
     unread = UNREAD.search(ran.stdout)
     if unread or not re.search(r"^logic=not-proved", ran.stdout, re.M):
-        first = unread[1] if unread else next((it for it in ran.stdout.splitlines() if "error" in it), "rt check told no error")
+        first = unread[1] if unread else next((it for it in ran.stdout.splitlines() if "error" in it), "rt check printed no error")
         raise NotTried(f"it doesn't compile: {first[:200]}")
     refused = [f"{function} at {goals}" for function, goals in NO_PROOF.findall(ran.stdout)]
     refused += [f"a proof by hand no longer fits, {line} at {goal}" for line, goal in NO_PROOF_BY_HAND.findall(ran.stdout)]
     if not refused:
-        raise NotTried("the check failed, and no goal was told")
+        raise NotTried("the check failed, and no goal was printed")
     return refused[0] + (f", and {len(refused) - 1} more" if len(refused) > 1 else "")
 
 
@@ -148,7 +148,7 @@ def changed(folder, texts):
 
 
 def try_edit(edit, folder):
-    """Returns whether the prover refuses the edit, and what to say of it."""
+    """Returns whether the prover refuses the edit, and what to print of it."""
     try:
         with changed(folder, edited(edit, folder)):
             refused = refusal(check(folder))
@@ -161,7 +161,7 @@ def try_edit(edit, folder):
 
 
 def in_brackets(text):
-    """Returns what stands in the angle brackets that the text begins with, and what follows them."""
+    """Returns what is in the angle brackets that the text begins with, and what follows them."""
     depth = 0
     for at, letter in enumerate(text):
         depth += (letter == "<") - (letter == ">" and text[at - 1] not in "-=")
@@ -171,7 +171,7 @@ def in_brackets(text):
 
 
 def owner_of(line):
-    """Returns by which name a check prints what stands in an `impl` or a `trait`; None where the line begins neither."""
+    """Returns by which name a check prints what is in an `impl` or a `trait`; None where the line begins neither."""
     begins = re.match(r"(?:pub )?(impl|trait)\b", line)
     if not begins:
         return None
@@ -193,7 +193,7 @@ def function_at(file, text, place, names):
             continue
         end = next((k for k in range(at, len(lines)) if lines[k] == begins[1] + "}"), at)
         inside = [it for it in map(owner_of, lines[:at]) if it][-1:] if begins[1] else []
-        # methods of a type stand under its own module, whatever file they are in
+        # methods of a type are under its own module, whatever file they are in
         whole, short = "::".join([*path, *inside, begins[2]]), "::".join([*inside, begins[2]])
         found = [it for it in names if it == whole] or [it for it in names if inside and it.endswith("::" + short)]
         return found[0] if end >= last and len(found) == 1 else None
@@ -213,7 +213,7 @@ def functions_of(edit, folder, names):
 
 
 def batches_of(edits, folder, names):
-    """Returns batches of the edits that change bodies alone, with the functions of each, no two in one of which change one function."""
+    """Returns batches of the edits that change bodies alone, with the functions of each. No two edits of a batch change the same function."""
     batches = []
     for edit in edits:
         try:
@@ -230,7 +230,7 @@ def batches_of(edits, folder, names):
 
 
 def refusals(told):
-    """Returns at what each function was refused, by its path below the crate, of what a check of some functions told."""
+    """Returns at what each function was refused, by its path below the crate, of what a check of some functions printed."""
     at = {}
     for file, goal in NO_PROOF_BY_HAND.findall(told):
         path = Path(file.partition(":")[0]).parts[1:-1]
@@ -242,7 +242,7 @@ def refusals(told):
 
 
 def try_batch(batch, folder):
-    """Makes the edits in one copy. Returns which are refused, and what to say of each; None where the copy doesn't compile."""
+    """Makes the edits in one copy. Returns which are refused, and what to print of each; None where the copy doesn't compile."""
     texts, made = {}, {}
     for edit, functions in batch.items():
         try:
@@ -256,13 +256,13 @@ def try_batch(batch, folder):
     if not re.search(r"^only=", told, re.M):
         return None
     at = refusals(told)
-    # a closure of a function stands below it
+    # a closure of a function is below it
     refused = {edit: [at[it] for it in at if any((it + "::").startswith(f + "::") for f in made[edit])] for edit in made}
     return {edit: f"refused: {said[0]}" for edit, said in refused.items() if said}
 
 
 def try_together(batch, folder):
-    """Tries the edits of a batch. Returns those that were refused, and what to say of each."""
+    """Tries the edits of a batch. Returns those that were refused, and what to print of each."""
     refused = try_batch(batch, folder)
     if refused is None:
         # one of them doesn't compile
@@ -305,7 +305,7 @@ def try_all(crate, known, edits, together):
 
 
 def count_applying(crate, edits):
-    """Says which of the edits don't apply. Returns how many do."""
+    """Prints which of the edits don't apply. Returns how many do."""
     applying = 0
     for edit in edits:
         try:

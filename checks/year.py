@@ -7,11 +7,11 @@ The town has 12 gateways and 400 devices of two owners, and each device sends si
 some 2,000,000 messages. Every twentieth frame is answered. One message in a hundred is sent twice, since its answer was lost, and one
 copy in a hundred comes hours late. Each month some devices change hands, and twice in the year the limit of every gateway is set.
 
-The program is started anew every third day: mostly `hear`, which is told a line when it has answered the one before, and each fifth time
-`serve`, with a connection for each message. Each fourth run is killed, and the next one is told again what the day was. All answers have
+The program is started anew every third day: mostly `hear`, which gets a line when it has answered the one before, and each fifth time
+`serve`, with a connection for each message. Each fourth run is killed, and the next one gets that day's lines again. All answers have
 to be those of `desk lines`, which hears the same without an end. On the first of each month both owners' reports and a gateway's bands
 are printed, and at the end the whole file is held against what was answered: as many replies as messages that were heard, and the
-last day told once more gets its answers.
+last day delivered once more gets its answers.
 
 It prints a line for each month: messages, answers a second, the slowest answer, the size of the file, how long an opening takes, and how
 long the reports. The program is `./desk`, which is proved and built first where it isn't current, or with --program the built one in FILE.
@@ -139,7 +139,7 @@ class Month:
 
 
 def hearing(program, file, lines, wanted, month, killed_at):
-    """Tells the lines to `hear`, and returns how many were answered before it was killed, if it was."""
+    """Hands the lines to `hear`, and returns how many were answered before it was killed, if it was."""
     begun = time.monotonic()
     with subprocess.Popen([program, "hear", file], stdin=subprocess.PIPE, stdout=subprocess.PIPE) as ran:
 
@@ -231,7 +231,7 @@ def main():
     add_program(words)
     words.add_argument("--days", type=int, default=365)
     words.add_argument("--seed", type=int, default=1)
-    words.add_argument("--folder", type=Path, help="where the file stands while it runs")
+    words.add_argument("--folder", type=Path, help="where the file is meanwhile")
     given = words.parse_args()
     program = ready(given.program)
     begun = time.monotonic()

@@ -20,7 +20,7 @@ cd "$folder"
 mkfifo told
 "$desk" serve town.db --port "${at#*:}" --count 18 >told &
 server=$!
-# its first line says that it listens
+# its first line reports that it listens
 if ! read -r line <told || [ "$line" != "listening $at" ]; then
     echo "day.sh: the desk doesn't listen on $at" >&2
     exit 1
@@ -37,13 +37,13 @@ curl -sS "http://$at/v1/reports/town/2024-02"
 wait "$server"
 server=
 
-# In the evening a gateway brings what it heard: a frame that it had told of already, and two that are new.
+# In the evening a gateway brings what it heard: a frame that it had reported already, and two that are new.
 "$desk" import town.db --sender bridge <"$examples/evening-report.csv"
 
 # Another gateway brings a frame that is older than the device's last one. It is refused as late, and the status is 0.
 "$desk" import town.db --sender bridge <"$examples/late-report.csv"
 
-# The device gets another owner. The same lines once more are told the same, and change nothing.
+# The device gets another owner. The same lines once more get the same answers, and change nothing.
 "$desk" hear town.db <"$examples/5-move.jsonl"
 "$desk" hear town.db <"$examples/5-move.jsonl"
 

@@ -5,7 +5,7 @@
     ./bridge.py FOLDER send DEVEUI PORT PAYLOAD    a payload for a device, in hexadecimal digits: it waits for its next uplink
 
 FOLDER has its journal (journal.db) and the security module's file (security.db). A payload that a device sent is in the table
-`inbox` of the journal. README.md says more.
+`inbox` of the journal. README.md has more.
 """
 
 import argparse
@@ -308,7 +308,7 @@ class Bridge:
         ]
 
     def make_downlink(self, uplink: Uplink) -> tuple[bytes, int | None] | None:
-        """The octets that answer the uplink, and the payload's place in the outbox. None if there is nothing to say.
+        """The octets that answer the uplink, and the payload's place in the outbox. None if there is nothing to send.
 
         LookupError if the device's key was removed, or the session is older than the journal: its counter isn't known.
         """

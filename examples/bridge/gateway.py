@@ -1,6 +1,6 @@
 """Gateways that run a Semtech UDP packet forwarder (protocol version 2): what they hear, and what they are given to send.
 
-PUSH_DATA brings receptions and is acknowledged by PUSH_ACK once the caller has stored them. PULL_DATA says where a gateway
+PUSH_DATA brings receptions and is acknowledged by PUSH_ACK once the caller has stored them. PULL_DATA shows where a gateway
 can be reached and is acknowledged by PULL_ACK. PULL_RESP gives it a transmission, whose outcome it reports by TX_ACK.
 """
 
@@ -90,7 +90,7 @@ def whole(number: object, most: int) -> int:
 
 
 def hertz(megahertz: Decimal | int) -> int:
-    """The frequency in hertz, exactly. ValueError if it isn't a whole number of them, or out of range."""
+    """The frequency in hertz, exactly. ValueError if it isn't an integer, or out of range."""
     frequency = Decimal(megahertz) * MILLION
     if not 0 <= frequency <= GREATEST_FREQUENCY or frequency != int(frequency):
         raise ValueError(f"frequency {megahertz}")
@@ -191,7 +191,7 @@ class PacketForwarders:
         self.pulled: dict[str, tuple[Address, float]] = {}  # where each gateway's last PULL_DATA came from, and when
 
     def receive(self, seconds: float, at_most: int = 50) -> Iterator[Push | Outcome]:
-        """What came, after a wait of at most so many seconds. A datagram that isn't in its form is left out."""
+        """What came, after a wait of at most these seconds. A datagram that isn't in its form is left out."""
         select.select([self.socket], [], [], seconds)
         for _ in range(at_most):
             try:

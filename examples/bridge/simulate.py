@@ -123,7 +123,7 @@ class Device:
 
 class Gateway:
     def __init__(self, town: "Town", eui: str, clock: str, first_tmst: int):
-        """`clock` is how rxpk says the time: `time`, `tmms`, or nothing."""
+        """`clock` is how rxpk has the time: `time`, `tmms`, or nothing."""
         self.town, self.eui, self.clock = town, eui, clock
         self.socket = socket.socket(socket.AF_INET, socket.SOCK_DGRAM)
         self.socket.bind(("127.0.0.1", 0))
@@ -271,7 +271,7 @@ class Town:
             device.kind = "joins again"
 
     def gateway(self, number: int) -> Gateway:
-        """Every third one says its time by GPS in `time`, every third one in `tmms`; the others have no GPS."""
+        """Every third one has its time by GPS in `time`, every third one in `tmms`; the others have no GPS."""
         # the second one's counter wraps after 20 seconds
         first_tmst = (1 << 32) - 20_000_000 if number == 1 else self.chance.getrandbits(32)
         return Gateway(self, f"aa555a00000000{number + 1:02x}", ("time", "", "tmms")[number % 3], first_tmst)
@@ -287,7 +287,7 @@ class Town:
         heapq.heappush(self.events, (time.monotonic() + seconds, next(self.order), action))
 
     def run(self, frames: int, seconds: float) -> None:
-        """Until so many frames were sent and acknowledged and their windows are over; at most so many seconds."""
+        """Until this many frames were sent and acknowledged and their windows are over; at most for these seconds."""
         self.frames_left = frames
         for gateway in self.gateways:
             gateway.pull()
