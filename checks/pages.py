@@ -1,18 +1,28 @@
 #!/usr/bin/env python3
-"""Checks the pages: links, lengths and words.
+"""Checks the pages: links, lengths and words; and the words of comments in scripts.
 
     checks/pages.py
 
 The pages are the Markdown files that git tracks. A link to a file has to name one that is there, and a link to a heading one that the
-page has. A page has at most the lines that LENGTHS gives it. A page for readers has none of the words in WORDS, which were this
-project's own: the glossary explains those that definitions still use, and dated runs in docs/log/ stay as they were written.
+page has. A page has at most the lines that LENGTHS gives it. In CONTRIBUTING.md the table "What to run" names each script of checks/
+and no other.
 
-It prints each fault and fails if there is one. Run it when a page changes.
+Pages, docstrings and comments have none of the words in WORDS, which were this project's own. The glossary is left out, since it
+explains those that definitions still use, and so are dated runs in docs/log/, which stay as they were written.
+
+It doesn't see: former words that are plain English elsewhere ("holds", "keeps", "words", "answers", "in order", "copy"); code in
+backticks, blocks, names and paths; what scripts print; comments of crates/ and crates.txt; whether a sentence is clear.
+
+It prints each error and fails if there is one. Run it when a page or a comment changes.
 """
 
+import argparse
+import io
+import os
 import re
 import subprocess
 import sys
+import tokenize
 from pathlib import Path
 
 ROOT = Path(__file__).resolve().parent.parent
@@ -37,26 +47,33 @@ LENGTHS = {
 CRATE_README = 40
 # our former word, and what to write
 WORDS = {
-    r"(?:is|are|was|were|be) told|\btell(?:s|ing)?\b": "returns, reports, says; a message is answered",
+    r"\b(?:told|tell(?:s|ing)?)\b|\banswered by\b": "returns, reports, prints; a message is answered",
+    r"\bsa(?:ys?|id)\b": "returns, reports, prints, states",
     r"\bfaults?\b": "error",
-    r"want of memory|growth was refused": "out of memory",
-    r"\bstrangers?\b(?!`)|\bforeign\b|no desk's": "unknown sender, not a desk",
-    r"\ba stop\b|\bstops? of the machine": "crash",
-    r"fault line": "standard error",
+    r"\bwant of\b|growth was refused|\bfor want\b": "out of memory",
+    r"\bstrangers?\b|\bforeign\b|\bstrange\b|no desk's": "unknown sender, not a desk",
+    r"\ba stop\b|\bstops\b(?= of the machine)|\bstops the machine|\bmachine stops": "crash",
+    r"fault line|\bwords of (?:a|the|each|its)\b": "standard error, arguments",
     r"heard list": "log",
-    r"in doubt|\bdoubt\b": "in flight",
-    r"\bsized\b|has no room": "out of space",
-    r"\bnoughts?\b": "zeros",
-    r"\bplants?\b": "mutants",
-    r"plain form": "the direct algorithm",
-    r"\bgo(?:es|ing)? by\b": "follow",
-    r"\bof which\b|none of them or some|\bbeside it\b": "two sentences",
+    r"\bdoubt\b": "in flight",
+    r"\bshuts?\b|\b(?:is|are|was|be) down\b": "failed",
+    r"\bsized\b|\bno room\b": "out of space",
+    r"\bwhole numbers?\b": "integer",
+    r"\bnoughts?\b|\bplants?\b|edits to be refused|bodies that go through": "zeros, mutants",
+    r"\bst(?:ands?|ood|anding)\b": "depends on, represents, is in",
+    r"plain form|by one sweep": "the direct algorithm, the sweep",
+    r"\bgo(?:es|ing)? by\b|\bwent by\b": "follow",
+    r"\bof wh(?:ich|om)\b|none of them or some|\bbeside\b|\bso many\b": "two sentences, next to, as many as N",
 }
 
 
-def pages():
-    said = subprocess.run(["git", "ls-files", "-co", "--exclude-standard", "*.md"], cwd=ROOT, capture_output=True, text=True, check=True)
-    return [ROOT / name for name in sorted(set(said.stdout.splitlines())) if (ROOT / name).is_file()]
+SCRIPTS = ["*.py", "*.sh", "dev", "desk", ".ci/run"]
+
+
+def files(*patterns):
+    """The files that match, but for those that git ignores."""
+    listed = subprocess.run(["git", "ls-files", "-co", "--exclude-standard", *patterns], cwd=ROOT, capture_output=True, text=True, check=True)
+    return [ROOT / name for name in sorted(set(listed.stdout.splitlines())) if (ROOT / name).is_file()]
 
 
 def text_of(page):
@@ -64,8 +81,23 @@ def text_of(page):
 
 
 def prose_of(page):
-    """What the page says in its own words: no code, no output, no names."""
+    """The page without code, output and names."""
     return re.sub(r"`[^`\n]*`|^    .*$", "", text_of(page), flags=re.M)
+
+
+def comments_of(script):
+    """The script's comments and docstrings, without code, names and paths."""
+    text, found = script.read_text(), []
+    if "python" in text.partition("\n")[0] or script.suffix == ".py":
+        starts_statement = True
+        for token in tokenize.generate_tokens(io.StringIO(text).readline):
+            if token.type == tokenize.COMMENT or (token.type == tokenize.STRING and starts_statement):
+                found.append(token.string)
+            if token.type not in (tokenize.COMMENT, tokenize.NL):
+                starts_statement = token.type in (tokenize.NEWLINE, tokenize.INDENT, tokenize.DEDENT)
+    else:
+        found = re.findall(r"(?:^|\s)#(?!!)\s?(.*)", text)
+    return re.sub(r"`[^`\n]*`|^    .*$|\S+\.(?:py|sh|md|txt)\b|\w+_\w+", "", "\n".join(found), flags=re.M)
 
 
 def anchors_of(page):
@@ -99,28 +131,45 @@ def too_long(page, name):
         yield f"it has {lines} lines, and may have {most}"
 
 
-def own_words(page):
+def own_words(prose):
     for words, instead in WORDS.items():
-        for found in re.finditer(words, prose_of(page), re.I):
-            yield f"{found[0]!r}: write {instead}"
+        for found in re.finditer(words, prose, re.I):
+            around = " ".join(prose[max(0, found.start() - 30) : found.end() + 30].split())
+            yield f"{found[0]!r} in {around!r}: write {instead}"
 
 
-def faults_of(page):
+def scripts_to_run(page):
+    """Compares the table of CONTRIBUTING.md with the scripts in checks/."""
+    table = page.read_text().partition("## What to run")[2].partition("\n## ")[0]
+    named = set(re.findall(r"\b(\w+\.py)\b", re.sub(r"\b(?:bench|examples)/\S+", "", table)))
+    there = {it.name for it in (ROOT / "checks").glob("*.py") if os.access(it, os.X_OK)}
+    for name in sorted(there - named):
+        yield f"its table doesn't name checks/{name}"
+    for name in sorted(named - there):
+        yield f"its table names {name}, and checks/ has no such script"
+
+
+def errors_of(page):
     name = page.relative_to(ROOT).as_posix()
     yield from broken_links(page)
     if name.startswith("docs/log/"):
         return
     yield from too_long(page, name)
     if name != "docs/GLOSSARY.md":
-        yield from own_words(page)
+        yield from own_words(prose_of(page))
+    if name == "CONTRIBUTING.md":
+        yield from scripts_to_run(page)
 
 
 def main():
-    faults = [f"{page.relative_to(ROOT)}: {said}" for page in pages() for said in faults_of(page)]
-    for fault in faults:
-        print(fault)
-    print(f"{len(pages())} pages, {len(faults)} faults")
-    sys.exit(bool(faults))
+    argparse.ArgumentParser(description=__doc__, formatter_class=argparse.RawDescriptionHelpFormatter).parse_args()
+    pages, scripts = files("*.md"), files(*SCRIPTS)
+    errors = [f"{page.relative_to(ROOT)}: {error}" for page in pages for error in errors_of(page)]
+    errors += [f"{script.relative_to(ROOT)}: {error}" for script in scripts for error in own_words(comments_of(script))]
+    for error in errors:
+        print(error)
+    print(f"{len(pages)} pages, {len(scripts)} scripts, {len(errors)} errors")
+    sys.exit(bool(errors))
 
 
 if __name__ == "__main__":
