@@ -44,6 +44,8 @@ def said_of(crate, is_built):
 
 if sys.argv[1] == "all":
     print("a line of the whole", flush=True)
+    if "STOPS" in os.environ:
+        sys.exit(2)
     for name in ("low", "middle"):
         crate = Path("crates", name)
         rlib = crate / f"out/rlib/{name}.rlib"
@@ -202,6 +204,9 @@ def failures():
             holds(f"fn {name}::f: not proved" in ran.stderr and "been proved" not in ran.stderr, f"with {name} wrong standard error has {ran.stderr}")
             it.write(name, "sound")
             holds(it.run().returncode == 7, f"after {name} was mended a call fails")
+    with repository() as it:
+        ran = it.run(STOPS="1")
+        holds(ran.returncode == 7 and "desk_cli is proved and built (3 of 3" in ran.stderr, f"if rt all judges nothing a call ends with {ran}")
     with repository() as it:
         bare = it.folder / "bare"
         bare.mkdir()
