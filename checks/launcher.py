@@ -6,7 +6,7 @@
 It makes a repository of three crates in a temporary folder, with the script and with a fake rt, which proves nothing and
 builds a small program. It checks what the script passes on to the program, `build` and `install` with their errors, builds that fail,
 builds that are interrupted by a signal, sources that change, calls at the same time, and what a terminal shows. It prints how many
-cases there are, and fails at the first that is wrong. It takes half a minute.
+cases there are, and fails at the first that is wrong. It takes a minute.
 
 It can't see whether the real rt prints and leaves what the fake one does.
 """
@@ -37,6 +37,9 @@ def built(crate):
     text = (crate / "src/text").read_text()
     if text == "slow":
         time.sleep(60)
+    if text != "fails":
+        (crate / "out/incremental").mkdir(parents=True, exist_ok=True)
+        (crate / f"out/rlib/{crate.name}.rlib").mkdir(parents=True, exist_ok=True)
     return text != "fails"
 
 def said_of(crate, is_built):
@@ -48,15 +51,16 @@ if sys.argv[1] == "all":
         sys.exit(2)
     for name in ("low", "middle"):
         crate = Path("crates", name)
-        rlib = crate / f"out/rlib/{name}.rlib"
-        is_built = rlib.is_dir() or built(crate)
-        if is_built:
-            rlib.mkdir(parents=True, exist_ok=True)
+        is_built = built(crate)
         print(f"== {name}\\n{said_of(crate, is_built)}", flush=True)
         if not is_built:
             print(f"== summary\\n{name}: failed (1)", flush=True)
             sys.exit(1)
     time.sleep(60)
+elif sys.argv[1] == "lib":
+    is_built = built(Path.cwd())
+    print(said_of(Path.cwd(), is_built), flush=True)
+    sys.exit(not is_built)
 else:
     print("rt: waiting for nothing", file=sys.stderr, flush=True)
     program = Path("out/desk_cli")
@@ -105,7 +109,7 @@ class Repository:
             (folder / "crates" / name / "src").mkdir(parents=True)
             self.write(name, "sound")
         (folder / "crates/desk_cli/src/program").write_text(PROGRAM)
-        self.environment = {**os.environ, "PATH": f"{folder}/bin:{os.environ['PATH']}", "CALLS": str(self.calls)}
+        self.environment = {**os.environ, "PATH": f"{folder}/bin:{os.environ['PATH']}", "CALLS": str(self.calls), "RT_JOBS": "2"}
 
     def write(self, crate, text):
         (self.folder / "crates" / crate / "src/text").write_text(text)
@@ -124,8 +128,17 @@ class Repository:
         return [line.split(" ", 1) for line in self.calls.read_text().splitlines()] if self.calls.exists() else []
 
     def count(self):
-        """How often rt was called to build."""
+        """How often rt was called."""
         return len(self.called())
+
+    def since(self, count):
+        """What rt was called for since."""
+        return [words.split()[0] for _, words in self.called()[count:]]
+
+    def forget(self):
+        """Removes what rt kept of the libraries."""
+        for name in CRATES[:-1]:
+            shutil.rmtree(self.folder / "crates" / name / "out", ignore_errors=True)
 
 
 @contextmanager
@@ -158,7 +171,7 @@ def passes_on():
         of_crates = [f"desk: {name} is proved and built" for name in CRATES]
         holds([line for line in said if line.endswith("proved and built")] == of_crates, f"a first call prints {ran.stderr}")
         holds("waiting for nothing" in ran.stderr and "been proved" not in ran.stderr, f"a first call prints {ran.stderr}")
-        holds([words.split()[0] for _, words in it.called()] == ["all", "run"], f"rt was called as {it.called()}")
+        holds(it.since(0) == ["all", "run"] and it.called()[0][1] == "all check --jobs 2", f"rt was called as {it.called()}")
         ran = it.run()
         holds((ran.returncode, ran.stdout, ran.stderr) == (7, "[] \n", "an error\n"), f"a second call ends with {ran}")
         holds(it.count() == 2, "a second call builds")
@@ -167,7 +180,12 @@ def passes_on():
             running.send_signal(signal.SIGTERM)
         holds(running.returncode == -signal.SIGTERM, f"a signal ends the program with {running.returncode}")
         it.program.unlink()
-        holds(it.run().returncode == 7 and it.count() == 4, "a program that is gone isn't built again")
+        ran = it.run()
+        holds(ran.returncode == 7 and it.since(2) == ["lib", "lib", "run"], f"a program that is gone isn't built again: {it.called()}")
+        said = [line.rsplit(" (", 1)[0] for line in ran.stderr.splitlines()]
+        holds([line for line in said if line.endswith("proved and built")] == of_crates, f"a later build prints {ran.stderr}")
+    with repository() as it:
+        holds(it.run(RT_JOBS="1").returncode == 7 and it.since(0) == ["lib", "lib", "run"], f"with one job rt was called as {it.called()}")
 
 
 def commands():
@@ -204,9 +222,14 @@ def failures():
             holds(f"fn {name}::f: not proved" in ran.stderr and "been proved" not in ran.stderr, f"with {name} wrong standard error has {ran.stderr}")
             it.write(name, "sound")
             holds(it.run().returncode == 7, f"after {name} was mended a call fails")
+            it.write(name, "fails")
+            ran = it.run("a")
+            holds((ran.returncode, ran.stdout) == (126, ""), f"with {name} wrong again a call ends with {ran}")
+            holds(f"fn {name}::f: not proved" in ran.stderr and "been proved" not in ran.stderr, f"with {name} wrong again standard error has {ran.stderr}")
     with repository() as it:
         ran = it.run(STOPS="1")
-        holds(ran.returncode == 7 and "desk_cli is proved and built (3 of 3" in ran.stderr, f"if rt all judges nothing a call ends with {ran}")
+        holds(ran.returncode == 7 and it.since(0) == ["all", "lib", "lib", "run"], f"if rt all judges nothing rt is called as {it.called()}")
+        holds("desk_cli is proved and built (3 of 3" in ran.stderr, f"if rt all judges nothing a call ends with {ran}")
     with repository() as it:
         bare = it.folder / "bare"
         bare.mkdir()
@@ -216,16 +239,18 @@ def failures():
         holds(ran.returncode == 126 and "there is no rt" in ran.stderr, f"without rt a call ends with {ran}")
 
 
-def interrupted(crate, number, ends_rt):
+def interrupted(crate, number, is_from_nothing):
     """A build that a signal ends while it is at the crate leaves nothing that the next call takes for built."""
+    ends_rt = number != signal.SIGKILL
     with repository() as it:
         it.run()
         it.write(crate, "slow")
-        if crate != "desk_cli":
-            shutil.rmtree(it.folder / "crates" / crate / "out/rlib")
-        before = it.count()
+        if is_from_nothing:
+            it.forget()
+        # how many calls of rt come before the crate is proved
+        before = it.count() + ((crate == "desk_cli") if is_from_nothing else CRATES.index(crate))
         with it.start() as running:
-            wait_for(lambda: it.count() > before + (crate == "desk_cli"), "rt")
+            wait_for(lambda: it.count() > before, "rt")
             time.sleep(0.3)
             pid = it.called()[-1][0]
             os.kill(running.pid, number)
@@ -234,14 +259,14 @@ def interrupted(crate, number, ends_rt):
             elif is_alive(pid):
                 os.kill(int(pid), signal.SIGKILL)
             _, said = running.communicate()
-        what = f"{signal.Signals(number).name} at {crate}"
+        what = f"{signal.Signals(number).name} at {crate}{' from nothing' if is_from_nothing else ''}"
         holds(running.returncode in (126, -number, 128 + number), f"{what}: the status is {running.returncode}")
         holds(not ends_rt or "could not be built" in said, f"{what}: standard error has {said}")
         holds(not it.program.with_name("desk_cli.built").exists(), f"{what}: what isn't built is marked as built")
         it.write(crate, "sound")
         count = it.count()
         ran = it.run()
-        holds(ran.returncode == 7 and it.count() == count + 2, f"{what}: the next call doesn't build, and ends with {ran}")
+        holds(ran.returncode == 7 and it.since(count)[-1] == "run", f"{what}: the next call doesn't build, and ends with {ran}")
 
 
 def orphaned():
@@ -254,7 +279,7 @@ def orphaned():
         holds(is_alive(pid), "rt ended with the call that was killed")
         ran = it.run()
         holds(not is_alive(pid) and "waits for it" in ran.stderr, f"after a call that was killed the next prints {ran.stderr}")
-        holds(ran.returncode == 7 and it.count() == 4, f"after a call that was killed the next ends with {ran}")
+        holds(ran.returncode == 7 and it.since(2)[-1] == "run", f"after a call that was killed the next ends with {ran}")
 
 
 def changes():
@@ -262,15 +287,15 @@ def changes():
         it.run()
         time.sleep(0.02)
         it.write("low", "another")
-        holds(it.run().returncode == 7 and it.count() == 4, "a source that changed isn't built")
+        holds(it.run().returncode == 7 and it.count() == 5, "a source that changed isn't built")
         time.sleep(0.02)
         it.write("low", "a third")
         with it.start(AFTER="1.5") as running:
-            wait_for(lambda: it.count() == 6, "rt run")
+            wait_for(lambda: it.count() == 8, "rt run")
             it.write("middle", "changed meanwhile")
             running.communicate()
         it.run()
-        holds(it.count() == 8, "a source that changed during a build isn't built")
+        holds(it.count() == 11, "a source that changed during a build isn't built")
 
 
 def together():
@@ -303,9 +328,9 @@ def main():
     commands()
     failures()
     for crate in CRATES:
-        for number in (signal.SIGINT, signal.SIGTERM, signal.SIGHUP):
-            interrupted(crate, number, True)
-        interrupted(crate, signal.SIGKILL, False)
+        for number in (signal.SIGINT, signal.SIGTERM, signal.SIGHUP, signal.SIGKILL):
+            for is_from_nothing in (True, False):
+                interrupted(crate, number, is_from_nothing)
     orphaned()
     changes()
     together()
