@@ -13,7 +13,7 @@ transmission of a gateway has a booking of its own that isn't dropped: begin, fr
 booking. The journal's answers are the desk's, and no hour of a sub-band is above its limit.
 
 It prints what it saw, and each thing that isn't as it should be; then it fails. The program is `./desk`, which is proved and built
-first where it isn't current, or with --program the built one in FILE.
+first if it isn't current, or with --program the built one in FILE.
 """
 
 import argparse

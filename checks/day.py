@@ -5,7 +5,7 @@
 
 The day runs with a free port, in a fresh folder. It has to end with status 0 within a minute, to print the lines of day.txt and
 nothing else, to print nothing on standard error, and to leave the folder as it was. The program is `./desk`, which is proved and
-built first where it isn't current, or with --program the built one in FILE.
+built first if it isn't current, or with --program the built one in FILE.
 """
 
 import argparse

@@ -5,7 +5,7 @@
 
 Each part is a function below, with what it does, and begins in a folder of its own. All parts are run, and what isn't as in the
 handbook is printed; then the status is 1. `slow_clients` takes a minute and a half. The program is `./desk`, which is proved
-and built first where it isn't current, or with --program the built one in FILE.
+and built first if it isn't current, or with --program the built one in FILE.
 """
 
 import argparse

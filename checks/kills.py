@@ -10,7 +10,7 @@ heard, in their order and with their answers, are those that a plain Python prog
 that were answered, or these and that of the next line. The next run goes on behind the last answer that was read.
 
 At the end the rest is delivered, and then the whole stream once more. All answers have to be those of the plain program,
-and each row of the eleven tables has to be its row. The program is `./desk`, which is proved and built first where it
+and each row of the eleven tables has to be its row. The program is `./desk`, which is proved and built first if it
 isn't current, or with --program the built one in FILE.
 """
 

@@ -8,7 +8,7 @@ the lines of the page's blocks `answer`, in order, and nothing else; and the run
 one of the answers has to have its ResultCode and Description. There has to be such a heading for each refusal that has an answer, and a
 success of each message.
 
-The program is `./desk`, which is proved and built first where it isn't current, or with --program the built one in FILE.
+The program is `./desk`, which is proved and built first if it isn't current, or with --program the built one in FILE.
 """
 
 import argparse

@@ -17,7 +17,7 @@ that file go to the program that is tried:
   there then is of schema 1 or 2, with the same rows, and `migrate` once more leaves schema 2. Every second copy is of a
   file whose program was killed too, so that its log holds the last messages.
 
-The program is `./desk`, which is proved and built first where it isn't current, or with --program the built one in
+The program is `./desk`, which is proved and built first if it isn't current, or with --program the built one in
 FILE. The copies are in FOLDER, so that it names the disk.
 """
 

@@ -11,7 +11,7 @@ requests by `desk serve` one a connection, and reports by `desk import` one a ru
 
 It must never end by a signal or by itself, and has to answer each message and each whole request, with no more memory
 than MEMORY to be had. What it reports as heard is then delivered alone to a new desk: its answers are the same, and each row of
-the eleven tables is the same. The program is `./desk`, which is proved and built first where it isn't current, or with
+the eleven tables is the same. The program is `./desk`, which is proved and built first if it isn't current, or with
 --program the built one in FILE.
 """
 

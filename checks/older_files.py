@@ -7,7 +7,7 @@ PROGRAM, one of before DR7, makes a file and hears --messages messages of mixed 
 program that is tried counts what PROGRAM counts, and gives the whole stream once more its first answers; the real SQLite then reads
 the same rows. A text with DataRate 7, which PROGRAM refuses and doesn't keep, is heard under its number, and a repeat gets the same answer.
 
-The program is `./desk`, which is proved and built first where it isn't current, or with --program the built one in FILE.
+The program is `./desk`, which is proved and built first if it isn't current, or with --program the built one in FILE.
 """
 
 import argparse

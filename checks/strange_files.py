@@ -16,7 +16,7 @@ report that needs the row finds no desk, and leaves all rows as they are.
 `desk migrate` gets files of schema 1 that are changed so that it can't move them, the numbers by which it counts their
 rows among it: it reports why, and the file is as it was.
 
-The program is `./desk`, which is proved and built first where it isn't current, or with --program the built one in
+The program is `./desk`, which is proved and built first if it isn't current, or with --program the built one in
 FILE.
 """
 

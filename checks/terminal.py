@@ -3,7 +3,7 @@
 
     checks/terminal.py [--program FILE]
 
-The program is `./desk`, which is proved and built first where it isn't current, or with --program the built one in FILE.
+The program is `./desk`, which is proved and built first if it isn't current, or with --program the built one in FILE.
 """
 
 import argparse

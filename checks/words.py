@@ -8,7 +8,7 @@ that clap refuses, with the beginning of clap's error; and values out of their f
 that names no command ends with status 2, writes nothing to standard output, and leaves no file. Which arguments name which command
 with which values is proved; what is printed of them isn't.
 
-The program is `./desk`, which is proved and built first where it isn't current, or with --program the built one in FILE.
+The program is `./desk`, which is proved and built first if it isn't current, or with --program the built one in FILE.
 """
 
 import argparse

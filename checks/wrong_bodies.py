@@ -17,7 +17,7 @@ refused there where a goal of a function that it changes isn't proved, or an err
 goals wait for the proof of one that it calls is tried once more without those that were refused. What isn't refused so is tried by
 itself afterwards, by a whole check: it changes no function's body, or has to be refused where the function is called.
 
-With --must-fail the edits of `crates/CRATE/must-fail/` are taken too. With --list it only sees that each edit applies. With --jobs N
+With --must-fail the edits of `crates/CRATE/must-fail/` are taken too. With --list it only checks that each edit applies. With --jobs N
 N crates are tried side by side. It fails where an edit isn't refused, or with --list doesn't apply.
 """
 
@@ -320,7 +320,7 @@ def main():
     words = argparse.ArgumentParser(description=__doc__.splitlines()[0])
     words.add_argument("crates", nargs="*", metavar="CRATE", help="the crates to take, of all where none is named")
     words.add_argument("--must-fail", action="store_true", help="take the edits of must-fail too")
-    words.add_argument("--list", action="store_true", help="only see that each edit applies")
+    words.add_argument("--list", action="store_true", help="only check that each edit applies")
     words.add_argument("--together", action="store_true", help="make edits of different functions in one copy")
     words.add_argument("--jobs", type=int, default=1, help="how many crates to try side by side")
     given, known = words.parse_args(), crates()

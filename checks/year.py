@@ -14,7 +14,7 @@ are printed, and at the end the whole file is held against what was answered: as
 last day delivered once more gets its answers.
 
 It prints a line for each month: messages, answers a second, the slowest answer, the size of the file, how long an opening takes, and how
-long the reports. The program is `./desk`, which is proved and built first where it isn't current, or with --program the built one in FILE.
+long the reports. The program is `./desk`, which is proved and built first if it isn't current, or with --program the built one in FILE.
 """
 
 import argparse
