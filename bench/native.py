@@ -3,8 +3,8 @@
 
     bench/native.py [--program FILE] [--native FILE] [--size 20000] [--seeds 1,2,3] [--rounds 7]
 
-First both hear mixed operation (checks/mixed_operation.py), so many lines of each seed: every answer has to be the same octets. Then
-both hear normal operation (normal_operation.py), so many lines, in turn, so many rounds: it prints the processor time that each took,
+First both hear mixed operation (checks/mixed_operation.py), --size lines of each seed: every answer has to be the same octets. Then
+both hear --size lines of normal operation (normal_operation.py), in turn, --rounds times: it prints the processor time that each took,
 user and system, of the best and the median round. The clock doesn't count, since the machine may be busy.
 
 The Rust program is built by cargo, from Debian's packages (bench/native/README.md), or is the one in FILE.
