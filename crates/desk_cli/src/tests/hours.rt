@@ -2,7 +2,7 @@
 //! it asks for order.
 use super::holding::{holds, holds_at};
 use duty_core::{
-    Span, clear, fits, in_order, is_near, near_range, peak, sweep_fits, sweep_peak, use_at,
+    Span, clear, fits, in_order, is_near, near_range, peak, room, sweep_fits, sweep_peak, use_at,
 };
 use std::alloc::{AllocError, Global};
 use std::process::Abort;
@@ -130,6 +130,55 @@ fn tells_order_and_what_is_clear(rt: HostRuntime) {
     let all = span(&rt, 0, 4_294_967_295);
     holds(&rt, !clear(&[all], new), "all of it");
 }
+
+/// The room from a start: beside all, and beside those of the band within a limit.
+fn has_room(rt: &impl Abort, all: &[Span], of_band: &[Span], start: i64, limit: u64, wanted: u32) {
+    let found = room(all, of_band, start, limit, 3_000_000);
+    holds(rt, found == wanted, "the room");
+}
+
+#[test]
+fn finds_the_room(rt: HostRuntime) {
+    // Three downlinks in a band of 3.6 seconds an hour, the last of them within a fourth's hour for 626,304 microseconds.
+    let downlinks = [
+        span(&rt, MONTH, 991_232),
+        span(&rt, MONTH + 10_000_000, 991_232),
+        span(&rt, MONTH + 20_000_000, 991_232),
+    ];
+    let fourth = MONTH + 3_599_373_696;
+    has_room(&rt, &downlinks, &downlinks, fourth, 3_600_000, 1_617_536);
+    has_room(&rt, &downlinks, &downlinks, fourth - 1, 3_600_000, 626_304);
+    // In another order, by the direct algorithm.
+    let [first, second, third] = downlinks;
+    let others = [third, first, second];
+    has_room(&rt, &others, &others, fourth, 3_600_000, 1_617_536);
+    // Nothing is planned yet.
+    has_room(&rt, &[], &[], MONTH, 3_600_000, 3_000_000);
+    // Only a downlink in another band, or in the same one with a limit that it leaves wide.
+    let one = [span(&rt, MONTH + 2_000_000, 991_232)];
+    for (place, (start, wanted)) in BESIDE_ONE.iter().enumerate() {
+        let elsewhere = room(&one, &[], MONTH + *start, 3_600_000, 3_000_000);
+        let in_band = room(&one, &one, MONTH + *start, 360_000_000, 3_000_000);
+        holds_at(&rt, elsewhere == *wanted && in_band == *wanted, place);
+    }
+    // The band's limit is exceeded already, and no length is asked for.
+    has_room(&rt, &[], &downlinks, MONTH + 30_000_000, 2_973_695, 0);
+    has_room(&rt, &[], &downlinks, MONTH + 30_000_000, 2_973_697, 1);
+    holds(&rt, room(&[], &[], 0, 1, 0) == 0, "no length");
+    let all = room(&[], &[], 0, 3_600_000_000, 4_294_967_295);
+    holds(&rt, all == 4_294_967_295, "the greatest length");
+}
+
+/// A start, from the first microsecond of the month on, and the room beside a downlink that begins at 2,000,000 and lasts
+/// 991,232 microseconds.
+static BESIDE_ONE: [(i64, u32); 6] = [
+    (0, 2_000_000),
+    (1_000_000, 1_000_000),
+    (1_999_999, 1),
+    (2_000_000, 0),
+    (2_991_231, 0),
+    (2_991_232, 3_000_000),
+];
 
 /// How far apart two starts are, and whether that is near.
 static APART: [(i64, bool); 5] = [
