@@ -1,8 +1,5 @@
-use Rattle.duty_core.proofs.ByStart.{ordered_use, ordered_hours, ordered_peak}
+use Rattle.duty_core.proofs.ByStart.{ordered_hours, ordered_peak}
 use Rattle.duty_core.proofs.laws.order_by_start_keeps_hours.Goals as goal
-
-pub returns-clause-used : goal.returns-clause-used
-returns-clause-used c = ordered_use
 
 pub returns-clause-hours : goal.returns-clause-hours
 returns-clause-hours c = ordered_hours

@@ -1,9 +1,7 @@
 use Rattle.std.proofs.Common.{◌++◌, ◌∷◌, [], arith, ap, subst, sym}
 use Rattle.std.specs.Prelude.{pos, ◌-ℤ◌}
 use Rattle.std.proofs.lemmas.Int.{ints}
-use Rattle.std.proofs.lemmas.List.{at_drop_all}
 use Rattle.duty_core.specs.Use.{Interval, end_of, hour}
-use Rattle.duty_core.specs.Computed.{edge_hours, greatest_use}
 use Rattle.duty_core.specs.declared.marks.Edge.TheVariants.{Start, End}
 use Rattle.duty_core.specs.steps.Windows.{IsWindow}
 use Rattle.duty_core.proofs.EdgeHours.{edge_use, greatest_use-drop}
@@ -30,9 +28,3 @@ loop-span-preserved c =
       by_end = λ d more. window_next End spans _ (end_of item -ℤ pos hour) _ hour c.loop-span.span-index item d
           c.slide_both-used.ensures.from_end c.loop-span-test.true c.span-item.is (omega (arith, ints)) (omega (arith, ints)) c.requires.ends more;
     }
-
-pub returns : goal.returns
-returns c =
-    let spans = c.args.spans.now in
-    let all = spans ++ c.args.new ∷ [] in
-    omega (arith, c.loop-span.invariant.most, at_drop_all (λ l. greatest_use all (edge_hours l)) spans c.loop-span.span-index c.loop-span-test.false)
