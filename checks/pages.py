@@ -1,7 +1,7 @@
 #!/usr/bin/env python3
 """Checks the pages: links, lengths and words; and the words of comments in scripts.
 
-    checks/pages.py
+    checks/pages.py [--crates]
 
 The pages are the Markdown files that git tracks. A link to a file has to name one that is there, and a link to a heading one that the
 page has. A page has at most the lines that LENGTHS gives it. In CONTRIBUTING.md the table "What to run" names each script of checks/
@@ -11,7 +11,8 @@ Pages, docstrings and comments have none of the words in WORDS, which were this 
 explains those that definitions still use, and so are dated runs in docs/log/, which stay as they were written.
 
 It doesn't see: former words that are plain English elsewhere ("holds", "keeps", "words", "answers", "in order", "copy"); code in
-backticks, blocks, names and paths; what scripts print; comments of crates/ and crates.txt; whether a sentence is clear.
+backticks, blocks, names and paths; what scripts print; comments of crates.txt; whether a sentence is clear. Comments of crates/ have
+such words still: with --crates it prints those too, and how many there are, and that is no error.
 
 It prints each error and fails if there is one. Run it when a page or a comment changes.
 """
@@ -23,6 +24,7 @@ import re
 import subprocess
 import sys
 import tokenize
+from collections import Counter
 from pathlib import Path
 
 ROOT = Path(__file__).resolve().parent.parent
@@ -86,7 +88,7 @@ def prose_of(page):
 
 
 def comments_of(script):
-    """The script's comments and docstrings, without code, names and paths."""
+    """The comments and docstrings of a script or source, without code, names and paths."""
     text, found = script.read_text(), []
     if "python" in text.partition("\n")[0] or script.suffix == ".py":
         starts_statement = True
@@ -96,7 +98,8 @@ def comments_of(script):
             if token.type not in (tokenize.COMMENT, tokenize.NL):
                 starts_statement = token.type in (tokenize.NEWLINE, tokenize.INDENT, tokenize.DEDENT)
     else:
-        found = re.findall(r"(?:^|\s)#(?!!)\s?(.*)", text)
+        begins = r"//+!?|--" if script.suffix in (".rt", ".antt") else r"#(?!!)"
+        found = re.findall(rf"(?:^|\s)(?:{begins})\s(.*)", text)
     return re.sub(r"`[^`\n]*`|^    .*$|\S+\.(?:py|sh|md|txt)\b|\w+_\w+", "", "\n".join(found), flags=re.M)
 
 
@@ -161,8 +164,22 @@ def errors_of(page):
         yield from scripts_to_run(page)
 
 
+def count_in_crates():
+    """Prints the words of WORDS in comments of crates/, and how many there are in each crate."""
+    counts = Counter()
+    for source in files("crates/*.rt", "crates/*.antt"):
+        for found in own_words(comments_of(source)):
+            name = source.relative_to(ROOT)
+            counts[name.parts[1]] += 1
+            print(f"{name}: {found}")
+    print(f"comments of crates/: {counts.total()} words;", ", ".join(f"{crate} {count}" for crate, count in counts.most_common()))
+
+
 def main():
-    argparse.ArgumentParser(description=__doc__, formatter_class=argparse.RawDescriptionHelpFormatter).parse_args()
+    words = argparse.ArgumentParser(description=__doc__, formatter_class=argparse.RawDescriptionHelpFormatter)
+    words.add_argument("--crates", action="store_true", help="print such words of comments in crates/ too")
+    if words.parse_args().crates:
+        count_in_crates()
     pages, scripts = files("*.md"), files(*SCRIPTS)
     errors = [f"{page.relative_to(ROOT)}: {error}" for page in pages for error in errors_of(page)]
     errors += [f"{script.relative_to(ROOT)}: {error}" for script in scripts for error in own_words(comments_of(script))]
