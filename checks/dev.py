@@ -49,7 +49,7 @@ class Copy:
         (folder / "bin").mkdir()
         (folder / "bin/rt").write_text(RT)
         (folder / "bin/rt").chmod(0o755)
-        self.environment = {**os.environ, "PATH": f"{folder}/bin:{os.environ['PATH']}", "CALLS": str(self.calls)}
+        self.environment = {**os.environ, "PATH": f"{folder}/bin:{os.environ['PATH']}", "CALLS": str(self.calls), "TMPDIR": str(folder)}
         who = ["-c", "user.name=check", "-c", "user.email=check@localhost"]
         for words in (["init", "-q"], ["add", "-A"], [*who, "commit", "-qm", "a copy"]):
             subprocess.run(["git", *words], cwd=self.folder, check=True)
