@@ -1,10 +1,11 @@
 #!/usr/bin/env python3
-"""Checks that a test fails with edits of the gate that are refused where a proof by hand no longer fits.
+"""Checks that a test fails with wrong bodies that are, or were, refused where a proof by hand no longer fits.
 
     checks/failing_tests.py [--jobs 2] [EDIT ..]
 
 Where a function is proved by hand the prover refuses each edit of it that its proof doesn't fit, be it wrong or not. So TESTS names,
-for such edits, a test of desk_cli that fails with the edit. EDIT is one of them, as CRATE/NAME.
+for such edits, a test of desk_cli that fails with the edit. EDIT is one of them, as CRATE/NAME. It stands in the crate's `must-fail/`
+or in `checks/wrong-bodies/CRATE/`.
 
 The repository is only read: its crates are copied into a folder that is removed at the end, once for each run. `rt try --test` runs
 the test there, which proves nothing: first each test that is named with no edit, which has to pass, and then with each edit, which
@@ -66,6 +67,13 @@ TESTS = {
 }
 
 
+def file_of(crate, name):
+    for place in (ROOT / "crates" / crate / "must-fail", ROOT / "checks" / "wrong-bodies" / crate):
+        if (place / f"{name}.edit").is_file():
+            return place / f"{name}.edit"
+    raise NotTried("there is no such edit")
+
+
 def ran(test, edit=None):
     """Runs the test with the edit, if there is one. Returns whether it passed, or None where it came to no end, and what was printed last."""
     with tempfile.TemporaryDirectory(prefix="failing-tests-") as temporary:
@@ -74,7 +82,7 @@ def ran(test, edit=None):
         shutil.copytree(ROOT / "crates", folder / "crates", ignore=shutil.ignore_patterns("out", "must-fail"))
         if edit:
             crate, _, name = edit.partition("/")
-            texts = edited(ROOT / "crates" / crate / "must-fail" / f"{name}.edit", folder / "crates" / crate)
+            texts = edited(file_of(crate, name), folder / "crates" / crate)
             for file, text in texts.items():
                 (folder / "crates" / crate / file).write_text(text)
         words = ["rt", "try", "--test", "--seconds", str(LONGEST), "--", test]
