@@ -4,7 +4,7 @@
     checks/failing_tests.py [--jobs 2] [EDIT ..]
 
 Where a function is proved by hand the prover refuses each edit of it that its proof doesn't fit, be it wrong or not. So TESTS names,
-for such edits, a test of desk_cli that fails with the edit. EDIT is one of them, as CRATE/NAME. It stands in the crate's `must-fail/`
+for such edits, a test of desk_cli that fails with the edit. EDIT is one of them, as CRATE/NAME. It is in the crate's `must-fail/`
 or in `checks/wrong-bodies/CRATE/`.
 
 The repository is only read: its crates are copied into a folder that is removed at the end, once for each run. `rt try --test` runs
