@@ -1,13 +1,16 @@
 //! Laws of the definitions: each is the contract of a function that does nothing.
 ghost use Rattle.desk_engine.specs.Laws.{CallsHearInOrder, DeliveriesAddAtTheEnd, DeliveriesLeaveHeardLists, HeardAgain, KeptAnswersStay, MessagesAreDelivered, NoCallHearsNothing, ReadsHearNothing};
 ghost use Rattle.desk_engine.specs.Lines.{InputsAreCut};
+ghost use Rattle.desk_engine.specs.Log.{LogIsTheDesk};
 ghost use Rattle.desk_engine.specs.Reports.{OwnerReportsAgree};
 ghost use Rattle.desk_engine.specs.steps.Hearing.{KeepsRules};
 
 use desk_store::Keeper;
 use desk_wire::laws::{message_reads_back, messages_fit, reads_in_range};
 use duty_core::laws::peak_has_an_edge;
-use registry_core::laws::{heard_lists_stay, rules_are_kept, same_message_tells, senders_stay};
+use registry_core::laws::{
+    first_answers_stay, heard_lists_stay, rules_are_kept, same_message_tells, senders_stay,
+};
 
 /// One more delivery leaves a heard list, while there is room.
 #[tactic(auto, using(crate::proofs::HeardTexts::deliveries_leave_heard_lists))]
@@ -62,6 +65,16 @@ pub fn heard_again()
 {
     same_message_tells();
     senders_stay();
+}
+
+/// The log is the desk: another desk that hears a part of the log, and has heard what was heard before the part, answers each
+/// message as the first desk did, and has then heard the messages of the part too. It may have heard more of the log already.
+pub fn log_is_the_desk()
+    ensures { LogIsTheDesk }
+{
+    first_answers_stay();
+    message_reads_back();
+    messages_fit();
 }
 
 /// An input of lines is cut in the one way that there is: the lines, each with an LF, and what stands after the last LF, make
