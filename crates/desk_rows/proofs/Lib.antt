@@ -20,6 +20,7 @@ pub mod MetaTexts
 pub mod MigratingLemmas
 pub mod NextDevice
 pub mod NumberedLemmas
+pub mod NumberedReplies
 pub mod NumberedUpdates
 pub mod OneWithKey
 pub mod OrderLemmas

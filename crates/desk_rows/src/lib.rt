@@ -35,7 +35,7 @@ pub use making::{create_tables, insert_settings};
 pub use meta::read_settings;
 pub use migrating::{create_limits, raise_version};
 pub use owners::{insert_owner, last_owner, owner_is_known};
-pub use replies::{Texts, insert_reply, last_reply, texts_of};
+pub use replies::{Texts, insert_reply, last_reply, texts_at, texts_of};
 pub use senders::{insert_sender, last_sender, role_of};
 pub use sessions::{
     insert_session, last_nonce, last_session, next_down, session, session_with, set_next_down,

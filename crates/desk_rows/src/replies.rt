@@ -4,16 +4,19 @@ ghost use Rattle.std.specs.List.{list_any};
 ghost use Rattle.sqlite.specs.Held.{state};
 ghost use Rattle.desk_rows.specs.Calls.{Changes, Reads, ReadsFirst};
 ghost use Rattle.sqlite_value.specs.declared.value.Value.TheVariants.{Blob};
+ghost use Rattle.registry_core.specs.Numbered.{item_at};
 ghost use Rattle.desk_rows.specs.Replies.{reply_texts, kept_texts};
 ghost use Rattle.desk_rows.specs.Rows.{is_reply, last_number};
-ghost use Rattle.desk_rows.specs.steps.Texts.{AsksFor, reply_asked};
+ghost use Rattle.desk_rows.specs.steps.Texts.{AsksFor, by_rowid, is, reply_asked};
+ghost use Rattle.sqlite_sql.specs.Term.{col};
 
 use crate::columns::octets_at;
 use crate::faults::RowFault;
 use crate::queries::{FromRow, find};
-use crate::values::{blob, text, word};
+use crate::values::{blob, text, whole, word};
 use crate::writes::write;
 use radio_core::Name;
+use registry_core::Whole;
 use sqlite::{Alter, Connection, Row, Transaction};
 
 /// The texts of a message that was heard and of its answer.
@@ -57,6 +60,25 @@ pub fn texts_of<S: Alter>(
         (λ r texts. option_map kept_texts texts ≡ option_map reply_texts (find (is_reply sender.now number) r.replies)) }
 {
     find(conn, reply_text(), &[text(sender), word(number)])
+}
+
+/// The text of the look-up of a reply by its number.
+#[tactic(auto, unfolding(sqlite::specs::Listing::understood, sqlite_tied::specs::Compute::everything))]
+fn numbered_reply_text() -> &'static str
+    ensures { AsksFor result.now 1 (by_rowid 3 (is 0 0 ∷ []) (col 1 4 ∷ col 1 5 ∷ [])) (codes "message" ∷ codes "answer" ∷ []) }
+{
+    "SELECT message, answer FROM reply WHERE seq = ?1 ORDER BY seq"
+}
+
+/// The texts of the message that was heard with this number, from 1 in the order of hearing, if there is one.
+pub fn texts_at<S: Alter>(
+    conn: &mut Connection<S>,
+    number: Whole,
+) -> Result<Option<Texts>, RowFault>
+    ensures { Reads (state S.Store conn.old) (state S.Store conn.new) result
+        (λ r texts. option_map kept_texts texts ≡ option_map reply_texts (item_at r.replies number)) }
+{
+    find(conn, numbered_reply_text(), &[whole(number)])
 }
 
 /// The number of the last message that was heard, if there is one.

@@ -71,6 +71,9 @@ module _ (c : Settings) (kept : Kept) (r : Rows) (tell : RowsTell c kept r) (n :
   past_uplinks : length r.uplinks < n
   past_uplinks = omega (arith, above, tell.are.few.uplinks)
 
+  pub no_reply : item_at r.replies n ≡ None
+  no_reply = item_past r.replies n above
+
   pub no_session : item_at r.sessions n ≡ None
   no_session = item_past r.sessions n (omega (arith, above, tell.are.few.sessions))
 

@@ -1,9 +1,11 @@
 -- The entries that reply rows tell.
-use Rattle.std.proofs.Common.{◌≡◌, ◌&&◌, ◌==◌, Bool, true, false, cond, List, [], ◌∷◌, map, find, Option, Some, None, option_map, refl, ap, ap₂, ◌∙◌}
+use Rattle.std.proofs.Common.{◌≡◌, ℕ, zero, suc, ◌&&◌, ◌==◌, Bool, true, false, cond, List, [], ◌∷◌, map, find, Option, Some, None, option_map, refl, ap, ap₂, ◌∙◌}
 use Rattle.std.specs.Prelude.{bytes_eq}
+use Rattle.std.proofs.lemmas.Option.{slice_get-map}
 use Rattle.std.specs.Cmp.{nat_eq_equiv}
 use Rattle.std.specs.Cmp.Lexicographic.{nat_list_eq_equiv}
 use Rattle.registry_core.specs.declared.messages.Envelope.{Envelope}
+use Rattle.registry_core.specs.Numbered.{item_at}
 use Rattle.desk_store.specs.Kept.{entry_of, is_entry_of, texts_of}
 use Rattle.desk_rows.specs.Replies.{reply_texts}
 use Rattle.desk_rows.specs.Rows.{ReplyRow, is_reply}
@@ -30,10 +32,18 @@ entry_found e (y ∷ ys) =
     go true later = refl
     go false later = later
 
+twice : (o : Option ReplyRow) → option_map texts_of (option_map entry_in o) ≡ option_map reply_texts o
+twice None = refl
+twice (Some y) = refl
+
 pub heard_texts : (e : Envelope) (ys : List ReplyRow)
     → option_map texts_of (entry_of e (map entry_in ys)) ≡ option_map reply_texts (find (is_reply e.sender e.transaction) ys)
 heard_texts e ys = ap (option_map texts_of) (entry_found e ys) ∙ twice (find (is_reply e.sender e.transaction) ys)
-  where
-    twice : (o : Option ReplyRow) → option_map texts_of (option_map entry_in o) ≡ option_map reply_texts o
-    twice None = refl
-    twice (Some y) = refl
+
+-- the entry with a number is that of the row with it
+numbered : (ys : List ReplyRow) (n : ℕ) → item_at (map entry_in ys) n ≡ option_map entry_in (item_at ys n)
+numbered ys zero = refl
+numbered ys (suc n) = slice_get-map entry_in ys n
+
+pub numbered_texts : (ys : List ReplyRow) (n : ℕ) → option_map texts_of (item_at (map entry_in ys) n) ≡ option_map reply_texts (item_at ys n)
+numbered_texts ys n = ap (option_map texts_of) (numbered ys n) ∙ twice (item_at ys n)

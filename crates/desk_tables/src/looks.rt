@@ -46,6 +46,14 @@ impl<S: Alter> Looks for Tables<S> {
         self.tell(answer)
     }
 
+    fn entry(&mut self, number: u64) -> Result<Option<Texts>, StoreFault> {
+        if self.down {
+            return Err(StoreFault::Disk);
+        }
+        let answer = texts::entry(&mut self.conn, number);
+        self.tell(answer)
+    }
+
     fn has_owner(&mut self, name: &Name) -> Result<bool, StoreFault> {
         if self.down {
             return Err(StoreFault::Disk);

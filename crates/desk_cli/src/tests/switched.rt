@@ -164,6 +164,11 @@ impl<K: Keeper> Looks for Switched<K> {
     }
 
     #[tactic(auto, using(crate::proofs::Unsound::read_by))]
+    fn entry(&mut self, number: u64) -> Result<Option<Texts>, StoreFault> {
+        in_turn!(self, self.inner.entry(number))
+    }
+
+    #[tactic(auto, using(crate::proofs::Unsound::read_by))]
     fn has_owner(&mut self, name: &Name) -> Result<bool, StoreFault> {
         in_turn!(self, self.inner.has_owner(name))
     }

@@ -1,6 +1,7 @@
-//! The texts of a message that was heard, and of its answer.
+//! The texts of a message that was heard, and of its answer. A number that isn't below 2^53 is no message's.
 ghost use Rattle.std.specs.Prelude.{◌≡◌, find, option_map};
 ghost use Rattle.sqlite.specs.Held.{state};
+ghost use Rattle.registry_core.specs.Numbered.{item_at};
 ghost use Rattle.desk_store.specs.Kept.{entry_of, texts_of};
 ghost use Rattle.desk_store.specs.Looks as store;
 ghost use Rattle.desk_rows.specs.Replies as rows;
@@ -10,7 +11,7 @@ ghost use Rattle.desk_tables.specs.steps.LookUps.{OfKept};
 
 use desk_rows::RowFault;
 use desk_store::Texts;
-use registry_core::Envelope;
+use registry_core::{Envelope, Whole};
 use sqlite::{Alter, Connection};
 
 fn shown(found: Option<desk_rows::Texts>) -> Option<Texts>
@@ -42,5 +43,30 @@ pub(crate) fn texts_of<S: Alter>(
         (OfKept (λ kept texts. option_map store.texts_shown texts ≡ option_map texts_of (entry_of envelope.now kept.entries))) }
 {
     let found = row_texts(conn, envelope)?;
+    Ok(shown(found))
+}
+
+/// The texts that the row with the number has.
+fn numbered_row_texts<S: Alter>(
+    conn: &mut Connection<S>,
+    number: u64,
+) -> Result<Option<desk_rows::Texts>, RowFault>
+    ensures { Reads (state S.Store conn.old) (state S.Store conn.new) result
+        (OfKept (λ kept texts. option_map rows.kept_texts texts ≡ option_map texts_of (item_at kept.entries number))) }
+{
+    match Whole::new(number) {
+        Some(number) => desk_rows::texts_at(conn, number),
+        None => Ok(None),
+    }
+}
+
+pub(crate) fn entry<S: Alter>(
+    conn: &mut Connection<S>,
+    number: u64,
+) -> Result<Option<Texts>, RowFault>
+    ensures { Reads (state S.Store conn.old) (state S.Store conn.new) result
+        (OfKept (λ kept texts. option_map store.texts_shown texts ≡ option_map texts_of (item_at kept.entries number))) }
+{
+    let found = numbered_row_texts(conn, number)?;
     Ok(shown(found))
 }
