@@ -15,6 +15,7 @@ mod joins;
 mod keys;
 mod limits;
 mod lines;
+mod log;
 mod many;
 mod migrating;
 mod radio_rules;

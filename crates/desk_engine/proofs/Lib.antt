@@ -12,6 +12,7 @@ pub mod KeptAfter
 pub mod LineCuts
 pub mod LineParts
 pub mod LineRuns
+pub mod LogEnds
 pub mod LogLines
 pub mod NewLists
 pub mod OwnTexts

@@ -1,13 +1,21 @@
 -- The log of a desk: the messages that it has heard and their answers, as texts.
-use Rattle.std.specs.Prelude.{◌≡◌, ◌<◌, ◌≤◌, ◌+◌, ◌-◌, ℕ, zero, suc, List, [], length, map, max, min, take, drop}
+use Rattle.std.specs.Prelude.{◌≡◌, ◌<◌, ◌≤◌, ◌+◌, ◌-◌, ℕ, zero, suc, List, [], ◌∷◌, ◌++◌, Option, Some, None, length, map, max, min, take, drop}
+use Rattle.std.specs.Io.KnownBytes.{Appends}
 use Rattle.registry_core.specs.declared.messages.Envelope.{Envelope}
 use Rattle.registry_core.specs.Heard.{IsHeard, answers_of}
 use Rattle.registry_core.specs.Ranges.{IsSettings}
 use Rattle.registry_core.specs.Settings.{Settings}
+use Rattle.desk_store.specs.declared.faults.StoreFault.{StoreFault}
+use Rattle.desk_store.specs.Calls.{IsUnavailability}
 use Rattle.desk_wire.specs.Answers.{answer_text, head_of_envelope}
 use Rattle.desk_wire.specs.Writing.{message_text}
+use Rattle.desk_engine.specs.declared.log.LogEnd.{LogEnd}
+use Rattle.desk_engine.specs.declared.log.LogEnd.TheVariants.{Done, Write, Unavailable}
+use Rattle.desk_engine.specs.declared.log.LogText.{LogText}
+use Rattle.desk_engine.specs.declared.log.LogText.TheVariants.{Message, Answer}
 use Rattle.desk_engine.specs.Deliveries.{heard_all}
 use Rattle.desk_engine.specs.Laws.{delivered, told_each}
+use Rattle.desk_engine.specs.Lines.{input_of, line_feed}
 use Rattle.desk_engine.specs.Told.{AnswerText}
 
 -- ---- what a log is
@@ -25,6 +33,10 @@ log_messages c heard from most = map (message_text c.receiver) (numbered_from fr
 abbrev pub log_answers : Settings → List Envelope → ℕ → ℕ → List (List ℕ)
 log_answers c heard from most = map (λ x. answer_text c.receiver (head_of_envelope x.0) x.1) (numbered_from from most (answers_of c heard))
 
+abbrev pub log_of : LogText → Settings → List Envelope → ℕ → ℕ → List (List ℕ)
+log_of Message c heard from most = log_messages c heard from most
+log_of Answer c heard from most = log_answers c heard from most
+
 -- ---- the log is the desk
 
 -- Take a heard list, a desk that has heard the first k messages of it, and a part of its log that begins at most one message after
@@ -34,3 +46,33 @@ abbrev pub LogIsTheDesk : Type 0
 LogIsTheDesk = (c : Settings) (heard : List Envelope) (from most k : ℕ) → IsSettings c → IsHeard c heard → 0 < from → from ≤ k + 1 → k ≤ length heard
     → (told_each c (take k heard) (log_messages c heard from most) ≡ map AnswerText (log_answers c heard from most))
     × (heard_all c (take k heard) (map delivered (log_messages c heard from most)) ≡ take (max k (min (from + most - 1) (length heard))) heard)
+
+-- ---- how the writing of a log ends
+
+-- the store's fault, if that is why it ended
+abbrev pub fault_of_log : LogEnd → Option StoreFault
+fault_of_log (Unavailable fault) = Some fault
+fault_of_log _ = None
+
+module _ (lines : List (List ℕ)) (before after : Option (List ℕ)) where
+  -- exactly these were written: the first of the lines, each with an LF
+  pub record WritesWhole : Type 0 where
+    pub done : List (List ℕ)
+    pub more : List (List ℕ)
+    pub lines_are : lines ≡ done ++ more
+    pub written : Appends before after (input_of done [])
+
+  -- exactly these were written: the first of the lines, each with an LF, and so many octets of the line after them with its LF
+  pub record WritesPart : Type 0 where
+    pub done : List (List ℕ)
+    pub line : List ℕ
+    pub more : List (List ℕ)
+    pub octets : ℕ
+    pub lines_are : lines ≡ done ++ line ∷ more
+    pub written : Appends before after (input_of done (take octets (line ++ line_feed ∷ [])))
+
+  -- by how it ended; with `Done` all lines were written, and they are as many as it says
+  abbrev pub LogEndBy : LogEnd → Type 0
+  LogEndBy (Done count) = Appends before after (input_of lines []) × (count ≡ length lines)
+  LogEndBy Write = WritesPart
+  LogEndBy (Unavailable fault) = WritesWhole × IsUnavailability fault

@@ -2,4 +2,5 @@
 pub mod CsvImporting
 pub mod Hearing
 pub mod Lines
+pub mod Logs
 pub mod Uses

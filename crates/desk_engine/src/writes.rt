@@ -1,10 +1,10 @@
 //! Writes of whole texts.
-ghost use Rattle.std.specs.Prelude.{◌++◌, ◌∷◌, [], OnOk};
+ghost use Rattle.std.specs.Prelude.{◌++◌, ◌∷◌, [], ℕ, OnErr, OnOk, take};
 ghost use Rattle.std.specs.Io.KnownBytes.{Appends};
 ghost use Rattle.desk_engine.specs.Lines.{line_feed};
 
 use std::io;
-use std::io::Write;
+use std::io::{ErrorKind, Write};
 
 /// Writes the text, and hands it on.
 pub fn write_whole<W: Write>(writer: &mut W, text: &[u8]) -> io::Result<()>
@@ -20,4 +20,24 @@ pub(crate) fn write_with_line_feed<W: Write>(writer: &mut W, line: &[u8]) -> io:
 {
     writer.write_all(line)?;
     writer.write_all(b"\n")
+}
+
+/// Writes the octets. On an error it has written some of them, from the first on, or none. `write_all` doesn't promise that.
+pub(crate) fn write_octets<W: Write>(writer: &mut W, octets: &[u8]) -> io::Result<()>
+    ensures whole { OnOk result (Appends (W.contents writer.old) (W.contents writer.new) octets.now) }
+    ensures part { OnErr result ((count : ℕ) × Appends (W.contents writer.old) (W.contents writer.new) (take count octets.now)) }
+{
+    let mut rest = octets;
+    for _ in 0..u64::MAX {
+        if rest.is_empty() {
+            return Ok(());
+        }
+        match writer.write(rest) {
+            Ok(0) => return Err(ErrorKind::WriteZero.into()),
+            Ok(count) => rest = &rest[count..],
+            Err(e) if e.kind() == ErrorKind::Interrupted => {}
+            Err(e) => return Err(e),
+        }
+    }
+    Err(ErrorKind::TimedOut.into())
 }

@@ -1,0 +1,103 @@
+//! The log of a desk: the messages that it has heard, or their answers, one a line.
+ghost use Rattle.std.specs.Prelude.{◌≡◌, ◌++◌, ◌∷◌, [], List, option_map};
+ghost use Rattle.registry_core.specs.declared.messages.Envelope.{Envelope};
+ghost use Rattle.registry_core.specs.Numbered.{item_at};
+ghost use Rattle.registry_core.specs.Settings.{Settings};
+ghost use Rattle.desk_store.specs.Calls.{ForHeld, IsRead, Tells, fault_in};
+ghost use Rattle.desk_engine.specs.InOrder.{WasInOrder};
+ghost use Rattle.desk_engine.specs.Log.{LogEndBy, fault_of_log, log_of};
+ghost use Rattle.desk_engine.specs.steps.Logs.{log_line, log_lines};
+
+use crate::writes::write_octets;
+use desk_store::{Keeper, StoreFault, Texts};
+use registry_core::Whole;
+use std::io::Write;
+
+/// Which text of each message a log has.
+#[derive(Clone, Copy, PartialEq, Eq)]
+pub enum LogText {
+    /// The message, as `write_message` writes it.
+    Message,
+    /// Its answer.
+    Answer,
+}
+
+/// How the writing of a log ended.
+#[derive(Clone, Copy, PartialEq, Eq)]
+pub enum LogEnd {
+    /// All lines are written, this many.
+    Done(u64),
+    /// A write failed or took nothing. Whole lines are written, and of the line after them its first octets or none.
+    Write,
+    /// The store was unavailable. Whole lines are written.
+    Unavailable(StoreFault),
+}
+
+/// Writes the texts of the messages from number `from` on, at most `most` of them, or of their answers, in the order in which the
+/// messages were heard, each followed by one LF (octet 10). The first message has the number 1. Writes nothing if `from` is 0 or
+/// above the number of messages heard.
+///
+/// It loads one message at a time, and doesn't flush the writer.
+pub fn write_log<K: Keeper, W: Write>(
+    keeper: &mut K,
+    from: Whole,
+    most: Whole,
+    which: LogText,
+    writer: &mut W,
+) -> LogEnd
+    ensures read { IsRead K.meaning keeper.old keeper.new (fault_of_log result) }
+    ensures written { (c : Settings) (heard : List Envelope) → WasInOrder K.meaning c heard keeper.old keeper.new
+        → LogEndBy (log_of which c heard from most) (W.contents writer.old) (W.contents writer.new) result }
+{
+    write_entries(keeper, from, most, which, writer)
+}
+
+/// The same, by the entries that the store has.
+fn write_entries<K: Keeper, W: Write>(
+    keeper: &mut K,
+    from: Whole,
+    most: Whole,
+    which: LogText,
+    writer: &mut W,
+) -> LogEnd
+    ensures read { IsRead K.meaning keeper.old keeper.new (fault_of_log result) }
+    ensures written { ForHeld K.meaning keeper.old keeper.new (λ kept.
+        LogEndBy (log_lines which from most kept.entries) (W.contents writer.old) (W.contents writer.new) result) }
+{
+    let first = from.get();
+    let most = most.get();
+    let mut count: u64 = 0;
+    while count < most {
+        let line = match line_at(keeper, first + count, which) {
+            Ok(Some(line)) => line,
+            Ok(None) => return LogEnd::Done(count),
+            Err(fault) => return LogEnd::Unavailable(fault),
+        };
+        if write_octets(writer, &line).is_err() {
+            return LogEnd::Write;
+        }
+        count += 1;
+    }
+    LogEnd::Done(count)
+}
+
+/// The line of the message with this number, from 1, with its LF, if there is one.
+fn line_at<K: Keeper>(
+    keeper: &mut K,
+    number: u64,
+    which: LogText,
+) -> Result<Option<Vec<u8>>, StoreFault>
+    ensures read { IsRead K.meaning keeper.old keeper.new (fault_in result) }
+    ensures told { Tells K.meaning keeper.old keeper.new result
+        (λ kept line. option_map (λ line. line.items) line ≡ option_map (log_line which) (item_at kept.entries number)) }
+{
+    let Some(Texts { message, answer }) = keeper.entry(number)? else {
+        return Ok(None);
+    };
+    let mut line = match which {
+        LogText::Message => message,
+        LogText::Answer => answer,
+    };
+    line.push(b'\n')?;
+    Ok(Some(line))
+}
