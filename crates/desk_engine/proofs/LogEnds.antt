@@ -82,7 +82,7 @@ input_more : (xs : List (List ℕ)) (line : List ℕ) → input_of (xs ++ line �
 input_more [] line = refl
 input_more (x ∷ xs) line = ap (λ l. x ++ line_feed ∷ l) (input_more xs line) ∙ sym (append_assoc x (line_feed ∷ input_of xs []) (line ++ line_feed ∷ []))
 
--- the line at a place, and what stands before and after it
+-- the line at a place, and the lines before and after it
 split_at : (lines : List (List ℕ)) (n : ℕ) (line : List ℕ) → slice_get lines n ≡ Some line
     → (take (suc n) lines ≡ take n lines ++ line ∷ []) × (lines ≡ take n lines ++ line ∷ drop (suc n) lines)
 split_at [] n line is = absurd (let no : ◌≡◌ {A = Option (List ℕ)} None (Some line) = is in cc)
@@ -180,7 +180,7 @@ module _ (which : LogText) (from most count : ℕ) (entries : List Entry) where
       go None none = refl
       go (Some entry) some = absurd (let no : ◌≡◌ {A = Option (List ℕ)} None (Some (log_line which entry)) = some in cc)
 
--- so many lines are all that are asked for
+-- no more lines than are asked for
 long_take : {X : Type 0} (most : ℕ) (xs : List X) → length (take most xs) ≤ most
 long_take zero xs = omega arith
 long_take (suc most) [] = omega arith
@@ -194,7 +194,7 @@ pub few_lines : (which : LogText) (from most : ℕ) (entries : List Entry) → l
 few_lines which zero most entries = omega arith
 few_lines which (suc n) most entries = omega (arith, length_mapped (entry_text which) (take most (drop n entries)), long_take most (drop n entries))
 
--- ---- the entries of a heard list
+-- ---- the entries of a log
 
 numbered_map : {X Y : Type 0} (f : X → Y) (from most : ℕ) (xs : List X) → numbered_from from most (map f xs) ≡ map f (numbered_from from most xs)
 numbered_map f zero most xs = refl

@@ -36,7 +36,7 @@ take_past [] (suc n) e ys h = (take n ys, refl)
 take_past (x ∷ xs) zero e ys h = absurd (omega (arith, h))
 take_past (x ∷ xs) (suc n) e ys h = let it = take_past xs n e ys (omega (arith, h)) in (it.0, ap (λ l. x ∷ l) it.1)
 
--- ---- heard lists
+-- ---- logs
 
 are_front : (c : Settings) (before xs ys : List Envelope) → AreHeard c before (xs ++ ys) → AreHeard c before xs
 are_front c before [] ys h = tt

@@ -39,9 +39,9 @@ log_of Answer c heard from most = log_answers c heard from most
 
 -- ---- the log is the desk
 
--- Take a heard list, a desk that has heard the first k messages of it, and a part of its log that begins at most one message after
--- those. Each message of the part, delivered to the desk, is answered as it was. Then the desk has heard the heard list up to the end
--- of the part, or its first k messages if the part ends before.
+-- Take a log (`heard`), a desk that has heard its first k messages, and a part of the log that begins at most one message after
+-- those. Each message of the part, delivered to the desk, is answered as it was. Then the desk has heard the log up to the end of the
+-- part, or its first k messages if the part ends before.
 abbrev pub LogIsTheDesk : Type 0
 LogIsTheDesk = (c : Settings) (heard : List Envelope) (from most k : ℕ) → IsSettings c → IsHeard c heard → 0 < from → from ≤ k + 1 → k ≤ length heard
     → (told_each c (take k heard) (log_messages c heard from most) ≡ map AnswerText (log_answers c heard from most))
@@ -62,7 +62,7 @@ module _ (lines : List (List ℕ)) (before after : Option (List ℕ)) where
     pub lines_are : lines ≡ done ++ more
     pub written : Appends before after (input_of done [])
 
-  -- exactly these were written: the first of the lines, each with an LF, and so many octets of the line after them with its LF
+  -- exactly these were written: the first of the lines, each with an LF, and the first `octets` octets of the next line with its LF
   pub record WritesPart : Type 0 where
     pub done : List (List ℕ)
     pub line : List ℕ

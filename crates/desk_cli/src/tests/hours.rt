@@ -131,7 +131,7 @@ fn tells_order_and_what_is_clear(rt: HostRuntime) {
     holds(&rt, !clear(&[all], new), "all of it");
 }
 
-/// The room from a start: beside all, and beside those of the band within a limit.
+/// The room from a start, apart from all spans, and with those of the band within a limit.
 fn has_room(rt: &impl Abort, all: &[Span], of_band: &[Span], start: i64, limit: u64, wanted: u32) {
     let found = room(all, of_band, start, limit, 3_000_000);
     holds(rt, found == wanted, "the room");
@@ -169,7 +169,7 @@ fn finds_the_room(rt: HostRuntime) {
     holds(&rt, all == 4_294_967_295, "the greatest length");
 }
 
-/// A start, from the first microsecond of the month on, and the room beside a downlink that begins at 2,000,000 and lasts
+/// A start, from the first microsecond of the month on, and the room next to a downlink that begins at 2,000,000 and lasts
 /// 991,232 microseconds.
 static BESIDE_ONE: [(i64, u32); 6] = [
     (0, 2_000_000),

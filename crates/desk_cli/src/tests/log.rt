@@ -25,7 +25,7 @@ static DEVICE_ADD: &str =
 /// More messages than were heard.
 const ALL: u64 = 9_007_199_254_740_991;
 
-/// Takes seven octets at most at a time, each time after an interruption, and fails when it has taken so many.
+/// Takes at most seven octets at a time, each time after an interruption. Fails once it has `room` octets.
 #[derive(Drop)]
 struct Narrow {
     taken: Vec<u8>,
@@ -195,7 +195,7 @@ fn a_log_that_cannot_be_written(rt: HostRuntime) -> Result<(), Fail> {
     Ok(())
 }
 
-/// The store behind the switch fails after so many messages: these are written, and nothing else.
+/// The store behind the switch fails after a number of messages: these are written, and nothing else.
 fn stops_after<R: Abort + AllocGlobal>(
     rt: &R,
     store: Box<Tables<MemStore>>,

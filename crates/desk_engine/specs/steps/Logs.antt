@@ -16,11 +16,11 @@ entry_text Answer entry = entry.answer
 abbrev pub log_line : LogText → Entry → List ℕ
 log_line which entry = entry_text which entry ++ line_feed ∷ []
 
--- the texts of the entries from this number on, at most so many
+-- the texts of at most `most` entries, from this number on
 abbrev pub log_lines : LogText → ℕ → ℕ → List Entry → List (List ℕ)
 log_lines which from most entries = map (entry_text which) (numbered_from from most entries)
 
--- the first of the lines are written, so many
+-- the first `count` lines are written
 pub record HasWritten (lines : List (List ℕ)) (before after : Option (List ℕ)) (count : ℕ) : Type 0 where
   pub count_is : length (take count lines) ≡ count
   pub written : Appends before after (input_of (take count lines) [])

@@ -3,7 +3,7 @@ use Rattle.desk_store.specs.Calls.{ForHeld, IsRead}
 use Rattle.desk_engine.specs.steps.Logs.{HasWritten, log_lines}
 use Rattle.desk_engine.proofs.log.write_entries.Given as goal
 
--- so many lines are written
+-- the lines so far are written
 abbrev pub invariant-loop-count : goal.invariant-loop-count
 invariant-loop-count g l = record {
   read : IsRead g.K.Looks.meaning l.fn.keeper l.keeper None;
