@@ -132,8 +132,13 @@ fn tells_order_and_what_is_clear(rt: HostRuntime) {
 }
 
 /// The room from a start, apart from all spans, and with those of the band within a limit.
+fn room_from(rt: &impl Abort, all: &[Span], of_band: &[Span], start: i64, limit: u64) -> u32 {
+    let start = span(rt, start, 0).start();
+    room(all, of_band, start, limit, 3_000_000)
+}
+
 fn has_room(rt: &impl Abort, all: &[Span], of_band: &[Span], start: i64, limit: u64, wanted: u32) {
-    let found = room(all, of_band, start, limit, 3_000_000);
+    let found = room_from(rt, all, of_band, start, limit);
     holds(rt, found == wanted, "the room");
 }
 
@@ -157,27 +162,27 @@ fn finds_the_room(rt: HostRuntime) {
     // Only a downlink in another band, or in the same one with a limit that it leaves wide.
     let one = [span(&rt, MONTH + 2_000_000, 991_232)];
     for (place, (start, wanted)) in BESIDE_ONE.iter().enumerate() {
-        let elsewhere = room(&one, &[], MONTH + *start, 3_600_000, 3_000_000);
-        let in_band = room(&one, &one, MONTH + *start, 360_000_000, 3_000_000);
+        let elsewhere = room_from(&rt, &one, &[], *start, 3_600_000);
+        let in_band = room_from(&rt, &one, &one, *start, 360_000_000);
         holds_at(&rt, elsewhere == *wanted && in_band == *wanted, place);
     }
     // The band's limit is exceeded already, and no length is asked for.
     has_room(&rt, &[], &downlinks, MONTH + 30_000_000, 2_973_695, 0);
     has_room(&rt, &[], &downlinks, MONTH + 30_000_000, 2_973_697, 1);
-    holds(&rt, room(&[], &[], 0, 1, 0) == 0, "no length");
-    let all = room(&[], &[], 0, 3_600_000_000, 4_294_967_295);
-    holds(&rt, all == 4_294_967_295, "the greatest length");
+    let start = span(&rt, 0, 0).start();
+    holds(&rt, room(&[], &[], start, 1, 0) == 0, "no length");
+    let longest = room(&[], &[], start, 3_600_000_000, 4_294_967_295);
+    holds(&rt, longest == 4_294_967_295, "the greatest length");
 }
 
-/// A start, from the first microsecond of the month on, and the room next to a downlink that begins at 2,000,000 and lasts
-/// 991,232 microseconds.
+/// A start, and the room next to a downlink that begins 2,000,000 microseconds after the month does and lasts 991,232.
 static BESIDE_ONE: [(i64, u32); 6] = [
-    (0, 2_000_000),
-    (1_000_000, 1_000_000),
-    (1_999_999, 1),
-    (2_000_000, 0),
-    (2_991_231, 0),
-    (2_991_232, 3_000_000),
+    (MONTH, 2_000_000),
+    (MONTH + 1_000_000, 1_000_000),
+    (MONTH + 1_999_999, 1),
+    (MONTH + 2_000_000, 0),
+    (MONTH + 2_991_231, 0),
+    (MONTH + 2_991_232, 3_000_000),
 ];
 
 /// How far apart two starts are, and whether that is near.
