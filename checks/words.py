@@ -129,7 +129,7 @@ Example:
     "serve --help": """\
 Serves messages, reports and bands over HTTP on 127.0.0.1
 
-Usage: desk serve --port <P> --count <N> <FILE>
+Usage: desk serve [OPTIONS] --port <P> --count <N> <FILE>
 
 Arguments:
   <FILE>  The desk's file
@@ -137,6 +137,7 @@ Arguments:
 Options:
       --port <P>   The port, 1 to 65535
       --count <N>  How many connections, one after another, 1 to 1000000
+      --log        Writes a line for each connection to standard error
   -h, --help       Print help
 
 A connection's first octet has one second, each further read and each write five, and a
@@ -220,6 +221,7 @@ TAKEN = [
     "serve --port 65535 town.db --count 1000000",
     "serve town.db --port 00080 --count 0000000001",
     "serve town.db --port=0000065535 --count=0001000000",
+    "serve --log town.db --port 8080 --count 100",
     "report town.db town 2024-02",
     "report 2024-02 town.db town",
     "report town.db  ",
@@ -272,6 +274,7 @@ REFUSED = {
         "import a b --sender a",
         "serve a b --port 1 --count 1",
         "serve town.db -p 1 --count 1",
+        "hear town.db --log",
         "report town.db town 2024-02 x",
         "bands town.db gw-a x",
         "check town.db x",
@@ -287,6 +290,7 @@ REFUSED = {
     "error: the argument": [
         "import town.db --sender a --sender a",
         "serve town.db --port 1 --port 1 --count 1",
+        "serve town.db --port 1 --count 1 --log --log",
         "lines --base 01a00000 --base 01a00000",
     ],
 }

@@ -1,5 +1,5 @@
 -- What is asked, where the arguments are given, and how a run of it ends.
-use Rattle.std.proofs.Common.{◌≡◌, ℕ, List, Option, None, Result, Ok, Err, inl, inr, refl, sym, subst, ◌∙◌}
+use Rattle.std.proofs.Common.{◌≡◌, ℕ, Bool, List, Option, None, Result, Ok, Err, inl, inr, refl, sym, subst, ◌∙◌}
 use Rattle.std.proofs.KnownBytes.{Keeps-refl}
 use Rattle.std.specs.Prelude.{◌⊎◌, String}
 use Rattle.std.specs.declared.io.Error.{Error}
@@ -102,7 +102,7 @@ module _ {F : Type 0} (contents : F → Option (List ℕ)) (untold told : F) whe
   given_none (Err error) (Words why) ending none is = absurd none
   given_none (Err error) (Value value) ending none is = absurd none
 
-  module _ {S : Type 0} (g : Ghosts S) (paths : AtPaths S) (ports : AtPorts) (back : Option (Held S)) (left rest before after : Option (List ℕ)) where
+  module _ {S : Type 0} (g : Ghosts S) (paths : AtPaths S) (ports : Bool → AtPorts) (back : Option (Held S)) (left rest before after : Option (List ℕ)) where
     does_all : (asked : Asked) (r : Result (Unit {0}) Fault) → EndsBy contents untold told Done r → DoesAsked g paths ports back left rest before after r asked
         → DoesAsked {T = Unit {0}} g paths ports back left rest before after (Ok tt) asked
     does_all asked (Ok x) ended does = does
@@ -135,7 +135,7 @@ module _ {F : Type 0} (contents : F → Option (List ℕ)) (untold told : F) whe
           let of = tells_ending (λ misused. absurd (subst IsNotDone (sym misused ∙ is) tt)) in
           ends_quiet of.0 (subst (λ e. EndsBy contents untold told e of.0) is of.1)
 
-  module _ {S : Type 0} (g : Ghosts S) (paths : AtPaths S) (ports : AtPorts) (left before : Option (List ℕ)) where
+  module _ {S : Type 0} (g : Ghosts S) (paths : AtPaths S) (ports : Bool → AtPorts) (left before : Option (List ℕ)) where
     -- nothing was done
     pub runs_nothing : (words : List Text) (usage : Usage) (ending : Ending) → TellsNamed (named_by words) (Err usage) → TellsUsage contents untold told ending usage
         → Runs g paths ports None left left before before contents untold told (Ok words) ending

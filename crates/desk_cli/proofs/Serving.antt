@@ -1,5 +1,5 @@
 -- What connections leave of a store, and what is said of it where the store is in a file.
-use Rattle.std.proofs.Common.{◌≡◌, ℕ, List, Option, None, Result, Ok, Err, inl, inr, sym, subst}
+use Rattle.std.proofs.Common.{◌≡◌, ℕ, Bool, List, Option, None, Result, Ok, Err, inl, inr, sym, subst}
 use Rattle.std.proofs.KnownBytes.{Keeps-refl}
 use Rattle.std.specs.Io.KnownBytes.{Appends}
 use Rattle.registry_core.specs.declared.messages.Envelope.{Envelope}
@@ -36,13 +36,13 @@ hears_served m ports l remaining contents n c heard old new first last port befo
 
 -- the command, once the port was had and its line was written
 pub served_by : {N L R W K T : Type 0} (m : Meaning K) (ports : Ports N L) (network : N) (l : Connections L R W) (remaining : R → Option (List ℕ)) (contents : W → Option (List ℕ)) (n : ℕ)
-    (c : Settings) (heard : List Envelope) (old new : K) (first last : L) (port : ℕ) (before after : Option (List ℕ)) (end : Result T NetworkFault)
-    → ports.listens network port first → WasInOrder m c heard old new → HearsEach m l remaining contents n old new first last end
+    (c : Settings) (heard : List Envelope) (old new : K) (first last : L) (log : Bool) (port : ℕ) (before after : Option (List ℕ)) (end : Result T NetworkFault)
+    → ports.listens network port log first → WasInOrder m c heard old new → HearsEach m l remaining contents n old new first last end
     → Appends before after (listening_line port)
-    → ServesBy c heard (StoreKeeps m c heard old new) (StoreLeaves m c heard old new) (at_ports ports network l remaining contents) port n before after (ended end)
-served_by m ports network l remaining contents n c heard old new first last port before after (Ok x) listens was each line =
+    → ServesBy c heard (StoreKeeps m c heard old new) (StoreLeaves m c heard old new) (at_ports ports network l remaining contents log) port n before after (ended end)
+served_by m ports network l remaining contents n c heard old new first last log port before after (Ok x) listens was each line =
     (hears_served m _ l remaining contents n c heard old new first last port before after (Ok x) _ (λ delivered served. (first, last, listens, served)) was each, line)
-served_by m ports network l remaining contents n c heard old new first last port before after (Err fault) listens was each line =
+served_by m ports network l remaining contents n c heard old new first last log port before after (Err fault) listens was each line =
     inr (hears_served m _ l remaining contents n c heard old new first last port before after (Err fault) _ (λ delivered served. (first, last, listens, served)) was each, line)
 
 module _ (c : Settings) (heard : List Envelope) (Kept Stands : List Envelope → Type 0) (Left Stays : List Envelope → Option Envelope → Type 0)

@@ -1,5 +1,5 @@
 -- What a command does, by how it ended: on a file, and on the desk that is in it.
-use Rattle.std.specs.Prelude.{◌≡◌, ◌⊎◌, ℕ, List, Option, Some, None, Result, Err}
+use Rattle.std.specs.Prelude.{◌≡◌, ◌⊎◌, ℕ, Bool, List, Option, Some, None, Result, Err}
 use Rattle.std.specs.Io.KnownBytes.{Keeps}
 use Rattle.clap.specs.Walk.{Text}
 use Rattle.sqlite.specs.Held.{Held, state}
@@ -60,9 +60,9 @@ abbrev pub OnDeskByRules : {S T : Type 0} → Ghosts S → AtPaths S → Option 
 OnDeskByRules g paths given_back result file Untouched Does =
     OnDeskFile g paths given_back result file Untouched (λ back c heard. Does back c heard × LeavesRules g back c)
 
--- What is known of files; what is answered at the ports; the connection that a run gives back; what a reader has left before and
--- after, and what a writer holds before and after.
-module _ {S T : Type 0} (g : Ghosts S) (paths : AtPaths S) (ports : AtPorts) (given_back : Option (Held S)) (left rest before after : Option (List ℕ)) (result : Result T Fault) where
+-- What is known of files; what is answered at the ports, with a log of their connections or without; the connection that a run gives
+-- back; what a reader has left before and after, and what a writer holds before and after.
+module _ {S T : Type 0} (g : Ghosts S) (paths : AtPaths S) (ports : Bool → AtPorts) (given_back : Option (Held S)) (left rest before after : Option (List ℕ)) (result : Result T Fault) where
   -- what was asked was done, by how it ended; what isn't asked of a stream leaves it as it was
   abbrev pub DoesAsked : Asked → Type 0
   DoesAsked (lines c) = AnswersLines left rest before after c result × (given_back ≡ None)
@@ -77,9 +77,9 @@ module _ {S T : Type 0} (g : Ghosts S) (paths : AtPaths S) (ports : AtPorts) (gi
   DoesAsked (import file sender) =
       OnDeskByRules g paths given_back result file (Keeps left rest × Keeps before after)
       (λ back c heard. ImportsBy c heard sender (KeepsHeard g back c) (IsLeft g back c) left rest before after result)
-  DoesAsked (serve file port connections) =
+  DoesAsked (serve file port connections log) =
       OnDeskByRules g paths given_back result file (Keeps before after)
-      (λ back c heard. ServesBy c heard (KeepsHeard g back c) (IsLeft g back c) ports port connections before after result)
+      (λ back c heard. ServesBy c heard (KeepsHeard g back c) (IsLeft g back c) (ports log) port connections before after result)
       × Keeps left rest
   DoesAsked (report file owner month) =
       OnDeskByRules g paths given_back result file (Keeps before after)

@@ -1,5 +1,6 @@
 pub mod Answering
 pub mod CommandLine
+pub mod ConnectionLog
 pub mod Doing
 pub mod Endings
 pub mod Faults

@@ -1,5 +1,5 @@
 -- What words name, and which answers tell it.
-use Rattle.std.specs.Prelude.{◌≡◌, ℕ, Result, Ok, Err}
+use Rattle.std.specs.Prelude.{◌≡◌, ℕ, Bool, Result, Ok, Err}
 use Rattle.clap.specs.Kinds.{Kinds, IsAmong}
 use Rattle.clap.specs.Values.{kind_of}
 use Rattle.clap.specs.Walk.{Text}
@@ -19,8 +19,8 @@ pub data Asked : Type 0 where
   hear : Text → Asked
   -- the file and the sender
   import : Text → Text → Asked
-  -- the file, the port and how many connections
-  serve : Text → ℕ → ℕ → Asked
+  -- the file, the port, how many connections, and whether they are logged
+  serve : Text → ℕ → ℕ → Bool → Asked
   -- the file, the owner and the month
   report : Text → Text → Text → Asked
   -- the file and the gateway
@@ -33,7 +33,7 @@ asked_by (Init file config) = init file.now config
 asked_by (Migrate file) = migrate file.now
 asked_by (Hear file) = hear file.now
 asked_by (Import file sender) = import file.now sender
-asked_by (Serve file port connections) = serve file.now port connections
+asked_by (Serve file port connections log) = serve file.now port connections log
 asked_by (Report file owner month) = report file.now owner.now month.now
 asked_by (Bands file gateway) = bands file.now gateway.now
 asked_by (Check file) = check file.now

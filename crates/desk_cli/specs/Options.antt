@@ -1,6 +1,8 @@
 -- The values of commands: the words that give them, and how they are read.
-use Rattle.std.specs.Prelude.{ℕ, ◌+◌, ◌^◌, Bool, true, ◌&&◌, List, [], ◌∷◌, Option, Some, None, Result, Ok, Err, codes, nat_le, option_and_then, if◌then◌else◌}
+use Rattle.std.specs.Prelude.{ℕ, ◌+◌, ◌^◌, Bool, true, false, ◌&&◌, List, [], ◌∷◌, Option, Some, None, Result, Ok, Err, codes, nat_le, bytes_eq, option_and_then, if◌then◌else◌}
+use Rattle.std.specs.Option.{option_map_or}
 use Rattle.clap.specs.Simple.{App, new_rule, with_rule}
+use Rattle.clap.specs.declared.builder.action.ArgAction.TheVariants.{SetTrue}
 use Rattle.clap.specs.Walk.{Row, Rule, Text, first_of}
 use Rattle.radio_core.specs.Names.{is_name}
 use Rattle.registry_core.specs.Settings.{Settings}
@@ -18,6 +20,10 @@ option_rule name default = record (new_rule name) { long = Some name; value_name
 -- an option of one value that has to be there
 abbrev pub needed_rule : Text → Rule
 needed_rule name = record (new_rule name) { long = Some name; value_names = 1; required = true }
+
+-- an option without a value
+abbrev pub flag_rule : Text → Rule
+flag_rule name = record (new_rule name) { long = Some name; action = Some SetTrue }
 
 -- a word that has to be there, known by its place
 abbrev pub place_rule : Text → Rule
@@ -64,6 +70,10 @@ settings_from receiver operator base addresses =
 -- the value of an option, by a form
 abbrev pub value_at : {X : Type 0} → (Text → Option X) → Text → List Row → Option X
 value_at form option rows = option_and_then form (first_of option rows)
+
+-- whether an option without a value is there
+abbrev pub is_set : Text → List Row → Bool
+is_set option rows = option_map_or (λ text. bytes_eq text (codes "true")) (first_of option rows) false
 
 -- the word in a place. clap takes no words that leave a place empty.
 abbrev pub placed : Text → List Row → OrBad Text

@@ -1,5 +1,5 @@
 -- The ports of a network: which can't be had, and how connections at one are answered.
-use Rattle.std.specs.Prelude.{ℕ, List, Option}
+use Rattle.std.specs.Prelude.{ℕ, Bool, List, Option}
 use Rattle.registry_core.specs.declared.messages.Envelope.{Envelope}
 use Rattle.registry_core.specs.Settings.{Settings}
 use Rattle.desk_http.specs.Answered.{Answers, Delivered, none_delivered}
@@ -9,14 +9,10 @@ use Rattle.desk_http.specs.Served.{Connections, ServesEach, ServesFewer}
 
 -- In one record: the ghost member of the trait.
 pub record Ports (N L : Type 0) : Type 1 where
-  -- the network listens at this port so
-  pub listens : N → ℕ → L → Type 0
+  -- the network listens at this port so, with a log of its connections or without
+  pub listens : N → ℕ → Bool → L → Type 0
   -- it doesn't give this port
   pub refuses : N → ℕ → Type 0
-
--- of which nothing is said, as of this system's
-abbrev pub unknown_ports : {N L : Type 0} → Ports N L
-unknown_ports = record { listens = λ network port listening. Unit {0}; refuses = λ network port. Unit {0} }
 
 -- ---- what is answered at them
 
@@ -28,19 +24,19 @@ pub record AtPorts : Type 1 where
   pub given_up : ℕ → Settings → List Envelope → ℕ → Delivered → Type 0
 
 -- At a port of a network so many connections were answered so, from when it is listened at.
-abbrev pub AnswersEach : {N L R W : Type 0} → Ports N L → N → Connections L R W → (R → Option (List ℕ)) → (W → Option (List ℕ)) → ℕ → Settings → List Envelope → ℕ → Delivered → Type 0
-AnswersEach {N} {L} ports network l remaining contents port c heard n delivered =
-    (before after : L) × ports.listens network port before × ServesEach l remaining contents (Answers c heard) n none_delivered delivered before after
+abbrev pub AnswersEach : {N L R W : Type 0} → Ports N L → N → Connections L R W → (R → Option (List ℕ)) → (W → Option (List ℕ)) → Bool → ℕ → Settings → List Envelope → ℕ → Delivered → Type 0
+AnswersEach {N} {L} ports network l remaining contents log port c heard n delivered =
+    (before after : L) × ports.listens network port log before × ServesEach l remaining contents (Answers c heard) n none_delivered delivered before after
 
 -- Fewer were answered so, and then as many accepts failed as end the serving.
-abbrev pub AnswersFewer : {N L R W : Type 0} → Ports N L → N → Connections L R W → (R → Option (List ℕ)) → (W → Option (List ℕ)) → ℕ → Settings → List Envelope → ℕ → Delivered → Type 0
-AnswersFewer {N} {L} ports network l remaining contents port c heard n delivered =
-    (before after : L) × ports.listens network port before × ServesFewer l remaining contents (Answers c heard) n none_delivered delivered before after
+abbrev pub AnswersFewer : {N L R W : Type 0} → Ports N L → N → Connections L R W → (R → Option (List ℕ)) → (W → Option (List ℕ)) → Bool → ℕ → Settings → List Envelope → ℕ → Delivered → Type 0
+AnswersFewer {N} {L} ports network l remaining contents log port c heard n delivered =
+    (before after : L) × ports.listens network port log before × ServesFewer l remaining contents (Answers c heard) n none_delivered delivered before after
 
--- what a network says of its ports, in one
-abbrev pub at_ports : {N L R W : Type 0} → Ports N L → N → Connections L R W → (R → Option (List ℕ)) → (W → Option (List ℕ)) → AtPorts
-at_ports ports network l remaining contents = record {
+-- what a network says of its ports, in one, with a log of their connections or without
+abbrev pub at_ports : {N L R W : Type 0} → Ports N L → N → Connections L R W → (R → Option (List ℕ)) → (W → Option (List ℕ)) → Bool → AtPorts
+at_ports ports network l remaining contents log = record {
   refused = ports.refuses network;
-  answered = AnswersEach ports network l remaining contents;
-  given_up = AnswersFewer ports network l remaining contents;
+  answered = AnswersEach ports network l remaining contents log;
+  given_up = AnswersFewer ports network l remaining contents log;
 }

@@ -1,5 +1,5 @@
 -- What the program is asked, and how a run of it ends.
-use Rattle.std.specs.Prelude.{◌≡◌, ◌≢◌, ◌⊎◌, ℕ, List, Option, None, Result, Ok, Err, String, map, string_bytes}
+use Rattle.std.specs.Prelude.{◌≡◌, ◌≢◌, ◌⊎◌, ℕ, Bool, List, Option, None, Result, Ok, Err, String, map, string_bytes}
 use Rattle.std.specs.Io.KnownBytes.{Keeps}
 use Rattle.std.specs.IoError.{error_kind}
 use Rattle.std.specs.Vec.Iter.{into_iter_items}
@@ -43,9 +43,10 @@ EndsUnread kind Failed = kind ≡ OutOfMemory
 EndsUnread kind Misused = kind ≢ OutOfMemory
 EndsUnread kind _ = ⊥
 
--- What is known of files; what is answered at the ports; the connection that a run gives back; what its reader has left before and
--- after, and what its writer holds before and after; what the writer of standard error holds, and that writer before and after.
-module _ {S F : Type 0} (g : Ghosts S) (paths : AtPaths S) (ports : AtPorts) (back : Option (Held S)) (left rest before after : Option (List ℕ))
+-- What is known of files; what is answered at the ports, with a log of their connections or without; the connection that a run gives
+-- back; what its reader has left before and after, and what its writer holds before and after; what the writer of standard error holds,
+-- and that writer before and after.
+module _ {S F : Type 0} (g : Ghosts S) (paths : AtPaths S) (ports : Bool → AtPorts) (back : Option (Held S)) (left rest before after : Option (List ℕ))
     (contents : F → Option (List ℕ)) (untold told : F) where
   -- what was asked was done, and the program ended by how that ended
   abbrev pub Does : Ending → Asked → Type 0

@@ -3,6 +3,7 @@ pub mod Checking
 pub mod CommandLine
 pub mod Given
 pub mod Jobs
+pub mod Logging
 pub mod Options
 pub mod Printing
 pub mod Serving

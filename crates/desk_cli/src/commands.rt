@@ -65,11 +65,12 @@ pub enum Command<'a> {
         file: &'a str,
         sender: Name,
     },
-    /// Serves this many connections over HTTP on a port of 127.0.0.1, one after another.
+    /// Serves this many connections over HTTP on a port of 127.0.0.1, one after another, with a log of them or without.
     Serve {
         file: &'a str,
         port: u16,
         connections: u32,
+        log: bool,
     },
     /// Prints the report of an owner's month.
     Report {

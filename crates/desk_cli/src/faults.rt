@@ -154,7 +154,7 @@ fn line_of(fault: Fault) -> Result<InlineText<32>, fmt::Error>
 
 /// Writes the text. A write that was interrupted is made again; after 2^64 - 1 of them it fails. With an error only a beginning
 /// of the text is written.
-fn write_beginning<W: Write>(writer: &mut W, text: &[u8]) -> io::Result<()>
+pub(crate) fn write_beginning<W: Write>(writer: &mut W, text: &[u8]) -> io::Result<()>
     ensures whole { OnOk result (Appends (W.contents writer.old) (W.contents writer.new) text.now) }
     ensures begun { IsBegun (W.contents writer.old) (W.contents writer.new) text.now }
 {

@@ -4,6 +4,7 @@
 mod answering;
 mod causes;
 mod commands;
+mod connection_log;
 mod endings;
 mod faults;
 mod files;
@@ -46,7 +47,7 @@ fn run_on<T: Start>(rt: &HostRuntime, start: T) -> ExitCode {
     let (ending, conn) = program::run(
         rt,
         files,
-        &Sockets::new(rt),
+        &Sockets::new(rt, rt.stderr()),
         &mut rt.stdin(),
         &mut rt.stdout(),
         &mut rt.stderr(),

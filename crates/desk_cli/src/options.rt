@@ -9,11 +9,11 @@ ghost use Rattle.desk_wire.specs.Hexadecimal.{addr_in};
 ghost use Rattle.desk_cli.specs.Numbers.{connections_of, port_of};
 ghost use Rattle.desk_cli.specs.steps.CommandLine.{AddsWord, IsCommand};
 ghost use Rattle.desk_cli.specs.steps.Options.{behind};
-ghost use Rattle.desk_cli.specs.Options.{config_of, name_of, needed_rule, option_rule, place_rule, placed, settings_from, value_at, with_settings};
+ghost use Rattle.desk_cli.specs.Options.{config_of, flag_rule, is_set, name_of, needed_rule, option_rule, place_rule, placed, settings_from, value_at, with_settings};
 
 use crate::numbers::{connections_of, port_of};
 use crate::usage::BadValue;
-use clap::{Arg, ArgMatches};
+use clap::{Arg, ArgAction, ArgMatches};
 use desk_wire::{addr_of, count_of};
 use radio_core::Name;
 use registry_core::Config;
@@ -84,6 +84,17 @@ pub(crate) fn needed<'a>(alloc: Global, name: &'a str, form: &'a str, help: &'a 
         .long(name)
         .value_name(form)
         .required(true)
+        .help(help)
+}
+
+/// An option without a value.
+pub(crate) fn flag<'a>(alloc: Global, name: &'a str, help: &'a str) -> Arg<'a>
+    ensures rule { rule_of result ≡ flag_rule name.entry.now }
+    ensures local { result.global ≡ false }
+{
+    Arg::new(alloc, name)
+        .long(name)
+        .action(ArgAction::SetTrue)
         .help(help)
 }
 
@@ -173,6 +184,16 @@ pub(crate) fn connections_at(options: &ArgMatches<'_>, option: &str) -> Option<u
     ensures { result ≡ value_at connections_of option.now (rows_of (found_of options.now)) }
 {
     connections_of(text_at(options, option)?)
+}
+
+/// Whether an option without a value is there.
+pub(crate) fn is_set(options: &ArgMatches<'_>, option: &str) -> bool
+    ensures { result ≡ is_set option.now (rows_of (found_of options.now)) }
+{
+    match text_at(options, option) {
+        Some(text) => text == "true",
+        None => false,
+    }
 }
 
 fn name_of(text: &str) -> Option<Name>

@@ -76,6 +76,7 @@ pub(crate) fn perform<S: Alter, N: Files<S>, B: Network, R: Read, W: Write, F: W
             file,
             port,
             connections,
+            log,
         } => {
             serve_file(
                 alloc,
@@ -84,6 +85,7 @@ pub(crate) fn perform<S: Alter, N: Files<S>, B: Network, R: Read, W: Write, F: W
                 file,
                 *port,
                 *connections,
+                *log,
                 answers,
                 faults,
             )
@@ -179,18 +181,28 @@ fn serve_file<S: Alter, N: Files<S>, B: Network, W: Write, F: Write>(
     file: &str,
     port: u16,
     connections: u32,
+    log: bool,
     answers: &mut W,
     faults: &mut F,
 ) -> Performed<S>
     ensures { Ends F.contents faults.old faults.new result.0 (λ done. OnDeskFile S.Store (N.paths files) result.1 done file.now
         (Keeps (W.contents answers.old) (W.contents answers.new))
         (λ back c heard. ServesBy c heard (KeepsHeard S.Store back c) (IsLeft S.Store back c)
-        (at_ports B.ports network.now B.Port.meaning B.Port.Reader.remaining B.Port.Writer.contents) port connections (W.contents answers.old) (W.contents answers.new) done)) }
+        (at_ports B.ports network.now B.Port.meaning B.Port.Reader.remaining B.Port.Writer.contents log) port connections (W.contents answers.old) (W.contents answers.new) done)) }
 {
     on_file!(
         files.open(file),
         faults,
-        |conn| serve_command(alloc, conn, network, port, connections, answers, faults)
+        |conn| serve_command(
+            alloc,
+            conn,
+            network,
+            port,
+            connections,
+            log,
+            answers,
+            faults
+        )
     )
 }
 

@@ -1,7 +1,8 @@
 //! The ports of 127.0.0.1 as this system gives them.
 ghost use Rattle.desk_http.specs.Served.{unknown};
-ghost use Rattle.desk_cli.specs.Ports.{unknown_ports};
+ghost use Rattle.std.specs.Prelude.{◌≡◌, is_some};
 
+use crate::connection_log::Logged;
 use crate::network::Network;
 use desk_engine::read_some;
 use desk_http::{Listening, ServeEnd};
@@ -184,30 +185,34 @@ where
     }
 }
 
-/// This system's ports of 127.0.0.1.
+/// This system's ports of 127.0.0.1, and the writer of their log.
 #[derive(Clone, Copy)]
-pub struct Sockets<'a, R> {
+pub struct Sockets<'a, R, G> {
     rt: &'a R,
+    log: G,
 }
 
-impl<'a, R> Sockets<'a, R> {
-    /// Those that this runtime reaches.
-    pub fn new(rt: &'a R) -> Self {
-        Sockets { rt }
+impl<'a, R, G> Sockets<'a, R, G> {
+    /// The ports that this runtime reaches. `log` gets a line for each connection of a port that is listened at with a log.
+    pub fn new(rt: &'a R, log: G) -> Self {
+        Sockets { rt, log }
     }
 }
 
-impl<'a, R: Net + Clock> Network for Sockets<'a, R> {
-    type Port = Port<'a, R, R::Listener>;
+impl<'a, R: Net + Clock, G: Write + Copy> Network for Sockets<'a, R, G> {
+    type Port = Logged<'a, Port<'a, R, R::Listener>, R, G>;
 
-    ghost ports = { unknown_ports };
+    // Of the port itself nothing is known.
+    ghost ports = { record { listens = λ network port log listening. is_some listening.log ≡ log; refuses = λ network port. Unit {0} } };
 
-    fn listen(&self, port: u16) -> io::Result<Self::Port> {
+    fn listen(&self, port: u16, log: bool) -> io::Result<Self::Port> {
         let address = SocketAddr::V4(SocketAddrV4::new(Ipv4Addr::LOCALHOST, port));
-        Ok(Port {
+        let port = Port {
             clock: self.rt,
             listener: self.rt.bind(address)?,
-        })
+        };
+        let log = if log { Some(self.log) } else { None };
+        Ok(Logged::new(port, self.rt, log))
     }
 }
 

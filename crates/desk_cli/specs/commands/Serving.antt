@@ -6,7 +6,7 @@ use Rattle.clap.specs.Simple.{App, new_app, with_rule}
 use Rattle.clap.specs.Walk.{Row}
 use Rattle.desk_cli.specs.Named.{Named, named_as, serve}
 use Rattle.desk_cli.specs.Numbers.{connections_of, port_of}
-use Rattle.desk_cli.specs.Options.{◌>>=◌, needed_rule, or_bad, place_rule, placed, value_at}
+use Rattle.desk_cli.specs.Options.{◌>>=◌, flag_rule, is_set, needed_rule, or_bad, place_rule, placed, value_at}
 use Rattle.registry_core.specs.declared.messages.Envelope.{Envelope}
 use Rattle.registry_core.specs.Settings.{Settings}
 use Rattle.desk_engine.specs.Deliveries.{heard_all}
@@ -20,10 +20,11 @@ use Rattle.desk_cli.specs.declared.usage.BadValue.TheVariants.{Connections, Port
 -- its words
 abbrev pub serve_app : App
 serve_app =
-    with_rule (with_rule (with_rule (new_app (codes "serve"))
+    with_rule (with_rule (with_rule (with_rule (new_app (codes "serve"))
     (place_rule (codes "file")))
     (needed_rule (codes "port")))
-    (needed_rule (codes "count"))
+    (needed_rule (codes "count")))
+    (flag_rule (codes "log"))
 
 -- what they name
 abbrev pub serve_named : List Row → Named
@@ -31,7 +32,7 @@ serve_named rows = named_as do
   file ← placed (codes "file") rows
   port ← or_bad (value_at port_of (codes "port") rows) Port
   connections ← or_bad (value_at connections_of (codes "count") rows) Connections
-  Ok (serve file port connections)
+  Ok (serve file port connections (is_set (codes "log") rows))
 
 -- ---- what it does
 

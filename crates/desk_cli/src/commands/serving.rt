@@ -26,7 +26,9 @@ use crate::endings::Ending;
 use crate::faults::{Fault, end};
 use crate::jobs::{Job, by_store};
 use crate::network::Network;
-use crate::options::{command_on_file, connections_at, needed, placed, port_at, with_word};
+use crate::options::{
+    command_on_file, connections_at, flag, is_set, needed, placed, port_at, with_word,
+};
 use crate::usage::{BadValue, Usage};
 use clap::ArgMatches;
 use desk_engine::write_whole;
@@ -44,7 +46,9 @@ page of another place, is answered 403.
 Example:
   desk serve town.db --port 8080 --count 100";
 
-/// Its words: its name, the file, the port and how many connections.
+const LOG: &str = "Writes a line for each connection to standard error";
+
+/// Its words: its name, the file, the port, how many connections, and whether they are logged.
 pub(crate) fn serve_app<'a>(alloc: Global) -> Result<clap::Command<'a>, AllocError>
     ensures { IsCommand serve_app result }
 {
@@ -53,7 +57,8 @@ pub(crate) fn serve_app<'a>(alloc: Global) -> Result<clap::Command<'a>, AllocErr
     let many = "How many connections, one after another, 1 to 1000000";
     let count = needed(alloc, "count", "N", many);
     let command = with_word(command_on_file(alloc, "serve", about, EXAMPLE), port);
-    with_word(command, count)
+    let counted = with_word(command, count);
+    with_word(counted, flag(alloc, "log", LOG))
 }
 
 /// The command that its words give.
@@ -67,11 +72,13 @@ pub(crate) fn serve_of<'a>(options: &ArgMatches<'a>) -> Result<Command<'a>, Usag
         file,
         port,
         connections,
+        log: is_set(options, "log"),
     })
 }
 
 /// Serves `connections` connections at a port of 127.0.0.1, one after another, by the desk of the connection's database, and gives
-/// the connection back. Before the first it writes `listening 127.0.0.1:` with the port, and an LF.
+/// the connection back. Before the first it writes `listening 127.0.0.1:` with the port, and an LF. With `log` the network writes
+/// a line for each connection to its log.
 ///
 /// The port is bound once the desk is open. Returns `Network` if it can't be bound, and `File` if the line can't be written. A
 /// connection that fails after it was accepted counts. An accept that fails doesn't; after 64 failures in a row the command
@@ -83,6 +90,7 @@ pub fn serve_command<S: Alter, B: Network, W: Write, F: Write>(
     network: &B,
     port: u16,
     connections: u32,
+    log: bool,
     answers: &mut W,
     faults: &mut F,
 ) -> (Ending, Connection<S>)
@@ -91,10 +99,10 @@ pub fn serve_command<S: Alter, B: Network, W: Write, F: Write>(
     ensures { Ends F.contents faults.old faults.new result.0 (λ done. OnDesk S.Store conn result.1 done
         (Keeps (W.contents answers.old) (W.contents answers.new))
         (λ c heard. ServesBy c heard (KeepsHeard S.Store result.1 c) (IsLeft S.Store result.1 c)
-        (at_ports B.ports network.now B.Port.meaning B.Port.Reader.remaining B.Port.Writer.contents)
+        (at_ports B.ports network.now B.Port.meaning B.Port.Reader.remaining B.Port.Writer.contents log)
         port connections (W.contents answers.old) (W.contents answers.new) done)) }
 {
-    let (done, conn) = serve_desk(alloc, conn, network, port, connections, answers);
+    let (done, conn) = serve_desk(alloc, conn, network, port, connections, log, answers);
     (end(faults, done), conn)
 }
 
@@ -105,13 +113,14 @@ fn serve_desk<S: Alter, B: Network, W: Write>(
     network: &B,
     port: u16,
     connections: u32,
+    log: bool,
     answers: &mut W,
 ) -> (Result<(), Fault>, Connection<S>)
     requires idle { conn.in_transaction ≡ false }
     requires unlimited { conn.step_limit ≡ None }
     ensures serves { HasCleanDisk (state S.Store result.1) → (c : Settings) (heard : List Envelope) → KeepsHeard S.Store conn c heard
         → ServesBy c heard (KeepsHeard S.Store result.1 c) (IsLeft S.Store result.1 c)
-        (at_ports B.ports network.now B.Port.meaning B.Port.Reader.remaining B.Port.Writer.contents)
+        (at_ports B.ports network.now B.Port.meaning B.Port.Reader.remaining B.Port.Writer.contents log)
         port connections (W.contents answers.old) (W.contents answers.new) result.0 }
     ensures no_desk { HasCleanDisk (state S.Store result.1) → HoldsNoDesk S.Store conn
         → RefusesFile S.Store conn result.1 (Keeps (W.contents answers.old) (W.contents answers.new)) result.0 }
@@ -121,6 +130,7 @@ fn serve_desk<S: Alter, B: Network, W: Write>(
         network,
         port,
         connections,
+        log,
     };
     by_store(alloc, conn, &job, &mut io::empty(), answers)
 }
@@ -131,10 +141,11 @@ struct Serve<'a, B> {
     network: &'a B,
     port: u16,
     connections: u32,
+    log: bool,
 }
 
 impl<B: Network> Job for Serve<'_, B> {
-    ghost does = { λ job. serves (at_ports B.ports job.network.now B.Port.meaning B.Port.Reader.remaining B.Port.Writer.contents) job.port job.connections };
+    ghost does = { λ job. serves (at_ports B.ports job.network.now B.Port.meaning B.Port.Reader.remaining B.Port.Writer.contents job.log) job.port job.connections };
 
     fn run<K: Keeper, R: Read, W: Write>(
         &self,
@@ -143,7 +154,7 @@ impl<B: Network> Job for Serve<'_, B> {
         _reader: &mut R,
         answers: &mut W,
     ) -> Result<(), Fault> {
-        let Ok(mut listening) = self.network.listen(self.port) else {
+        let Ok(mut listening) = self.network.listen(self.port, self.log) else {
             return Err(Fault::Network);
         };
         let Ok(line) = listening_line(alloc, self.port) else {

@@ -114,9 +114,9 @@ struct OnePort {
 impl Network for OnePort {
     type Port = Silent;
 
-    ghost ports = { record { listens = λ network port listening. network.free ≡ port; refuses = λ network port. network.free ≢ port } };
+    ghost ports = { record { listens = λ network port log listening. network.free ≡ port; refuses = λ network port. network.free ≢ port } };
 
-    fn listen(&self, port: u16) -> io::Result<Silent> {
+    fn listen(&self, port: u16, _log: bool) -> io::Result<Silent> {
         if port == self.free {
             Ok(Silent)
         } else {

@@ -3,4 +3,5 @@ use Rattle.desk_cli.proofs.commands.serving.serve_app.Goals as goal
 pub returns : goal.returns
 returns c =
     let port = c.with_word-command.ensures _ _ c.command_on_file.ensures c.needed-port.ensures.rule c.needed-port.ensures.local in
-    c.with_word.ensures _ _ port c.needed-count.ensures.rule c.needed-count.ensures.local
+    let count = c.with_word-counted.ensures _ _ port c.needed-count.ensures.rule c.needed-count.ensures.local in
+    c.with_word.ensures _ _ count c.flag.ensures.rule c.flag.ensures.local

@@ -28,8 +28,8 @@ fn client(rt: &HostRuntime, address: SocketAddr, pieces: &[&[u8]]) -> io::Result
 
 /// What a client gets that sends these pieces. It is served once all of them are sent.
 fn answered(rt: &HostRuntime, pieces: &[&[u8]]) -> Result<Vec<u8>, Fail> {
-    let mut port = Sockets::new(rt).listen(0)?;
-    let mut client = client(rt, port.address()?, pieces)?;
+    let mut port = Sockets::new(rt, rt.stderr()).listen(0, false)?;
+    let mut client = client(rt, port.port().address()?, pieces)?;
     let mut lists = opening::<Lists>(rt.alloc(), 65_536)?;
     if serve_connections(rt.alloc(), &mut *lists, &mut port, 1).is_err() {
         return Err("no connection comes".into());
@@ -55,9 +55,9 @@ fn a_head_in_pieces(rt: HostRuntime) -> Result<(), Fail> {
 #[test]
 fn a_silent_client(rt: HostRuntime) -> Result<(), Fail> {
     let input = posted(rt.alloc(), REQUEST, "")?;
-    let mut port = Sockets::new(&rt).listen(0)?;
-    let silent = TcpStream::connect(&rt, port.address()?)?;
-    let mut client = client(&rt, port.address()?, &[input.as_bytes()])?;
+    let mut port = Sockets::new(&rt, rt.stderr()).listen(0, false)?;
+    let silent = TcpStream::connect(&rt, port.port().address()?)?;
+    let mut client = client(&rt, port.port().address()?, &[input.as_bytes()])?;
     let mut lists = opening::<Lists>(rt.alloc(), 65_536)?;
     let began = Instant::now(&rt)?;
     let served = serve_connections(rt.alloc(), &mut *lists, &mut port, 2);

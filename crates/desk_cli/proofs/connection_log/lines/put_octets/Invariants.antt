@@ -1,0 +1,8 @@
+use Rattle.std.proofs.Common.{◌≡◌, ◌++◌, take}
+use Rattle.std.specs.List.{flat_map}
+use Rattle.desk_cli.specs.ConnectionLog.{octet_field}
+use Rattle.desk_cli.proofs.connection_log.lines.put_octets.Given as goal
+
+-- the octets so far are put
+abbrev pub invariant-loop-octet : goal.invariant-loop-octet
+invariant-loop-octet l = l.line.items ≡ l.fn.line.items ++ flat_map octet_field (take l.octet-index l.text)

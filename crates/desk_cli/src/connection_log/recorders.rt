@@ -1,0 +1,100 @@
+//! What goes over a connection, counted and in part kept while it is handed on.
+ghost use Rattle.std.specs.Prelude.{◌≡◌, ◌++◌, ◌+◌, ◌^◌, ◌-◌, length, min, take, IfSome};
+
+use std::alloc::Global;
+use std::io::{self, Read, Write};
+
+/// So many octets are kept of what was read, and as many of what was written: a head has no more, nor has an answer.
+const MOST_KEPT: usize = 8_192;
+
+/// What went over one direction of a connection: how many octets, and the first of them.
+#[derive(Drop)]
+pub struct Record {
+    count: u64,
+    first: Vec<u8>,
+}
+
+impl Record {
+    /// Nothing yet, with memory for all that is kept.
+    fn new(alloc: Global) -> Option<Self> {
+        let first = Vec::with_capacity(alloc, MOST_KEPT).ok()?;
+        Some(Record { count: 0, first })
+    }
+
+    /// How many octets.
+    pub(super) fn count(&self) -> u64
+        ensures { result ≡ self.now.count }
+    {
+        self.count
+    }
+
+    /// The first of them, at most 8,192.
+    pub(super) fn first(&self) -> &[u8]
+        ensures { result.now ≡ self.now.first.items }
+    {
+        self.first.as_slice()
+    }
+
+    /// Notes octets that went over it.
+    fn note(&mut self, octets: &[u8])
+        ensures count { self.new.count ≡ min (self.old.count + length octets.now) (2 ^ 64 - 1) }
+    {
+        self.count = self.count.saturating_add(octets.len() as u64);
+        let room = MOST_KEPT.saturating_sub(self.first.len());
+        let kept = &octets[..octets.len().min(room)];
+        // There is memory for them.
+        let _ = self.first.extend_from_slice(kept);
+    }
+}
+
+/// A stream whose octets are noted, if there is a record for them.
+#[derive(Drop)]
+pub struct Recorder<S> {
+    pub(super) below: S,
+    pub(super) record: Option<Record>,
+}
+
+impl<S> Recorder<S> {
+    /// A stream of which nothing went over yet. Without memory nothing is noted.
+    pub(super) fn new(alloc: Global, below: S, is_noted: bool) -> Self
+        ensures { result.below ≡ below }
+    {
+        let record = if is_noted { Record::new(alloc) } else { None };
+        Recorder { below, record }
+    }
+
+    /// Notes octets that went over it.
+    fn note(&mut self, octets: &[u8])
+        ensures { self.new.below ≡ self.old.below }
+    {
+        if let Some(record) = &mut self.record {
+            record.note(octets);
+        }
+    }
+}
+
+impl<S: Read> Read for Recorder<S> {
+    // What the stream below gives, octet for octet.
+    ghost remaining = { λ recorder. S.remaining recorder.below };
+
+    fn read(&mut self, buf: &mut [u8]) -> io::Result<usize> {
+        let count = self.below.read(buf)?;
+        self.note(&buf[..count]);
+        Ok(count)
+    }
+}
+
+impl<S: Write> Write for Recorder<S> {
+    // What the stream below takes, octet for octet.
+    ghost contents = { λ recorder. S.contents recorder.below };
+
+    fn write(&mut self, buf: &[u8]) -> io::Result<usize> {
+        let count = self.below.write(buf)?;
+        self.note(&buf[..count]);
+        Ok(count)
+    }
+
+    fn flush(&mut self) -> io::Result<()> {
+        self.below.flush()
+    }
+}
