@@ -1,6 +1,7 @@
 //! Connections one after another: of peers that the tests play, and over sockets.
 ghost use Rattle.desk_http.specs.Served.{unknown};
 
+mod logged;
 mod loopback;
 
 use crate::tests::failing::FAILURES;
