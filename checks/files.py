@@ -142,7 +142,7 @@ def missing(desk):
 
 
 def strangers(desk):
-    """Files that are no desk are refused, and left as they are."""
+    """Files that are not a desk are refused, and left as they are."""
     Path("text.db").write_text("no database at all\n" * 1000)
     execute("other.db", "CREATE TABLE note (id INTEGER PRIMARY KEY)")
     version = desk.made("version.db", REGISTRY)

@@ -1,5 +1,5 @@
 #!/usr/bin/env python3
-"""Opens files that are no desk of this version: each is refused, and left as it was, but for an empty one.
+"""Opens files that are not a desk of this version: each is refused, and left as it was, but for an empty one.
 
     checks/strange_files.py [--program FILE]
 
@@ -11,7 +11,7 @@ too, and is a database without tables then. `desk init` makes no desk in somebod
 a view of it has a name of the desk's, in other letters.
 
 Then a desk's file with one value out of its range, in the columns that messages and reports read: a message or a
-report that needs the row finds no desk, and leaves all rows as they are.
+report that needs the row ends with `not a desk`, and leaves all rows as they are.
 
 `desk migrate` gets files of schema 1 that are changed so that it can't move them, the numbers by which it counts their
 rows among it: it reports why, and the file is as it was.
