@@ -19,8 +19,9 @@ fn is_decimal(text: &[u8]) -> bool
     1 <= text.len() && text.len() <= 16 && are_digits(text)
 }
 
+/// An integer: one to sixteen decimal digits and nothing else.
 #[tactic(auto, unfolding(crate::specs::Decimals::decimal_in))]
-pub(crate) fn decimal_of(text: &[u8]) -> Option<u64>
+pub fn decimal_of(text: &[u8]) -> Option<u64>
     ensures { result ≡ decimal_in text.now }
 {
     if !is_decimal(text) {

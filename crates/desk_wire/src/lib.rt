@@ -26,7 +26,7 @@ mod writing;
 pub use answers::{write_answer, write_refusal};
 pub use csv_faults::CsvFault;
 pub use csv_reports::{LONGEST_REPORT, read_report};
-pub use decimals::count_of;
+pub use decimals::{count_of, decimal_of};
 pub use faults::WireFault;
 pub use heads::{Head, head_of};
 pub use hexadecimal::{addr_digits, addr_of, eui_digits};
