@@ -13,11 +13,13 @@ use Rattle.desk_rows.specs.Calls.{IsReadingCall}
 use Rattle.desk_rows.specs.Rows.{BookingRow, SessionRow}
 use Rattle.desk_rows.specs.Schema.{desk_schema}
 use Rattle.desk_tables.specs.InOrder.{IsOfDesk, entry_in}
+use Rattle.desk_tables.specs.Seen.{IsSeen, nothing}
 use Rattle.desk_tables.specs.Store.{IsAtRest, IsSettled, Stands}
 use Rattle.desk_tables.specs.declared.tables.Tables.{Tables}
 use Rattle.desk_tables.specs.steps.Adopting.{IsAdopted, IsNotAdopted, IsStoreOver}
 use Rattle.desk_tables.specs.steps.Calls.{IsReady}
 use Rattle.desk_tables.specs.steps.Counting.{AreRowsCounted}
+use Rattle.desk_tables.proofs.SeenLemmas.{nothing_seen}
 
 module _ {S : Type 0} (g : Ghosts S) (conn : Held S) (config : Settings) where
   pub if_adopted : (P : Tables S → Type 0) (result : Result (Tables S) (StoreFault × Held S)) → IsAdopted g conn config result
@@ -55,9 +57,9 @@ pub at_rest : (s : State) → IsSettled s → s.now.schema ≡ desk_schema → I
 at_rest s settled schema = record { settled = settled; stored = refl; schema = schema }
 
 -- a store over settled tables of a desk, with what they hold counted
-pub stands : {S : Type 0} (g : Ghosts S) (t : Tables S) (c : Settings) (kept : Kept) (db : Database) → IsSettled (state g t.conn) → t.config ≡ c → (state g t.conn).now ≡ db
+pub stands : {S : Type 0} (g : Ghosts S) (t : Tables S) (c : Settings) (kept : Kept) (db : Database) → IsSettled (state g t.conn) → t.config ≡ c → t.seen ≡ nothing → (state g t.conn).now ≡ db
     → (is : IsOfDesk c kept db) → AreRowsCounted is.in_order.rows (t.heard, t.counts) → Stands g t kept
-stands g t c kept db settled config same is told =
+stands g t c kept db settled config unseen same is told =
     let r = is.in_order.rows in
     record {
       settled = settled;
@@ -68,4 +70,5 @@ stands g t c kept db settled config same is told =
         uplinks = told.1.1 ∙ sym (ap (λ (s : Registry). length s.uplinks) is.in_order.are.is);
         bookings = told.1.2 ∙ sym (ap (λ (s : Registry). length s.bookings) is.in_order.are.is ∙ length-map r.bookings (λ (b : BookingRow). b.booking));
       };
+      seen = λ r holds. subst (IsSeen r) (sym unseen) (nothing_seen r);
     }

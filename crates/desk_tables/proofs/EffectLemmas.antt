@@ -10,6 +10,8 @@ use Rattle.desk_rows.specs.declared.faults.RowFault.{RowFault}
 use Rattle.desk_rows.specs.order.Keys.{HasOnly, IsThereFor, RaisesOne, floor_set}
 use Rattle.registry_core.specs.Wholes.{IsWhole}
 use Rattle.sqlite.specs.State.{State}
+use Rattle.desk_tables.specs.Seen.{IsFloorOf, IsSeen, IsSessionAt}
+use Rattle.desk_tables.specs.declared.seen.Seen.{Seen}
 use Rattle.desk_tables.specs.steps.Calls.{Asks}
 use Rattle.desk_tables.specs.declared.effects.basis.Basis.{Basis}
 use Rattle.desk_tables.specs.steps.Effects.{AreWhole, HasSession, IsBasis, IsRaised}
@@ -64,12 +66,10 @@ pub device_there : (uplink : Uplink) (r : Rows) (one : RaisesOne uplink r) {sess
 device_there uplink r one {session = session} there = device_of uplink r one session (session_is uplink r one session there)
 
 -- the session of the uplink was asked for, and then its device's floor
-pub raised_asked : {a b c : State} {session : Session} {floor : Option ℕ} (uplink : Uplink)
-    → Asks a b (Ok session) (λ r. Unit {0}) (λ r. IsWhole uplink.session × HasSession uplink.session r)
-    (λ r found. option_map (λ (row : SessionRow). row.session) (item_at r.sessions uplink.session) ≡ Some found)
-    → Asks b c (Ok floor) (λ r. Unit {0}) (λ r. HasOnly (is_device session.device) r.devices)
-    (λ r found. option_map (λ (row : DeviceRow). row.floor) (find (is_device session.device) r.devices) ≡ Some found)
-    → Asks a c (Ok floor) (RaisesOne uplink) (λ r. IsWhole uplink.session) (RaisesIf uplink.session session.device)
-raised_asked {session = session} uplink one two = asks_then one two (λ r of. tt) (λ r of there. tt)
-    (λ r of may there. device_there uplink r of there)
-    (λ r of there floor told. raised uplink r of session (session_is uplink r of session there) floor told)
+pub raised_asked : {a b c : State} {session : Session} {floor : Option ℕ} (uplink : Uplink) (seen : Seen)
+    → Asks a b (Ok session) (λ r. IsSeen r seen) (λ r. IsWhole uplink.session × HasSession uplink.session r) (λ r. IsSessionAt r uplink.session)
+    → Asks b c (Ok floor) (λ r. IsSeen r seen) (λ r. HasOnly (is_device session.device) r.devices) (λ r. IsFloorOf r session.device)
+    → Asks a c (Ok floor) (λ r. RaisesOne uplink r × IsSeen r seen) (λ r. IsWhole uplink.session) (RaisesIf uplink.session session.device)
+raised_asked {session = session} uplink seen one two = asks_then one two (λ r of. of.1) (λ r of there. of.1)
+    (λ r of may there. device_there uplink r of.0 there)
+    (λ r of there floor told. raised uplink r of.0 session (session_is uplink r of.0 session there) floor told)

@@ -6,6 +6,7 @@ pub mod CountLemmas
 pub mod EffectLemmas
 pub mod Entries
 pub mod HaveItLemmas
+pub mod KnownLemmas
 pub mod LimitLemmas
 pub mod LookUps
 pub mod MigratingLemmas
@@ -14,6 +15,7 @@ pub mod OneSchema
 pub mod OpeningLemmas
 pub mod Reading
 pub mod RefusedCommits
+pub mod SeenLemmas
 pub mod ShapeLemmas
 pub mod Telling
 pub mod WholeLemmas

@@ -18,7 +18,9 @@ use Rattle.desk_rows.specs.Faults.{IsEven}
 use Rattle.desk_rows.specs.Rows.{Holds, Rows}
 use Rattle.desk_rows.specs.Schema.{desk_schema}
 use Rattle.desk_tables.specs.InOrder.{IsOfDesk}
+use Rattle.desk_tables.specs.Seen.{AreSeen, IsSeen}
 use Rattle.desk_tables.specs.Store.{IsAtRest, IsSettled, Leaves, Stands, meaning_of}
+use Rattle.desk_tables.specs.declared.seen.Seen.{Seen}
 use Rattle.desk_tables.specs.declared.tables.Tables.{Tables}
 use Rattle.desk_tables.specs.steps.Calls.{Asks}
 use Rattle.desk_tables.specs.steps.LookUps.{OfKept}
@@ -95,6 +97,7 @@ module _ {S : Type 0} (g : Ghosts S) (old : Tables S) (conn : Held S) (down fore
     desk = subst (IsOfDesk old.config kept) (sym same.now_is) it.desk;
     heard = it.heard;
     counts = it.counts;
+    seen = subst (AreSeen old.seen) (sym same.now_is) it.seen;
   }
 
   leaves_on : (all : List Kept) → HasCleanDisk (state g conn) → Survives (state g old.conn) (state g conn) (λ _. ⊥) → Leaves g old all → Leaves g later all
@@ -236,6 +239,69 @@ module _ {S T : Type 0} (g : Ghosts S) (old : Tables S) (mid : Held S) (new : Ta
       → Reads (state g old.conn) (state g mid) answer (OfKept P) → IsTold g (record old { conn = mid }) new answer result
       → Tells (meaning_of g) old new result P
   answered_by_kept answer result P up reads told = kept_asked answer result P up (asks_one reads) told
+
+-- ---- what a look-up found is kept
+
+told_ok : {S T : Type 0} (g : Ghosts S) (mid new : Tables S) (answer : Result T RowFault) (x : T) → IsTold g mid new answer (Ok x) → (answer ≡ Ok x) × (new ≡ mid)
+told_ok {T = T} g mid new (Ok y) x told =
+    let same : y ≡ x = let e = told.0 in cc in
+    (ap (λ z. let found : Result T RowFault = Ok z in found) same, told.1)
+told_ok g mid new (Err fault) x (t, is, fails) = absurd (cc)
+
+module _ {S T : Type 0} (g : Ghosts S) (old : Tables S) (mid : Held S) (up : old.down ≡ false) (x : T) (Says : Rows → T → Type 0) (seen : Seen)
+    (reads : Reads (state g old.conn) (state g mid) (Ok x) Says) (so : (r : Rows) → Says r x → IsSeen r old.seen → IsSeen r seen) where
+  seen_held : (kept : Kept) → HasCleanDisk (state g mid) → Stands g old kept → Stands g (record old { conn = mid }) kept
+      → Stands g (record old { conn = mid; seen = seen }) kept
+  seen_held kept clean was it =
+      let has = was.desk.in_order.held.ten.schema in
+      let up = was.settled.open_still in
+      let same = (unchanged_before (state g old.conn) (state g mid) was.settled (reads.read.survives has up clean) (reads.read.leaves has up clean)).now_is in
+      record {
+        settled = it.settled;
+        desk = it.desk;
+        heard = it.heard;
+        counts = it.counts;
+        seen = λ r holds. so r (reads.told clean r (subst (λ d. Holds d r) same holds)) (it.seen r holds);
+      }
+
+  seen_read : calls.IsRead (meaning_of g) old (record old { conn = mid; seen = seen }) None
+  seen_read =
+      let read = answered g old mid up reads.read in
+      record {
+        same = read.same;
+        was_sound = read.was_sound;
+        shut = read.shut;
+        strange = read.strange;
+        reading = read.reading;
+        held = λ kept clean holds still. seen_held kept clean (holds up) (read.held kept clean holds still);
+        left = read.left;
+        unavailable = read.unavailable;
+        rests = read.rests;
+      }
+
+-- a look-up that answered, and how the store then changes what it has seen
+pub answered_and_seen : {S T : Type 0} (g : Ghosts S) (old : Tables S) (mid : Held S) (new : Tables S) (answer : Result T RowFault) (x : T)
+    (Says : Rows → T → Type 0) (change : Seen → Seen) → old.down ≡ false → Reads (state g old.conn) (state g mid) answer Says
+    → IsTold g (record old { conn = mid }) new answer (Ok x) → ((r : Rows) → Says r x → IsSeen r old.seen → IsSeen r (change old.seen))
+    → calls.IsRead (meaning_of g) old (record new { seen = change new.seen }) None
+answered_and_seen g old mid new answer x Says change up reads told so =
+    let is = told_ok g (record old { conn = mid }) new answer x told in
+    subst (λ k. calls.IsRead (meaning_of g) old (record k { seen = change k.seen }) None) (sym is.1)
+    (seen_read g old mid up x Says (change old.seen) (subst (λ a. Reads (state g old.conn) (state g mid) a Says) is.0 reads) so)
+
+-- what was seen is asked for no more
+pub unread : {S : Type 0} (g : Ghosts S) (s : Tables S) → calls.IsRead (meaning_of g) s s None
+unread g s = record {
+  same = refl;
+  was_sound = λ sound. sound;
+  shut = refl;
+  strange = refl;
+  reading = tt;
+  held = λ kept sound holds. holds;
+  left = λ kept all sound holds left. left;
+  unavailable = λ kept sound holds. tt;
+  rests = λ db sound rests. rests;
+}
 
 -- ---- a store that is down is asked nothing
 

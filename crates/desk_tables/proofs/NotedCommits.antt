@@ -5,6 +5,7 @@ use Rattle.registry_core.specs.declared.effects.Effect.{Effect}
 use Rattle.registry_core.specs.declared.messages.Envelope.{Envelope}
 use Rattle.registry_core.specs.Fits.{Fits}
 use Rattle.registry_core.specs.Heard.{most_heard}
+use Rattle.registry_core.specs.State.{State}
 use Rattle.sqlite_trees.specs.declared.store.Store.{Ghosts}
 use Rattle.sqlite_trees.specs.Tree.{Trees}
 use Rattle.sqlite.specs.Effect.{Database}
@@ -20,18 +21,21 @@ use Rattle.desk_rows.specs.declared.faults.RowFault.TheVariants.{Memory, Disk, S
 use Rattle.desk_rows.specs.Faults.{IsEven}
 use Rattle.desk_rows.specs.Rows.{Holds}
 use Rattle.desk_rows.specs.order.Changes.{RowsFollowFacts, rows_with}
-use Rattle.desk_rows.specs.order.Keys.{ChangedRowsAreThere, IsThereFor, KeysAreFree}
+use Rattle.desk_rows.specs.order.Keys.{ChangedRowsAreThere, KeysAreFree}
 use Rattle.desk_tables.specs.InOrder.{IsOfDesk}
+use Rattle.desk_tables.specs.Seen.{AreSeen, seen_after}
 use Rattle.desk_tables.specs.Store.{HoldsKept, IsAtRest, IsSettled, Leaves, Stands, meaning_of, own_law}
+use Rattle.desk_tables.specs.declared.effects.basis.Known.{Known}
 use Rattle.desk_tables.specs.declared.tables.Tables.{Tables}
 use Rattle.desk_tables.specs.steps.Calls.{Commits, IsReady}
-use Rattle.desk_tables.specs.steps.Effects.{IsOpenToBoth, reply_row}
+use Rattle.desk_tables.specs.steps.Effects.{IsOpenToBoth, IsThereAndKnown, reply_row}
 use Rattle.desk_tables.specs.steps.Faults.{store_fault}
 use Rattle.desk_tables.specs.steps.Keeper.{CountsWith, IsCommit, IsNoted}
 use Rattle.desk_tables.specs.steps.Settling.{Settles, is_size}
 use Rattle.desk_tables.proofs.CommitLemmas.{rows_in_order, rows_open}
 use Rattle.desk_tables.proofs.CountLemmas.{are_few, one_longer}
 use Rattle.desk_tables.proofs.LookUps.{disk_or_as, has_schema}
+use Rattle.desk_tables.proofs.SeenLemmas.{seen_with}
 
 -- ---- faults
 
@@ -58,9 +62,12 @@ first_false true b is = absurd (true≢false is)
 module _ {S : Type 0} (g : Ghosts S) (old : Tables S) (e : Envelope) (message : List ℕ) (effect : Effect) (answer : List ℕ) (up : old.down ≡ false)
     (room : old.heard < most_heard) (follow : RowsFollowFacts) (keys : KeysAreFree) (changed : ChangedRowsAreThere)
     (settled : (s : S) (db : Trees) → IsTrue (g.view s).is_open → g.recovers s db → db ≡ (g.view s).committed) where
+  abbrev known : Known
+  known = record { uplinks = old.counts.uplinks; seen = old.seen }
+
   abbrev CommitsTo : Held S → Result (Unit {0}) RowFault → Type 0
   CommitsTo mid done =
-      Commits (state g old.conn) (state g mid) done (IsThereFor effect) (IsOpenToBoth effect e) (rows_with effect (reply_row e message answer))
+      Commits (state g old.conn) (state g mid) done (IsThereAndKnown effect known) (IsOpenToBoth effect e) (rows_with effect (reply_row e message answer))
 
   ready : (kept : Kept) → Stands g old kept → IsReady (state g old.conn)
   ready kept it = record { is_open = it.settled.open_still; schema = it.desk.in_order.held.ten.schema; committed = it.settled.committed }
@@ -68,8 +75,15 @@ module _ {S : Type 0} (g : Ghosts S) (old : Tables S) (e : Envelope) (message : 
   ready_at_rest : (db : Database) → IsAtRest (state g old.conn) db → IsReady (state g old.conn)
   ready_at_rest db it = record { is_open = it.settled.open_still; schema = has_schema (state g old.conn) db it; committed = it.settled.committed }
 
-  there : (kept : Kept) (it : Stands g old kept) → Fits effect kept.facts → IsThereFor effect it.desk.in_order.rows
-  there kept it fits = changed old.config kept.facts it.desk.in_order.rows effect it.desk.in_order.are fits
+  there : (kept : Kept) (it : Stands g old kept) → Fits effect kept.facts → IsThereAndKnown effect known it.desk.in_order.rows
+  there kept it fits =
+      let r = it.desk.in_order.rows in (
+        changed old.config kept.facts r effect it.desk.in_order.are fits,
+        record {
+          uplinks = it.counts.uplinks ∙ ap (λ (s : State). length s.uplinks) it.desk.in_order.are.is;
+          seen = it.seen r it.desk.in_order.held;
+        },
+      )
 
   few : (kept : Kept) → Stands g old kept → length kept.entries < most_heard
   few kept it = let heard = it.heard in omega (arith, room, heard)
@@ -90,7 +104,7 @@ module _ {S : Type 0} (g : Ghosts S) (old : Tables S) (e : Envelope) (message : 
 
   module _ (mid : Held S) (done : Unit {0}) (commits : CommitsTo mid (Ok done)) (counts : Counts) (counted : CountsWith effect old.counts counts) where
     abbrev after : Tables S
-    after = record old { conn = mid; sized = false; heard = old.heard + 1; counts = counts }
+    after = record old { conn = mid; sized = false; heard = old.heard + 1; counts = counts; seen = seen_after old.seen }
 
     stands_after : (kept : Kept) → HasCleanDisk (state g mid) → Stands g old kept → CanAdd kept e effect
         → Stands g after (with_entry kept e message effect answer)
@@ -98,6 +112,7 @@ module _ {S : Type 0} (g : Ghosts S) (old : Tables S) (e : Envelope) (message : 
         let was = ready kept it in
         let new = commits.ready clean was in
         let r = it.desk.in_order.rows in
+        let made = commits.made clean was r it.desk.in_order.held (there kept it can.effect_fits) in
         record {
           settled = record {
             open_still = new.is_open;
@@ -105,9 +120,10 @@ module _ {S : Type 0} (g : Ghosts S) (old : Tables S) (e : Envelope) (message : 
             committed = new.committed;
             unlimited = commits.limit clean was ∙ it.settled.unlimited;
           };
-          desk = with_message kept it can (state g mid).now (commits.made clean was r it.desk.in_order.held (there kept it can.effect_fits));
+          desk = with_message kept it can (state g mid).now made;
           heard = one_longer kept.entries (entry_with e message answer) old.heard it.heard;
           counts = counted kept.facts (are_few old.config kept r it.desk.in_order.are it.desk.in_order.entries it.desk.few) it.counts;
+          seen = seen_with effect (reply_row e message answer) r old.seen (state g mid).now (it.seen r it.desk.in_order.held) made;
         }
 
     rests_after : (db : Database) → HasCleanDisk (state g mid) → IsAtRest (state g old.conn) db → IsAtRest (state g mid) (state g mid).now
@@ -183,6 +199,7 @@ module _ {S : Type 0} (g : Ghosts S) (old : Tables S) (e : Envelope) (message : 
           desk = subst (IsOfDesk old.config kept) (sym on.1) it.desk;
           heard = it.heard;
           counts = it.counts;
+          seen = subst (AreSeen old.seen) (sym on.1) it.seen;
         }
 
     -- a crash leaves what was there, or that with the effect and the entry

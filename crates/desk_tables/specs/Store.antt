@@ -16,6 +16,7 @@ use Rattle.desk_rows.specs.Rows.{Rows}
 use Rattle.desk_rows.specs.Schema.{desk_schema}
 use Rattle.desk_rows.specs.Decode.{held_again}
 use Rattle.desk_tables.specs.InOrder.{AreOfDesk, AreInOrder, IsOfDesk, kept_in}
+use Rattle.desk_tables.specs.Seen.{AreSeen}
 use Rattle.desk_tables.specs.declared.tables.Tables.{Tables}
 
 -- a connection between two calls: it is open, and all is committed
@@ -36,12 +37,13 @@ module _ {S : Type 0} (g : Ghosts S) (k : Tables S) where
   abbrev pub IsSound : Type 0
   IsSound = HasCleanDisk (state g k.conn)
 
-  -- the database is of a desk that holds these, and the counts are theirs
+  -- the database is of a desk that holds these, the counts are theirs, and what was seen is so of its rows
   pub record Stands (kept : Kept) : Type 0 where
     pub settled : IsSettled (state g k.conn)
     pub desk : IsOfDesk k.config kept (state g k.conn).now
     pub heard : k.heard ≡ length kept.entries
     pub counts : AreCounts kept.facts k.counts
+    pub seen : AreSeen k.seen (state g k.conn).now
 
   -- of a store that is down this says nothing
   abbrev pub HoldsKept : Kept → Type 0

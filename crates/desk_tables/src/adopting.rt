@@ -15,6 +15,7 @@ ghost use Rattle.desk_rows.specs.order.Changes.{opening_rows};
 ghost use Rattle.desk_tables.specs.Adopting.{IsGivenBack, IsStore, opening_kept};
 ghost use Rattle.desk_tables.specs.InOrder.{AreOfDesk, IsOfDesk};
 ghost use Rattle.desk_tables.specs.Opening.{IsTaken, TreesHold};
+ghost use Rattle.desk_tables.specs.Seen.{nothing};
 ghost use Rattle.desk_tables.specs.Store.{meaning_of};
 ghost use Rattle.desk_tables.specs.steps.Adopting.{IsAdopted};
 
@@ -22,6 +23,7 @@ use crate::counting::counted;
 use crate::faults::store_fault;
 use crate::making::make_desk;
 use crate::opening::open_desk;
+use crate::seen::NOTHING;
 use crate::tables::Tables;
 use desk_rows::order::opening_rows_tell;
 use desk_store::{Counts, StoreFault};
@@ -63,6 +65,7 @@ impl<S: Alter> Tables<S> {
                     uplinks: 0,
                     bookings: 0,
                 },
+                seen: NOTHING,
             }),
             Err(fault) => Err((fault, conn)),
         }
@@ -124,7 +127,7 @@ impl<S: Alter> Tables<S> {
         config: Config,
         counted: (u64, Counts),
     ) -> Tables<S>
-        ensures { result ≡ record { conn = conn; alloc = alloc; config = config; down = false; foreign = false; sized = false; heard = counted.0; counts = counted.1 } }
+        ensures { result ≡ record { conn = conn; alloc = alloc; config = config; down = false; foreign = false; sized = false; heard = counted.0; counts = counted.1; seen = nothing } }
     {
         let (heard, counts) = counted;
         Tables {
@@ -136,6 +139,7 @@ impl<S: Alter> Tables<S> {
             sized: false,
             heard,
             counts,
+            seen: NOTHING,
         }
     }
 

@@ -3,11 +3,10 @@ ghost use Rattle.std.specs.Prelude.{◌≡◌, ◌≢◌, false, Err};
 ghost use Rattle.sqlite.specs.Held.{state};
 ghost use Rattle.desk_rows.specs.declared.faults.RowFault.TheVariants.{Size};
 ghost use Rattle.desk_rows.specs.order.Changes.{rows_with};
-ghost use Rattle.desk_rows.specs.order.Keys.{IsThereFor};
 ghost use Rattle.desk_tables.specs.steps.Calls.{Asks, Commits, Makes};
-ghost use Rattle.desk_tables.specs.steps.Effects.{AreWhole, IsBasis, IsOpenToBoth, reply_row};
+ghost use Rattle.desk_tables.specs.steps.Effects.{AreWhole, IsBasis, IsOpenToBoth, IsThereAndKnown, reply_row};
 
-use crate::effects::basis::{Basis, basis_of};
+use crate::effects::basis::{Basis, Known, basis_of};
 use crate::effects::writing::write_effect;
 use crate::settle::reading_fault;
 use desk_rows::{RowFault, fault_of, insert_reply};
@@ -53,28 +52,33 @@ fn transact<S: Alter>(
 }
 
 /// What the effect is written by. To look it up names no size of the medium.
-fn basis_read<S: Alter>(conn: &mut Connection<S>, effect: &Effect) -> Result<Basis, RowFault>
-    ensures asks { Asks (state S.Store conn.old) (state S.Store conn.new) result (IsThereFor effect.now) (AreWhole effect.now) (IsBasis effect.now) }
+fn basis_read<S: Alter>(
+    conn: &mut Connection<S>,
+    known: &Known,
+    effect: &Effect,
+) -> Result<Basis, RowFault>
+    ensures asks { Asks (state S.Store conn.old) (state S.Store conn.new) result (IsThereAndKnown effect.now known.now) (AreWhole effect.now) (IsBasis effect.now) }
     ensures no_size { result ≢ Err Size }
 {
-    match basis_of(conn, effect) {
+    match basis_of(conn, known, effect) {
         Ok(basis) => Ok(basis),
         Err(fault) => Err(reading_fault(fault)),
     }
 }
 
-/// Adds the effect and the reply, or neither.
+/// Adds the effect and the reply, or neither, by what is known of the rows.
 pub(crate) fn commit_rows<S: Alter>(
     conn: &mut Connection<S>,
+    known: &Known,
     envelope: &Envelope,
     message: &[u8],
     effect: &Effect,
     answer: &[u8],
 ) -> Result<(), RowFault>
     requires { conn.old.in_transaction ≡ false }
-    ensures { Commits (state S.Store conn.old) (state S.Store conn.new) result (IsThereFor effect.now)
+    ensures { Commits (state S.Store conn.old) (state S.Store conn.new) result (IsThereAndKnown effect.now known.now)
         (IsOpenToBoth effect.now envelope.now) (rows_with effect.now (reply_row envelope.now message.now answer.now)) }
 {
-    let basis = basis_read(conn, effect)?;
+    let basis = basis_read(conn, known, effect)?;
     transact(conn, envelope, message, effect, answer, basis)
 }

@@ -5,6 +5,7 @@ ghost use Rattle.desk_tables.specs.Store.{common_law, meaning_of, one_law, own_l
 ghost use Rattle.desk_tables.specs.steps.Keeper.{CountsWith, IsCommit, IsNoted};
 
 use crate::committing::commit_rows;
+use crate::effects::basis::Known;
 use crate::settle::is_size;
 use crate::tables::Tables;
 use desk_rows::RowFault;
@@ -48,6 +49,7 @@ impl<S: Alter> Tables<S> {
                 self.sized = false;
                 self.heard += 1;
                 self.counts = counts_with(self.counts, effect);
+                self.seen = self.seen.after_commit();
                 Ok(())
             }
             Err(fault) => {
@@ -81,7 +83,11 @@ impl<S: Alter> Tables<S> {
         if self.heard >= MOST_HEARD as u64 {
             return Err(StoreFault::Size);
         }
-        let done = commit_rows(&mut self.conn, envelope, message, effect, answer);
+        let known = Known {
+            uplinks: self.counts.uplinks,
+            seen: self.seen,
+        };
+        let done = commit_rows(&mut self.conn, &known, envelope, message, effect, answer);
         self.note(effect, done)
     }
 }

@@ -12,6 +12,7 @@ mod looks;
 mod making;
 mod migrating;
 mod opening;
+mod seen;
 mod settle;
 mod shape;
 mod tables;

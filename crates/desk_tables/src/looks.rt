@@ -6,6 +6,7 @@ mod sessions;
 mod texts;
 mod uplinks;
 
+use crate::seen::{seen_counter, seen_floor, seen_role, seen_session};
 use crate::tables::Tables;
 use desk_rows::order::{arranged_rows_tell, orders_hold};
 use desk_rows::{gateway_is_known, owner_is_known};
@@ -34,8 +35,17 @@ impl<S: Alter> Looks for Tables<S> {
         if self.down {
             return Err(StoreFault::Disk);
         }
+        if let Some(role) = self.seen.role_seen(name) {
+            return Ok(Some(role));
+        }
         let answer = desk_rows::role_of(&mut self.conn, name);
-        self.tell(answer)
+        match self.tell(answer) {
+            Ok(found) => {
+                self.seen.role = seen_role(name, found);
+                Ok(found)
+            }
+            Err(fault) => Err(fault),
+        }
     }
 
     fn texts_of(&mut self, envelope: &Envelope) -> Result<Option<Texts>, StoreFault> {
@@ -91,7 +101,13 @@ impl<S: Alter> Looks for Tables<S> {
             return Err(StoreFault::Disk);
         }
         let answer = sessions::session(&mut self.conn, number);
-        self.tell(answer)
+        match self.tell(answer) {
+            Ok(found) => {
+                self.seen.session = seen_session(number, &found);
+                Ok(found)
+            }
+            Err(fault) => Err(fault),
+        }
     }
 
     fn last_counter(&mut self, session: u64) -> Result<Option<u32>, StoreFault> {
@@ -99,7 +115,13 @@ impl<S: Alter> Looks for Tables<S> {
             return Err(StoreFault::Disk);
         }
         let answer = sessions::last_counter(&mut self.conn, session);
-        self.tell(answer)
+        match self.tell(answer) {
+            Ok(found) => {
+                self.seen.counter = seen_counter(session, found);
+                Ok(found)
+            }
+            Err(fault) => Err(fault),
+        }
     }
 
     fn is_below_floor(&mut self, device: Eui, session: u64) -> Result<bool, StoreFault> {
@@ -107,7 +129,13 @@ impl<S: Alter> Looks for Tables<S> {
             return Err(StoreFault::Disk);
         }
         let answer = sessions::is_below_floor(&mut self.conn, device, session);
-        self.tell(answer)
+        match self.tell(answer) {
+            Ok(found) => {
+                self.seen.floor = seen_floor(device, found.1);
+                Ok(found.0)
+            }
+            Err(fault) => Err(fault),
+        }
     }
 
     fn join_with(&mut self, device: Eui, nonce: u16) -> Result<Option<(u64, Uplink)>, StoreFault> {
@@ -125,6 +153,9 @@ impl<S: Alter> Looks for Tables<S> {
     ) -> Result<Option<(u64, Uplink)>, StoreFault> {
         if self.down {
             return Err(StoreFault::Disk);
+        }
+        if self.seen.is_after(session, counter) {
+            return Ok(None);
         }
         let answer = sessions::data_with(&mut self.conn, session, counter);
         self.tell(answer)

@@ -3,6 +3,7 @@ ghost use Rattle.std.specs.Prelude.{◌≡◌, true, false, OnOk, IfErr};
 ghost use Rattle.desk_store.specs.declared.faults.StoreFault.TheVariants.{Disk};
 ghost use Rattle.desk_tables.specs.steps.Settling.{Fails, IsTold};
 
+use crate::seen::Seen;
 use crate::settle::{is_disk, is_foreign, reading_fault, settle};
 use desk_rows::RowFault;
 use desk_store::{Counts, StoreFault};
@@ -25,6 +26,8 @@ pub struct Tables<S: Alter> {
     /// How many messages were heard.
     pub(crate) heard: u64,
     pub(crate) counts: Counts,
+    /// What was looked up since the last commit.
+    pub(crate) seen: Seen,
 }
 
 impl<S: Alter> Tables<S> {

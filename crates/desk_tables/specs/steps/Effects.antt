@@ -16,6 +16,8 @@ use Rattle.desk_rows.specs.order.Keys.{HasOnly, IsFree, IsFreeFor, IsThereFor, f
 use Rattle.desk_rows.specs.declared.faults.RowFault.{RowFault}
 use Rattle.sqlite.specs.State.{State}
 use Rattle.desk_tables.specs.steps.Calls.{Makes}
+use Rattle.desk_tables.specs.Seen.{IsSeen}
+use Rattle.desk_tables.specs.declared.effects.basis.Known.{Known}
 use Rattle.desk_tables.specs.declared.effects.basis.Basis.{Basis}
 use Rattle.desk_tables.specs.declared.effects.basis.Basis.TheVariants as basis
 
@@ -69,6 +71,15 @@ IsBasis (AddsUplink uplink gateway reception) r basis = IsBasisOfUplink uplink r
 IsBasis (AddsBooking booking) r basis = IsBasisOfBooking booking r basis
 IsBasis (SetsLimit gateway limit) r basis = IsBasisOfLimit gateway limit r basis
 IsBasis effect r basis = Unit {0}
+
+-- this many uplinks there are, and what was seen is so
+pub record IsKnown (r : Rows) (known : Known) : Type 0 where
+  pub uplinks : known.uplinks ≡ length r.uplinks
+  pub seen : IsSeen r known.seen
+
+-- the rows that the effect changes are there, and this is known of the rows
+abbrev pub IsThereAndKnown : Effect → Known → Rows → Type 0
+IsThereAndKnown effect known r = IsThereFor effect r × IsKnown r known
 
 -- ---- which rows it may be written to
 

@@ -14,6 +14,7 @@ use Rattle.desk_store.specs.Kept.{CanAdd, Kept, with_entry}
 use Rattle.desk_store.specs.Meaning.{Meaning}
 use Rattle.desk_store.specs.Parts.{AreCounts}
 use Rattle.desk_rows.specs.declared.faults.RowFault.{RowFault}
+use Rattle.desk_tables.specs.Seen.{seen_after}
 use Rattle.desk_tables.specs.declared.tables.Tables.{Tables}
 use Rattle.desk_tables.specs.steps.Settling.{Settles, is_size}
 
@@ -38,10 +39,10 @@ module _ {S : Type 0} (g : Ghosts S) where
     pub same : new
         ≡ record old { conn = new.conn; down = is_disk (Some told) || old.down; foreign = is_foreign (Some told) || old.foreign; sized = is_size told }
 
-  -- the store counts one message more and what the effect adds, or keeps why there is none
+  -- the store counts one message more and what the effect adds, and keeps of what was seen what is still so; or it keeps why there is none
   abbrev pub IsNoted : Effect → Tables S → Tables S → Result (Unit {0}) RowFault → Result (Unit {0}) StoreFault → Type 0
   IsNoted effect old new (Ok done) result = (result ≡ Ok done)
-      × (new ≡ record old { sized = false; heard = old.heard + 1; counts = new.counts }) × CountsWith effect old.counts new.counts
+      × (new ≡ record old { sized = false; heard = old.heard + 1; counts = new.counts; seen = seen_after old.seen }) × CountsWith effect old.counts new.counts
   IsNoted effect old new (Err fault) result = (told : StoreFault) × (result ≡ Err told) × KeepsFault old new fault told
 
 -- ---- a commit

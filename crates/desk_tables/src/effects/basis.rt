@@ -6,14 +6,24 @@ ghost use Rattle.registry_core.specs.Numbered.{item_at};
 ghost use Rattle.registry_core.specs.Wholes.{IsWhole};
 ghost use Rattle.sqlite.specs.Held.{state};
 ghost use Rattle.desk_rows.specs.Rows.{SessionRow, is_device};
-ghost use Rattle.desk_rows.specs.order.Keys.{CountsOne, HasOnly, IsThereFor, RaisesOne};
+ghost use Rattle.desk_rows.specs.order.Keys.{CountsOne, HasOnly, RaisesOne};
+ghost use Rattle.desk_tables.specs.Seen.{IsFloorOf, IsSeen, IsSessionAt};
+ghost use Rattle.desk_tables.specs.declared.effects.basis.Basis.TheVariants as basis;
 ghost use Rattle.desk_tables.specs.steps.Calls.{Asks};
-ghost use Rattle.desk_tables.specs.steps.Effects.{AreWhole, HasSession, IsBasis, IsBasisOfBooking, IsBasisOfLimit, IsBasisOfUplink, IsNextDown, IsRaised};
+ghost use Rattle.desk_tables.specs.steps.Effects.{AreWhole, HasSession, IsBasis, IsBasisOfBooking, IsBasisOfLimit, IsBasisOfUplink, IsKnown, IsNextDown, IsRaised, IsThereAndKnown};
 
-use desk_rows::{RowFault, floor_of, last_uplink, limit_at, next_down, session, uplink};
+use crate::seen::Seen;
+use desk_rows::{RowFault, floor_of, limit_at, next_down, session, uplink};
 use radio_core::{Eui, Name};
 use registry_core::{BandLimit, Booking, Effect, Kind, Session, Uplink, Whole};
 use sqlite::{Alter, Connection};
+
+/// What a store knows of its rows without asking: how many uplinks there are, and what look-ups have found.
+#[derive(Clone, Copy)]
+pub(crate) struct Known {
+    pub(crate) uplinks: u64,
+    pub(crate) seen: Seen,
+}
 
 /// What an effect is written by, beside itself.
 #[derive(Clone, Copy)]
@@ -50,15 +60,11 @@ pub(crate) fn whole(number: u64) -> Result<Whole, RowFault>
     }
 }
 
-/// The number of the next uplink.
-fn next_uplink<S: Alter>(conn: &mut Connection<S>) -> Result<Whole, RowFault>
-    ensures { Asks (state S.Store conn.old) (state S.Store conn.new) result (λ r. Unit {0})
-        (λ r. IsWhole (length r.uplinks + 1)) (λ r number. number ≡ length r.uplinks + 1) }
+/// The number of the next uplink, where there are that many.
+fn next_uplink(uplinks: u64) -> Result<Whole, RowFault>
+    ensures { MatchResult result (λ number. number ≡ uplinks + 1) (λ fault. ¬ IsWhole (uplinks + 1)) }
 {
-    match last_uplink(conn)? {
-        Some(last) => whole(last.saturating_add(1)),
-        None => whole(1),
-    }
+    whole(uplinks.saturating_add(1))
 }
 
 // ---- floors
@@ -84,6 +90,36 @@ fn floor_at<S: Alter>(conn: &mut Connection<S>, dev_eui: Eui) -> Result<Option<u
     }
 }
 
+/// The session with this number, which is asked for where it wasn't seen.
+fn session_known<S: Alter>(
+    conn: &mut Connection<S>,
+    seen: &Seen,
+    number: u64,
+) -> Result<Session, RowFault>
+    ensures { Asks (state S.Store conn.old) (state S.Store conn.new) result (λ r. IsSeen r seen.now) (λ r. IsWhole number × HasSession number r)
+        (λ r. IsSessionAt r number) }
+{
+    match seen.session_seen(number) {
+        Some(session) => Ok(session),
+        None => session_at(conn, number),
+    }
+}
+
+/// The floor of the device, which is asked for where it wasn't seen.
+fn floor_known<S: Alter>(
+    conn: &mut Connection<S>,
+    seen: &Seen,
+    dev_eui: Eui,
+) -> Result<Option<u64>, RowFault>
+    ensures { Asks (state S.Store conn.old) (state S.Store conn.new) result (λ r. IsSeen r seen.now) (λ r. HasOnly (is_device dev_eui) r.devices)
+        (λ r. IsFloorOf r dev_eui) }
+{
+    match seen.floor_seen(dev_eui) {
+        Some(seen) => Ok(seen),
+        None => floor_at(conn, dev_eui),
+    }
+}
+
 fn is_above(number: u64, floor: Option<u64>) -> bool
     ensures { result ≡ is_above number floor }
 {
@@ -94,12 +130,16 @@ fn is_above(number: u64, floor: Option<u64>) -> bool
 }
 
 /// The device whose floor rises to the uplink's session, if one does.
-fn raised_by<S: Alter>(conn: &mut Connection<S>, uplink: &Uplink) -> Result<Option<Eui>, RowFault>
-    ensures { Asks (state S.Store conn.old) (state S.Store conn.new) result (RaisesOne uplink.now) (λ r. IsWhole uplink.now.session)
+fn raised_by<S: Alter>(
+    conn: &mut Connection<S>,
+    seen: &Seen,
+    uplink: &Uplink,
+) -> Result<Option<Eui>, RowFault>
+    ensures { Asks (state S.Store conn.old) (state S.Store conn.new) result (λ r. RaisesOne uplink.now r × IsSeen r seen.now) (λ r. IsWhole uplink.now.session)
         (λ r raises. IsRaised uplink.now.session r raises) }
 {
-    let device = session_at(conn, uplink.session)?.device;
-    let floor = floor_at(conn, device)?;
+    let device = session_known(conn, seen, uplink.session)?.device;
+    let floor = floor_known(conn, seen, device)?;
     if is_above(uplink.session, floor) {
         Ok(Some(device))
     } else {
@@ -166,14 +206,36 @@ fn basis_of_booking<S: Alter>(
     })
 }
 
-fn basis_of_uplink<S: Alter>(conn: &mut Connection<S>, uplink: &Uplink) -> Result<Basis, RowFault>
-    ensures { Asks (state S.Store conn.old) (state S.Store conn.new) result (RaisesOne uplink.now)
+/// The number of the new session's join uplink.
+fn basis_of_session(known: &Known) -> Result<Basis, RowFault>
+    ensures { MatchResult result (λ made. made ≡ basis.Session (known.now.uplinks + 1)) (λ fault. ¬ IsWhole (known.now.uplinks + 1)) }
+{
+    Ok(Basis::Session {
+        number: next_uplink(known.uplinks)?,
+    })
+}
+
+/// The number of the new uplink, beside the device whose floor rises.
+fn numbered(uplinks: u64, raises: Option<Eui>) -> Result<Basis, RowFault>
+    ensures { MatchResult result (λ made. made ≡ basis.Uplink (uplinks + 1) raises) (λ fault. ¬ IsWhole (uplinks + 1)) }
+{
+    Ok(Basis::Uplink {
+        number: next_uplink(uplinks)?,
+        raises,
+    })
+}
+
+fn basis_of_uplink<S: Alter>(
+    conn: &mut Connection<S>,
+    known: &Known,
+    uplink: &Uplink,
+) -> Result<Basis, RowFault>
+    ensures { Asks (state S.Store conn.old) (state S.Store conn.new) result (λ r. RaisesOne uplink.now r × IsKnown r known.now)
         (λ r. IsWhole uplink.now.session × IsWhole (length r.uplinks + 1))
         (IsBasisOfUplink uplink.now) }
 {
-    let raises = raised_by(conn, uplink)?;
-    let number = next_uplink(conn)?;
-    Ok(Basis::Uplink { number, raises })
+    let raises = raised_by(conn, &known.seen, uplink)?;
+    numbered(known.uplinks, raises)
 }
 
 fn basis_of_limit<S: Alter>(
@@ -192,15 +254,14 @@ fn basis_of_limit<S: Alter>(
 /// What the effect is written by.
 pub(crate) fn basis_of<S: Alter>(
     conn: &mut Connection<S>,
+    known: &Known,
     effect: &Effect,
 ) -> Result<Basis, RowFault>
-    ensures { Asks (state S.Store conn.old) (state S.Store conn.new) result (IsThereFor effect.now) (AreWhole effect.now) (IsBasis effect.now) }
+    ensures { Asks (state S.Store conn.old) (state S.Store conn.new) result (IsThereAndKnown effect.now known.now) (AreWhole effect.now) (IsBasis effect.now) }
 {
     match effect {
-        Effect::AddsSession { .. } => Ok(Basis::Session {
-            number: next_uplink(conn)?,
-        }),
-        Effect::AddsUplink { uplink, .. } => basis_of_uplink(conn, uplink),
+        Effect::AddsSession { .. } => basis_of_session(known),
+        Effect::AddsUplink { uplink, .. } => basis_of_uplink(conn, known, uplink),
         Effect::AddsBooking { booking } => basis_of_booking(conn, booking),
         Effect::SetsLimit { gateway, limit } => basis_of_limit(conn, gateway, *limit),
         _ => Ok(Basis::Nothing),

@@ -1,10 +1,11 @@
 //! What is asked of a session. A number above the greatest whole one is no session's.
-ghost use Rattle.std.specs.Prelude.{◌≡◌, option_and_then};
+ghost use Rattle.std.specs.Prelude.{◌≡◌, IfSome, option_and_then};
 ghost use Rattle.sqlite.specs.Held.{state};
 ghost use Rattle.registry_core.specs.Bookings.{next_down};
 ghost use Rattle.registry_core.specs.Derived.{data_with, is_below, is_below_floor, last_counter};
 ghost use Rattle.registry_core.specs.Numbered.{item_at};
 ghost use Rattle.desk_rows.specs.Calls.{Reads};
+ghost use Rattle.desk_tables.specs.Seen.{IsCounterOf, IsFloorOf, IsSessionAt};
 ghost use Rattle.desk_tables.specs.steps.LookUps.{OfKept};
 
 use desk_rows::order::look_ups_tell;
@@ -17,7 +18,8 @@ pub(crate) fn session<S: Alter>(
     conn: &mut Connection<S>,
     number: u64,
 ) -> Result<Option<Session>, RowFault>
-    ensures { Reads (state S.Store conn.old) (state S.Store conn.new) result (OfKept (λ kept session. session ≡ item_at kept.facts.sessions number)) }
+    ensures kept { Reads (state S.Store conn.old) (state S.Store conn.new) result (OfKept (λ kept session. session ≡ item_at kept.facts.sessions number)) }
+    ensures shows { Reads (state S.Store conn.old) (state S.Store conn.new) result (λ r session. IfSome session (IsSessionAt r number)) }
 {
     look_ups_tell();
     match Whole::new(number) {
@@ -30,7 +32,8 @@ pub(crate) fn last_counter<S: Alter>(
     conn: &mut Connection<S>,
     session: u64,
 ) -> Result<Option<u32>, RowFault>
-    ensures { Reads (state S.Store conn.old) (state S.Store conn.new) result (OfKept (λ kept counter. counter ≡ last_counter kept.facts.uplinks session)) }
+    ensures kept { Reads (state S.Store conn.old) (state S.Store conn.new) result (OfKept (λ kept counter. counter ≡ last_counter kept.facts.uplinks session)) }
+    ensures shows { Reads (state S.Store conn.old) (state S.Store conn.new) result (λ r counter. IfSome counter (IsCounterOf r session)) }
 {
     match Whole::new(session) {
         Some(session) => desk_rows::last_counter(conn, session),
@@ -73,15 +76,17 @@ fn is_below(number: u64, floor: Option<Option<u64>>) -> bool
     }
 }
 
+/// Whether the session is below the device's floor, and the floor, of a device that is there.
 pub(crate) fn is_below_floor<S: Alter>(
     conn: &mut Connection<S>,
     device: Eui,
     session: u64,
-) -> Result<bool, RowFault>
-    ensures { Reads (state S.Store conn.old) (state S.Store conn.new) result
-        (OfKept (λ kept below. below ≡ is_below_floor kept.facts.uplinks kept.facts.sessions device session)) }
+) -> Result<(bool, Option<Option<u64>>), RowFault>
+    ensures kept { Reads (state S.Store conn.old) (state S.Store conn.new) result
+        (OfKept (λ kept found. found.0 ≡ is_below_floor kept.facts.uplinks kept.facts.sessions device session)) }
+    ensures shows { Reads (state S.Store conn.old) (state S.Store conn.new) result (λ r found. IfSome found.1 (IsFloorOf r device)) }
 {
     look_ups_tell();
     let floor = floor_of(conn, device)?;
-    Ok(is_below(session, floor))
+    Ok((is_below(session, floor), floor))
 }

@@ -13,7 +13,7 @@ returns-in-Ok g c = rw c.over.ensures (record {
         configuration = refl;
         up = refl;
         known = refl;
-        holds = λ up. stands g.S.Store _ c.args.config kept _ settled refl same.0.now_is is
+        holds = λ up. stands g.S.Store _ c.args.config kept _ settled refl refl same.0.now_is is
             (c.in-Ok.ensures.second.told clean ready.is_open is.in_order.rows is.in_order.held tt);
         rests = (_, λ up. record { settled = settled; stored = same.0.now_is; schema = ready.schema });
       };

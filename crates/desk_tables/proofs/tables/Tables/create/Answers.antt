@@ -3,6 +3,7 @@ use Rattle.desk_rows.specs.order.Changes.{opening_rows}
 use Rattle.sqlite.specs.Held.{state}
 use Rattle.desk_tables.specs.Store.{IsSettled}
 use Rattle.desk_tables.proofs.AdoptingLemmas.{at_rest}
+use Rattle.desk_tables.proofs.SeenLemmas.{nothing_seen}
 use Rattle.desk_tables.proofs.tables.Tables.create.Goals as goal
 
 pub returns-in-Ok-clause-made : goal.returns-in-Ok-clause-made
@@ -30,6 +31,7 @@ returns-in-Ok-clause-made g c clean = let settled : IsSettled (state g.S.Store c
     };
     heard = refl;
     counts = record { sessions = refl; uplinks = refl; bookings = refl };
+    seen = λ r holds. nothing_seen r;
   };
 }
 

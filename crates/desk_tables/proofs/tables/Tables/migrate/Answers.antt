@@ -143,5 +143,5 @@ returns-in-Ok-move_tables-clause-in_order g c settings kept is = rw c.over.ensur
       known = refl;
       rests = (_, λ up. at_rest _ settled ready.schema);
       holds = λ up. stands g.S.Store _ settings kept _ settled
-          told refl desk (subst (λ r. AreRowsCounted r c.in-Ok-counted.counted) (sym (moved_rows settings kept _ _ first made)) counts);
+          told refl refl desk (subst (λ r. AreRowsCounted r c.in-Ok-counted.counted) (sym (moved_rows settings kept _ _ first made)) counts);
     })
