@@ -14,6 +14,7 @@ pub mod LineParts
 pub mod LineRuns
 pub mod LogEnds
 pub mod LogLines
+pub mod NearRooms
 pub mod NewLists
 pub mod OwnTexts
 pub mod OwnerLines
@@ -23,5 +24,8 @@ pub mod RepeatedTexts
 pub mod Replies
 pub mod ReportLaw
 pub mod RisingLists
+pub mod RoomLaws
+pub mod RoomTexts
 pub mod Runs
 pub mod Unread
+pub mod WorkedRooms

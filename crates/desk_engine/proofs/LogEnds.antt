@@ -19,7 +19,6 @@ use Rattle.desk_store.specs.declared.faults.StoreFault.{StoreFault}
 use Rattle.desk_store.specs.Calls.{IsUnavailability}
 use Rattle.desk_store.specs.Kept.{Entry}
 use Rattle.desk_wire.specs.Writing.{message_text}
-use Rattle.desk_engine.specs.declared.log.LogEnd.{LogEnd}
 use Rattle.desk_engine.specs.declared.log.LogEnd.TheVariants.{Done, Write, Unavailable}
 use Rattle.desk_engine.specs.declared.log.LogText.{LogText}
 use Rattle.desk_engine.specs.declared.log.LogText.TheVariants.{Message, Answer}

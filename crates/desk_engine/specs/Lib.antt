@@ -11,6 +11,7 @@ pub mod Outcomes
 pub mod Repeats
 pub mod Reporting
 pub mod Reports
+pub mod Rooms
 pub mod Sizes
 pub mod Stays
 pub mod Told

@@ -1,13 +1,16 @@
 -- The log of a desk: the messages that it has heard and their answers, as texts.
-use Rattle.std.specs.Prelude.{◌≡◌, ◌<◌, ◌≤◌, ◌+◌, ◌-◌, ℕ, zero, suc, List, [], ◌∷◌, ◌++◌, Option, Some, None, length, map, max, min, take, drop}
+use Rattle.std.specs.Prelude.{◌≡◌, ◌<◌, ◌≤◌, ◌+◌, ◌-◌, ◌&&◌, ℕ, zero, suc, List, [], ◌∷◌, ◌++◌, Option, Some, None, length, map, max, min, nat_le, take, drop}
 use Rattle.std.specs.Io.KnownBytes.{Appends}
 use Rattle.registry_core.specs.declared.messages.Envelope.{Envelope}
 use Rattle.registry_core.specs.Heard.{IsHeard, answers_of}
 use Rattle.registry_core.specs.Ranges.{IsSettings}
 use Rattle.registry_core.specs.Settings.{Settings}
+use Rattle.registry_core.specs.Wholes.{greatest_whole}
 use Rattle.desk_store.specs.declared.faults.StoreFault.{StoreFault}
 use Rattle.desk_store.specs.Calls.{IsUnavailability}
 use Rattle.desk_wire.specs.Answers.{answer_text, head_of_envelope}
+use Rattle.desk_wire.specs.Decimals.{decimal_in}
+use Rattle.desk_wire.specs.Optional.{◌>>=◌, only_if}
 use Rattle.desk_wire.specs.Writing.{message_text}
 use Rattle.desk_engine.specs.declared.log.LogEnd.{LogEnd}
 use Rattle.desk_engine.specs.declared.log.LogEnd.TheVariants.{Done, Write, Unavailable}
@@ -19,6 +22,10 @@ use Rattle.desk_engine.specs.Lines.{input_of, line_feed}
 use Rattle.desk_engine.specs.Told.{AnswerText}
 
 -- ---- what a log is
+
+-- the number of a message that a text writes: one to sixteen digits, from 1 to the greatest whole number
+abbrev pub message_number : List ℕ → Option ℕ
+message_number text = decimal_in text >>= only_if (λ n. nat_le 1 n && nat_le n greatest_whole)
 
 -- at most `most` items, from this number on; the first item has the number 1
 abbrev pub numbered_from : {X : Type 0} → ℕ → ℕ → List X → List X

@@ -3,4 +3,5 @@ pub mod CsvImporting
 pub mod Hearing
 pub mod Lines
 pub mod Logs
+pub mod Rooms
 pub mod Uses

@@ -3,13 +3,15 @@ ghost use Rattle.desk_engine.specs.Laws.{CallsHearInOrder, DeliveriesAddAtTheEnd
 ghost use Rattle.desk_engine.specs.Lines.{InputsAreCut};
 ghost use Rattle.desk_engine.specs.Log.{LogIsTheDesk};
 ghost use Rattle.desk_engine.specs.Reports.{OwnerReportsAgree};
+ghost use Rattle.desk_engine.specs.Rooms.{RoomAgrees, RoomPassesChecks};
 ghost use Rattle.desk_engine.specs.steps.Hearing.{KeepsRules};
 
 use desk_store::Keeper;
 use desk_wire::laws::{message_reads_back, messages_fit, reads_in_range};
-use duty_core::laws::peak_has_an_edge;
+use duty_core::laws::{computed_forms_tell, peak_has_an_edge};
 use registry_core::laws::{
-    first_answers_stay, heard_lists_stay, rules_are_kept, same_message_tells, senders_stay,
+    downlinks_are_short, first_answers_stay, heard_lists_stay, rules_are_kept, same_message_tells,
+    senders_stay,
 };
 
 /// One more delivery leaves a heard list, while there is room.
@@ -88,4 +90,16 @@ pub fn owner_reports_agree()
     ensures { OwnerReportsAgree }
 {
     peak_has_an_edge();
+}
+
+/// The room of a gateway's band at a time agrees with what a DownBook is answered. Of the lengths from 1 to 3,000,000 microseconds just
+/// those up to the room pass its last two checks, for a downlink that begins at the time. So if each other check of a DownBook holds, it
+/// is booked exactly if its airtime is at most the room where it begins, and else refused as `Collision` or `Duty`.
+pub fn room_agrees()
+    ensures checks { RoomPassesChecks }
+    ensures answers { RoomAgrees }
+{
+    computed_forms_tell();
+    downlinks_are_short();
+    rules_are_kept();
 }

@@ -5,11 +5,12 @@ ghost use Rattle.registry_core.specs.Numbered.{item_at};
 ghost use Rattle.registry_core.specs.Settings.{Settings};
 ghost use Rattle.desk_store.specs.Calls.{ForHeld, IsRead, Tells, fault_in};
 ghost use Rattle.desk_engine.specs.InOrder.{WasInOrder};
-ghost use Rattle.desk_engine.specs.Log.{LogEndBy, fault_of_log, log_of};
+ghost use Rattle.desk_engine.specs.Log.{LogEndBy, fault_of_log, log_of, message_number};
 ghost use Rattle.desk_engine.specs.steps.Logs.{log_line, log_lines};
 
 use crate::writes::write_octets;
 use desk_store::{Keeper, StoreFault, Texts};
+use desk_wire::decimal_of;
 use registry_core::Whole;
 use std::io::Write;
 
@@ -31,6 +32,17 @@ pub enum LogEnd {
     Write,
     /// The store was unavailable. Whole lines are written.
     Unavailable(StoreFault),
+}
+
+/// The number of a message that a text writes: one to sixteen decimal digits, 1 to 9,007,199,254,740,991. `None` for any other text.
+pub fn message_number(text: &str) -> Option<Whole>
+    ensures { result ≡ message_number text.now }
+{
+    let number = decimal_of(text.as_bytes())?;
+    if number == 0 {
+        return None;
+    }
+    Whole::new(number)
 }
 
 /// Writes the texts of the messages from number `from` on, at most `most` of them, or of their answers, in the order in which the

@@ -22,8 +22,9 @@ pub(crate) fn write_with_line_feed<W: Write>(writer: &mut W, line: &[u8]) -> io:
     writer.write_all(b"\n")
 }
 
-/// Writes the octets. On an error it has written some of them, from the first on, or none. `write_all` doesn't promise that.
-pub(crate) fn write_octets<W: Write>(writer: &mut W, octets: &[u8]) -> io::Result<()>
+/// Writes the octets, and doesn't flush. A write that was interrupted is made again; after 2^64 - 1 writes it fails. On an error it
+/// has written some of the octets, from the first on, or none. `write_all` doesn't promise that.
+pub fn write_octets<W: Write>(writer: &mut W, octets: &[u8]) -> io::Result<()>
     ensures whole { OnOk result (Appends (W.contents writer.old) (W.contents writer.new) octets.now) }
     ensures part { OnErr result ((count : ℕ) × Appends (W.contents writer.old) (W.contents writer.new) (take count octets.now)) }
 {

@@ -1,0 +1,199 @@
+//! How much a gateway may still send from a time on.
+ghost use Rattle.std.specs.Prelude.{◌≡◌, ◌↔◌, ◌-ℤ◌, ℕ, List, Err, IfErr, IfOk, IfSome, IsTrue, None, OnOk, Some, pos};
+ghost use Rattle.std.specs.String.{string_bytes};
+ghost use Rattle.duty_core.specs.Near.{greatest_length};
+ghost use Rattle.duty_core.specs.Range.{IsStart};
+ghost use Rattle.duty_core.specs.Room.{IsRoom};
+ghost use Rattle.duty_core.specs.Use.{hour};
+ghost use Rattle.registry_core.specs.declared.messages.Envelope.{Envelope};
+ghost use Rattle.registry_core.specs.Heard.{state_of};
+ghost use Rattle.registry_core.specs.Bookings.{limit_standing};
+ghost use Rattle.registry_core.specs.Settings.{Settings};
+ghost use Rattle.registry_core.specs.State.{State};
+ghost use Rattle.registry_core.specs.Uplinks.{is_time};
+ghost use Rattle.desk_store.specs.Calls.{ForHeld, IsRead, Tells, fault_in};
+ghost use Rattle.desk_engine.specs.InOrder.{WasInOrder};
+ghost use Rattle.desk_engine.specs.Reporting.{IsGatewayFault, store_fault_in};
+ghost use Rattle.desk_engine.specs.Reports.{is_gateway};
+ghost use Rattle.desk_engine.specs.Rooms.{IsRoomReport, room_line, time_in};
+ghost use Rattle.desk_engine.specs.steps.Rooms.{AreNear, IsBandLine, KeepsAir, all_spans, spans_in};
+
+use crate::report_faults::ReportFault;
+use desk_store::{Keeper, StoreFault};
+use desk_wire::decimal_of;
+use duty_core::laws::{computed_forms_tell, near_ones_tell, order_is_ignored, shorter_has_room};
+use duty_core::{Span, room, use_at};
+use radio_core::{BANDS, Band, Name};
+use registry_core::NearBooking;
+use registry_core::laws::{downlinks_are_short, rules_are_kept};
+use std::alloc::{AllocError, Global};
+
+/// The names of the columns.
+const HEADER: &str = "band,limit_us,used_us,room_us\n";
+
+/// The microseconds of an hour.
+const HOUR: i64 = 3_600_000_000;
+
+/// The greatest length of a downlink that is asked for, in microseconds.
+const LONGEST: u32 = 3_000_000;
+
+/// How much the gateway may still send from a time on: a line for each of B1 to B6 with its standing limit within any hour, the use
+/// of the hour that ends at the time by the gateway's bookings in it that aren't dropped, and its room, in microseconds. The room is
+/// the greatest length, up to 3,000,000, of a downlink that begins at the time: it overlaps no booking of the gateway that isn't
+/// dropped, in any band, and keeps every hour within the limit. It is 0 if no length from 1 on does.
+///
+/// The time is a text of one to sixteen decimal digits, in microseconds since 1970 UTC, from the beginning of 2000 to the beginning of
+/// 2100. It is looked at first: any other text is `Time` for any gateway. A gateway that nobody added is `Gateway`, and so is a text
+/// that has not the form of a name. Where the store or memory isn't available, nothing is given.
+pub fn room_report<K: Keeper>(
+    alloc: Global,
+    keeper: &mut K,
+    gateway: &str,
+    time: &str,
+) -> Result<Vec<u8>, ReportFault>
+    ensures read { IsRead K.meaning keeper.old keeper.new (store_fault_in result) }
+    ensures time { (result ≡ Err ReportFault.Time) ↔ (time_in time.now ≡ None) }
+    ensures known { ForHeld K.meaning keeper.old keeper.new (λ kept. OnOk result (IsTrue (is_gateway kept.facts gateway.now))) }
+    ensures report { (c : Settings) (heard : List Envelope) (t : ℕ) → WasInOrder K.meaning c heard keeper.old keeper.new → time_in time.now ≡ Some t
+        → IfOk result (λ text. IsRoomReport (state_of c heard) gateway.now t text.items) }
+    ensures fault { ForHeld K.meaning keeper.old keeper.new (λ kept. (t : ℕ) → time_in time.now ≡ Some t
+        → IfErr result (IsGatewayFault kept.facts gateway.now)) }
+    ensures no_owner { ¬ (result ≡ Err ReportFault.Owner) }
+{
+    downlinks_are_short();
+    rules_are_kept();
+    let Some(start) = time_of(time) else {
+        return Err(ReportFault::Time);
+    };
+    let Some(name) = Name::new(gateway.as_bytes()) else {
+        return Err(ReportFault::Gateway);
+    };
+    if !keeper.has_gateway(&name)? {
+        return Err(ReportFault::Gateway);
+    }
+    Ok(rooms_text(alloc, keeper, &name, start)?)
+}
+
+/// The time that a text writes, in microseconds since 1970 UTC.
+#[tactic(auto, unfolding(crate::specs::Rooms::time_in))]
+fn time_of(text: &str) -> Option<u64>
+    ensures value { result ≡ time_in text.now }
+    ensures range { IfSome result (λ time. IsTrue (is_time time)) }
+{
+    let time = decimal_of(text.as_bytes())?;
+    if is_time(time) { Some(time) } else { None }
+}
+
+/// From the beginning of 2000 to the beginning of 2100, UTC.
+fn is_time(time: u64) -> bool
+    ensures { result ≡ is_time time }
+{
+    946_684_800_000_000 <= time && time <= 4_102_444_800_000_000
+}
+
+/// The header, and a line for each band.
+fn rooms_text<K: Keeper>(
+    alloc: Global,
+    keeper: &mut K,
+    gateway: &Name,
+    time: u64,
+) -> Result<Vec<u8>, StoreFault>
+    requires { IsTrue (is_time time) }
+    ensures read { IsRead K.meaning keeper.old keeper.new (fault_in result) }
+    ensures told { Tells K.meaning keeper.old keeper.new result (λ kept text. KeepsAir kept.facts → IsRoomReport kept.facts gateway.now time text.items) }
+{
+    computed_forms_tell();
+    shorter_has_room();
+    let near = keeper.near(gateway, time)?;
+    let all = spans_of(alloc, &near)?;
+    let mut text = Vec::new(alloc);
+    text.extend_from_slice(HEADER.as_bytes())?;
+    for band in BANDS {
+        let limit = keeper.limit_of(gateway, band)?;
+        let line = band_line(alloc, band, limit, &near, &all, time)?;
+        text.extend_from_slice(line.as_bytes())?;
+    }
+    Ok(text)
+}
+
+/// The line of a band with this limit, by the gateway's downlinks near the time.
+fn band_line(
+    alloc: Global,
+    band: Band,
+    limit: u64,
+    near: &[NearBooking],
+    all: &[Span],
+    time: u64,
+) -> Result<String, AllocError>
+    requires all { all.now ≡ all_spans near.now }
+    requires time { IsTrue (is_time time) }
+    ensures { IfOk result (λ line. (s : State) (gateway : List ℕ) → KeepsAir s → AreNear s gateway time near.now → limit ≡ limit_standing s gateway band
+        → IsBandLine s gateway time band (string_bytes line)) }
+{
+    near_ones_tell();
+    order_is_ignored();
+    shorter_has_room();
+    let of_band = spans_in(alloc, near, band)?;
+    let start = start_at(time);
+    let used = use_at(&of_band, hour_before(start));
+    let room = room_of(all, &of_band, start, limit);
+    let line = line_of(alloc, band, limit, used, room)?;
+    Ok(line)
+}
+
+/// When the downlinks are on the air.
+fn spans_of(alloc: Global, near: &[NearBooking]) -> Result<Vec<Span>, AllocError>
+    ensures { IfOk result (λ spans. spans.items ≡ all_spans near.now) }
+{
+    near.iter().map(|booking| booking.span).collect(alloc)
+}
+
+/// When those in the band are on the air.
+fn spans_in(alloc: Global, near: &[NearBooking], band: Band) -> Result<Vec<Span>, AllocError>
+    ensures { IfOk result (λ spans. spans.items ≡ spans_in band near.now) }
+{
+    near.iter()
+        .filter(|booking| booking.band == band)
+        .map(|booking| booking.span)
+        .collect(alloc)
+}
+
+/// The time as the start of a span.
+fn start_at(time: u64) -> i64
+    requires { IsTrue (is_time time) }
+    ensures value { result ≡ pos time }
+    ensures range { IsStart result }
+{
+    time as i64
+}
+
+/// Where the hour begins that ends then.
+fn hour_before(start: i64) -> i64
+    requires { IsStart start }
+    ensures { result ≡ start -ℤ pos hour }
+{
+    start - HOUR
+}
+
+/// The room of a band from the start on, in microseconds.
+fn room_of(all: &[Span], of_band: &[Span], start: i64, limit: u64) -> u32
+    requires { IsStart start }
+    ensures { IsRoom all.now of_band.now start limit greatest_length result }
+{
+    room(all, of_band, start, limit, LONGEST)
+}
+
+/// The line of a band, by its columns.
+#[tactic(auto, unfolding(crate::specs::Rooms::room_line))]
+fn line_of(
+    alloc: Global,
+    band: Band,
+    limit: u64,
+    used: u128,
+    room: u32,
+) -> Result<String, AllocError>
+    ensures { IfOk result (λ text. string_bytes text ≡ room_line band limit used room) }
+{
+    let number = band.get();
+    format!(in alloc; "B{number},{limit},{used},{room}\n")
+}
