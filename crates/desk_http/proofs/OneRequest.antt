@@ -5,7 +5,7 @@ use Rattle.std.specs.Prelude.{IsTrue}
 use Rattle.httparse.specs.Grammar.{RequestHead, print_request}
 use Rattle.httparse.specs.Spans.{name_and_value}
 use Rattle.desk_http.specs.RequestLaws.{NamedIsOne, OriginsAreRefused, RequestsAreOne}
-use Rattle.desk_http.specs.Requests.{Request, refused, message, owner_report, band_report, HeadAsks, IsBodyOf, asked_of, asked_of_named, bad_head, head}
+use Rattle.desk_http.specs.Requests.{Request, refused, message, report, HeadAsks, IsBodyOf, asked_of, asked_of_named, bad_head, head}
 use Rattle.desk_http.specs.Fields.{has_origin}
 use Rattle.desk_http.specs.Responses.{Response, cross_origin}
 use Rattle.desk_http.specs.Targets.{path_of}
@@ -36,8 +36,7 @@ cut-off front back text later end short e =
 body-one : (request : Request) (body text left later : List ℕ)
     → IsBodyOf request body (Some left) → IsBodyOf request text (Some later) → body ++ left ≡ text ++ later → body ≡ text
 body-one (refused wanted) body text left later x y e = x ∙ sym y
-body-one (owner_report owner month) body text left later x y e = x ∙ sym y
-body-one (band_report gateway) body text left later x y e = x ∙ sym y
+body-one (report wanted) body text left later x y e = x ∙ sym y
 body-one (message count) body text left later (inl x) (inl y) e = same-front body left text later (x ∙ sym y) e
 body-one (message count) body text left later (inl x) (inr y) e =
     absurd (cut-off body left text later y.1 (omega (arith, x, y.0)) e)

@@ -1,5 +1,5 @@
 -- What a report is answered, from what the engine says of it.
-use Rattle.std.proofs.Common.{◌≡◌, ◌↔◌, ℕ, List, Option, Result, Ok, Err, IfOk, IfErr, OnOk, IsTrue, refl, ap}
+use Rattle.std.proofs.Common.{◌≡◌, ◌↔◌, ℕ, List, [], Option, Some, None, Result, Ok, Err, IfOk, IfErr, OnOk, IsTrue, codes, refl, ap}
 use Rattle.std.specs.Prelude.{ℤ}
 use Rattle.registry_core.specs.declared.messages.Envelope.{Envelope}
 use Rattle.registry_core.specs.Heard.{state_of}
@@ -8,16 +8,20 @@ use Rattle.registry_core.specs.State.{State}
 use Rattle.desk_store.specs.declared.faults.StoreFault.{StoreFault}
 use Rattle.desk_store.specs.Calls.{ForHeld, IsRead}
 use Rattle.desk_store.specs.Meaning.{Meaning}
+use Rattle.desk_engine.specs.declared.log.LogText.{LogText}
 use Rattle.desk_engine.specs.declared.report_faults.ReportFault.{ReportFault}
 use Rattle.desk_engine.specs.declared.report_faults.ReportFault.TheVariants.{Time, Owner, Gateway, Unavailable}
 use Rattle.desk_engine.specs.InOrder.{IsInOrder, WasInOrder, kept_after}
+use Rattle.desk_engine.specs.Lines.{input_of}
+use Rattle.desk_engine.specs.Log.{log_of}
 use Rattle.desk_engine.specs.Months.{IsMonth}
 use Rattle.desk_engine.specs.Reporting.{IsGatewayFault, IsOwnerFault, store_fault_in}
 use Rattle.desk_engine.specs.Reports.{IsBandReport, IsOwnerReport, is_gateway, is_owner}
-use Rattle.desk_http.specs.Reports.{IsBandAnswer, IsOwnerAnswer}
+use Rattle.desk_engine.specs.Rooms.{IsRoomReport, time_in}
+use Rattle.desk_http.specs.Reports.{IsAnswer, IsBandAnswer, IsLogFault, IsOwnerAnswer, IsRoomAnswer, RefusesTime, Report, band_report, kind_of, log_part, most_lines, owner_report, room_report}
 use Rattle.desk_http.specs.steps.Answering.{answer_shown}
 use Rattle.desk_http.specs.Responses.{report_response}
-use Rattle.desk_http.specs.Serving.{ServesBandReport, ServesOwnerReport}
+use Rattle.desk_http.specs.Serving.{ServesReport}
 
 module _ {T : Type 0} (octets : T → List ℕ) where
   same_fault : (r : Result T ReportFault) → store_fault_in (answer_shown octets r) ≡ store_fault_in r
@@ -42,38 +46,70 @@ module _ {T : Type 0} (octets : T → List ℕ) where
   band_answer s gateway (Ok text) known report fault = record { known = known; report = report; fault = fault }
   band_answer s gateway (Err why) known report fault = record { known = known; report = report; fault = fault }
 
+  room_answer : (s : State) (gateway time : List ℕ) (r : Result T ReportFault) → OnOk r (IsTrue (is_gateway s gateway))
+      → ((at : ℕ) → time_in time ≡ Some at → IfOk r (λ text. IsRoomReport s gateway at (octets text)))
+      → ((at : ℕ) → time_in time ≡ Some at → IfErr r (IsGatewayFault s gateway)) → IsRoomAnswer s gateway time (answer_shown octets r)
+  room_answer s gateway time (Ok text) known report fault = record { known = known; report = report; fault = fault }
+  room_answer s gateway time (Err why) known report fault = record { known = known; report = report; fault = fault }
+
   module _ {K : Type 0} (m : Meaning K) (old new : K) where
     stays : (fault : Option StoreFault) → IsRead m old new fault → (c : Settings) (heard : List Envelope) → WasInOrder m c heard old new → IsInOrder m c new heard
     stays fault read c heard was = record { list = was.order.list; kept = read.held (kept_after c heard) was.sound was.order.kept }
+
+    -- a text that is so of what was heard
+    reported : (wanted : Report) (r : Result T ReportFault) → IsRead m old new (store_fault_in r) → RefusesTime wanted (answer_shown octets r)
+        → ((c : Settings) (heard : List Envelope) → WasInOrder m c heard old new → IsAnswer c heard wanted (answer_shown octets r))
+        → ServesReport m old new wanted (report_response (kind_of wanted) (answer_shown octets r))
+    reported wanted r read time told = record {
+      answer = answer_shown octets r;
+      response_is = refl;
+      read = rw (same_fault r) read;
+      time = time;
+      told = told;
+      order = stays _ read;
+    }
 
     pub owner_served : (owner month : List ℕ) (r : Result T ReportFault) → IsRead m old new (store_fault_in r)
         → (r ≡ Err Time) ↔ ((from to : ℤ) → ¬ (IsMonth month from to))
         → ForHeld m old new (λ kept. OnOk r (IsTrue (is_owner kept.facts owner)))
         → ForHeld m old new (λ kept. (from to : ℤ) → IsMonth month from to → IfOk r (λ text. IsOwnerReport kept.facts owner from to (octets text)))
         → ForHeld m old new (λ kept. (from to : ℤ) → IsMonth month from to → IfErr r (IsOwnerFault kept.facts owner))
-        → ServesOwnerReport m old new owner month (report_response (answer_shown octets r))
+        → ServesReport m old new (owner_report owner month) (report_response (codes "text/csv") (answer_shown octets r))
     unfolding kept_after
-    owner_served owner month r read time known report fault = record {
-      answer = answer_shown octets r;
-      response_is = refl;
-      read = rw (same_fault r) read;
-      time = same_time r _ time;
-      told = λ c heard was. owner_answer (state_of c heard) owner month r (known (kept_after c heard) was.sound was.order.kept)
-          (report (kept_after c heard) was.sound was.order.kept) (fault (kept_after c heard) was.sound was.order.kept);
-      order = stays _ read;
-    }
+    owner_served owner month r read time known report fault =
+        reported (owner_report owner month) r read (same_time r _ time) (λ c heard was.
+        owner_answer (state_of c heard) owner month r (known (kept_after c heard) was.sound was.order.kept)
+        (report (kept_after c heard) was.sound was.order.kept) (fault (kept_after c heard) was.sound was.order.kept))
 
     pub band_served : (gateway : List ℕ) (r : Result T ReportFault) → IsRead m old new (store_fault_in r)
         → ForHeld m old new (λ kept. OnOk r (IsTrue (is_gateway kept.facts gateway)))
         → ForHeld m old new (λ kept. IfOk r (λ text. IsBandReport kept.facts gateway (octets text)))
         → ForHeld m old new (λ kept. IfErr r (IsGatewayFault kept.facts gateway))
-        → ServesBandReport m old new gateway (report_response (answer_shown octets r))
+        → ServesReport m old new (band_report gateway) (report_response (codes "text/csv") (answer_shown octets r))
     unfolding kept_after
-    band_served gateway r read known report fault = record {
-      answer = answer_shown octets r;
-      response_is = refl;
-      read = rw (same_fault r) read;
-      told = λ c heard was. band_answer (state_of c heard) gateway r (known (kept_after c heard) was.sound was.order.kept)
-          (report (kept_after c heard) was.sound was.order.kept) (fault (kept_after c heard) was.sound was.order.kept);
-      order = stays _ read;
-    }
+    band_served gateway r read known report fault =
+        reported (band_report gateway) r read tt (λ c heard was.
+        band_answer (state_of c heard) gateway r (known (kept_after c heard) was.sound was.order.kept)
+        (report (kept_after c heard) was.sound was.order.kept) (fault (kept_after c heard) was.sound was.order.kept))
+
+    pub room_served : (gateway time : List ℕ) (r : Result T ReportFault) → IsRead m old new (store_fault_in r)
+        → (r ≡ Err Time) ↔ (time_in time ≡ None)
+        → ForHeld m old new (λ kept. OnOk r (IsTrue (is_gateway kept.facts gateway)))
+        → ((c : Settings) (heard : List Envelope) (at : ℕ) → WasInOrder m c heard old new → time_in time ≡ Some at
+        → IfOk r (λ text. IsRoomReport (state_of c heard) gateway at (octets text)))
+        → ForHeld m old new (λ kept. (at : ℕ) → time_in time ≡ Some at → IfErr r (IsGatewayFault kept.facts gateway))
+        → ServesReport m old new (room_report gateway time) (report_response (codes "text/csv") (answer_shown octets r))
+    unfolding kept_after
+    room_served gateway time r read refused known report fault =
+        reported (room_report gateway time) r read (same_time r _ refused) (λ c heard was.
+        room_answer (state_of c heard) gateway time r (known (kept_after c heard) was.sound was.order.kept)
+        (λ at is. report c heard at was is) (fault (kept_after c heard) was.sound was.order.kept))
+
+    pub log_served : (which : LogText) (from : ℕ) (r : Result T ReportFault) → IsRead m old new (store_fault_in r)
+        → ((c : Settings) (heard : List Envelope) → WasInOrder m c heard old new → IfOk r (λ text. octets text ≡ input_of (log_of which c heard from most_lines) []))
+        → ((c : Settings) (heard : List Envelope) → WasInOrder m c heard old new → IfErr r IsLogFault)
+        → ServesReport m old new (log_part which from) (report_response (codes "application/x-ndjson") (answer_shown octets r))
+    log_served which from (Ok text) read lines fault =
+        reported (log_part which from) (Ok text) read tt (λ c heard was. record { lines = lines c heard was; fault = tt })
+    log_served which from (Err why) read lines fault =
+        reported (log_part which from) (Err why) read tt (λ c heard was. record { lines = tt; fault = fault c heard was })

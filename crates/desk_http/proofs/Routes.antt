@@ -1,22 +1,20 @@
--- The router's walk over its rows finds the route of a path.
-use Rattle.std.proofs.Common.{◌≡◌, ℕ, zero, suc, ◌+◌, ◌-◌, Bool, true, false, cond, ◌&&◌, ◌||◌, not, ◌==◌, List, [], ◌∷◌, ◌++◌, length, take, drop, get_or, Option, Some, None, codes, refl, sym, ap, ◌∙◌, inl, inr, arith, true≢false, length-append, subst, Fits, w8}
-use Rattle.std.proofs.lemmas.Bool.{and_parts, eq-eqb, eqb-true, lt-ltb, not-true}
+-- The router's walk over the rows of forms finds the first form that the path has, where the forms are distinct.
+use Rattle.std.proofs.Common.{◌≡◌, ℕ, zero, suc, ◌+◌, ◌-◌, Bool, true, false, cond, ◌&&◌, ◌||◌, not, ◌==◌, List, [], ◌∷◌, ◌++◌, length, take, drop, get_or, Option, Some, None, refl, sym, ap, ◌∙◌, inl, inr, arith, true≢false, length-append, subst, Fits, w8}
+use Rattle.std.proofs.lemmas.Bool.{and_parts, eqb-true, lt-ltb, not-true}
 use Rattle.std.specs.List.{list_any}
 use Rattle.std.specs.Prelude.{◌⊎◌, ltb, nat_eq, nat_lt}
 use Rattle.std.specs.Cmp.Lexicographic.{pointwise}
 use Rattle.matchit.specs.Rows.{RowsOf, param_token, catch_all_token}
-use Rattle.matchit.specs.Seek.{seek, param_step, step, own, or_else, segment, has_slash, cuts, with_suffix}
+use Rattle.matchit.proofs.RenameLemmas.{first-rename}
+use Rattle.matchit.specs.Router.{map_key, rename}
+use Rattle.matchit.specs.Seek.{first, seek, param_step, step, own, or_else, segment, has_slash, cuts, with_suffix}
 use Rattle.desk_http.specs.Targets.{is_part, is_slash}
-use Rattle.desk_http.specs.steps.Targets.{after_slash, before_slash, follows, is_empty, is_owner_and_month}
+use Rattle.desk_http.specs.steps.Targets.{Form, Tail, nothing, one_part, two_parts, after_slash, before_slash, follows, is_tail, led}
 
 -- no octet is a token of a parameter
 abbrev pub AreOctets : List ℕ → Type 0
 AreOctets [] = Unit {0}
 AreOctets (c ∷ text) = ((param_token == c) ≡ false) × AreOctets text
-
-abbrev is_literal : List ℕ → Bool
-is_literal [] = true
-is_literal (x ∷ front) = not (x == param_token) && (not (x == catch_all_token) && is_literal front)
 
 cond-or : (a b : Bool) → cond a true b ≡ (a || b)
 cond-or true b = refl
@@ -26,13 +24,9 @@ and-false : (a : Bool) → (a && false) ≡ false
 and-false true = refl
 and-false false = refl
 
-pub or_false_parts : (a b : Bool) → (a || b) ≡ false → b ≡ false
+pub or_false_parts : (a b : Bool) → (a || b) ≡ false → (a ≡ false) × (b ≡ false)
 or_false_parts true b e = cc
-or_false_parts false b e = e
-
-pub false-if-not : (a b : Bool) → (a || b) ≡ false → a ≡ false
-false-if-not true b e = cc
-false-if-not false b e = refl
+or_false_parts false b e = (refl, e)
 
 not_so : (b : Bool) → (b ≡ true → ⊥) → b ≡ false
 not_so true f = absurd (f refl)
@@ -51,11 +45,6 @@ both-none : {K : Type 0} (b : Bool) → let none : Option K = None in cond b non
 both-none true = refl
 both-none false = refl
 
-apart : (x y o : ℕ) → x == o ≡ true → y == o ≡ true → nat_eq x y ≡ false → ⊥
-apart x y o ex ey differ =
-    let same : x ≡ y = eqb-true x o ex ∙ sym (eqb-true y o ey) in
-    true≢false (sym (eq-eqb x y same) ∙ differ)
-
 sub-one-suc : (n : ℕ) → suc n - 1 ≡ n
 sub-one-suc n = omega arith
 
@@ -68,6 +57,8 @@ AreOctets-from (c ∷ text) h =
 AreOctets-back : (front back : List ℕ) → AreOctets (front ++ back) → AreOctets back
 AreOctets-back [] back h = h
 AreOctets-back (c ∷ front) back h = AreOctets-back front back h.1
+
+-- ---- the walk
 
 module _ {K : Type 0} where
   or_else-none : (o : Option K) → or_else o None ≡ o
@@ -125,38 +116,6 @@ module _ {K : Type 0} where
   seek-end : (rs : RowsOf K) (path : List ℕ) → seek (length path) rs path ≡ own rs
   seek-end rs [] = seek-nil 0 rs
   seek-end rs (c ∷ path) = seek-suc (length path) rs c path ∙ seek-end rs path
-
-  -- each row with one token in front
-  abbrev pushed : ℕ → RowsOf K → RowsOf K
-  pushed x [] = []
-  pushed x ((t, k) ∷ rest) = (x ∷ t, k) ∷ pushed x rest
-
-  abbrev prefixed : List ℕ → RowsOf K → RowsOf K
-  prefixed [] rs = rs
-  prefixed (x ∷ front) rs = pushed x (prefixed front rs)
-
-  own-pushed : (x : ℕ) (rs : RowsOf K) → own (pushed x rs) ≡ None
-  own-pushed x [] = refl
-  own-pushed x ((t, k) ∷ rest) = own-pushed x rest
-
-  cond-step : (b : Bool) (row : List ℕ × K) (rest others : RowsOf K) → others ≡ cond b rest [] → cond b (row ∷ others) others ≡ cond b (row ∷ rest) []
-  cond-step true row rest others e = ap (λ o. row ∷ o) e
-  cond-step false row rest others e = e
-
-  no_more : (b : Bool) → let none : RowsOf K = [] in none ≡ cond b [] []
-  no_more true = refl
-  no_more false = refl
-
-  step-pushed : (c x : ℕ) (rs : RowsOf K) → step c (pushed x rs) ≡ cond (x == c) rs []
-  step-pushed c x [] = no_more (x == c)
-  step-pushed c x ((t, k) ∷ rest) = cond-step (x == c) (t, k) rest (step c (pushed x rest)) (step-pushed c x rest)
-
-  seek-pushed : (x : ℕ) (rs : RowsOf K) (c : ℕ) (path : List ℕ) → (x == param_token) ≡ false → (x == catch_all_token) ≡ false
-      → seek 0 (pushed x rs) (c ∷ path) ≡ cond (x == c) (seek 0 rs path) None
-  seek-pushed x rs c path p a =
-      seek-step (pushed x rs) c path (step-pushed param_token x rs ∙ ap (λ b. cond b rs []) p) (step-pushed catch_all_token x rs ∙ ap (λ b. cond b rs []) a)
-      ∙ ap (λ r. seek 0 r path) (step-pushed c x rs)
-      ∙ elim (x == c) as (λ b. seek 0 (cond b rs []) path ≡ cond b (seek 0 rs path) None) [ true ↦ refl | false ↦ seek-none path 0 ]
 
 -- ---- parts of a path
 
@@ -224,7 +183,7 @@ last-any (x ∷ []) none = not_so _ (λ t.
     true≢false bad)
 last-any (x ∷ y ∷ text) none =
     let less : length (x ∷ y ∷ text) - 1 ≡ suc (length (y ∷ text) - 1) = omega arith in
-    rw less (last-any (y ∷ text) (or_false_parts (x == 47) _ none))
+    rw less (last-any (y ∷ text) (or_false_parts (x == 47) _ none).1)
 
 no-cuts : (text : List ℕ) → list_any is_slash text ≡ false → cuts text (47 ∷ []) ≡ false
 no-cuts text none = rw (last-any text none) (and-false _)
@@ -240,49 +199,14 @@ cuts-front f fs =
     let long : nat_lt 1 (length (f ∷ fs ++ 47 ∷ [])) ≡ true = lt-ltb 1 _ (omega (arith, length-append fs (47 ∷ []))) in
     rw (long, last-front f fs) refl
 
--- ---- the routes
+-- ---- what comes after a front
 
-module _ {K A : Type 0} (v : K → A) where
-  abbrev pub value_of : Option K → Option A
-  value_of None = None
-  value_of (Some k) = Some (v k)
+abbrev tokens : Tail → List ℕ
+tokens nothing = []
+tokens one_part = param_token ∷ []
+tokens two_parts = param_token ∷ 47 ∷ param_token ∷ []
 
-  -- what is said of what follows these octets
-  abbrev past : List ℕ → (List ℕ → Option A) → List ℕ → Option A
-  past [] f path = f path
-  past (x ∷ front) f [] = None
-  past (x ∷ front) f (c ∷ path) = cond (x == c) (past front f path) None
-
-  value-cond : (b : Bool) (o : Option K) (r : Option A) → value_of o ≡ r → value_of (cond b o None) ≡ cond b r None
-  value-cond true o r e = e
-  value-cond false o r e = refl
-
-  seek-prefixed : (front : List ℕ) (rs : RowsOf K) (f : List ℕ → Option A) → is_literal front ≡ true
-      → ((names : List ℕ) → AreOctets names → value_of (seek 0 rs names) ≡ f names)
-      → (path : List ℕ) → AreOctets path → value_of (seek 0 (prefixed front rs) path) ≡ past front f path
-  seek-prefixed [] rs f literal base path octets = base path octets
-  seek-prefixed (x ∷ front) rs f literal base [] octets = ap value_of (seek-nil 0 (pushed x (prefixed front rs)) ∙ own-pushed x (prefixed front rs))
-  seek-prefixed (x ∷ front) rs f literal base (c ∷ path) octets =
-      let parts = and_parts _ _ literal in
-      let more = and_parts _ _ parts.1 in
-      ap value_of (seek-pushed x (prefixed front rs) c path (not-true _ parts.0) (not-true _ more.0))
-      ∙ value-cond (x == c) (seek 0 (prefixed front rs) path) (past front f path) (seek-prefixed front rs f more.1 base path octets.1)
-
-  follows-cond : (b : Bool) (t : Bool) (r : A) (o : Option A) → cond t (Some r) None ≡ o → cond (b && t) (Some r) None ≡ cond b o None
-  follows-cond true t r o e = e
-  follows-cond false t r o e = refl
-
-  follows-past : (front : List ℕ) (kind : List ℕ → Bool) (r : A) (path : List ℕ)
-      → cond (follows front kind path) (Some r) None ≡ past front (λ names. cond (kind names) (Some r) None) path
-  follows-past [] kind r path = refl
-  follows-past (x ∷ front) kind r [] = refl
-  follows-past (x ∷ front) kind r (c ∷ path) = follows-cond (x == c) (follows front kind path) r _ (follows-past front kind r path)
-
-  -- a path that ends here
-  end-row : (k : K) (names : List ℕ) → AreOctets names → value_of (seek 0 (([], k) ∷ []) names) ≡ cond (is_empty names) (Some (v k)) None
-  end-row k [] octets = ap value_of (seek-nil 0 (([], k) ∷ []))
-  end-row k (c ∷ names) octets = ap value_of (seek-step (([], k) ∷ []) c names refl refl ∙ seek-none names 0)
-
+module _ {K : Type 0} where
   param-end : (k : K) (path : List ℕ) → param_step (([], k) ∷ []) path ≡ unless_slash (has_slash path) (length path) (([], k) ∷ [])
   unfolding param_step
   param-end k path = refl
@@ -291,19 +215,18 @@ module _ {K A : Type 0} (v : K → A) where
   after-slashes true n rs path = seek-none path (0 - 1)
   after-slashes false n rs path = refl
 
-  part-found : (b : Bool) (k : K) → value_of (cond b None (Some k)) ≡ cond (not b) (Some (v k)) None
+  part-found : (b : Bool) (k : K) → cond b None (Some k) ≡ cond (not b) (Some k) None
   part-found true k = refl
   part-found false k = refl
 
   -- one part
-  part-row : (k : K) (names : List ℕ) → AreOctets names → value_of (seek 0 ((param_token ∷ [], k) ∷ []) names) ≡ cond (is_part names) (Some (v k)) None
-  part-row k [] octets = ap value_of (seek-nil 0 ((param_token ∷ [], k) ∷ []))
+  part-row : (k : K) (names : List ℕ) → AreOctets names → seek 0 ((param_token ∷ [], k) ∷ []) names ≡ cond (is_part names) (Some k) None
+  part-row k [] octets = seek-nil 0 ((param_token ∷ [], k) ∷ [])
   part-row k (c ∷ names) octets =
       let rest : after (length (c ∷ names), ([], k) ∷ []) names ≡ Some k = ap (λ n. seek n (([], k) ∷ []) names) (sub-one-suc (length names)) ∙ seek-end (([], k) ∷ []) names in
-      let walk : seek 0 ((param_token ∷ [], k) ∷ []) (c ∷ names) ≡ cond (has_slash (c ∷ names)) None (Some k) =
       seek-zero ((param_token ∷ [], k) ∷ []) c names
-      ∙ rw (octets.0, seek-none names 0, param-end k (c ∷ names), after-slashes (has_slash (c ∷ names)) (length (c ∷ names)) (([], k) ∷ []) names, rest) (or_else-none _) in
-      ap value_of walk ∙ part-found (has_slash (c ∷ names)) k ∙ ap (λ b. cond (not b) (Some (v k)) None) (has_slash-any (c ∷ names))
+      ∙ rw (octets.0, seek-none names 0, param-end k (c ∷ names), after-slashes (has_slash (c ∷ names)) (length (c ∷ names)) (([], k) ∷ []) names, rest) (or_else-none _)
+      ∙ part-found (has_slash (c ∷ names)) k ∙ ap (λ b. cond (not b) (Some k) None) (has_slash-any (c ∷ names))
 
   -- what stands between two parts, and the second of them
   abbrev slash_part : K → RowsOf K
@@ -329,84 +252,170 @@ module _ {K A : Type 0} (v : K → A) where
       let tail : names ≡ fs ++ 47 ∷ back = cc (s.text_is) in
       let past_first : length (f ∷ fs ++ 47 ∷ []) - 1 - 1 ≡ length fs = omega (arith, length-append fs (47 ∷ [])) in
       rw (param-parts k (c ∷ names), s.segment_is, cuts-front f fs, past_first, tail)
-      (seek-skip (slash_part k) fs (47 ∷ back) ∙ seek-pushed 47 ((param_token ∷ [], k) ∷ []) 47 back refl refl)
-
-  abbrev parts_found : Bool → K → Option A
-  parts_found b k = cond b (Some (v k)) None
+      (seek-skip (slash_part k) fs (47 ∷ back) ∙ seek-step (slash_part k) 47 back refl refl)
 
   parts-split : (k : K) (c : ℕ) (names : List ℕ) → AreOctets (c ∷ names) → Split (c ∷ names)
-      → value_of (after (param_step (slash_part k) (c ∷ names)) names) ≡ parts_found (is_owner_and_month (c ∷ names)) k
+      → after (param_step (slash_part k) (c ∷ names)) names ≡ cond (is_tail two_parts (c ∷ names)) (Some k) None
   parts-split k c names octets (inl none) =
       let uncut : cuts (segment (c ∷ names)) (47 ∷ []) ≡ false = rw none.segment_is (no-cuts (c ∷ names) none.text_any) in
-      ap value_of (parts-uncut k c names uncut)
-      ∙ rw (none.after_is, and-false (is_part (before_slash (c ∷ names)))) refl
+      parts-uncut k c names uncut ∙ rw (none.after_is, and-false (is_part (before_slash (c ∷ names)))) refl
   parts-split k c names octets (inr ([], back, s)) =
       let uncut : cuts (segment (c ∷ names)) (47 ∷ []) ≡ false = rw s.segment_is refl in
-      ap value_of (parts-uncut k c names uncut) ∙ rw s.before_is refl
+      parts-uncut k c names uncut ∙ rw s.before_is refl
   parts-split k c names octets (inr (f ∷ fs, back, s)) =
       let all : AreOctets ((f ∷ fs) ++ 47 ∷ back) = subst AreOctets s.text_is octets in
       let first : is_part (f ∷ fs) ≡ true = ap not s.front_any in
-      ap value_of (parts-cut k c names f fs back s) ∙ part-row k back (AreOctets-back (f ∷ fs) (47 ∷ back) all).1
+      parts-cut k c names f fs back s ∙ part-row k back (AreOctets-back (f ∷ fs) (47 ∷ back) all).1
       ∙ rw (s.before_is, s.after_is, first) refl
 
   -- two parts, and a slash between them
-  parts-row : (k : K) (names : List ℕ) → AreOctets names → value_of (seek 0 ((param_token ∷ 47 ∷ param_token ∷ [], k) ∷ []) names) ≡ parts_found (is_owner_and_month names) k
-  parts-row k [] octets = ap value_of (seek-nil 0 ((param_token ∷ 47 ∷ param_token ∷ [], k) ∷ []))
+  parts-row : (k : K) (names : List ℕ) → AreOctets names → seek 0 ((tokens two_parts, k) ∷ []) names ≡ cond (is_tail two_parts names) (Some k) None
+  parts-row k [] octets = seek-nil 0 ((tokens two_parts, k) ∷ [])
   parts-row k (c ∷ names) octets =
-      ap value_of (seek-zero ((param_token ∷ 47 ∷ param_token ∷ [], k) ∷ []) c names ∙ rw (octets.0, seek-none names 0) (or_else-none _))
+      seek-zero ((tokens two_parts, k) ∷ []) c names ∙ rw (octets.0, seek-none names 0) (or_else-none _)
       ∙ parts-split k c names octets (split (c ∷ names))
 
-  -- ---- the three routes
+-- ---- forms
 
-  abbrev three : List ℕ → List ℕ → List ℕ → K → K → K → List ℕ → Option A
-  three a b c ka kb kc path =
-      cond (follows a is_empty path) (Some (v ka)) (cond (follows b is_owner_and_month path) (Some (v kb)) (cond (follows c is_part path) (Some (v kc)) None))
+abbrev is_literal : List ℕ → Bool
+is_literal [] = true
+is_literal (x ∷ front) = not (x == param_token) && (not (x == catch_all_token) && is_literal front)
 
-  three-cond : (b x y z : Bool) (ka kb kc : K) → cond (b && x) (Some (v ka)) (cond (b && y) (Some (v kb)) (cond (b && z) (Some (v kc)) None))
-      ≡ cond b (cond x (Some (v ka)) (cond y (Some (v kb)) (cond z (Some (v kc)) None))) None
-  three-cond true x y z ka kb kc = refl
-  three-cond false x y z ka kb kc = refl
+-- neither begins the other
+abbrev are_apart : List ℕ → List ℕ → Bool
+are_apart [] other = false
+are_apart (x ∷ key) [] = false
+are_apart (x ∷ key) (y ∷ other) = cond (y == x) (are_apart key other) true
 
-  three-past : (front a b c : List ℕ) (ka kb kc : K) (path : List ℕ) → three (front ++ a) (front ++ b) (front ++ c) ka kb kc path ≡ past front (three a b c ka kb kc) path
-  three-past [] a b c ka kb kc path = refl
-  three-past (x ∷ front) a b c ka kb kc [] = refl
-  three-past (x ∷ front) a b c ka kb kc (o ∷ path) =
-      three-cond (x == o) _ _ _ ka kb kc ∙ ap (λ r. cond (x == o) r None) (three-past front a b c ka kb kc path)
+-- By what forms differ: the front, and where nothing comes then, that it ends there.
+abbrev key_of : List ℕ → Tail → List ℕ
+key_of [] nothing = catch_all_token ∷ []
+key_of [] one_part = []
+key_of [] two_parts = []
+key_of (x ∷ front) tail = x ∷ key_of front tail
 
-  abbrev tails : K → K → K → RowsOf K
-  tails ka kb kc = (codes "bands/" ++ param_token ∷ [], kc) ∷ (codes "messages", ka) ∷ (codes "reports/" ++ param_token ∷ 47 ∷ param_token ∷ [], kb) ∷ []
+module _ {K : Type 0} where
+  abbrev all_apart : List ℕ → List (Form K) → Bool
+  all_apart key [] = true
+  all_apart key ((front, tail, k) ∷ forms) = are_apart key (key_of front tail) && all_apart key forms
 
-  single : (front : List ℕ) (kind : List ℕ → Bool) (rs : RowsOf K) (k : K) → is_literal front ≡ true → ((names : List ℕ) → AreOctets names → value_of (seek 0 rs names) ≡ cond (kind names) (Some (v k)) None)
-      → (path : List ℕ) → AreOctets path → value_of (seek 0 (prefixed front rs) path) ≡ cond (follows front kind path) (Some (v k)) None
-  single front kind rs k literal base path octets =
-      seek-prefixed front rs (λ names. cond (kind names) (Some (v k)) None) literal base path octets ∙ sym (follows-past front kind (v k) path)
+  -- The fronts are literal, and no path has two of the forms. A front may begin another's if nothing comes after it.
+  abbrev pub are_distinct : List (Form K) → Bool
+  are_distinct [] = true
+  are_distinct ((front, tail, k) ∷ forms) = is_literal front && (all_apart (key_of front tail) forms && are_distinct forms)
 
-  tails-step : (ka kb kc : K) (o : ℕ) (names : List ℕ) (x y z : Bool) → 98 == o ≡ x → 109 == o ≡ y → 114 == o ≡ z → AreOctets names
-      → value_of (seek 0 (step o (tails ka kb kc)) names) ≡ three (codes "messages") (codes "reports/") (codes "bands/") ka kb kc (o ∷ names)
-  tails-step ka kb kc o names true true z ex ey ez octets = absurd (apart 98 109 o ex ey refl)
-  tails-step ka kb kc o names true false true ex ey ez octets = absurd (apart 98 114 o ex ez refl)
-  tails-step ka kb kc o names false true true ex ey ez octets = absurd (apart 109 114 o ey ez refl)
-  tails-step ka kb kc o names true false false ex ey ez octets =
-      rw (ex, ey, ez) (single (codes "ands/") is_part ((param_token ∷ [], kc) ∷ []) kc refl (part-row kc) names octets)
-  tails-step ka kb kc o names false true false ex ey ez octets =
-      rw (ex, ey, ez) (single (codes "essages") is_empty (([], ka) ∷ []) ka refl (end-row ka) names octets)
-  tails-step ka kb kc o names false false true ex ey ez octets =
-      rw (ex, ey, ez) (single (codes "eports/") is_owner_and_month ((param_token ∷ 47 ∷ param_token ∷ [], kb) ∷ []) kb refl (parts-row kb) names octets)
-  tails-step ka kb kc o names false false false ex ey ez octets = rw (ex, ey, ez) (ap value_of (seek-none names 0))
+  abbrev pub rows : List (Form K) → RowsOf K
+  rows [] = []
+  rows ((front, tail, k) ∷ forms) = (front ++ tokens tail, k) ∷ rows forms
 
-  tails-row : (ka kb kc : K) (names : List ℕ) → AreOctets names → value_of (seek 0 (tails ka kb kc) names) ≡ three (codes "messages") (codes "reports/") (codes "bands/") ka kb kc names
-  tails-row ka kb kc [] octets = ap value_of (seek-nil 0 (tails ka kb kc))
-  tails-row ka kb kc (o ∷ names) octets =
-      ap value_of (seek-step (tails ka kb kc) o names refl refl)
-      ∙ tails-step ka kb kc o names (98 == o) (109 == o) (114 == o) refl refl refl octets.1
+  -- the forms whose fronts go on with this octet, with the octet gone
+  abbrev stepped : ℕ → List (Form K) → List (Form K)
+  stepped c [] = []
+  stepped c (([], tail, k) ∷ forms) = stepped c forms
+  stepped c ((x ∷ front, tail, k) ∷ forms) = cond (x == c) ((front, tail, k) ∷ stepped c forms) (stepped c forms)
 
-  abbrev pub desk_rows : K → K → K → RowsOf K
-  desk_rows ka kb kc =
-      (codes "/v1/bands/" ++ param_token ∷ [], kc) ∷ (codes "/v1/messages", ka) ∷ (codes "/v1/reports/" ++ param_token ∷ 47 ∷ param_token ∷ [], kb) ∷ []
+  step-rows : (c : ℕ) → (param_token == c) ≡ false → (forms : List (Form K)) → step c (rows forms) ≡ rows (stepped c forms)
+  step-rows c octet [] = refl
+  step-rows c octet (([], nothing, k) ∷ forms) = step-rows c octet forms
+  step-rows c octet (([], one_part, k) ∷ forms) = rw octet (step-rows c octet forms)
+  step-rows c octet (([], two_parts, k) ∷ forms) = rw octet (step-rows c octet forms)
+  step-rows c octet ((x ∷ front, tail, k) ∷ forms) = elim (x == c) as (λ b.
+      cond b ((front ++ tokens tail, k) ∷ step c (rows forms)) (step c (rows forms)) ≡ rows (cond b ((front, tail, k) ∷ stepped c forms) (stepped c forms)))
+      [ true ↦ ap (λ r. (front ++ tokens tail, k) ∷ r) (step-rows c octet forms) | false ↦ step-rows c octet forms ]
 
-  -- the walk over the rows of the three routes finds the one whose form the path has
-  pub routes : (ka kb kc : K) (path : List ℕ) → AreOctets path
-      → value_of (seek 0 (desk_rows ka kb kc) path) ≡ three (codes "/v1/messages") (codes "/v1/reports/") (codes "/v1/bands/") ka kb kc path
-  routes ka kb kc path octets =
-      seek-prefixed (codes "/v1/") (tails ka kb kc) (three (codes "messages") (codes "reports/") (codes "bands/") ka kb kc) refl (tails-row ka kb kc) path octets
-      ∙ sym (three-past (codes "/v1/") (codes "messages") (codes "reports/") (codes "bands/") ka kb kc path)
+  -- no part of a path begins here: each front goes on with an octet, or the path ends
+  abbrev NoPart : List (Form K) → Type 0
+  NoPart [] = Unit {0}
+  NoPart (([], nothing, k) ∷ forms) = NoPart forms
+  NoPart (([], one_part, k) ∷ forms) = ⊥
+  NoPart (([], two_parts, k) ∷ forms) = ⊥
+  NoPart ((x ∷ front, tail, k) ∷ forms) = ((x == param_token) ≡ false) × ((x == catch_all_token) ≡ false) × NoPart forms
+
+  no-part : (x : ℕ) (key : List ℕ) (forms : List (Form K)) → all_apart (x ∷ key) forms ≡ true → are_distinct forms ≡ true → NoPart forms
+  no-part x key [] apart distinct = tt
+  no-part x key (([], nothing, k) ∷ forms) apart distinct = no-part x key forms (and_parts _ _ apart).1 (and_parts _ _ distinct).1
+  no-part x key (([], one_part, k) ∷ forms) apart distinct = absurd (true≢false (sym apart))
+  no-part x key (([], two_parts, k) ∷ forms) apart distinct = absurd (true≢false (sym apart))
+  no-part x key ((y ∷ front, tail, k) ∷ forms) apart distinct =
+      let parts = and_parts _ _ distinct in
+      let literal = and_parts _ _ parts.0 in
+      (not-true _ literal.0, not-true _ (and_parts _ _ literal.1).0, no-part x key forms (and_parts _ _ apart).1 (and_parts _ _ parts.1).1)
+
+  step-tokens : (forms : List (Form K)) → NoPart forms → (step param_token (rows forms) ≡ []) × (step catch_all_token (rows forms) ≡ [])
+  step-tokens [] none = (refl, refl)
+  step-tokens (([], nothing, k) ∷ forms) none = step-tokens forms none
+  step-tokens (([], one_part, k) ∷ forms) none = absurd none
+  step-tokens (([], two_parts, k) ∷ forms) none = absurd none
+  step-tokens ((x ∷ front, tail, k) ∷ forms) none = let rest = step-tokens forms none.2 in (rw none.0 rest.0, rw none.1 rest.1)
+
+  led-stepped : (c : ℕ) (path : List ℕ) (forms : List (Form K)) → NoPart forms → led forms (c ∷ path) ≡ led (stepped c forms) path
+  led-stepped c path [] none = refl
+  led-stepped c path (([], nothing, k) ∷ forms) none = led-stepped c path forms none
+  led-stepped c path (([], one_part, k) ∷ forms) none = absurd none
+  led-stepped c path (([], two_parts, k) ∷ forms) none = absurd none
+  led-stepped c path ((x ∷ front, tail, k) ∷ forms) none = elim (x == c) as (λ b.
+      cond (b && follows front (is_tail tail) path) (Some k) (led forms (c ∷ path)) ≡ led (cond b ((front, tail, k) ∷ stepped c forms) (stepped c forms)) path)
+      [ true ↦ ap (λ r. cond (follows front (is_tail tail) path) (Some k) r) (led-stepped c path forms none.2) | false ↦ led-stepped c path forms none.2 ]
+
+  own-rows : (forms : List (Form K)) → own (rows forms) ≡ led forms []
+  own-rows [] = refl
+  own-rows (([], nothing, k) ∷ forms) = refl
+  own-rows (([], one_part, k) ∷ forms) = own-rows forms
+  own-rows (([], two_parts, k) ∷ forms) = own-rows forms
+  own-rows ((x ∷ front, tail, k) ∷ forms) = own-rows forms
+
+  apart-stepped : (x : ℕ) (key : List ℕ) (forms : List (Form K)) → all_apart (x ∷ key) forms ≡ true → all_apart key (stepped x forms) ≡ true
+  apart-stepped x key [] apart = refl
+  apart-stepped x key (([], tail, k) ∷ forms) apart = apart-stepped x key forms (and_parts (are_apart (x ∷ key) (key_of [] tail)) (all_apart (x ∷ key) forms) apart).1
+  apart-stepped x key ((y ∷ front, tail, k) ∷ forms) apart = (elim (y == x) as (λ b.
+      (cond b (are_apart key (key_of front tail)) true && all_apart (x ∷ key) forms) ≡ true → all_apart key (cond b ((front, tail, k) ∷ stepped x forms) (stepped x forms)) ≡ true) [
+        | true ↦ λ both. let parts = and_parts (are_apart key (key_of front tail)) (all_apart (x ∷ key) forms) both in rw parts.0 (apart-stepped x key forms parts.1)
+        | false ↦ λ rest. apart-stepped x key forms rest
+      ]) apart
+
+  distinct-stepped : (c : ℕ) (forms : List (Form K)) → are_distinct forms ≡ true → are_distinct (stepped c forms) ≡ true
+  distinct-stepped c [] distinct = refl
+  distinct-stepped c (([], tail, k) ∷ forms) distinct = distinct-stepped c forms (and_parts (all_apart (key_of [] tail) forms) (are_distinct forms) distinct).1
+  distinct-stepped c ((x ∷ front, tail, k) ∷ forms) distinct =
+      let parts = and_parts (is_literal (x ∷ front)) (all_apart (x ∷ key_of front tail) forms && are_distinct forms) distinct in
+      let rest = and_parts (all_apart (x ∷ key_of front tail) forms) (are_distinct forms) parts.1 in
+      let literal = and_parts _ _ (and_parts _ _ parts.0).1 in
+      by (x == c) refl literal.1 (apart-stepped x (key_of front tail) forms rest.0) (distinct-stepped c forms rest.1)
+    where
+      by : (b : Bool) → (x == c) ≡ b → is_literal front ≡ true → all_apart (key_of front tail) (stepped x forms) ≡ true → are_distinct (stepped c forms) ≡ true
+          → are_distinct (cond b ((front, tail, k) ∷ stepped c forms) (stepped c forms)) ≡ true
+      by false e literal apart rest = rest
+      by true e literal apart rest = rw (literal, subst (λ o. all_apart (key_of front tail) (stepped o forms) ≡ true) (eqb-true x c e) apart) rest
+
+  -- one octet more, where no part begins
+  onward : (c : ℕ) (path : List ℕ) (forms : List (Form K)) → (param_token == c) ≡ false → NoPart forms
+      → seek 0 (rows (stepped c forms)) path ≡ led (stepped c forms) path → seek 0 (rows forms) (c ∷ path) ≡ led forms (c ∷ path)
+  onward c path forms octet none rest =
+      let tokens = step-tokens forms none in
+      seek-step (rows forms) c path tokens.0 tokens.1 ∙ ap (λ r. seek 0 r path) (step-rows c octet forms) ∙ rest ∙ sym (led-stepped c path forms none)
+
+  -- the walk over the rows of forms finds the first form that the path has
+  pub walk : (path : List ℕ) (forms : List (Form K)) → are_distinct forms ≡ true → AreOctets path → seek 0 (rows forms) path ≡ led forms path
+  walk [] forms distinct octets = seek-nil 0 (rows forms) ∙ own-rows forms
+  walk (c ∷ path) [] distinct octets = seek-none (c ∷ path) 0
+  walk (c ∷ path) (([], one_part, k) ∷ []) distinct octets = part-row k (c ∷ path) octets
+  walk (c ∷ path) (([], one_part, k) ∷ other ∷ forms) distinct octets = absurd (true≢false (sym distinct))
+  walk (c ∷ path) (([], two_parts, k) ∷ []) distinct octets = parts-row k (c ∷ path) octets
+  walk (c ∷ path) (([], two_parts, k) ∷ other ∷ forms) distinct octets = absurd (true≢false (sym distinct))
+  walk (c ∷ path) (([], nothing, k) ∷ forms) distinct octets =
+      let all : List (Form K) = ([], nothing, k) ∷ forms in
+      let rest = and_parts (all_apart (catch_all_token ∷ []) forms) (are_distinct forms) distinct in
+      onward c path all octets.0 (no-part catch_all_token [] forms rest.0 rest.1) (walk path (stepped c all) (distinct-stepped c all distinct) octets.1)
+  walk (c ∷ path) ((x ∷ front, tail, k) ∷ forms) distinct octets =
+      let all : List (Form K) = (x ∷ front, tail, k) ∷ forms in
+      let parts = and_parts (is_literal (x ∷ front)) (all_apart (x ∷ key_of front tail) forms && are_distinct forms) distinct in
+      let literal = and_parts _ _ parts.0 in
+      let rest = and_parts (all_apart (x ∷ key_of front tail) forms) (are_distinct forms) parts.1 in
+      let none : NoPart all = (not-true _ literal.0, not-true _ (and_parts _ _ literal.1).0, no-part x (key_of front tail) forms rest.0 rest.1) in
+      onward c path all octets.0 none (walk path (stepped c all) (distinct-stepped c all distinct) octets.1)
+
+-- what the router finds under other keys is what the path leads to by the forms of its rows
+pub routed : {K V : Type 0} (f : K → V) (rs : RowsOf K) (forms : List (Form V)) → rename f rs ≡ rows forms → are_distinct forms ≡ true
+    → (path : List ℕ) → AreOctets path → (found : Option K) → first rs path ≡ found → map_key f found ≡ led forms path
+routed f rs forms are distinct path octets found is =
+    ap (map_key f) (sym is) ∙ sym (first-rename f rs path) ∙ ap (λ r. first r path) are ∙ walk path forms distinct octets

@@ -1,20 +1,17 @@
 -- What requests are answered at a desk that is served, in the words of what was delivered before them.
-use Rattle.std.specs.Prelude.{◌≡◌, ◌<◌, ◌⊎◌, ◌↔◌, ◌||◌, ◌++◌, ℕ, ℤ, Bool, false, List, [], ◌∷◌, length, Option, None, Result, Err, if◌then◌else◌}
+use Rattle.std.specs.Prelude.{◌≡◌, ◌<◌, ◌⊎◌, ◌||◌, ◌++◌, ℕ, Bool, false, List, [], ◌∷◌, length, Option, None, Result, if◌then◌else◌}
 use Rattle.registry_core.specs.declared.messages.Envelope.{Envelope}
-use Rattle.registry_core.specs.Heard.{state_of}
 use Rattle.registry_core.specs.Settings.{Settings}
 use Rattle.desk_store.specs.declared.faults.StoreFault.{StoreFault}
 use Rattle.desk_store.specs.Calls.{is_disk}
 use Rattle.desk_engine.specs.declared.report_faults.ReportFault.{ReportFault}
-use Rattle.desk_engine.specs.declared.report_faults.ReportFault.TheVariants.{Time}
 use Rattle.desk_engine.specs.declared.outcomes.Outcome.{Outcome}
 use Rattle.desk_engine.specs.Deliveries.{Delivery, heard_all}
-use Rattle.desk_engine.specs.Months.{IsMonth}
 use Rattle.desk_engine.specs.Outcomes.{IsOutcome, delivery_of, doubt_of_text, outcome_fault}
 use Rattle.desk_engine.specs.Reporting.{store_fault_in}
 use Rattle.desk_engine.specs.Told.{told_of_text}
-use Rattle.desk_http.specs.Reports.{IsBandAnswer, IsOwnerAnswer}
-use Rattle.desk_http.specs.Requests.{Request, refused, message, owner_report, band_report}
+use Rattle.desk_http.specs.Reports.{IsAnswer, RefusesTime, Report, kind_of}
+use Rattle.desk_http.specs.Requests.{Request, refused, message, report}
 use Rattle.desk_http.specs.Responses.{Response, cut_body, outcome_response, report_response}
 
 -- ---- what was delivered
@@ -46,11 +43,6 @@ and_then first others = record {
 
 -- ---- what a request is answered
 
--- of a report that was asked for: the answer, and the response that tells it
-abbrev pub Reports : (Result (List ℕ) ReportFault → Type 0) → Delivered → Delivered → Response → Type 0
-Reports IsAnswer old new response =
-    (answer : Result (List ℕ) ReportFault) × IsAnswer answer × (new ≡ and_then old (only_read (store_fault_in answer))) × (response ≡ report_response answer)
-
 -- what had been heard before the first connection
 module _ (c : Settings) (heard : List Envelope) where
   -- A body of so many octets was delivered once: the response tells what its text is told after what was delivered before. Or the body is
@@ -61,10 +53,14 @@ module _ (c : Settings) (heard : List Envelope) where
       × (new ≡ and_then old (one_delivered c body outcome)) × (response ≡ outcome_response outcome))
       ⊎ ((length body < count) × (new ≡ old) × (response ≡ cut_body))
 
+  -- Nothing was delivered: the response is the text that is so of what was heard by then, or why there is none.
+  abbrev pub AnswersReport : Report → Delivered → Delivered → Response → Type 0
+  AnswersReport wanted old new response =
+      (answer : Result (List ℕ) ReportFault) × IsAnswer c (heard_all c heard old.deliveries) wanted answer × RefusesTime wanted answer
+      × (new ≡ and_then old (only_read (store_fault_in answer))) × (response ≡ report_response (kind_of wanted) answer)
+
   -- what was delivered before a request with this body and after it, and its response
   abbrev pub Answers : Delivered → Delivered → Request → List ℕ → Response → Type 0
   Answers old new (refused wanted) body response = (new ≡ old) × (response ≡ wanted)
   Answers old new (message count) body response = AnswersMessage count body old new response
-  Answers old new (owner_report owner month) body response =
-      Reports (λ answer. IsOwnerAnswer (state_of c (heard_all c heard old.deliveries)) owner month answer × ((answer ≡ Err Time) ↔ ((from to : ℤ) → ¬ (IsMonth month from to)))) old new response
-  Answers old new (band_report gateway) body response = Reports (IsBandAnswer (state_of c (heard_all c heard old.deliveries)) gateway) old new response
+  Answers old new (report wanted) body response = AnswersReport wanted old new response

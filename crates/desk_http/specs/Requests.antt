@@ -4,19 +4,22 @@ use Rattle.std.specs.Io.KnownBytes.{IsAtEnd}
 use Rattle.std.specs.Str.{bytes_eq}
 use Rattle.httparse.specs.Grammar.{RequestHead, IsRequestHead, print_request}
 use Rattle.httparse.specs.Spans.{name_and_value}
+use Rattle.desk_engine.specs.declared.log.LogText.{LogText}
+use Rattle.desk_engine.specs.declared.log.LogText.TheVariants.{Message, Answer}
+use Rattle.desk_engine.specs.Log.{message_number}
 use Rattle.desk_http.specs.declared.fields.BodyLength.{BodyLength}
 use Rattle.desk_http.specs.declared.fields.BodyLength.TheVariants.{Absent, Number, TooLong, Bad}
 use Rattle.desk_http.specs.Fields.{NamedValue, has_origin, has_transfer_encoding, body_length}
 use Rattle.desk_http.specs.Heads.{IsNoHead, IsWithinLimits}
-use Rattle.desk_http.specs.Responses.{Response, no_head, cross_origin, no_route, other_method, no_length, too_long}
-use Rattle.desk_http.specs.Targets.{Resource, messages, reports, bands, Names, method_of, path_of}
+use Rattle.desk_http.specs.Reports.{Report, owner_report, band_report, room_report, log_part}
+use Rattle.desk_http.specs.Responses.{Response, no_head, cross_origin, no_number, no_route, other_method, no_length, too_long}
+use Rattle.desk_http.specs.Targets.{Resource, messages, reports, bands, room, log, answers, Names, method_of, path_of}
 
--- what is asked for: a message of so many octets to be delivered, or a report; or nothing that is served, and this response refuses it
+-- what is asked for: a message of so many octets to be delivered, or a text; or nothing that is served, and this response refuses it
 pub data Request : Type 0 where
   refused : Response → Request
   message : (count : ℕ) → Request
-  owner_report : (owner month : List ℕ) → Request
-  band_report : (gateway : List ℕ) → Request
+  report : (wanted : Report) → Request
 
 -- a message needs its length
 abbrev pub asked_by_length : BodyLength → Request
@@ -29,11 +32,19 @@ asked_by_length Bad = refused no_head
 abbrev pub asked_of_messages : List NamedValue → Request
 asked_of_messages fields = if has_transfer_encoding fields then refused no_length else asked_by_length (body_length fields)
 
--- what is asked of a resource by its own method; the fields of a report's head don't matter
+-- a log needs the number of a message
+abbrev pub asked_by_number : LogText → Option ℕ → Request
+asked_by_number which None = refused no_number
+asked_by_number which (Some from) = report (log_part which from)
+
+-- what is asked of a resource by its own method; the fields of a text's head don't matter
 abbrev pub asked_by_resource : Resource → List NamedValue → Request
 asked_by_resource messages fields = asked_of_messages fields
-asked_by_resource (reports owner month) fields = owner_report owner month
-asked_by_resource (bands gateway) fields = band_report gateway
+asked_by_resource (reports owner month) fields = report (owner_report owner month)
+asked_by_resource (bands gateway) fields = report (band_report gateway)
+asked_by_resource (room gateway time) fields = report (room_report gateway time)
+asked_by_resource (log from) fields = asked_by_number Message (message_number from)
+asked_by_resource (answers from) fields = asked_by_number Answer (message_number from)
 
 -- what is named, then its method, then what is asked of it
 abbrev pub asked_of_named : Option Resource → List ℕ → List NamedValue → Request

@@ -50,6 +50,9 @@ no_route = plain 404 (codes "route\n")
 abbrev pub other_method : List ℕ → Response
 other_method method = record { status = 405; kind = codes "text/plain"; allow = Some method; body = codes "method\n" }
 
+abbrev pub no_number : Response
+no_number = plain 400 (codes "number\n")
+
 abbrev pub no_length : Response
 no_length = plain 411 (codes "length\n")
 
@@ -77,18 +80,14 @@ outcome_response (Answered text) = json 200 text.items
 outcome_response (Refused refusal text) = json (status_of refusal) text.items
 outcome_response (Unavailable fault) = unavailable
 
--- the text of a report
-abbrev pub csv : List ℕ → Response
-csv text = record { status = 200; kind = codes "text/csv"; allow = None; body = text }
-
--- why there is no report
+-- why there is no text
 abbrev pub fault_response : ReportFault → Response
 fault_response fault.Time = plain 400 (codes "time\n")
 fault_response fault.Owner = plain 404 (codes "owner\n")
 fault_response fault.Gateway = plain 404 (codes "gateway\n")
 fault_response (fault.Unavailable of_store) = unavailable
 
--- the response to a GET of a report
-abbrev pub report_response : Result (List ℕ) ReportFault → Response
-report_response (Ok text) = csv text
-report_response (Err fault) = fault_response fault
+-- the response to a GET of a text of this type
+abbrev pub report_response : List ℕ → Result (List ℕ) ReportFault → Response
+report_response kind (Ok text) = record { status = 200; kind = kind; allow = None; body = text }
+report_response kind (Err fault) = fault_response fault

@@ -1,26 +1,23 @@
 -- What a connection is served.
-use Rattle.std.specs.Prelude.{◌≡◌, ◌<◌, ◌⊎◌, ◌↔◌, ℕ, ℤ, List, length, Option, Some, Result, Err}
+use Rattle.std.specs.Prelude.{◌≡◌, ◌<◌, ◌⊎◌, ℕ, List, length, Option, Some, Result}
 use Rattle.std.specs.Io.KnownBytes.{Appends, Keeps}
 use Rattle.registry_core.specs.declared.messages.Envelope.{Envelope}
-use Rattle.registry_core.specs.Heard.{state_of}
 use Rattle.registry_core.specs.Settings.{Settings}
 use Rattle.desk_store.specs.declared.faults.StoreFault.TheVariants.{Size}
 use Rattle.desk_store.specs.Calls.{IsOfCalls, IsRead, is_disk, is_foreign}
 use Rattle.desk_store.specs.Meaning.{Meaning}
 use Rattle.desk_engine.specs.declared.report_faults.ReportFault.{ReportFault}
-use Rattle.desk_engine.specs.declared.report_faults.ReportFault.TheVariants.{Time}
 use Rattle.desk_engine.specs.declared.outcomes.Outcome.{Outcome}
 use Rattle.desk_engine.specs.Deliveries.{heard_after}
 use Rattle.desk_engine.specs.Hearing.{Hears}
 use Rattle.desk_engine.specs.InOrder.{HasNoRoom, IsInOrder, WasInOrder}
-use Rattle.desk_engine.specs.Months.{IsMonth}
 use Rattle.desk_engine.specs.Outcomes.{IfRefused, IsOutcome, IsUnheard, delivery_of, doubt_of_text, outcome_fault}
 use Rattle.desk_engine.specs.Reporting.{store_fault_in}
 use Rattle.desk_engine.specs.Told.{told_of_text}
 use Rattle.desk_http.specs.declared.serving.ServeEnd.{ServeEnd}
 use Rattle.desk_http.specs.declared.serving.ServeEnd.TheVariants.{Done, Closed, Read, Write, Memory}
-use Rattle.desk_http.specs.Reports.{IsBandAnswer, IsOwnerAnswer}
-use Rattle.desk_http.specs.Requests.{IsReadAs, Request, refused, message, owner_report, band_report}
+use Rattle.desk_http.specs.Reports.{IsAnswer, RefusesTime, Report, kind_of}
+use Rattle.desk_http.specs.Requests.{IsReadAs, Request, refused, message, report}
 use Rattle.desk_http.specs.Responses.{Response, response_text, cut_body, outcome_response, report_response}
 
 module _ {K : Type 0} (m : Meaning K) (old new : K) where
@@ -39,29 +36,20 @@ module _ {K : Type 0} (m : Meaning K) (old new : K) where
       ((length body ≡ count) × (outcome : Outcome) × IsDelivered body outcome × (response ≡ outcome_response outcome))
       ⊎ ((length body < count) × (new ≡ old) × (response ≡ cut_body))
 
-  -- The owner's report of a month was asked for once, and this is the response. The store is read alone, and stays in order.
-  pub record ServesOwnerReport (owner month : List ℕ) (response : Response) : Type 0 where
+  -- A text was asked for once, and this is the response. The store is read alone, and stays in order.
+  pub record ServesReport (wanted : Report) (response : Response) : Type 0 where
     pub answer : Result (List ℕ) ReportFault
-    pub response_is : response ≡ report_response answer
+    pub response_is : response ≡ report_response (kind_of wanted) answer
     pub read : IsRead m old new (store_fault_in answer)
-    pub time : (answer ≡ Err Time) ↔ ((from to : ℤ) → ¬ (IsMonth month from to))
-    pub told : (c : Settings) (heard : List Envelope) → WasInOrder m c heard old new → IsOwnerAnswer (state_of c heard) owner month answer
-    pub order : (c : Settings) (heard : List Envelope) → WasInOrder m c heard old new → IsInOrder m c new heard
-
-  -- the same of the report of a gateway's bands
-  pub record ServesBandReport (gateway : List ℕ) (response : Response) : Type 0 where
-    pub answer : Result (List ℕ) ReportFault
-    pub response_is : response ≡ report_response answer
-    pub read : IsRead m old new (store_fault_in answer)
-    pub told : (c : Settings) (heard : List Envelope) → WasInOrder m c heard old new → IsBandAnswer (state_of c heard) gateway answer
+    pub time : RefusesTime wanted answer
+    pub told : (c : Settings) (heard : List Envelope) → WasInOrder m c heard old new → IsAnswer c heard wanted answer
     pub order : (c : Settings) (heard : List Envelope) → WasInOrder m c heard old new → IsInOrder m c new heard
 
   -- what is done of a request with this body, and the response
   abbrev pub ServesRequest : Request → List ℕ → Response → Type 0
   ServesRequest (refused wanted) body response = (new ≡ old) × (response ≡ wanted)
   ServesRequest (message count) body response = ServesMessage count body response
-  ServesRequest (owner_report owner month) body response = ServesOwnerReport owner month response
-  ServesRequest (band_report gateway) body response = ServesBandReport gateway response
+  ServesRequest (report wanted) body response = ServesReport wanted response
 
   -- This input was read, and this may be left of it: a request, which was served so.
   abbrev pub Serves : List ℕ → Option (List ℕ) → Response → Type 0

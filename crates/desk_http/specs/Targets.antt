@@ -22,18 +22,27 @@ pub data Resource : Type 0 where
   messages : Resource
   reports : (owner month : List ℕ) → Resource
   bands : (gateway : List ℕ) → Resource
+  room : (gateway time : List ℕ) → Resource
+  log : (from : List ℕ) → Resource
+  answers : (from : List ℕ) → Resource
 
 -- the path of each
 abbrev pub path_to : Resource → List ℕ
 path_to messages = codes "/v1/messages"
 path_to (reports owner month) = codes "/v1/reports/" ++ owner ++ codes "/" ++ month
 path_to (bands gateway) = codes "/v1/bands/" ++ gateway
+path_to (room gateway time) = codes "/v1/room/" ++ gateway ++ codes "/" ++ time
+path_to (log from) = codes "/v1/log/" ++ from
+path_to (answers from) = codes "/v1/answers/" ++ from
 
 -- each name in it is a part of a path
 abbrev pub HasParts : Resource → Type 0
 HasParts messages = Unit {0}
 HasParts (reports owner month) = IsTrue (is_part owner) × IsTrue (is_part month)
 HasParts (bands gateway) = IsTrue (is_part gateway)
+HasParts (room gateway time) = IsTrue (is_part gateway) × IsTrue (is_part time)
+HasParts (log from) = IsTrue (is_part from)
+HasParts (answers from) = IsTrue (is_part from)
 
 -- the path is that of the resource
 abbrev pub IsPathTo : List ℕ → Resource → Type 0
@@ -47,5 +56,4 @@ Names path (Some resource) = IsPathTo path resource
 -- the method of each
 abbrev pub method_of : Resource → List ℕ
 method_of messages = codes "POST"
-method_of (reports owner month) = codes "GET"
-method_of (bands gateway) = codes "GET"
+method_of _ = codes "GET"

@@ -2,15 +2,18 @@
 ghost use Rattle.std.specs.Prelude.{◌≡◌, ℕ, List, length, map, IfOk};
 ghost use Rattle.std.specs.List.{All};
 ghost use Rattle.httparse.specs.Spans.{IsHeaderWithin, header_bytes};
-ghost use Rattle.desk_http.specs.Requests.{asked_by_resource, asked_of, asked_of_messages, asked_of_named};
+ghost use Rattle.desk_engine.specs.Log.{message_number};
+ghost use Rattle.desk_http.specs.Requests.{asked_by_number, asked_by_resource, asked_of, asked_of_messages, asked_of_named};
 ghost use Rattle.desk_http.specs.Targets.{path_of};
 ghost use Rattle.desk_http.specs.steps.Requests.{request_of};
 ghost use Rattle.desk_http.specs.steps.Targets.{named_in_path, resource_of};
 
 use crate::fields::{BodyLength, body_length, has_origin, has_transfer_encoding};
-use crate::targets::{Route, method_of, path_of, route_of};
+use crate::targets::{Route, method_of, names_of, path_of, route_of};
+use desk_engine::{LogText, message_number};
 use httparse::spans::HeaderSpan;
 use matchit::InsertError;
+use registry_core::Whole;
 use std::alloc::Global;
 
 /// What a request's head asks for, or why it is refused at once.
@@ -30,6 +33,11 @@ pub(crate) enum Asked {
     Deliver(u32),
     OwnerReport,
     BandReport,
+    Room,
+    /// The log from this message on.
+    Log(LogText, Whole),
+    /// What stands for the number of a message is none.
+    BadNumber,
 }
 
 /// What a head with these parts asks for.
@@ -62,24 +70,38 @@ fn asked_of_target(
     ensures { IfOk result (λ asked. request_of (path_of target.now) asked
         ≡ asked_of_named (named_in_path (path_of target.now)) method.now (map (header_bytes octets.now) headers.now)) }
 {
-    let Some(route) = route_of(alloc, path_of(target))? else {
+    let path = path_of(target);
+    let Some(route) = route_of(alloc, path)? else {
         return Ok(Asked::NoRoute);
     };
     if method != method_of(route).as_bytes() {
         return Ok(Asked::OtherMethod(route));
     }
-    Ok(asked_by_route(route, octets, headers))
+    Ok(asked_by_route(route, path, octets, headers))
 }
 
 /// What a route is asked for by its own method.
-fn asked_by_route(route: Route, octets: &[u8], headers: &[HeaderSpan]) -> Asked
+fn asked_by_route(route: Route, path: &str, octets: &[u8], headers: &[HeaderSpan]) -> Asked
     requires { All (IsHeaderWithin (length octets.now)) headers.now }
-    ensures { (path : List ℕ) → request_of path result ≡ asked_by_resource (resource_of path route) (map (header_bytes octets.now) headers.now) }
+    ensures { request_of path.now result ≡ asked_by_resource (resource_of path.now route) (map (header_bytes octets.now) headers.now) }
 {
     match route {
         Route::Messages => asked_of_messages(octets, headers),
         Route::OwnerReport => Asked::OwnerReport,
         Route::BandReport => Asked::BandReport,
+        Route::Room => Asked::Room,
+        Route::Log => asked_of_log(LogText::Message, names_of(path)),
+        Route::Answers => asked_of_log(LogText::Answer, names_of(path)),
+    }
+}
+
+/// A log needs the number of a message.
+fn asked_of_log(which: LogText, from: &str) -> Asked
+    ensures { (path : List ℕ) → request_of path result ≡ asked_by_number which (message_number from.now) }
+{
+    match message_number(from) {
+        Some(from) => Asked::Log(which, from),
+        None => Asked::BadNumber,
     }
 }
 

@@ -17,6 +17,12 @@ pub(crate) enum Route {
     OwnerReport,
     /// The report of a gateway's bands.
     BandReport,
+    /// A gateway's room at a time.
+    Room,
+    /// The log from a message on.
+    Log,
+    /// The answers of the log from a message on.
+    Answers,
 }
 
 /// The method of a route.
@@ -25,8 +31,8 @@ pub(crate) fn method_of(route: Route) -> &'static str
 {
     match route {
         Route::Messages => "POST",
-        Route::OwnerReport => "GET",
-        Route::BandReport => "GET",
+        Route::OwnerReport | Route::BandReport | Route::Room => "GET",
+        Route::Log | Route::Answers => "GET",
     }
 }
 
@@ -83,9 +89,12 @@ pub(crate) fn route_of(alloc: Global, path: &str) -> Result<Option<Route>, Inser
     ensures { IfOk result (λ route. route ≡ route_of path.now) }
 {
     let mut router = Router::new(alloc);
+    router.insert("/v1/answers/{from}", Route::Answers)?;
+    router.insert("/v1/bands/{gateway}", Route::BandReport)?;
+    router.insert("/v1/log/{from}", Route::Log)?;
     router.insert("/v1/messages", Route::Messages)?;
     router.insert("/v1/reports/{owner}/{month}", Route::OwnerReport)?;
-    router.insert("/v1/bands/{gateway}", Route::BandReport)?;
+    router.insert("/v1/room/{gateway}/{time}", Route::Room)?;
     match router.at(path) {
         Ok(found) => Ok(Some(*found.value)),
         Err(_) => Ok(None),

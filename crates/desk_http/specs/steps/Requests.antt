@@ -1,9 +1,10 @@
 -- What the answers of the code stand for, where the request has this path.
 use Rattle.std.specs.Prelude.{ℕ, List}
 use Rattle.desk_http.specs.declared.asking.Asked.{Asked}
-use Rattle.desk_http.specs.declared.asking.Asked.TheVariants.{CrossOrigin, NoRoute, OtherMethod, NoLength, BadLength, TooLong, Deliver, OwnerReport, BandReport}
-use Rattle.desk_http.specs.Requests.{Request, refused, message, owner_report, band_report}
-use Rattle.desk_http.specs.Responses.{no_head, cross_origin, no_route, other_method, no_length, too_long}
+use Rattle.desk_http.specs.declared.asking.Asked.TheVariants.{CrossOrigin, NoRoute, OtherMethod, NoLength, BadLength, TooLong, BadNumber, Deliver, OwnerReport, BandReport, Room, Log}
+use Rattle.desk_http.specs.Reports.{owner_report, band_report, room_report, log_part}
+use Rattle.desk_http.specs.Requests.{Request, refused, message, report}
+use Rattle.desk_http.specs.Responses.{no_head, cross_origin, no_number, no_route, other_method, no_length, too_long}
 use Rattle.desk_http.specs.Targets.{method_of}
 use Rattle.desk_http.specs.steps.Targets.{after_slash, before_slash, names_of, resource_of}
 
@@ -14,6 +15,9 @@ request_of path (OtherMethod route) = refused (other_method (method_of (resource
 request_of path NoLength = refused no_length
 request_of path BadLength = refused no_head
 request_of path TooLong = refused too_long
+request_of path BadNumber = refused no_number
 request_of path (Deliver count) = message count
-request_of path OwnerReport = owner_report (before_slash (names_of path)) (after_slash (names_of path))
-request_of path BandReport = band_report (names_of path)
+request_of path OwnerReport = report (owner_report (before_slash (names_of path)) (after_slash (names_of path)))
+request_of path BandReport = report (band_report (names_of path))
+request_of path Room = report (room_report (before_slash (names_of path)) (after_slash (names_of path)))
+request_of path (Log which from) = report (log_part which from)

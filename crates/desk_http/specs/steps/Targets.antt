@@ -1,9 +1,9 @@
 -- How the route of a path is found, and the names in it.
-use Rattle.std.specs.Prelude.{ℕ, List, [], ◌∷◌, Bool, true, false, ◌&&◌, ◌==◌, codes, Option, Some, None, option_map, if◌then◌else◌}
+use Rattle.std.specs.Prelude.{ℕ, List, [], ◌∷◌, Bool, true, false, ◌&&◌, ◌==◌, codes, map, Option, Some, None, option_map, if◌then◌else◌}
 use Rattle.std.specs.List.{after_first, before_first}
 use Rattle.desk_http.specs.declared.targets.Route.{Route}
-use Rattle.desk_http.specs.declared.targets.Route.TheVariants.{Messages, OwnerReport, BandReport}
-use Rattle.desk_http.specs.Targets.{Resource, messages, reports, bands, is_part, is_slash}
+use Rattle.desk_http.specs.declared.targets.Route.TheVariants.{Messages, OwnerReport, BandReport, Room, Log, Answers}
+use Rattle.desk_http.specs.Targets.{Resource, messages, reports, bands, room, log, answers, is_part, is_slash}
 
 -- what stands before the first slash, and what stands after it
 abbrev pub before_slash : List ℕ → List ℕ
@@ -16,13 +16,20 @@ after_slash text = after_first is_slash text
 abbrev pub names_of : List ℕ → List ℕ
 names_of path = after_slash (after_slash (after_slash path))
 
--- an owner and a month: two parts, and a slash between them
-abbrev pub is_owner_and_month : List ℕ → Bool
-is_owner_and_month names = is_part (before_slash names) && is_part (after_slash names)
-
 abbrev pub is_empty : List ℕ → Bool
 is_empty [] = true
 is_empty (c ∷ text) = false
+
+-- what comes after the front of a path: nothing, one part, or two parts and a slash between them
+pub data Tail : Type 0 where
+  nothing : Tail
+  one_part : Tail
+  two_parts : Tail
+
+abbrev pub is_tail : Tail → List ℕ → Bool
+is_tail nothing text = is_empty text
+is_tail one_part text = is_part text
+is_tail two_parts text = is_part (before_slash text) && is_part (after_slash text)
 
 -- the text begins with these octets, and what follows is of this kind
 abbrev pub follows : List ℕ → (List ℕ → Bool) → List ℕ → Bool
@@ -30,17 +37,42 @@ follows [] kind text = kind text
 follows (x ∷ front) kind [] = false
 follows (x ∷ front) kind (c ∷ text) = (x == c) && follows front kind text
 
+-- a form of paths: how they begin, and what comes then; and what such a path leads to
+abbrev pub Form : Type 0 → Type 0
+Form V = List ℕ × Tail × V
+
+-- what the path leads to, by the first of these forms that it has
+abbrev pub led : {V : Type 0} → List (Form V) → List ℕ → Option V
+led [] path = None
+led ((front, tail, value) ∷ forms) path = if follows front (is_tail tail) path then Some value else led forms path
+
+-- how the paths of a route begin, and what comes then
+abbrev pub form_of : Route → List ℕ × Tail
+form_of Messages = (codes "/v1/messages", nothing)
+form_of OwnerReport = (codes "/v1/reports/", two_parts)
+form_of BandReport = (codes "/v1/bands/", one_part)
+form_of Room = (codes "/v1/room/", two_parts)
+form_of Log = (codes "/v1/log/", one_part)
+form_of Answers = (codes "/v1/answers/", one_part)
+
+abbrev pub forms_of : List Route → List (Form Route)
+forms_of routes = map (λ route. ((form_of route).0, (form_of route).1, route)) routes
+
+-- all of them, in the order of their paths
+abbrev pub all_routes : List Route
+all_routes = Answers ∷ BandReport ∷ Log ∷ Messages ∷ OwnerReport ∷ Room ∷ []
+
 unfoldable pub route_of : List ℕ → Option Route
-route_of path =
-    if follows (codes "/v1/messages") is_empty path then Some Messages else (
-    if follows (codes "/v1/reports/") is_owner_and_month path then Some OwnerReport else (
-    if follows (codes "/v1/bands/") is_part path then Some BandReport else None))
+route_of path = led (forms_of all_routes) path
 
 -- the resource of a route, with the names that the path has
 abbrev pub resource_of : List ℕ → Route → Resource
 resource_of path Messages = messages
 resource_of path OwnerReport = reports (before_slash (names_of path)) (after_slash (names_of path))
 resource_of path BandReport = bands (names_of path)
+resource_of path Room = room (before_slash (names_of path)) (after_slash (names_of path))
+resource_of path Log = log (names_of path)
+resource_of path Answers = answers (names_of path)
 
 abbrev pub named_in_path : List ℕ → Option Resource
 named_in_path path = option_map (resource_of path) (route_of path)
