@@ -13,6 +13,7 @@ use Rattle.desk_cli.specs.Doing.{AtPaths, OnDeskByRules, OnDeskFile}
 use Rattle.desk_cli.specs.OnTables.{IsLeft, KeepsHeard, LeavesRules}
 use Rattle.desk_cli.specs.Printing.{PrintsAnswer, PrintsBy}
 use Rattle.desk_cli.specs.commands.Importing.{ImportsBy}
+use Rattle.desk_cli.specs.commands.Log.{LogsBy}
 use Rattle.desk_cli.specs.commands.Serving.{ServesBy}
 use Rattle.desk_cli.specs.declared.faults.Fault.{Fault}
 use Rattle.desk_cli.specs.declared.faults.Fault.TheVariants.{Exists, NotADesk, Schema, Owner, Gateway, Month, CsvSize, CsvEnd, CsvHeader, CsvRecord, Unavailable, File, Network}
@@ -99,6 +100,23 @@ module _ {S : Type 0} (law : RulesAreKept) (g : Ghosts S) (back : Held S) (c : S
     serves_by_rules ports port n (Err CsvEnd) by = absurd by
     serves_by_rules ports port n (Err CsvHeader) by = absurd by
     serves_by_rules ports port n (Err (CsvRecord number)) by = absurd by
+
+    pub logs_by_rules : (lines : List (List ℕ)) (result : Result T Fault) → LogsBy lines (KeepsHeard g back c heard) (IsLeft g back c heard None) before after result
+        → LeavesRules g back c
+    logs_by_rules lines (Ok x) by = kept_by_rules _ by.1
+    logs_by_rules lines (Err File) by = kept_by_rules _ by.1
+    logs_by_rules lines (Err Unavailable) by = left_by_rules _ _ by.1
+    logs_by_rules lines (Err Exists) by = absurd by
+    logs_by_rules lines (Err NotADesk) by = absurd by
+    logs_by_rules lines (Err Schema) by = absurd by
+    logs_by_rules lines (Err Owner) by = absurd by
+    logs_by_rules lines (Err Gateway) by = absurd by
+    logs_by_rules lines (Err Month) by = absurd by
+    logs_by_rules lines (Err CsvSize) by = absurd by
+    logs_by_rules lines (Err CsvEnd) by = absurd by
+    logs_by_rules lines (Err CsvHeader) by = absurd by
+    logs_by_rules lines (Err (CsvRecord n)) by = absurd by
+    logs_by_rules lines (Err Network) by = absurd by
 
     answer_by_rules : (answer : Result (List ℕ) ReportFault) (result : Result T Fault)
         → PrintsAnswer (KeepsHeard g back c heard) (IsLeft g back c heard None) before after answer result → LeavesRules g back c

@@ -8,6 +8,7 @@ pub mod Imported
 pub mod InFiles
 pub mod Inited
 pub mod LinesAnswered
+pub mod LogPrinted
 pub mod Logging
 pub mod Migrated
 pub mod OnTables

@@ -1,7 +1,9 @@
 -- What is printed of a desk that was opened.
-use Rattle.std.proofs.Common.{ℕ, List, Result, Ok, Err, ap, ◌∙◌}
+use Rattle.std.proofs.Common.{◌≡◌, ℕ, List, Some, Result, Ok, Err, ap, ◌∙◌}
 use Rattle.registry_core.specs.declared.messages.Envelope.{Envelope}
 use Rattle.registry_core.specs.Settings.{Settings}
+use Rattle.desk_store.specs.declared.faults.StoreFault.{StoreFault}
+use Rattle.desk_store.specs.Calls.{IsRead}
 use Rattle.desk_store.specs.Meaning.{Meaning}
 use Rattle.desk_engine.specs.declared.report_faults.ReportFault.{ReportFault}
 use Rattle.desk_engine.specs.declared.report_faults.ReportFault.TheVariants.{Time, Owner, Gateway, Unavailable}
@@ -20,3 +22,8 @@ is_check m c heard old new octets was sound (Err (Unavailable fault)) told = tol
 is_check m c heard old new octets was sound (Err Time) told = absurd told
 is_check m c heard old new octets was sound (Err Owner) told = absurd told
 is_check m c heard old new octets was sound (Err Gateway) told = absurd told
+
+-- why a desk that can't be read isn't printed
+pub no_check : {K X : Type 0} (m : Meaning K) (old new : K) (octets : X → List ℕ) (fault : StoreFault) (r : Result X ReportFault)
+    → IsRead m old new (Some fault) → r ≡ Err (Unavailable fault) → IsCheckOf m old new octets r
+no_check m old new octets fault r read is = rw is (λ kept sound held. read.unavailable kept sound held)

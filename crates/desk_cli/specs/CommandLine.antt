@@ -10,6 +10,7 @@ use Rattle.desk_cli.specs.commands.Hear.{hear_app, hear_named}
 use Rattle.desk_cli.specs.commands.Importing.{import_app, import_named}
 use Rattle.desk_cli.specs.commands.Init.{init_app, init_named}
 use Rattle.desk_cli.specs.commands.Lines.{lines_app, lines_named}
+use Rattle.desk_cli.specs.commands.Log.{log_app, log_named}
 use Rattle.desk_cli.specs.commands.Migrating.{migrate_app, migrate_named}
 use Rattle.desk_cli.specs.commands.Reports.{bands_app, bands_named, report_app, report_named}
 use Rattle.desk_cli.specs.commands.Serving.{serve_app, serve_named}
@@ -29,14 +30,15 @@ with_readers app =
 -- the command line
 abbrev pub desk_app : App
 desk_app =
-    with_subcommand (with_subcommand (with_subcommand (with_subcommand (with_readers (new_app (codes "desk")))
+    with_subcommand (with_subcommand (with_subcommand (with_subcommand (with_subcommand (with_readers (new_app (codes "desk")))
     serve_app.top)
     report_app.top)
     bands_app.top)
+    log_app.top)
     check_app.top
 
 -- the command of this name, with its options
-abbrev pub named_with : Text → List Row → Named
+unfoldable pub named_with : Text → List Row → Named
 named_with name rows =
     if bytes_eq name (codes "lines") then lines_named (config_of rows)
     else if bytes_eq name (codes "init") then init_named rows
@@ -46,6 +48,7 @@ named_with name rows =
     else if bytes_eq name (codes "serve") then serve_named rows
     else if bytes_eq name (codes "report") then report_named rows
     else if bytes_eq name (codes "bands") then bands_named rows
+    else if bytes_eq name (codes "log") then log_named rows
     else if bytes_eq name (codes "check") then check_named rows
     else refused (MissingSubcommand ∷ [])
 

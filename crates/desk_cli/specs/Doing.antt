@@ -8,9 +8,10 @@ use Rattle.sqlite_trees.specs.declared.store.Store.{Ghosts}
 use Rattle.registry_core.specs.declared.messages.Envelope.{Envelope}
 use Rattle.registry_core.specs.Heard.{state_of}
 use Rattle.registry_core.specs.Settings.{Settings}
+use Rattle.desk_engine.specs.Log.{log_of}
 use Rattle.desk_http.specs.Reports.{IsBandAnswer}
 use Rattle.desk_cli.specs.Ports.{AtPorts}
-use Rattle.desk_cli.specs.Named.{Asked, lines, init, migrate, hear, import, serve, report, bands, check}
+use Rattle.desk_cli.specs.Named.{Asked, lines, init, migrate, hear, import, serve, report, bands, log, check}
 use Rattle.desk_cli.specs.NoDesk.{HoldsNoDesk, RefusesFile}
 use Rattle.desk_cli.specs.OnTables.{IsLeft, KeepsHeard, LeavesRules}
 use Rattle.desk_cli.specs.Printing.{IsOwnersMonth, PrintsBy}
@@ -19,6 +20,7 @@ use Rattle.desk_cli.specs.commands.Hear.{HearsBy}
 use Rattle.desk_cli.specs.commands.Importing.{ImportsBy}
 use Rattle.desk_cli.specs.commands.Init.{InitsBy}
 use Rattle.desk_cli.specs.commands.Lines.{AnswersLines}
+use Rattle.desk_cli.specs.commands.Log.{LogsBy}
 use Rattle.desk_cli.specs.commands.Migrating.{MigratesBy}
 use Rattle.desk_cli.specs.commands.Serving.{ServesBy}
 use Rattle.desk_cli.specs.declared.faults.Fault.{Fault}
@@ -77,9 +79,9 @@ module _ {S T : Type 0} (g : Ghosts S) (paths : AtPaths S) (ports : Bool → AtP
   DoesAsked (import file sender) =
       OnDeskByRules g paths given_back result file (Keeps left rest × Keeps before after)
       (λ back c heard. ImportsBy c heard sender (KeepsHeard g back c) (IsLeft g back c) left rest before after result)
-  DoesAsked (serve file port connections log) =
+  DoesAsked (serve file port connections logged) =
       OnDeskByRules g paths given_back result file (Keeps before after)
-      (λ back c heard. ServesBy c heard (KeepsHeard g back c) (IsLeft g back c) (ports log) port connections before after result)
+      (λ back c heard. ServesBy c heard (KeepsHeard g back c) (IsLeft g back c) (ports logged) port connections before after result)
       × Keeps left rest
   DoesAsked (report file owner month) =
       OnDeskByRules g paths given_back result file (Keeps before after)
@@ -88,6 +90,10 @@ module _ {S T : Type 0} (g : Ghosts S) (paths : AtPaths S) (ports : Bool → AtP
   DoesAsked (bands file gateway) =
       OnDeskByRules g paths given_back result file (Keeps before after)
       (λ back c heard. PrintsBy (KeepsHeard g back c heard) (IsLeft g back c heard None) before after (IsBandAnswer (state_of c heard) gateway) result)
+      × Keeps left rest
+  DoesAsked (log file from count which) =
+      OnDeskByRules g paths given_back result file (Keeps before after)
+      (λ back c heard. LogsBy (log_of which c heard from count) (KeepsHeard g back c heard) (IsLeft g back c heard None) before after result)
       × Keeps left rest
   DoesAsked (check file) =
       OnDeskByRules g paths given_back result file (Keeps before after)

@@ -5,8 +5,9 @@ use Rattle.clap.specs.Values.{kind_of}
 use Rattle.clap.specs.Walk.{Text}
 use Rattle.clap.specs.declared.error.kind.ErrorKind.{ErrorKind}
 use Rattle.registry_core.specs.Settings.{Settings}
+use Rattle.desk_engine.specs.declared.log.LogText.{LogText}
 use Rattle.desk_cli.specs.declared.commands.Command.{Command}
-use Rattle.desk_cli.specs.declared.commands.Command.TheVariants.{Lines, Init, Migrate, Hear, Import, Serve, Report, Bands, Check}
+use Rattle.desk_cli.specs.declared.commands.Command.TheVariants.{Lines, Init, Migrate, Hear, Import, Serve, Report, Bands, Log, Check}
 use Rattle.desk_cli.specs.declared.usage.BadValue.{BadValue}
 use Rattle.desk_cli.specs.declared.usage.Usage.{Usage}
 use Rattle.desk_cli.specs.declared.usage.Usage.TheVariants.{Words, Value, NotText, Memory}
@@ -25,6 +26,8 @@ pub data Asked : Type 0 where
   report : Text → Text → Text → Asked
   -- the file and the gateway
   bands : Text → Text → Asked
+  -- the file, the number of the first message, how many messages at most, and which text of each
+  log : Text → ℕ → ℕ → LogText → Asked
   check : Text → Asked
 
 abbrev pub asked_by : Command → Asked
@@ -33,9 +36,10 @@ asked_by (Init file config) = init file.now config
 asked_by (Migrate file) = migrate file.now
 asked_by (Hear file) = hear file.now
 asked_by (Import file sender) = import file.now sender
-asked_by (Serve file port connections log) = serve file.now port connections log
+asked_by (Serve file port connections logged) = serve file.now port connections logged
 asked_by (Report file owner month) = report file.now owner.now month.now
 asked_by (Bands file gateway) = bands file.now gateway.now
+asked_by (Log file from count which) = log file.now from count which
 asked_by (Check file) = check file.now
 
 -- a command, or a value that is bad, or nothing that clap takes: one of these kinds of error

@@ -21,6 +21,10 @@ option_rule name default = record (new_rule name) { long = Some name; value_name
 abbrev pub needed_rule : Text → Rule
 needed_rule name = record (new_rule name) { long = Some name; value_names = 1; required = true }
 
+-- an option of one value that may be left out
+abbrev pub optional_rule : Text → Rule
+optional_rule name = record (new_rule name) { long = Some name; value_names = 1 }
+
 -- an option without a value
 abbrev pub flag_rule : Text → Rule
 flag_rule name = record (new_rule name) { long = Some name; action = Some SetTrue }
@@ -70,6 +74,10 @@ settings_from receiver operator base addresses =
 -- the value of an option, by a form
 abbrev pub value_at : {X : Type 0} → (Text → Option X) → Text → List Row → Option X
 value_at form option rows = option_and_then form (first_of option rows)
+
+-- the same of an option that may be left out, and then has this value
+abbrev pub value_or : {X : Type 0} → (Text → Option X) → X → Text → List Row → Option X
+value_or form default option rows = option_map_or form (first_of option rows) (Some default)
 
 -- whether an option without a value is there
 abbrev pub is_set : Text → List Row → Bool

@@ -4,6 +4,7 @@ pub mod Hear
 pub mod Importing
 pub mod Init
 pub mod Lines
+pub mod Log
 pub mod Migrating
 pub mod Reports
 pub mod Serving

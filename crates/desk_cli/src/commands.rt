@@ -13,6 +13,7 @@ mod hear;
 mod importing;
 mod init;
 mod lines;
+mod log;
 mod migrating;
 mod reports;
 mod serving;
@@ -22,6 +23,7 @@ use crate::usage::{Usage, no_command};
 pub use checking::check_command;
 use checking::{check_app, check_of};
 use clap::ArgMatches;
+use desk_engine::LogText;
 pub use hear::hear_command;
 use hear::{hear_app, hear_of};
 pub use importing::import_command;
@@ -30,10 +32,12 @@ pub use init::init_command;
 use init::{init_app, init_of};
 pub use lines::lines_command;
 use lines::{lines_app, lines_of};
+pub use log::log_command;
+use log::{log_app, log_of};
 pub use migrating::migrate_command;
 use migrating::{migrate_app, migrate_of};
 use radio_core::Name;
-use registry_core::Config;
+use registry_core::{Config, Whole};
 pub use reports::{bands_command, report_command};
 use reports::{bands_app, bands_of, report_app, report_of};
 pub use serving::serve_command;
@@ -83,6 +87,13 @@ pub enum Command<'a> {
         file: &'a str,
         gateway: &'a str,
     },
+    /// Prints at most `count` messages that the desk has heard, from number `from` on, or their answers, one a line.
+    Log {
+        file: &'a str,
+        from: Whole,
+        count: Whole,
+        which: LogText,
+    },
     /// Prints what a desk's file was made with, and how much it holds.
     Check {
         file: &'a str,
@@ -103,6 +114,7 @@ pub(crate) fn desk_app<'a>(alloc: Global) -> Result<clap::Command<'a>, AllocErro
     let desk = added(desk, serve_app(alloc));
     let desk = added(desk, report_app(alloc));
     let desk = added(desk, bands_app(alloc));
+    let desk = added(desk, log_app(alloc));
     added(desk, check_app(alloc))
 }
 
@@ -141,6 +153,7 @@ pub(crate) fn command_of<'a>(
 }
 
 /// The command of this name, with its options.
+#[tactic(auto, unfolding(crate::specs::CommandLine::named_with))]
 fn command_with<'a>(
     name: &str,
     options: &ArgMatches<'a>,
@@ -157,6 +170,7 @@ fn command_with<'a>(
         "serve" => serve_of(options),
         "report" => report_of(options),
         "bands" => bands_of(options),
+        "log" => log_of(options),
         "check" => check_of(options),
         _ => Err(no_command(desk)),
     }

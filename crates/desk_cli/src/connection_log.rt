@@ -154,7 +154,7 @@ fn put_line<G: Write>(log: &mut Option<G>, line: Option<Vec<u8>>)
 {
     if let Some(log) = log {
         if let Some(line) = line {
-            let _ = write_beginning(log, line.as_slice());
+            write_beginning(log, line.as_slice());
         }
     }
 }

@@ -1,15 +1,14 @@
 //! Why a command isn't done, and the line that says so.
-ghost use Rattle.std.specs.Prelude.{◌≡◌, Some, IfOk, OnOk};
+ghost use Rattle.std.specs.Prelude.{◌≡◌, Some, IfOk};
 ghost use Rattle.std.specs.Fmt.InlineText.{inline_text};
-ghost use Rattle.std.specs.Io.KnownBytes.{Appends};
 ghost use Rattle.desk_cli.specs.Faults.{EndsBy, IsBegun, ending_of_fault, fault_line, fault_of_csv, fault_of_report, fault_of_store, fault_word};
 
 use crate::endings::Ending;
-use desk_engine::ReportFault;
+use desk_engine::{ReportFault, write_octets};
 use desk_store::StoreFault;
 use desk_wire::CsvFault;
 use std::fmt::{self, Display, Formatter, InlineText};
-use std::io::{self, ErrorKind, Write};
+use std::io::Write;
 
 /// Why a command isn't done. Its `Display` is what the fault line says after `desk: `.
 #[derive(Clone, Copy, PartialEq, Eq)]
@@ -136,7 +135,7 @@ fn tell<F: Write>(faults: &mut F, fault: Fault)
 {
     match line_of(fault) {
         Ok(line) => {
-            let _ = write_beginning(faults, line.as_str().as_bytes());
+            write_beginning(faults, line.as_str().as_bytes());
         }
         // No line is as long as that.
         Err(_) => {}
@@ -152,25 +151,12 @@ fn line_of(fault: Fault) -> Result<InlineText<32>, fmt::Error>
     Ok(line)
 }
 
-/// Writes the text. A write that was interrupted is made again; after 2^64 - 1 of them it fails. With an error only a beginning
-/// of the text is written.
-pub(crate) fn write_beginning<W: Write>(writer: &mut W, text: &[u8]) -> io::Result<()>
-    ensures whole { OnOk result (Appends (W.contents writer.old) (W.contents writer.new) text.now) }
-    ensures begun { IsBegun (W.contents writer.old) (W.contents writer.new) text.now }
+/// Writes the text, or as much of it as can be written, from its first octet on.
+#[tactic(auto, using(crate::proofs::FaultLines::begun_by))]
+pub(crate) fn write_beginning<W: Write>(writer: &mut W, text: &[u8])
+    ensures { IsBegun (W.contents writer.old) (W.contents writer.new) text.now }
 {
-    let mut rest = text;
-    for _ in 0..u64::MAX {
-        if rest.is_empty() {
-            return Ok(());
-        }
-        match writer.write(rest) {
-            Ok(0) => return Err(ErrorKind::WriteZero.into()),
-            Ok(count) => rest = &rest[count..],
-            Err(e) if e.kind() == ErrorKind::Interrupted => {}
-            Err(e) => return Err(e),
-        }
-    }
-    Err(ErrorKind::TimedOut.into())
+    let _ = write_octets(writer, text);
 }
 
 #[cfg(test)]

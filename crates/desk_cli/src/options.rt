@@ -6,17 +6,20 @@ ghost use Rattle.clap.specs.Walk.{first_of, rows_of, rule_of};
 ghost use Rattle.clap.specs.declared.builder.command.Command.TheViews.{out-Command as fields_of};
 ghost use Rattle.desk_wire.specs.Decimals.{count_in};
 ghost use Rattle.desk_wire.specs.Hexadecimal.{addr_in};
+ghost use Rattle.registry_core.specs.Wholes.{greatest_whole};
+ghost use Rattle.desk_engine.specs.Log.{message_number};
 ghost use Rattle.desk_cli.specs.Numbers.{connections_of, port_of};
 ghost use Rattle.desk_cli.specs.steps.CommandLine.{AddsWord, IsCommand};
 ghost use Rattle.desk_cli.specs.steps.Options.{behind};
-ghost use Rattle.desk_cli.specs.Options.{config_of, flag_rule, is_set, name_of, needed_rule, option_rule, place_rule, placed, settings_from, value_at, with_settings};
+ghost use Rattle.desk_cli.specs.Options.{config_of, flag_rule, is_set, name_of, needed_rule, option_rule, optional_rule, place_rule, placed, settings_from, value_at, value_or, with_settings};
 
 use crate::numbers::{connections_of, port_of};
 use crate::usage::BadValue;
 use clap::{Arg, ArgAction, ArgMatches};
+use desk_engine::message_number;
 use desk_wire::{addr_of, count_of};
 use radio_core::Name;
-use registry_core::Config;
+use registry_core::{Config, GREATEST_WHOLE, Whole};
 use std::alloc::{AllocError, Global};
 
 /// A command without words of its own: its name, what it does, and an example.
@@ -58,7 +61,7 @@ pub(crate) fn command_on_file<'a>(
 }
 
 /// An option of one value, with its default.
-fn option<'a>(
+pub(crate) fn option<'a>(
     alloc: Global,
     name: &'a str,
     form: &'a str,
@@ -85,6 +88,14 @@ pub(crate) fn needed<'a>(alloc: Global, name: &'a str, form: &'a str, help: &'a 
         .value_name(form)
         .required(true)
         .help(help)
+}
+
+/// An option of one value that may be left out.
+pub(crate) fn optional<'a>(alloc: Global, name: &'a str, form: &'a str, help: &'a str) -> Arg<'a>
+    ensures rule { rule_of result ≡ optional_rule name.entry.now }
+    ensures local { result.global ≡ false }
+{
+    Arg::new(alloc, name).long(name).value_name(form).help(help)
 }
 
 /// An option without a value.
@@ -184,6 +195,23 @@ pub(crate) fn connections_at(options: &ArgMatches<'_>, option: &str) -> Option<u
     ensures { result ≡ value_at connections_of option.now (rows_of (found_of options.now)) }
 {
     connections_of(text_at(options, option)?)
+}
+
+/// The number that an option has.
+pub(crate) fn number_at(options: &ArgMatches<'_>, option: &str) -> Option<Whole>
+    ensures { result ≡ value_at message_number option.now (rows_of (found_of options.now)) }
+{
+    message_number(text_at(options, option)?)
+}
+
+/// The number that an option has, or the greatest if the option is left out.
+pub(crate) fn number_or_greatest(options: &ArgMatches<'_>, option: &str) -> Option<Whole>
+    ensures { result ≡ value_or message_number greatest_whole option.now (rows_of (found_of options.now)) }
+{
+    match text_at(options, option) {
+        Some(text) => message_number(text),
+        None => Whole::new(GREATEST_WHOLE),
+    }
 }
 
 /// Whether an option without a value is there.

@@ -1,6 +1,7 @@
 //! What a command asks, done. Its file is opened before the standard input is read, and before the port is bound.
 ghost use Rattle.registry_core.specs.Heard.{state_of};
 ghost use Rattle.std.specs.Io.KnownBytes.{Keeps};
+ghost use Rattle.desk_engine.specs.Log.{log_of};
 ghost use Rattle.desk_http.specs.Reports.{IsBandAnswer};
 ghost use Rattle.desk_cli.specs.Doing.{DoesAsked, OnDeskFile, OnFile};
 ghost use Rattle.desk_cli.specs.Faults.{Ends};
@@ -12,21 +13,23 @@ ghost use Rattle.desk_cli.specs.commands.Checking.{IsCheck};
 ghost use Rattle.desk_cli.specs.commands.Hear.{HearsBy};
 ghost use Rattle.desk_cli.specs.commands.Importing.{ImportsBy};
 ghost use Rattle.desk_cli.specs.commands.Init.{InitsBy};
+ghost use Rattle.desk_cli.specs.commands.Log.{LogsBy};
 ghost use Rattle.desk_cli.specs.commands.Migrating.{MigratesBy};
 ghost use Rattle.desk_cli.specs.commands.Serving.{ServesBy};
 ghost use Rattle.std.specs.Prelude.{None};
 
 use crate::commands::{
     Command, bands_command, check_command, hear_command, import_command, init_command,
-    lines_command, migrate_command, report_command, serve_command,
+    lines_command, log_command, migrate_command, report_command, serve_command,
 };
 use crate::endings::Ending;
 use crate::faults::end;
 use crate::files::Files;
 use crate::network::Network;
+use desk_engine::LogText;
 use radio_core::Name;
-use registry_core::Config;
 use registry_core::laws::rules_are_kept;
+use registry_core::{Config, Whole};
 use sqlite::{Alter, Connection};
 use std::alloc::Global;
 use std::io::{Read, Write};
@@ -96,6 +99,12 @@ pub(crate) fn perform<S: Alter, N: Files<S>, B: Network, R: Read, W: Write, F: W
         Command::Bands { file, gateway } => {
             bands_file(alloc, files, file, gateway, answers, faults)
         }
+        Command::Log {
+            file,
+            from,
+            count,
+            which,
+        } => { log_file(alloc, files, file, *from, *count, *which, answers, faults) }
         Command::Check { file } => check_file(alloc, files, file, answers, faults),
     }
 }
@@ -244,6 +253,28 @@ fn bands_file<S: Alter, N: Files<S>, W: Write, F: Write>(
         files.open(file),
         faults,
         |conn| bands_command(alloc, conn, gateway, answers, faults)
+    )
+}
+
+fn log_file<S: Alter, N: Files<S>, W: Write, F: Write>(
+    alloc: Global,
+    files: N,
+    file: &str,
+    from: Whole,
+    count: Whole,
+    which: LogText,
+    answers: &mut W,
+    faults: &mut F,
+) -> Performed<S>
+    ensures { Ends F.contents faults.old faults.new result.0 (λ done. OnDeskFile S.Store (N.paths files) result.1 done file.now
+        (Keeps (W.contents answers.old) (W.contents answers.new))
+        (λ back c heard. LogsBy (log_of which c heard from count) (KeepsHeard S.Store back c heard) (IsLeft S.Store back c heard None)
+        (W.contents answers.old) (W.contents answers.new) done)) }
+{
+    on_file!(
+        files.open(file),
+        faults,
+        |conn| log_command(alloc, conn, from, count, which, answers, faults)
     )
 }
 

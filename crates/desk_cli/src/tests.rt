@@ -15,13 +15,14 @@ mod joins;
 mod keys;
 mod limits;
 mod lines;
-mod log;
+pub(crate) mod log;
 mod many;
 mod migrating;
 mod radio_rules;
 mod reports;
 pub(crate) mod requests;
 pub(crate) mod room;
+mod rooms;
 pub(crate) mod rows;
 mod runs;
 mod second_schema;
@@ -183,7 +184,8 @@ fn rows_hold<R: Abort + AllocGlobal, K: Opened>(rt: &R) -> Result<(), Fail> {
     runs::hours_have_their_outcomes::<R, K>(rt)?;
     limits::bands_show_limits::<R, K>(rt)?;
     importing::reports_are_heard_in_order::<R, K>(rt)?;
-    reports::are_told::<R, K>(rt)
+    reports::are_told::<R, K>(rt)?;
+    rooms::are_told::<R, K>(rt)
 }
 
 #[test]

@@ -27,6 +27,10 @@ pub enum BadValue {
     Port,
     /// `--count` isn't one to ten decimal digits, or isn't 1 to 1,000,000.
     Connections,
+    /// `--from` isn't one to sixteen decimal digits, or isn't 1 to 9,007,199,254,740,991.
+    FirstMessage,
+    /// `--count` of `log` isn't one to sixteen decimal digits, or isn't 1 to 9,007,199,254,740,991.
+    Messages,
     /// No word stands in a place. clap tells of that first, so the user doesn't see it.
     Missing,
 }
@@ -59,6 +63,8 @@ impl Display for BadValue {
             BadValue::Sender => { "--sender takes 1 to 32 ASCII letters, digits, '-', '_' and '.'" }
             BadValue::Port => "--port takes a number from 1 to 65535, in digits",
             BadValue::Connections => "--count takes a number from 1 to 1000000, in digits",
+            BadValue::FirstMessage => "--from takes a number from 1 to 9007199254740991, in digits",
+            BadValue::Messages => "--count takes a number from 1 to 9007199254740991, in digits",
             BadValue::Missing => "a word is missing",
         })
     }

@@ -14,11 +14,14 @@ use Rattle.desk_engine.specs.declared.report_faults.ReportFault.{ReportFault}
 use Rattle.registry_core.specs.Heard.{state_of}
 use Rattle.registry_core.specs.State.{State}
 use Rattle.desk_engine.specs.Hearing.{StoreKeeps, StoreLeaves}
+use Rattle.desk_engine.specs.Log.{log_of}
+use Rattle.desk_engine.specs.declared.log.LogText.{LogText}
 use Rattle.desk_cli.specs.Answering.{AnswersBy}
 use Rattle.desk_cli.specs.OnTables.{IsLeft, WasOpened}
 use Rattle.desk_cli.specs.Ports.{AtPorts}
 use Rattle.desk_cli.specs.Printing.{PrintsBy}
 use Rattle.desk_cli.specs.commands.Importing.{ImportsBy}
+use Rattle.desk_cli.specs.commands.Log.{LogsBy}
 use Rattle.desk_cli.specs.commands.Serving.{ServesBy}
 use Rattle.desk_cli.specs.declared.faults.Fault.{Fault}
 use Rattle.desk_cli.specs.declared.faults.Fault.TheVariants.{Unavailable}
@@ -69,3 +72,8 @@ serves ports port n K m c heard old new left rest before after result =
 abbrev pub prints : (State → Result (List ℕ) ReportFault → Type 0) → Done
 prints IsAnswer K m c heard old new left rest before after result =
     PrintsBy (StoreKeeps m c heard old new heard) (StoreLeaves m c heard old new heard None) before after (IsAnswer (state_of c heard)) result
+
+-- at most `count` messages of the log were printed from this number on, or their answers
+abbrev pub logs : LogText → ℕ → ℕ → Done
+logs which from count K m c heard old new left rest before after result =
+    LogsBy (log_of which c heard from count) (StoreKeeps m c heard old new heard) (StoreLeaves m c heard old new heard None) before after result

@@ -104,11 +104,15 @@ fn print_check<S: Alter, W: Write>(
 }
 
 /// What is printed of the desk.
+#[tactic(auto, using(crate::proofs::TotalsPrinted::no_check))]
 fn text_of<S: Alter>(alloc: Global, tables: &mut Tables<S>) -> Result<Vec<u8>, ReportFault>
     ensures read { IsRead (meaning_of S.Store) tables.old tables.new (store_fault_in result) }
     ensures told { IsCheckOf (meaning_of S.Store) tables.old tables.new (λ text. text.items) result }
 {
-    Ok(checked(alloc, tables)?)
+    match checked(alloc, tables) {
+        Ok(text) => Ok(text),
+        Err(fault) => Err(ReportFault::Unavailable(fault)),
+    }
 }
 
 fn checked<S: Alter>(alloc: Global, tables: &mut Tables<S>) -> Result<Vec<u8>, StoreFault>

@@ -52,7 +52,7 @@ const LOG: &str = "Writes a line for each connection to standard error";
 pub(crate) fn serve_app<'a>(alloc: Global) -> Result<clap::Command<'a>, AllocError>
     ensures { IsCommand serve_app result }
 {
-    let about = "Serves messages, reports and bands over HTTP on 127.0.0.1";
+    let about = "Serves messages, reports and the log over HTTP on 127.0.0.1";
     let port = needed(alloc, "port", "P", "The port, 1 to 65535");
     let many = "How many connections, one after another, 1 to 1000000";
     let count = needed(alloc, "count", "N", many);

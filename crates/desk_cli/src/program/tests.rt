@@ -6,6 +6,7 @@ ghost use Rattle.desk_http.specs.Served.{unknown};
 mod fused;
 mod held;
 mod host_files;
+mod logs;
 mod one_file;
 
 use super::run;

@@ -13,13 +13,14 @@ use desk_wire::{read_message, write_message};
 use radio_core::Name;
 use registry_core::Whole;
 use sqlite::MemStore;
+use std::alloc::Global;
 use std::io;
 use std::io::{ErrorKind, Write};
 use std::process::Abort;
 use std::test::Fail;
 
 /// The fifth message.
-static DEVICE_ADD: &str =
+pub(crate) static DEVICE_ADD: &str =
     r#"{"DevEUI":"0004a30b001a2b3c","JoinEUI":"70b3d57ed0000001","MessageType":"DeviceAdd","Owner":"town","ProtocolVersion":"1.0","ReceiverID":"desk","SenderID":"office","TransactionID":5}"#;
 
 /// More messages than were heard.
@@ -27,10 +28,21 @@ const ALL: u64 = 9_007_199_254_740_991;
 
 /// Takes at most seven octets at a time, each time after an interruption. Fails once it has `room` octets.
 #[derive(Drop)]
-struct Narrow {
-    taken: Vec<u8>,
+pub(crate) struct Narrow {
+    pub(crate) taken: Vec<u8>,
     room: usize,
     interrupted: bool,
+}
+
+impl Narrow {
+    /// One that has taken nothing.
+    pub(crate) fn new(alloc: Global, room: usize) -> Self {
+        Narrow {
+            taken: Vec::new(alloc),
+            room,
+            interrupted: false,
+        }
+    }
 }
 
 impl Write for Narrow {
@@ -53,8 +65,8 @@ impl Write for Narrow {
     }
 }
 
-/// Ten messages, one of each kind of outcome that is heard: the eleventh is refused.
-fn all<R: AllocGlobal>(rt: &R) -> Result<Vec<Delivery>, Fail> {
+/// Eleven messages: the ten, and one that is heard and refused.
+pub(crate) fn all<R: AllocGlobal>(rt: &R) -> Result<Vec<Delivery>, Fail> {
     let mut all = deliveries(rt.alloc())?;
     let again = Asks("office", 20, "OwnerAdd", TOWN, EXISTS);
     all.push(delivery_of(rt.alloc(), &again)?)?;
@@ -78,7 +90,7 @@ fn line_of<R: AllocGlobal>(rt: &R, delivery: &Delivery, which: LogText) -> Resul
 }
 
 /// The lines of the deliveries.
-fn lines_of<R: AllocGlobal>(
+pub(crate) fn lines_of<R: AllocGlobal>(
     rt: &R,
     deliveries: &[Delivery],
     which: LogText,
@@ -183,11 +195,7 @@ fn a_log_that_cannot_be_written(rt: HostRuntime) -> Result<(), Fail> {
     let (from, most) = (Whole::new(1), Whole::new(11));
     let (from, most) = (from.ok_or("no number")?, most.ok_or("no number")?);
     for room in 0..log.len() {
-        let mut narrow = Narrow {
-            taken: Vec::new(rt.alloc()),
-            room,
-            interrupted: false,
-        };
+        let mut narrow = Narrow::new(rt.alloc(), room);
         let end = write_log(&mut *store, from, most, LogText::Message, &mut narrow);
         holds_at(&rt, end == LogEnd::Write, room);
         holds_at(&rt, Some(narrow.taken.as_slice()) == log.get(..room), room);

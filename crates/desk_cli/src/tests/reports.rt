@@ -7,8 +7,8 @@ use super::rows::Row::{Asks, Books, Frames, Joins};
 use super::rows::Told::{Booked, Framed, Joined};
 use super::rows::{DEVICE_TO_PORT, Down, Heard, OTHER, PORT, Row, SUCCESS};
 use super::{Opened, deliver_each, with_device};
-use Asked::{Bands, Owner};
-use desk_engine::{ReportFault, band_report, owner_report};
+use Asked::{Bands, Owner, Room};
+use desk_engine::{ReportFault, band_report, owner_report, room_report};
 use desk_store::Keeper;
 use radio_core::{Band, Eui, Name};
 use std::process::Abort;
@@ -16,6 +16,8 @@ use std::test::Fail;
 
 pub(super) const OWNER_HEADER: &str =
     "dev_eui,uplinks,b1_us,b1_peak_us,b2_us,b2_peak_us,b3_us,b3_peak_us,b4_us,b4_peak_us,b5_us,b5_peak_us,b6_us,b6_peak_us\n";
+
+const ROOM_HEADER: &str = "band,limit_us,used_us,room_us\n";
 
 const BANDS_UNUSED: &str =
     "band,limit_us,bookings,booked_us,peak_us\nB1,3600000,0,0,0\nB2,36000000,0,0,0\nB3,36000000,0,0,0\nB4,3600000,0,0,0\nB5,360000000,0,0,0\nB6,36000000,0,0,0\n";
@@ -43,11 +45,13 @@ const FRAME_LINE: &str = "0004a30b001a2b3c,1,0,0,0,0,41216,41216,0,0,0,0,0,0\n";
 
 /// A report that is asked for, and what it is, or why there is none.
 #[derive(Clone, Copy)]
-enum Asked {
+pub(super) enum Asked {
     /// An owner's of a month: the lines below its header.
     Owner(&'static str, &'static str, Result<&'static str, ReportFault>),
     /// A gateway's: the whole text.
     Bands(&'static str, Result<&'static str, ReportFault>),
+    /// A gateway's room at a time: the lines below its header.
+    Room(&'static str, &'static str, Result<&'static str, ReportFault>),
 }
 
 /// What is heard, and the reports that are asked for then.
@@ -175,7 +179,11 @@ pub(super) fn is_wanted(
     }
 }
 
-fn expect_report<R: Abort + AllocGlobal, K: Keeper>(rt: &R, keeper: &mut K, asked: &Asked) {
+pub(super) fn expect_report<R: Abort + AllocGlobal, K: Keeper>(
+    rt: &R,
+    keeper: &mut K,
+    asked: &Asked,
+) {
     match asked {
         Owner(owner, month, wanted) => {
             let report = owner_report(rt.alloc(), keeper, owner, month);
@@ -184,6 +192,10 @@ fn expect_report<R: Abort + AllocGlobal, K: Keeper>(rt: &R, keeper: &mut K, aske
         Bands(gateway, wanted) => {
             let report = band_report(rt.alloc(), keeper, gateway);
             holds(rt, is_wanted(&report, "", wanted), gateway);
+        }
+        Room(gateway, time, wanted) => {
+            let report = room_report(rt.alloc(), keeper, gateway, time);
+            holds(rt, is_wanted(&report, ROOM_HEADER, wanted), time);
         }
     }
 }

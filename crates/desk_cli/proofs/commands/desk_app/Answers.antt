@@ -6,4 +6,5 @@ returns c =
     let one = c.added-desk.ensures _ _ readers c.serve_app.ensures in
     let two = c.added-desk-2.ensures _ _ one c.report_app.ensures in
     let three = c.added-desk-3.ensures _ _ two c.bands_app.ensures in
-    c.added.ensures _ _ three c.check_app.ensures
+    let four = c.added-desk-4.ensures _ _ three c.log_app.ensures in
+    c.added.ensures _ _ four c.check_app.ensures

@@ -1,6 +1,6 @@
 use Rattle.std.proofs.Common.{refl}
 use Rattle.std.proofs.KnownBytes.{Keeps-refl}
-use Rattle.desk_cli.proofs.ByRules.{answers_by_rules, by_rules, imports_by_rules, prints_by_rules, serves_by_rules}
+use Rattle.desk_cli.proofs.ByRules.{answers_by_rules, by_rules, imports_by_rules, logs_by_rules, prints_by_rules, serves_by_rules}
 use Rattle.desk_cli.proofs.Ended.{ends_so}
 use Rattle.desk_cli.proofs.performing.perform.Goals as goal
 
@@ -36,6 +36,12 @@ returns-in-Report g c = rw c.in-Report.is (ends_so c.report_file.ensures (λ r d
 pub returns-in-Bands : goal.returns-in-Bands
 returns-in-Bands g c = rw c.in-Bands.is (ends_so c.bands_file.ensures (λ r done. (
   by_rules _ (g.N.Files.paths c.args.files) _ _ _ _ _ (λ back config heard. prints_by_rules c.rules_are_kept.ensures _ back config heard _ _ _ _) done,
+  Keeps-refl _,
+)))
+
+pub returns-in-Log : goal.returns-in-Log
+returns-in-Log g c = rw c.in-Log.is (ends_so c.log_file.ensures (λ r done. (
+  by_rules _ (g.N.Files.paths c.args.files) _ _ _ _ _ (λ back config heard. logs_by_rules c.rules_are_kept.ensures _ back config heard _ _ _ _) done,
   Keeps-refl _,
 )))
 

@@ -49,10 +49,18 @@ bookings: 0
 replies: 5
 ";
 
+const LOG: &str = "\
+{\"MessageType\":\"OwnerAdd\",\"Owner\":\"town\",\"ProtocolVersion\":\"1.0\",\"ReceiverID\":\"desk\",\"SenderID\":\"office\",\"TransactionID\":1}
+{\"MessageType\":\"SenderAdd\",\"ProtocolVersion\":\"1.0\",\"ReceiverID\":\"desk\",\"Role\":\"radio\",\"Sender\":\"bridge\",\"SenderID\":\"office\",\"TransactionID\":2}
+{\"Gateway\":\"gw-a\",\"MessageType\":\"GatewayAdd\",\"ProtocolVersion\":\"1.0\",\"ReceiverID\":\"desk\",\"SenderID\":\"office\",\"TransactionID\":3}
+{\"Gateway\":\"gw-b\",\"MessageType\":\"GatewayAdd\",\"ProtocolVersion\":\"1.0\",\"ReceiverID\":\"desk\",\"SenderID\":\"office\",\"TransactionID\":4}
+{\"DevEUI\":\"0004a30b001a2b3c\",\"JoinEUI\":\"70b3d57ed0000001\",\"MessageType\":\"DeviceAdd\",\"Owner\":\"town\",\"ProtocolVersion\":\"1.0\",\"ReceiverID\":\"desk\",\"SenderID\":\"office\",\"TransactionID\":5}
+";
+
 /// Arguments, the standard input, and what is answered where nothing fails.
 pub(super) type Row = (&'static [&'static [u8]], &'static str, &'static str);
 
-pub(super) static ROWS: [Row; 5] = [
+pub(super) static ROWS: [Row; 6] = [
     (&[b"desk", b"hear", b"f.db"], ADD_OWNER, OWNER_ADDED),
     (
         &[b"desk", b"import", b"f.db", b"--sender", b"bridge"],
@@ -65,6 +73,7 @@ pub(super) static ROWS: [Row; 5] = [
         MONTH,
     ),
     (&[b"desk", b"bands", b"f.db", b"gw-a"], "", BANDS),
+    (&[b"desk", b"log", b"f.db"], "", LOG),
     (&[b"desk", b"check", b"f.db"], "", HOLDS),
 ];
 

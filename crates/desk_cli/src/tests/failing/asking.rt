@@ -3,7 +3,7 @@ use super::{FAILURES, MANY};
 use crate::tests::fuses::rows_after_each;
 use crate::tests::holding::{holds, holds_at};
 use crate::tests::reports::{BANDS_BOOKED, OWNER_HEADER, WORKED_LINE, is_wanted};
-use crate::tests::requests::responses::{BAND_REPORT, OWNER_REPORT, UNAVAILABLE};
+use crate::tests::requests::responses::{BAND_REPORT, NINTH_OF_LOG, OWNER_REPORT, UNAVAILABLE};
 use crate::tests::stops::deliveries;
 use crate::tests::switched::{Failure, Switched};
 use crate::tests::{Reopened, hear_each, opening};
@@ -15,7 +15,7 @@ use sqlite::MemStore;
 use std::process::Abort;
 use std::test::Fail;
 
-/// A way to ask for a report.
+/// A way to ask for a report or a part of the log.
 #[derive(Clone, Copy)]
 enum Asked {
     Owner,
@@ -24,7 +24,7 @@ enum Asked {
     Get(&'static str, &'static str),
 }
 
-static ASKED: [Asked; 4] = [
+static ASKED: [Asked; 5] = [
     Asked::Owner,
     Asked::Bands,
     Asked::Get(
@@ -32,6 +32,7 @@ static ASKED: [Asked; 4] = [
         OWNER_REPORT,
     ),
     Asked::Get("GET /v1/bands/gw-a HTTP/1.1\r\n\r\n", BAND_REPORT),
+    Asked::Get("GET /v1/log/9 HTTP/1.1\r\n\r\n", NINTH_OF_LOG),
 ];
 
 /// Whether the report is there, as it is to be; if not, the store failed by this fault.

@@ -1,6 +1,7 @@
 //! Reports over HTTP.
 use super::responses::{
-    BAD_MONTH, BAND_REPORT, EMPTY_REPORT, NO_GATEWAY, NO_OWNER, OWNER_REPORT, UNUSED_BANDS,
+    BAD_MONTH, BAND_REPORT, EMPTY_REPORT, NO_GATEWAY, NO_OWNER, NO_ROOM, OWNER_REPORT, ROOM_AFTER,
+    ROOM_OF_ONE, UNUSED_BANDS, UNUSED_ROOM,
 };
 use super::{expect, posted};
 use crate::tests::holding::holds;
@@ -40,15 +41,18 @@ fn expect_report<R: Abort + AllocGlobal, K: Keeper>(
 /// A target, the status and the response of a GET of it.
 pub(super) type Row = (&'static str, u16, &'static str);
 
-static BEFORE: [Row; 5] = [
+static BEFORE: [Row; 8] = [
     ("/v1/reports/town/2024-13", 400, BAD_MONTH),
     ("/v1/reports/town/2024-02", 404, NO_OWNER),
     ("/v1/reports/to%20wn/2024-02", 404, NO_OWNER),
     ("/v1/bands/gw-z", 404, NO_GATEWAY),
     ("/v1/bands/gw-z?gw-a", 404, NO_GATEWAY),
+    ("/v1/room/gw-z/946684799999999", 400, BAD_MONTH),
+    ("/v1/room/gw-z/x", 400, BAD_MONTH),
+    ("/v1/room/gw-z/1706745600000000", 404, NO_GATEWAY),
 ];
 
-static AFTER: [Row; 7] = [
+static AFTER: [Row; 11] = [
     ("/v1/reports/town/2024-02", 200, OWNER_REPORT),
     ("/v1/reports/town/2024-02?x=/y", 200, OWNER_REPORT),
     ("/v1/reports/port/2024-02", 200, EMPTY_REPORT),
@@ -56,6 +60,11 @@ static AFTER: [Row; 7] = [
     ("/v1/bands/gw-a", 200, BAND_REPORT),
     ("/v1/bands/gw-b", 200, UNUSED_BANDS),
     ("/v1/bands/town", 404, NO_GATEWAY),
+    // The downlink lasts 46,336 microseconds from 1,706,745,605,061,696 on.
+    ("/v1/room/gw-a/1706745605061695", 200, ROOM_OF_ONE),
+    ("/v1/room/gw-a/1706745605061696", 200, NO_ROOM),
+    ("/v1/room/gw-a/1706745605108032", 200, ROOM_AFTER),
+    ("/v1/room/gw-b/1706745605061696", 200, UNUSED_ROOM),
 ];
 
 pub(super) fn expect_reports<R: Abort + AllocGlobal, K: Keeper>(

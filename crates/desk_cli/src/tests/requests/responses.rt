@@ -48,6 +48,9 @@ pub(super) const CUT_BODY: &str =
 pub(super) const BAD_MONTH: &str =
     "HTTP/1.1 400 Bad Request\r\ncontent-type: text/plain\r\ncontent-length: 5\r\nconnection: close\r\n\r\ntime\n";
 
+pub(super) const NO_NUMBER: &str =
+    "HTTP/1.1 400 Bad Request\r\ncontent-type: text/plain\r\ncontent-length: 7\r\nconnection: close\r\n\r\nnumber\n";
+
 pub(super) const NO_OWNER: &str =
     "HTTP/1.1 404 Not Found\r\ncontent-type: text/plain\r\ncontent-length: 6\r\nconnection: close\r\n\r\nowner\n";
 
@@ -68,3 +71,18 @@ pub(super) const UNUSED_BANDS: &str =
 
 pub(crate) const BAND_REPORT: &str =
     "HTTP/1.1 200 OK\r\ncontent-type: text/csv\r\ncontent-length: 156\r\nconnection: close\r\n\r\nband,limit_us,bookings,booked_us,peak_us\nB1,3600000,0,0,0\nB2,36000000,0,0,0\nB3,36000000,1,46336,46336\nB4,3600000,0,0,0\nB5,360000000,0,0,0\nB6,36000000,0,0,0\n";
+
+pub(super) const UNUSED_ROOM: &str =
+    "HTTP/1.1 200 OK\r\ncontent-type: text/csv\r\ncontent-length: 161\r\nconnection: close\r\n\r\nband,limit_us,used_us,room_us\nB1,3600000,0,3000000\nB2,36000000,0,3000000\nB3,36000000,0,3000000\nB4,3600000,0,3000000\nB5,360000000,0,3000000\nB6,36000000,0,3000000\n";
+
+pub(super) const ROOM_OF_ONE: &str =
+    "HTTP/1.1 200 OK\r\ncontent-type: text/csv\r\ncontent-length: 125\r\nconnection: close\r\n\r\nband,limit_us,used_us,room_us\nB1,3600000,0,1\nB2,36000000,0,1\nB3,36000000,0,1\nB4,3600000,0,1\nB5,360000000,0,1\nB6,36000000,0,1\n";
+
+pub(super) const NO_ROOM: &str =
+    "HTTP/1.1 200 OK\r\ncontent-type: text/csv\r\ncontent-length: 125\r\nconnection: close\r\n\r\nband,limit_us,used_us,room_us\nB1,3600000,0,0\nB2,36000000,0,0\nB3,36000000,0,0\nB4,3600000,0,0\nB5,360000000,0,0\nB6,36000000,0,0\n";
+
+pub(super) const ROOM_AFTER: &str =
+    "HTTP/1.1 200 OK\r\ncontent-type: text/csv\r\ncontent-length: 165\r\nconnection: close\r\n\r\nband,limit_us,used_us,room_us\nB1,3600000,0,3000000\nB2,36000000,0,3000000\nB3,36000000,46336,3000000\nB4,3600000,0,3000000\nB5,360000000,0,3000000\nB6,36000000,0,3000000\n";
+
+pub(crate) const NINTH_OF_LOG: &str =
+    "HTTP/1.1 200 OK\r\ncontent-type: application/x-ndjson\r\ncontent-length: 199\r\nconnection: close\r\n\r\n{\"Gateway\":\"gw-a\",\"MessageType\":\"DownBook\",\"PHYPayload\":\"20000102030405060708090a0b0c0d0e0f\",\"ProtocolVersion\":\"1.0\",\"ReceiverID\":\"desk\",\"SenderID\":\"bridge\",\"TransactionID\":13,\"Uplink\":1,\"Window\":1}\n";

@@ -1,0 +1,50 @@
+-- `desk log`: its words, and what it has printed, by how it ended.
+use Rattle.std.specs.Prelude.{◌⊎◌, ℕ, Bool, true, false, List, [], Option, Result, Ok, Err, codes}
+use Rattle.std.specs.Io.KnownBytes.{Appends}
+use Rattle.clap.specs.Simple.{App, new_app, with_rule}
+use Rattle.clap.specs.Walk.{Row}
+use Rattle.registry_core.specs.Wholes.{greatest_whole}
+use Rattle.desk_engine.specs.Lines.{input_of}
+use Rattle.desk_engine.specs.Log.{WritesPart, WritesWhole, message_number}
+use Rattle.desk_engine.specs.declared.log.LogText.{LogText}
+use Rattle.desk_engine.specs.declared.log.LogText.TheVariants.{Message, Answer}
+use Rattle.desk_cli.specs.Named.{Named, log, named_as}
+use Rattle.desk_cli.specs.Options.{◌>>=◌, flag_rule, is_set, option_rule, optional_rule, or_bad, place_rule, placed, value_at, value_or}
+use Rattle.desk_cli.specs.declared.faults.Fault.{Fault}
+use Rattle.desk_cli.specs.declared.faults.Fault.TheVariants.{File, Unavailable}
+use Rattle.desk_cli.specs.declared.usage.BadValue.TheVariants.{FirstMessage, Messages}
+
+-- its words
+abbrev pub log_app : App
+log_app =
+    with_rule (with_rule (with_rule (with_rule (new_app (codes "log"))
+    (place_rule (codes "file")))
+    (option_rule (codes "from") (codes "1")))
+    (optional_rule (codes "count")))
+    (flag_rule (codes "answers"))
+
+-- the answers, or the messages
+abbrev pub which_text : Bool → LogText
+which_text true = Answer
+which_text false = Message
+
+-- What they name. Without `--count` the log is printed to its end: no desk hears more than `greatest_whole` messages.
+abbrev pub log_named : List Row → Named
+log_named rows = named_as do
+  file ← placed (codes "file") rows
+  from ← or_bad (value_at message_number (codes "from") rows) FirstMessage
+  count ← or_bad (value_or message_number greatest_whole (codes "count") rows) Messages
+  Ok (log file from count (which_text (is_set (codes "answers") rows)))
+
+-- ---- what it does
+
+-- The lines that are to be printed; what says that the desk's file is kept, and that a crash leaves it; what a writer holds before and
+-- after.
+module _ (lines : List (List ℕ)) (Kept Left : Type 0) (before after : Option (List ℕ)) where
+  -- By how it ended: all lines were written; with `File` they were, and handing them on failed, or a write failed at a line; with
+  -- `Unavailable` the first lines were written.
+  abbrev pub LogsBy : {T : Type 0} → Result T Fault → Type 0
+  LogsBy (Ok x) = Appends before after (input_of lines []) × Kept
+  LogsBy (Err File) = (Appends before after (input_of lines []) ⊎ WritesPart lines before after) × Kept
+  LogsBy (Err Unavailable) = WritesWhole lines before after × Left
+  LogsBy (Err _) = ⊥

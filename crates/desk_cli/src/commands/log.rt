@@ -1,0 +1,160 @@
+//! `desk log`: the messages that a desk has heard, or their answers, from its file.
+ghost use Rattle.std.specs.Prelude.{◌≡◌, false, List, None};
+ghost use Rattle.std.specs.Io.KnownBytes.{Keeps};
+ghost use Rattle.clap.specs.Matches.{found_of};
+ghost use Rattle.clap.specs.Walk.{rows_of};
+ghost use Rattle.sqlite.specs.Held.{state};
+ghost use Rattle.sqlite.specs.State.{HasCleanDisk};
+ghost use Rattle.registry_core.specs.declared.messages.Envelope.{Envelope};
+ghost use Rattle.registry_core.specs.Settings.{Settings};
+ghost use Rattle.desk_engine.specs.Log.{log_of};
+ghost use Rattle.desk_cli.specs.Doing.{OnDesk};
+ghost use Rattle.desk_cli.specs.Faults.{Ends};
+ghost use Rattle.desk_cli.specs.Named.{TellsNamed};
+ghost use Rattle.desk_cli.specs.NoDesk.{HoldsNoDesk, RefusesFile};
+ghost use Rattle.desk_cli.specs.OnTables.{IsLeft, KeepsHeard};
+ghost use Rattle.desk_cli.specs.commands.Log.{LogsBy, log_app, log_named, which_text};
+ghost use Rattle.desk_cli.specs.steps.CommandLine.{IsCommand};
+ghost use Rattle.desk_cli.specs.steps.Jobs.{logs};
+
+use super::Command;
+use crate::endings::Ending;
+use crate::faults::{Fault, end};
+use crate::jobs::{Job, by_store};
+use crate::options::{
+    command_on_file, flag, is_set, number_at, number_or_greatest, option, optional, placed,
+    with_word,
+};
+use crate::usage::{BadValue, Usage};
+use clap::ArgMatches;
+use desk_engine::{LogEnd, LogText, write_log};
+use desk_store::Keeper;
+use registry_core::Whole;
+use sqlite::{Alter, Connection};
+use std::alloc::{AllocError, Global};
+use std::io::{self, Read, Write};
+
+const EXAMPLE: &str = "\
+Example:
+  desk log town.db > messages.txt
+  desk log town.db --from 9 --count 1 --answers";
+
+/// Its words: its name, the file, the first message, how many, and whether their answers are printed instead.
+pub(crate) fn log_app<'a>(alloc: Global) -> Result<clap::Command<'a>, AllocError>
+    ensures { IsCommand log_app result }
+{
+    let about = "Prints the messages that the desk has heard, or their answers, one a line";
+    let first = "The number of the first message";
+    let from = option(alloc, "from", "N", "1", first);
+    let many = "How many messages at most; all to the last if it is left out";
+    let count = optional(alloc, "count", "N", many);
+    let command = with_word(command_on_file(alloc, "log", about, EXAMPLE), from);
+    let counted = with_word(command, count);
+    with_word(
+        counted,
+        flag(alloc, "answers", "Prints the answers, and not the messages"),
+    )
+}
+
+/// The command that its words give.
+pub(crate) fn log_of<'a>(options: &ArgMatches<'a>) -> Result<Command<'a>, Usage>
+    ensures { TellsNamed (log_named (rows_of (found_of options.now))) result }
+{
+    let file = placed(options, "file")?;
+    let from = number_at(options, "from").ok_or(BadValue::FirstMessage)?;
+    let count = number_or_greatest(options, "count").ok_or(BadValue::Messages)?;
+    Ok(Command::Log {
+        file,
+        from,
+        count,
+        which: which_text(is_set(options, "answers")),
+    })
+}
+
+fn which_text(answers: bool) -> LogText
+    ensures { result ≡ which_text answers }
+{
+    if answers {
+        LogText::Answer
+    } else {
+        LogText::Message
+    }
+}
+
+/// Prints the log of the desk in the connection's database, and gives the connection back: the messages from number `from` on, at
+/// most `count` of them, as `write_message` writes them, or their answers, each followed by one LF. The first message has the number
+/// 1. Nothing is printed if `from` is above the number of messages heard.
+///
+/// With `File` a write failed: whole lines are printed, and of the line after them its first octets or none; or all is printed and
+/// the flush failed. With `Unavailable` whole lines are printed. The database stays as it is. One that isn't a desk of schema 2 is
+/// refused, by `NotADesk`, `Schema` or `Unavailable`.
+pub fn log_command<S: Alter, W: Write, F: Write>(
+    alloc: Global,
+    conn: Connection<S>,
+    from: Whole,
+    count: Whole,
+    which: LogText,
+    answers: &mut W,
+    faults: &mut F,
+) -> (Ending, Connection<S>)
+    requires idle { conn.in_transaction ≡ false }
+    requires unlimited { conn.step_limit ≡ None }
+    ensures { Ends F.contents faults.old faults.new result.0 (λ done. OnDesk S.Store conn result.1 done
+        (Keeps (W.contents answers.old) (W.contents answers.new))
+        (λ c heard. LogsBy (log_of which c heard from count) (KeepsHeard S.Store result.1 c heard) (IsLeft S.Store result.1 c heard None)
+        (W.contents answers.old) (W.contents answers.new) done)) }
+{
+    let (done, conn) = print_log(alloc, conn, from, count, which, answers);
+    (end(faults, done), conn)
+}
+
+/// The log is printed, and the connection is given back.
+fn print_log<S: Alter, W: Write>(
+    alloc: Global,
+    conn: Connection<S>,
+    from: Whole,
+    count: Whole,
+    which: LogText,
+    answers: &mut W,
+) -> (Result<(), Fault>, Connection<S>)
+    requires idle { conn.in_transaction ≡ false }
+    requires unlimited { conn.step_limit ≡ None }
+    ensures logs { HasCleanDisk (state S.Store result.1) → (c : Settings) (heard : List Envelope) → KeepsHeard S.Store conn c heard
+        → LogsBy (log_of which c heard from count) (KeepsHeard S.Store result.1 c heard) (IsLeft S.Store result.1 c heard None)
+        (W.contents answers.old) (W.contents answers.new) result.0 }
+    ensures no_desk { HasCleanDisk (state S.Store result.1) → HoldsNoDesk S.Store conn
+        → RefusesFile S.Store conn result.1 (Keeps (W.contents answers.old) (W.contents answers.new)) result.0 }
+    ensures clean { HasCleanDisk (state S.Store result.1) → HasCleanDisk (state S.Store conn) }
+{
+    let log = Log { from, count, which };
+    by_store(alloc, conn, &log, &mut io::empty(), answers)
+}
+
+/// At most `count` messages of the log are printed, from this number on, or their answers.
+#[derive(Drop)]
+struct Log {
+    from: Whole,
+    count: Whole,
+    which: LogText,
+}
+
+impl Job for Log {
+    ghost does = { λ job. logs job.which job.from job.count };
+
+    fn run<K: Keeper, R: Read, W: Write>(
+        &self,
+        _alloc: Global,
+        keeper: &mut K,
+        _reader: &mut R,
+        answers: &mut W,
+    ) -> Result<(), Fault> {
+        match write_log(keeper, self.from, self.count, self.which, answers) {
+            LogEnd::Done(_) => match answers.flush() {
+                Ok(()) => Ok(()),
+                Err(_) => Err(Fault::File),
+            },
+            LogEnd::Write => Err(Fault::File),
+            LogEnd::Unavailable(fault) => Err(fault.into()),
+        }
+    }
+}
