@@ -31,7 +31,7 @@ from contextlib import closing
 from dataclasses import dataclass
 from pathlib import Path
 
-from common import ROOT, add_program, reading, ready, text_of, wants
+from common import ROOT, Running, add_program, reading, ready, text_of, wants
 from http_client import free_port
 
 EXAMPLE = ROOT / "examples" / "bridge"
@@ -57,29 +57,6 @@ START_SECONDS = 30
 
 
 # ---- the programs, which are killed and started again
-
-
-class Running:
-    """A program that is started again each time that it is killed."""
-
-    def __init__(self, name, words, log):
-        self.name, self.words, self.log = name, words, log
-        self.lock = threading.Lock()
-        self.process = None
-        self.kills = 0
-
-    def start(self):
-        with self.log.open("ab") as log:
-            self.process = subprocess.Popen(self.words, stdin=subprocess.DEVNULL, stdout=subprocess.DEVNULL, stderr=log)
-
-    def kill(self):
-        with self.lock:
-            if self.process.poll() is None:
-                self.process.send_signal(signal.SIGKILL)
-            return self.process.wait()
-
-    def is_running(self):
-        return self.process.poll() is None
 
 
 class Killer(threading.Thread):

@@ -1,12 +1,14 @@
-"""What several scripts share: the program that they run, lines of text, and a desk's two files.
+"""What several scripts share: the program that they run, programs that are killed, lines of text, and a desk's two files.
 
 Those of bench/ find it by the path of checks/, which they put behind their own.
 """
 
 import shutil
+import signal
 import sqlite3
 import subprocess
 import sys
+import threading
 from contextlib import closing
 from pathlib import Path
 
@@ -46,6 +48,29 @@ def ready(program):
     path = program.resolve()
     subprocess.run([path, "lines"], stdin=subprocess.DEVNULL, check=True)
     return path
+
+
+class Running:
+    """A program that is started again each time that it is killed."""
+
+    def __init__(self, name, words, log):
+        self.name, self.words, self.log = name, words, log
+        self.lock = threading.Lock()
+        self.process = None
+        self.kills = 0
+
+    def start(self):
+        with self.log.open("ab") as log:
+            self.process = subprocess.Popen(self.words, stdin=subprocess.DEVNULL, stdout=subprocess.DEVNULL, stderr=log)
+
+    def kill(self):
+        with self.lock:
+            if self.process.poll() is None:
+                self.process.send_signal(signal.SIGKILL)
+            return self.process.wait()
+
+    def is_running(self):
+        return self.process.poll() is None
 
 
 # ---- files

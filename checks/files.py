@@ -322,6 +322,9 @@ def responses(desk):
         (b"no head\r\n\r\n", b"400", "head\n"),
         (get("/v1/bands/gw-z"), b"404", "gateway\n"),
         (get("/v1/reports/town/2024-02"), b"404", "owner\n"),
+        (get("/v1/answers/1"), b"200", answer + "\n"),
+        (get("/v1/log/02"), b"200", ""),
+        (get("/v1/log/0"), b"400", "number\n"),
     ]
     program, port = desk.serving(file, len(cases) + 2)
     for octets, status, wanted in cases:

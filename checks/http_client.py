@@ -41,3 +41,15 @@ def body(response):
 def posted(port, line):
     """The body of the response to the line, of a connection of its own."""
     return body(asked(port, post(line)))
+
+
+def answer_of(port, line):
+    """The answer to the line, if it came whole."""
+    try:
+        response = asked(port, post(line))
+    except OSError:
+        return None
+    head, _, _ = response.partition(b"\r\n\r\n")
+    text = body(response)
+    whole = f"content-length: {len(text.encode())}\r\n".encode() in head
+    return text if text and whole else None

@@ -25,7 +25,7 @@ from pathlib import Path
 
 from both_stores import rows_of
 from common import add_program, reading, ready, text_of, wants
-from http_client import asked, body, free_port, post
+from http_client import answer_of, free_port
 from mixed_operation import NO_MESSAGE, mixed_operation
 import dictionaries
 
@@ -148,18 +148,6 @@ def feed(pipe, given):
         pipe.flush()
     except BrokenPipeError:
         pass
-
-
-def answer_of(port, line):
-    """The answer to the line, if it came whole."""
-    try:
-        response = asked(port, post(line))
-    except OSError:
-        return None
-    head, _, _ = response.partition(b"\r\n\r\n")
-    text = body(response)
-    whole = f"content-length: {len(text.encode())}".encode() in head
-    return text if text and whole else None
 
 
 def main():

@@ -35,9 +35,10 @@ Commands:
   migrate  Moves a desk's file from schema 1 to schema 2
   hear     Answers the messages of standard input, one a line, for the desk in a file
   import   Answers the records of a gateway's CSV report on standard input, one a line
-  serve    Serves messages, reports and bands over HTTP on 127.0.0.1
+  serve    Serves messages, reports and the log over HTTP on 127.0.0.1
   report   Prints the report of an owner's month
   bands    Prints the bands of a gateway
+  log      Prints the messages that the desk has heard, or their answers, one a line
   check    Prints what a desk's file was made with, and how much it holds
   help     Print this message or the help of the given subcommand(s)
 
@@ -127,7 +128,7 @@ Example:
   desk import town.db --sender office < report.csv
 """,
     "serve --help": """\
-Serves messages, reports and bands over HTTP on 127.0.0.1
+Serves messages, reports and the log over HTTP on 127.0.0.1
 
 Usage: desk serve [OPTIONS] --port <P> --count <N> <FILE>
 
@@ -177,6 +178,24 @@ Options:
 
 Example:
   desk bands town.db gw-a
+""",
+    "log --help": """\
+Prints the messages that the desk has heard, or their answers, one a line
+
+Usage: desk log [OPTIONS] <FILE>
+
+Arguments:
+  <FILE>  The desk's file
+
+Options:
+      --from <N>   The number of the first message [default: 1]
+      --count <N>  How many messages at most; all to the last if it is left out
+      --answers    Prints the answers, and not the messages
+  -h, --help       Print help
+
+Example:
+  desk log town.db > messages.txt
+  desk log town.db --from 9 --count 1 --answers
 """,
     "check --help": """\
 Prints what a desk's file was made with, and how much it holds
@@ -228,6 +247,10 @@ TAKEN = [
     "report town.db -- -a --b",
     "bands town.db gw-a",
     "bands gw-a town.db",
+    "log town.db",
+    "log --answers town.db --from 1",
+    "log --count=9007199254740991 town.db --from=0000000000000001",
+    "log log --count 1 --answers",
     "check town.db",
     "check -- --help",
 ]
@@ -263,6 +286,7 @@ REFUSED = {
         "serve town.db --port 0",
         "report town.db town",
         "bands town.db",
+        "log --from 1",
         "check",
     ],
     "error: unexpected argument": [
@@ -277,6 +301,7 @@ REFUSED = {
         "hear town.db --log",
         "report town.db town 2024-02 x",
         "bands town.db gw-a x",
+        "log town.db 9",
         "check town.db x",
         "--port 1 serve town.db --count 1",
         "lines --port 1",
@@ -286,11 +311,14 @@ REFUSED = {
     "error: a value is required for": [
         "import town.db --sender",
         "lines --base",
+        "log town.db --from",
     ],
     "error: the argument": [
         "import town.db --sender a --sender a",
         "serve town.db --port 1 --port 1 --count 1",
         "serve town.db --port 1 --count 1 --log --log",
+        "log town.db --from 1 --from 1",
+        "log town.db --answers --answers",
         "lines --base 01a00000 --base 01a00000",
     ],
 }
@@ -359,6 +387,23 @@ BAD = {
         "serve town.db --port 80 --count 1e3",
         "serve town.db --port 80 --count 00000000001",
         "serve town.db --port 80 --count 4294967297",
+    ],
+    "--from takes a number from 1 to 9007199254740991, in digits": [
+        "log town.db --from 0",
+        "log town.db --from 9007199254740992",
+        "log town.db --from 00000000000000001",
+        "log town.db --from +1",
+        "log town.db --from=-1",
+        "log town.db --from=",
+        "log town.db --from x",
+        "log town.db --count 0 --from 0",
+    ],
+    "--count takes a number from 1 to 9007199254740991, in digits": [
+        "log town.db --count 0",
+        "log town.db --count 9007199254740992",
+        "log town.db --count 00000000000000001",
+        "log town.db --count 1e3",
+        "log town.db --count=",
     ],
 }
 
