@@ -14,8 +14,11 @@ import sys
 from dataclasses import dataclass
 from pathlib import Path
 
-from cryptography.hazmat.primitives.ciphers import Cipher, algorithms, modes
-from cryptography.hazmat.primitives.cmac import CMAC
+try:
+    from cryptography.hazmat.primitives.ciphers import Cipher, algorithms, modes
+    from cryptography.hazmat.primitives.cmac import CMAC
+except ImportError:
+    sys.exit(f"{sys.executable} has no package cryptography, which the bridge needs: install Debian's python3-cryptography")
 
 UP, DOWN = 0, 1
 JOIN_REQUEST, JOIN_ACCEPT, DATA_DOWN = 0x00, 0x20, 0x60
