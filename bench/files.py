@@ -7,6 +7,7 @@ The messages are those of normal operation (normal_operation.py), on new files i
 the disk. Each message is one commit, which is on the disk before its answer. `hear` is compared with a plain Python program over the
 sqlite3 module with the same tables, which makes as many commits (peer.py). A command's start, which opens the file, is measured apart:
 it is what the same command takes on the same file with nothing to do, `hear` on empty input and `import` of a header alone.
+`report` is compared with the same report of a desk that serves, which has opened the file already.
 All answers and reports have to be those of the plain program over dictionaries (dictionaries.py), and each status 0.
 
 The growth is how the time without the start grows from the size above it, by how the size does: 1 where each message costs the same.
@@ -27,11 +28,13 @@ from normal_operation import DEVICES, ROOT, Stream, normal_operation, peak_of
 
 sys.path.append(str(ROOT / "checks"))
 from common import add_program, log_of, ready, text_of  # noqa: E402
-from http_client import free_port, posted  # noqa: E402
+from http_client import asked, body, free_port, get, posted  # noqa: E402
 
 REQUESTS = [2_000, 20_000]
 RECORDS = [2_000, 20_000, 100_000]
 MONTH = "2024-02"
+# how many reports one serving desk is asked for
+SERVED = 3
 HEADER = "transaction,type,gateway,time_us,freq_hz,dr,phy,verdict"
 COLUMNS = ["TransactionID", "MessageType", "Gateway", "Time", "Freq", "DataRate", "PHYPayload", "Verdict"]
 
@@ -124,6 +127,24 @@ def measure_hear(table, desk, folder, sizes, seed, runs):
             left.unlink()
 
 
+def serving(desk, file, count):
+    """A desk that serves `count` connections, its port, and the seconds until it listened."""
+    port = free_port()
+    begun = time.monotonic()
+    words = [desk, "serve", file, "--port", str(port), "--count", str(count)]
+    program = subprocess.Popen(words, stdout=subprocess.PIPE, text=True)
+    told = program.stdout.readline()
+    start = time.monotonic() - begun
+    if told != f"listening 127.0.0.1:{port}\n":
+        sys.exit(f"serve: {told!r}, status {program.wait()}")
+    return program, port, start
+
+
+def ends(program):
+    if program.wait() != 0:
+        sys.exit(f"serve ended with status {program.returncode}")
+
+
 def posted_all(port, lines, answers):
     begun = time.monotonic()
     bodies = [posted(port, line) for line in lines]
@@ -137,18 +158,10 @@ def measure_serve(table, desk, folder, seed):
         lines = normal_operation(size, seed)
         _, answers = plain(lines)
         file = made(desk, folder, f"serve-{size}.db")
-        port = free_port()
-        begun = time.monotonic()
-        words = [desk, "serve", file, "--port", str(port), "--count", str(2 * size)]
-        program = subprocess.Popen(words, stdout=subprocess.PIPE, text=True)
-        told = program.stdout.readline()
-        start = time.monotonic() - begun
-        if told != f"listening 127.0.0.1:{port}\n":
-            sys.exit(f"serve: {told!r}, status {program.wait()}")
+        program, port, start = serving(desk, file, 2 * size)
         first = posted_all(port, lines, answers)
         again = posted_all(port, lines, answers)
-        if program.wait() != 0:
-            sys.exit(f"serve ended with status {program.returncode}")
+        ends(program)
         table.row("serve", size, first, more=f"listens after {start:.3f} s")
         table.row("serve again", size, again, more="repeats: nothing is committed")
 
@@ -215,9 +228,22 @@ def measure_report(table, desk, folder, sizes, seed):
         Ran([desk, "hear", file], text_of(lines))
         start = Ran([desk, "hear", file])
         ran = Ran([desk, "report", file, "town", MONTH])
-        agrees("report", ran.written, owner_report_of(heard))
+        wanted = owner_report_of(heard)
+        agrees("report", ran.written, wanted)
         table.row("report", size, ran.seconds, start.seconds, ran.peak, f"{DEVICES} devices, {size} uplinks")
         table.start("start", size, start, file)
+        measure_served(table, desk, file, size, wanted)
+
+
+def measure_served(table, desk, file, size, wanted):
+    """The same report of a desk that serves, which opens the file once for all of them."""
+    program, port, start = serving(desk, file, SERVED)
+    begun = time.monotonic()
+    for _ in range(SERVED):
+        agrees("report served", body(asked(port, get(f"/v1/reports/town/{MONTH}"))), wanted)
+    seconds = (time.monotonic() - begun) / SERVED
+    ends(program)
+    table.row("report served", size, seconds, more=f"each of {SERVED}, of a desk that listens after {start:.3f} s")
 
 
 def main():
