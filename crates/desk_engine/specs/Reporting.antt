@@ -4,7 +4,7 @@ use Rattle.registry_core.specs.State.{State}
 use Rattle.desk_store.specs.declared.faults.StoreFault.{StoreFault}
 use Rattle.desk_store.specs.Calls.{IsUnavailability}
 use Rattle.desk_engine.specs.declared.report_faults.ReportFault.{ReportFault}
-use Rattle.desk_engine.specs.declared.report_faults.ReportFault.TheVariants.{Time, Owner, Gateway, Unavailable}
+use Rattle.desk_engine.specs.declared.report_faults.ReportFault.TheVariants.{Month, Time, Owner, Gateway, Unavailable}
 use Rattle.desk_engine.specs.Reports.{is_gateway, is_owner}
 
 -- the store's fault, if that is why there is no report
@@ -16,6 +16,7 @@ store_fault_in _ = None
 abbrev pub IsOwnerFault : State → List ℕ → ReportFault → Type 0
 IsOwnerFault s owner Owner = is_owner s owner ≡ false
 IsOwnerFault s owner (Unavailable fault) = IsUnavailability fault
+IsOwnerFault s owner Month = ⊥
 IsOwnerFault s owner Time = ⊥
 IsOwnerFault s owner Gateway = ⊥
 
@@ -23,5 +24,6 @@ IsOwnerFault s owner Gateway = ⊥
 abbrev pub IsGatewayFault : State → List ℕ → ReportFault → Type 0
 IsGatewayFault s gateway Gateway = is_gateway s gateway ≡ false
 IsGatewayFault s gateway (Unavailable fault) = IsUnavailability fault
+IsGatewayFault s gateway Month = ⊥
 IsGatewayFault s gateway Time = ⊥
 IsGatewayFault s gateway Owner = ⊥

@@ -7,7 +7,9 @@ use desk_store::StoreFault;
 /// Why there is no report.
 #[derive(Clone, Copy, PartialEq, Eq)]
 pub enum ReportFault {
-    /// The text is no month's, or no time's: refusal 31.
+    /// The text is no month's: refusal 31.
+    Month,
+    /// The text is no time's: refusal 31.
     Time,
     /// No owner has the name: refusal 10.
     Owner,

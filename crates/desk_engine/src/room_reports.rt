@@ -58,6 +58,7 @@ pub fn room_report<K: Keeper>(
         → IfOk result (λ text. IsRoomReport (state_of c heard) gateway.now t text.items) }
     ensures fault { ForHeld K.meaning keeper.old keeper.new (λ kept. (t : ℕ) → time_in time.now ≡ Some t
         → IfErr result (IsGatewayFault kept.facts gateway.now)) }
+    ensures no_month { ¬ (result ≡ Err ReportFault.Month) }
     ensures no_owner { ¬ (result ≡ Err ReportFault.Owner) }
 {
     downlinks_are_short();

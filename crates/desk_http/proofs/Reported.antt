@@ -10,7 +10,7 @@ use Rattle.desk_store.specs.Calls.{ForHeld, IsRead}
 use Rattle.desk_store.specs.Meaning.{Meaning}
 use Rattle.desk_engine.specs.declared.log.LogText.{LogText}
 use Rattle.desk_engine.specs.declared.report_faults.ReportFault.{ReportFault}
-use Rattle.desk_engine.specs.declared.report_faults.ReportFault.TheVariants.{Time, Owner, Gateway, Unavailable}
+use Rattle.desk_engine.specs.declared.report_faults.ReportFault.TheVariants.{Month, Time, Owner, Gateway, Unavailable}
 use Rattle.desk_engine.specs.InOrder.{IsInOrder, WasInOrder, kept_after}
 use Rattle.desk_engine.specs.Lines.{input_of}
 use Rattle.desk_engine.specs.Log.{log_of}
@@ -26,14 +26,15 @@ use Rattle.desk_http.specs.Serving.{ServesReport}
 module _ {T : Type 0} (octets : T → List ℕ) where
   same_fault : (r : Result T ReportFault) → store_fault_in (answer_shown octets r) ≡ store_fault_in r
   same_fault (Ok text) = refl
+  same_fault (Err Month) = refl
   same_fault (Err Time) = refl
   same_fault (Err Owner) = refl
   same_fault (Err Gateway) = refl
   same_fault (Err (Unavailable fault)) = refl
 
-  same_time : (r : Result T ReportFault) (P : Type 0) → (r ≡ Err Time) ↔ P → (answer_shown octets r ≡ Err Time) ↔ P
-  same_time (Ok text) P h = (λ e. cc, λ p. let e = h.1 p in cc)
-  same_time (Err fault) P h = (λ e. let same : fault ≡ Time = cc in h.0 (ap Err same), λ p. let e = h.1 p in let same : fault ≡ Time = cc in ap Err same)
+  same_why : (why : ReportFault) (r : Result T ReportFault) (P : Type 0) → (r ≡ Err why) ↔ P → (answer_shown octets r ≡ Err why) ↔ P
+  same_why why (Ok text) P h = (λ e. cc, λ p. let e = h.1 p in cc)
+  same_why why (Err fault) P h = (λ e. let same : fault ≡ why = cc in h.0 (ap Err same), λ p. let e = h.1 p in let same : fault ≡ why = cc in ap Err same)
 
   owner_answer : (s : State) (owner month : List ℕ) (r : Result T ReportFault) → OnOk r (IsTrue (is_owner s owner))
       → ((from to : ℤ) → IsMonth month from to → IfOk r (λ text. IsOwnerReport s owner from to (octets text)))
@@ -70,14 +71,14 @@ module _ {T : Type 0} (octets : T → List ℕ) where
     }
 
     pub owner_served : (owner month : List ℕ) (r : Result T ReportFault) → IsRead m old new (store_fault_in r)
-        → (r ≡ Err Time) ↔ ((from to : ℤ) → ¬ (IsMonth month from to))
+        → (r ≡ Err Month) ↔ ((from to : ℤ) → ¬ (IsMonth month from to))
         → ForHeld m old new (λ kept. OnOk r (IsTrue (is_owner kept.facts owner)))
         → ForHeld m old new (λ kept. (from to : ℤ) → IsMonth month from to → IfOk r (λ text. IsOwnerReport kept.facts owner from to (octets text)))
         → ForHeld m old new (λ kept. (from to : ℤ) → IsMonth month from to → IfErr r (IsOwnerFault kept.facts owner))
         → ServesReport m old new (owner_report owner month) (report_response (codes "text/csv") (answer_shown octets r))
     unfolding kept_after
     owner_served owner month r read time known report fault =
-        reported (owner_report owner month) r read (same_time r _ time) (λ c heard was.
+        reported (owner_report owner month) r read (same_why Month r _ time) (λ c heard was.
         owner_answer (state_of c heard) owner month r (known (kept_after c heard) was.sound was.order.kept)
         (report (kept_after c heard) was.sound was.order.kept) (fault (kept_after c heard) was.sound was.order.kept))
 
@@ -101,7 +102,7 @@ module _ {T : Type 0} (octets : T → List ℕ) where
         → ServesReport m old new (room_report gateway time) (report_response (codes "text/csv") (answer_shown octets r))
     unfolding kept_after
     room_served gateway time r read refused known report fault =
-        reported (room_report gateway time) r read (same_time r _ refused) (λ c heard was.
+        reported (room_report gateway time) r read (same_why Time r _ refused) (λ c heard was.
         room_answer (state_of c heard) gateway time r (known (kept_after c heard) was.sound was.order.kept)
         (λ at is. report c heard at was is) (fault (kept_after c heard) was.sound was.order.kept))
 

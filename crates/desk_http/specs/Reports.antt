@@ -7,7 +7,7 @@ use Rattle.registry_core.specs.State.{State}
 use Rattle.desk_store.specs.Calls.{IsUnavailability}
 use Rattle.desk_engine.specs.declared.log.LogText.{LogText}
 use Rattle.desk_engine.specs.declared.report_faults.ReportFault.{ReportFault}
-use Rattle.desk_engine.specs.declared.report_faults.ReportFault.TheVariants.{Time, Unavailable}
+use Rattle.desk_engine.specs.declared.report_faults.ReportFault.TheVariants.{Month, Time, Unavailable}
 use Rattle.desk_engine.specs.Lines.{input_of}
 use Rattle.desk_engine.specs.Log.{log_of}
 use Rattle.desk_engine.specs.Months.{IsMonth}
@@ -68,6 +68,6 @@ IsAnswer c heard (log_part which from) answer = IsLogAnswer c heard which from a
 
 -- whatever was heard: the time is refused exactly where it is no month, and a room's where it is no time
 abbrev pub RefusesTime : Report → Result (List ℕ) ReportFault → Type 0
-RefusesTime (owner_report owner month) answer = (answer ≡ Err Time) ↔ ((from to : ℤ) → ¬ (IsMonth month from to))
+RefusesTime (owner_report owner month) answer = (answer ≡ Err Month) ↔ ((from to : ℤ) → ¬ (IsMonth month from to))
 RefusesTime (room_report gateway time) answer = (answer ≡ Err Time) ↔ (time_in time ≡ None)
 RefusesTime _ answer = Unit {0}

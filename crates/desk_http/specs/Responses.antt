@@ -82,6 +82,7 @@ outcome_response (Unavailable fault) = unavailable
 
 -- why there is no text
 abbrev pub fault_response : ReportFault → Response
+fault_response fault.Month = plain 400 (codes "time\n")
 fault_response fault.Time = plain 400 (codes "time\n")
 fault_response fault.Owner = plain 404 (codes "owner\n")
 fault_response fault.Gateway = plain 404 (codes "gateway\n")

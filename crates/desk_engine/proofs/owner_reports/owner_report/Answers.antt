@@ -4,8 +4,8 @@ use Rattle.radio_core.specs.Names.{is_name}
 use Rattle.desk_engine.proofs.OwnerLines.{and_false, same_report}
 use Rattle.desk_engine.proofs.owner_reports.owner_report.Goals as goal
 
-pub returns-in_default-clause-time : goal.returns-in_default-clause-time
-returns-in_default-clause-time g c = (λ told. c.in_default.ensures.none.0 refl, λ no. refl)
+pub returns-in_default-clause-month : goal.returns-in_default-clause-month
+returns-in_default-clause-month g c = (λ told. c.in_default.ensures.none.0 refl, λ no. refl)
 
 pub returns-in_default-clause-fault : goal.returns-in_default-clause-fault
 returns-in_default-clause-fault g c = λ kept sound held from to is. c.in_default.ensures.none.0 refl from to is
