@@ -10,13 +10,15 @@ ended by SIGKILL at random moments and started again. The unit tests of the brid
 At the end sqlite3 reads the desk's file, at rest. Each frame is booked once, with the device's counter, each report that a gateway
 was acknowledged is a reception, and what was replayed or has a wrong MIC is booked never. Each accepted join has one accept. Each
 transmission of a gateway has a booking of its own that isn't dropped: begin, frequency, data rate and time on air are those of the
-booking. The journal's answers are the desk's, and no hour of a sub-band is above its limit.
+booking. The journal's answers are the desk's, no hour of a sub-band is above its limit, and the room that is left after a gateway's
+last downlink is the one that a plain computation finds.
 
 It prints what it saw, and each thing that isn't as it should be; then it fails. The program is `./desk`, which is proved and built
 first if it isn't current, or with --program the built one in FILE.
 """
 
 import argparse
+import bisect
 import json
 import random
 import signal
@@ -54,6 +56,7 @@ IN_TIME_US = 2_000_000
 # without GPS a reception has the time at which its datagram came, which may have been sent again while the bridge was killed
 CLOCKS_APART_US, LONGEST_LATE_US = 1_000, 15_000_000
 START_SECONDS = 30
+HOUR_US, LONGEST_DOWNLINK_US = 3_600_000_000, 3_000_000
 
 
 # ---- the programs, which are killed and started again
@@ -369,6 +372,32 @@ def hours_are_within(program, file, town):
                 yield f"{gateway.eui} {band}: an hour holds {peak} of {limit}"
 
 
+def rooms_agree(program, file):
+    with reading(file) as desk:
+        booked = grouped(desk.execute("SELECT gateway, band, start, airtime FROM booking WHERE state <> ?", (DROPPED,)))
+    for gateway, bookings in booked.items():
+        end = max(start + airtime for _, start, airtime in bookings)
+        lines = subprocess.run([program, "room", file, gateway, str(end)], capture_output=True, text=True, check=True).stdout.splitlines()
+        for number, line in enumerate(lines[1:], start=1):
+            spans = [(start, airtime) for band, start, airtime in bookings if band == number]
+            limit = int(line.split(",")[1])
+            wanted = f"B{number},{limit},{use(spans, end - HOUR_US)},{room_after(spans, end, limit)}"
+            if line != wanted:
+                yield f"{gateway} at {end}: the room is {line} and not {wanted}"
+
+
+def use(spans, begin):
+    """How much of the hour that begins then the spans take."""
+    return sum(max(0, min(begin + HOUR_US, start + airtime) - max(begin, start)) for start, airtime in spans)
+
+
+def room_after(spans, end, limit):
+    """The longest downlink that may begin at the time, at which all others have ended. If one fits, a shorter one does."""
+    return bisect.bisect_left(
+        range(1, LONGEST_DOWNLINK_US + 1), True, key=lambda length: use(spans, end + length - HOUR_US) + length > limit
+    )
+
+
 CHECKS = [
     uplinks_are_the_frames,
     reports_are_receptions,
@@ -414,7 +443,8 @@ def run_seed(program, seed, given):
         town = simulate.Town(seed, given.devices, given.gateways, free_udp_port())
         file, *kills = run_town(program, folder, town, given, seed)
         books = read_books(file, folder)
-        wrong = town.errors + [what for check in CHECKS for what in check(books, town)] + list(hours_are_within(program, file, town))
+        wrong = town.errors + [what for check in CHECKS for what in check(books, town)]
+        wrong += [*hours_are_within(program, file, town), *rooms_agree(program, file)]
     print(f"seed {seed}, {time.monotonic() - begun:.0f} s")
     for what, figure in table(books, town, kills):
         print(f"    {what:<38} {figure}")
