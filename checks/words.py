@@ -3,20 +3,22 @@
 
     checks/words.py [--program FILE]
 
-It has the text of each help, letter for letter; arguments that a command takes, and what `init` then makes of its values; arguments
-that clap refuses, with the beginning of clap's error; and values out of their form or their range, with the program's own line. A run
-that names no command ends with status 2, writes nothing to standard output, and leaves no file. Which arguments name which command
-with which values is proved; what is printed of them isn't.
+It has the text of each help, letter for letter; the version, held against CHANGELOG.md and the kit that `./desk` names; arguments
+that a command takes, and what `init` then makes of its values; arguments that clap refuses, with the beginning of clap's error; and
+values out of their form or their range, with the program's own line. A run that names no command ends with status 2, writes nothing
+to standard output, and leaves no file. Which arguments name which command with which values is proved; what is printed of them
+isn't.
 
 The program is `./desk`, which is proved and built first if it isn't current, or with --program the built one in FILE.
 """
 
 import argparse
+import re
 import subprocess
 import tempfile
 from pathlib import Path
 
-from common import add_program, ready, wants
+from common import ROOT, add_program, ready, wants
 
 SEE_HELP = "\n\nFor more information, try '--help'.\n"
 LONGEST_NAME = "abcdefghijklmnopqrstuvwxyz-_.012"
@@ -38,12 +40,14 @@ Commands:
   serve    Serves messages, reports and the log over HTTP on 127.0.0.1
   report   Prints the report of an owner's month
   bands    Prints the bands of a gateway
+  room     Prints how long a downlink of a gateway may be that begins at a time
   log      Prints the messages that the desk has heard, or their answers, one a line
   check    Prints what a desk's file was made with, and how much it holds
   help     Print this message or the help of the given subcommand(s)
 
 Options:
-  -h, --help  Print help
+      --version  Prints which desk this is
+  -h, --help     Print help
 
 Example:
   desk init town.db --base 01a00000
@@ -179,6 +183,22 @@ Options:
 Example:
   desk bands town.db gw-a
 """,
+    "room --help": """\
+Prints how long a downlink of a gateway may be that begins at a time
+
+Usage: desk room <FILE> <GATEWAY> <TIME>
+
+Arguments:
+  <FILE>     The desk's file
+  <GATEWAY>  The gateway
+  <TIME>     The time, in microseconds since 1970
+
+Options:
+  -h, --help  Print help
+
+Example:
+  desk room town.db gw-a 1706745601061696
+""",
     "log --help": """\
 Prints the messages that the desk has heard, or their answers, one a line
 
@@ -247,6 +267,8 @@ TAKEN = [
     "report town.db -- -a --b",
     "bands town.db gw-a",
     "bands gw-a town.db",
+    "room town.db gw-a 1706745601061696",
+    "room town.db gw-a x",
     "log town.db",
     "log --answers town.db --from 1",
     "log --count=9007199254740991 town.db --from=0000000000000001",
@@ -286,6 +308,7 @@ REFUSED = {
         "serve town.db --port 0",
         "report town.db town",
         "bands town.db",
+        "room town.db gw-a",
         "log --from 1",
         "check",
     ],
@@ -301,11 +324,14 @@ REFUSED = {
         "hear town.db --log",
         "report town.db town 2024-02 x",
         "bands town.db gw-a x",
+        "room town.db gw-a 1 x",
         "log town.db 9",
         "check town.db x",
         "--port 1 serve town.db --count 1",
         "lines --port 1",
         "lines lines",
+        "lines --version",
+        "-V",
         "--base 01a00000 lines",
     ],
     "error: a value is required for": [
@@ -319,6 +345,7 @@ REFUSED = {
         "serve town.db --port 1 --count 1 --log --log",
         "log town.db --from 1 --from 1",
         "log town.db --answers --answers",
+        "--version --version",
         "lines --base 01a00000 --base 01a00000",
     ],
 }
@@ -450,6 +477,14 @@ def sees_what_is_printed(desk):
         desk.is_refused(words, lambda told, text=text: told == text)
 
 
+def sees_the_version(desk):
+    newest = re.search(r"^## (.+)$", (ROOT / "CHANGELOG.md").read_text(), re.M)[1]
+    kit = re.search(r"logic [0-9a-f]{16}", (ROOT / "desk").read_text())[0]
+    for line in ["--version", "--version lines", "--version report town.db town 2024-02"]:
+        ran = desk.run(words_of(line))
+        wants(ran == (0, f"desk {newest}\nschema 2\nRattle kit, {kit}\n", ""), f"{line}: {ran}")
+
+
 def sees_what_is_refused(desk):
     for begins, lines in REFUSED.items():
         for line in lines:
@@ -481,6 +516,7 @@ def main():
     with tempfile.TemporaryDirectory() as folder:
         desk = Desk(ready(given.program), Path(folder))
         sees_what_is_printed(desk)
+        sees_the_version(desk)
         sees_what_is_refused(desk)
         sees_what_is_taken(desk)
         print(f"{desk.runs} runs, all as they should be")

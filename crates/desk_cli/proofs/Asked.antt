@@ -18,7 +18,7 @@ use Rattle.desk_cli.specs.steps.Usages.{TellsUsage}
 use Rattle.desk_cli.specs.declared.endings.Ending.{Ending}
 use Rattle.desk_cli.specs.declared.endings.Ending.TheVariants.{Done, Refused, Misused, Failed}
 use Rattle.desk_cli.specs.declared.faults.Fault.{Fault}
-use Rattle.desk_cli.specs.declared.faults.Fault.TheVariants.{Exists, NotADesk, Schema, Owner, Gateway, Month, CsvSize, CsvEnd, CsvHeader, CsvRecord, Unavailable, File, Network}
+use Rattle.desk_cli.specs.declared.faults.Fault.TheVariants.{Exists, NotADesk, Schema, Owner, Gateway, Month, Time, CsvSize, CsvEnd, CsvHeader, CsvRecord, Unavailable, File, Network}
 use Rattle.desk_cli.specs.declared.usage.Usage.{Usage}
 use Rattle.desk_cli.specs.declared.usage.Usage.TheVariants.{Words, Value, NotText, Memory}
 
@@ -42,6 +42,7 @@ fault_is_not_done Schema = tt
 fault_is_not_done Owner = tt
 fault_is_not_done Gateway = tt
 fault_is_not_done Month = tt
+fault_is_not_done Time = tt
 fault_is_not_done CsvSize = tt
 fault_is_not_done CsvEnd = tt
 fault_is_not_done CsvHeader = tt
@@ -61,6 +62,7 @@ fault_is_not_misused Schema is = cc
 fault_is_not_misused Owner is = cc
 fault_is_not_misused Gateway is = cc
 fault_is_not_misused Month is = cc
+fault_is_not_misused Time is = cc
 fault_is_not_misused CsvSize is = cc
 fault_is_not_misused CsvEnd is = cc
 fault_is_not_misused CsvHeader is = cc

@@ -16,7 +16,7 @@ use Rattle.desk_cli.specs.commands.Importing.{ImportsBy}
 use Rattle.desk_cli.specs.commands.Log.{LogsBy}
 use Rattle.desk_cli.specs.commands.Serving.{ServesBy}
 use Rattle.desk_cli.specs.declared.faults.Fault.{Fault}
-use Rattle.desk_cli.specs.declared.faults.Fault.TheVariants.{Exists, NotADesk, Schema, Owner, Gateway, Month, CsvSize, CsvEnd, CsvHeader, CsvRecord, Unavailable, File, Network}
+use Rattle.desk_cli.specs.declared.faults.Fault.TheVariants.{Exists, NotADesk, Schema, Owner, Gateway, Month, Time, CsvSize, CsvEnd, CsvHeader, CsvRecord, Unavailable, File, Network}
 use Rattle.desk_cli.proofs.OnTables.{leaves_rules}
 
 -- what is said of a desk's file, with what follows of the rules
@@ -56,6 +56,7 @@ module _ {S : Type 0} (law : RulesAreKept) (g : Ghosts S) (back : Held S) (c : S
     answers_by_rules (Err Owner) by = absurd by
     answers_by_rules (Err Gateway) by = absurd by
     answers_by_rules (Err Month) by = absurd by
+    answers_by_rules (Err Time) by = absurd by
     answers_by_rules (Err CsvSize) by = absurd by
     answers_by_rules (Err CsvEnd) by = absurd by
     answers_by_rules (Err CsvHeader) by = absurd by
@@ -80,6 +81,7 @@ module _ {S : Type 0} (law : RulesAreKept) (g : Ghosts S) (back : Held S) (c : S
     imports_by_rules sender (Err Owner) by = absurd by
     imports_by_rules sender (Err Gateway) by = absurd by
     imports_by_rules sender (Err Month) by = absurd by
+    imports_by_rules sender (Err Time) by = absurd by
     imports_by_rules sender (Err Network) by = absurd by
 
   module _ {T : Type 0} (heard : List Envelope) (before after : Option (List ℕ)) where
@@ -96,6 +98,7 @@ module _ {S : Type 0} (law : RulesAreKept) (g : Ghosts S) (back : Held S) (c : S
     serves_by_rules ports port n (Err Owner) by = absurd by
     serves_by_rules ports port n (Err Gateway) by = absurd by
     serves_by_rules ports port n (Err Month) by = absurd by
+    serves_by_rules ports port n (Err Time) by = absurd by
     serves_by_rules ports port n (Err CsvSize) by = absurd by
     serves_by_rules ports port n (Err CsvEnd) by = absurd by
     serves_by_rules ports port n (Err CsvHeader) by = absurd by
@@ -112,6 +115,7 @@ module _ {S : Type 0} (law : RulesAreKept) (g : Ghosts S) (back : Held S) (c : S
     logs_by_rules lines (Err Owner) by = absurd by
     logs_by_rules lines (Err Gateway) by = absurd by
     logs_by_rules lines (Err Month) by = absurd by
+    logs_by_rules lines (Err Time) by = absurd by
     logs_by_rules lines (Err CsvSize) by = absurd by
     logs_by_rules lines (Err CsvEnd) by = absurd by
     logs_by_rules lines (Err CsvHeader) by = absurd by

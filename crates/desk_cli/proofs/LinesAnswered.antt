@@ -15,7 +15,7 @@ use Rattle.desk_cli.specs.Faults.{fault_of_store}
 use Rattle.desk_engine.specs.Hearing.{StoreKeeps, StoreLeaves}
 use Rattle.desk_cli.specs.Answering.{AnswersBy, AnswersFirst, HearsFirst}
 use Rattle.desk_cli.specs.declared.faults.Fault.{Fault}
-use Rattle.desk_cli.specs.declared.faults.Fault.TheVariants.{Exists, NotADesk, Schema, Owner, Gateway, Month, CsvSize, CsvEnd, CsvHeader, CsvRecord, Unavailable, File, Network}
+use Rattle.desk_cli.specs.declared.faults.Fault.TheVariants.{Exists, NotADesk, Schema, Owner, Gateway, Month, Time, CsvSize, CsvEnd, CsvHeader, CsvRecord, Unavailable, File, Network}
 
 module _ {K : Type 0} (m : Meaning K) (c : Settings) (heard : List Envelope) (old new : K) where
   -- what was heard is kept, unless a fault of the disk was told
@@ -74,6 +74,7 @@ module _ (c : Settings) (heard : List Envelope) (Kept Stands : List Envelope →
   carried (Err Owner) by = absurd by
   carried (Err Gateway) by = absurd by
   carried (Err Month) by = absurd by
+  carried (Err Time) by = absurd by
   carried (Err CsvSize) by = absurd by
   carried (Err CsvEnd) by = absurd by
   carried (Err CsvHeader) by = absurd by

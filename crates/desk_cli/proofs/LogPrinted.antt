@@ -8,7 +8,7 @@ use Rattle.desk_cli.proofs.Opened.{err, is_unavailable}
 use Rattle.desk_cli.specs.Faults.{fault_of_store}
 use Rattle.desk_cli.specs.commands.Log.{LogsBy}
 use Rattle.desk_cli.specs.declared.faults.Fault.{Fault}
-use Rattle.desk_cli.specs.declared.faults.Fault.TheVariants.{Exists, NotADesk, Schema, Owner, Gateway, Month, CsvSize, CsvEnd, CsvHeader, CsvRecord, Unavailable, File, Network}
+use Rattle.desk_cli.specs.declared.faults.Fault.TheVariants.{Exists, NotADesk, Schema, Owner, Gateway, Month, Time, CsvSize, CsvEnd, CsvHeader, CsvRecord, Unavailable, File, Network}
 
 module _ (lines : List (List ℕ)) where
   -- the store was unavailable, and that is returned
@@ -29,6 +29,7 @@ module _ (lines : List (List ℕ)) where
   carried kept left before after (Err Owner) by = absurd by
   carried kept left before after (Err Gateway) by = absurd by
   carried kept left before after (Err Month) by = absurd by
+  carried kept left before after (Err Time) by = absurd by
   carried kept left before after (Err CsvSize) by = absurd by
   carried kept left before after (Err CsvEnd) by = absurd by
   carried kept left before after (Err CsvHeader) by = absurd by

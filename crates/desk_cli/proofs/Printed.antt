@@ -1,52 +1,61 @@
 -- A report that a store was asked for, printed.
-use Rattle.std.proofs.Common.{◌≡◌, ◌↔◌, ◌⊎◌, ℕ, List, false, Option, Result, Ok, Err, IfOk, IfErr, OnOk, IsTrue, inl, inr, refl, ap, subst, sym}
+use Rattle.std.proofs.Common.{◌≡◌, ◌↔◌, ◌⊎◌, ℕ, List, false, Option, Some, None, Result, Ok, Err, IfOk, IfErr, OnOk, IsTrue, inl, inr, refl, ap, subst, sym}
 use Rattle.std.specs.Prelude.{ℤ}
 use Rattle.std.specs.Io.KnownBytes.{Keeps}
 use Rattle.registry_core.specs.State.{State}
 use Rattle.desk_store.specs.declared.faults.StoreFault.TheVariants as store
 use Rattle.desk_store.specs.Calls.{is_disk}
 use Rattle.desk_engine.specs.declared.report_faults.ReportFault.{ReportFault}
-use Rattle.desk_engine.specs.declared.report_faults.ReportFault.TheVariants.{Time, Owner, Gateway, Unavailable}
+use Rattle.desk_engine.specs.declared.report_faults.ReportFault.TheVariants.{Month, Time, Owner, Gateway, Unavailable}
 use Rattle.desk_engine.specs.Months.{IsMonth}
 use Rattle.desk_engine.specs.Reporting.{IsGatewayFault, IsOwnerFault, store_fault_in}
 use Rattle.desk_engine.specs.Reports.{IsBandReport, IsOwnerReport, is_gateway, is_owner}
+use Rattle.desk_engine.specs.Rooms.{IsRoomReport, time_in}
 use Rattle.desk_http.specs.Reports.{IsBandAnswer}
 use Rattle.desk_cli.proofs.Opened.{err}
 use Rattle.desk_cli.specs.Faults.{fault_of_report}
-use Rattle.desk_cli.specs.Printing.{IsOwnersMonth, PrintsAnswer, PrintsBy, RefusesMonth}
-use Rattle.desk_cli.specs.steps.Printing.{IsPrinted}
+use Rattle.desk_cli.specs.Printing.{IsGatewaysRoom, IsOwnersMonth, PrintsAnswer, PrintsBy, RefusesMonth, RefusesTime}
+use Rattle.desk_cli.specs.steps.Printing.{IsPrinted, shown, unasked}
 use Rattle.desk_cli.specs.declared.faults.Fault.{Fault}
 use Rattle.desk_cli.specs.declared.faults.Fault.TheVariants as told
 
--- the octets of a report
-abbrev pub shown : {X : Type 0} → (X → List ℕ) → Result X ReportFault → Result (List ℕ) ReportFault
-shown octets (Ok text) = Ok (octets text)
-shown octets (Err why) = Err why
+-- a text is no fault
+is_no_fault : {X : Type 0} {why : ReportFault} (text : X) → Ok text ≡ Err why → ⊥
+is_no_fault text is = subst IsText is tt
+  where
+    IsText : {X : Type 0} → Result X ReportFault → Type 0
+    IsText (Ok text) = Unit {0}
+    IsText (Err why) = ⊥
 
 module _ {X : Type 0} (octets : X → List ℕ) (s : State) where
-  pub owners_month : (owner month : List ℕ) (r : Result X ReportFault) → (r ≡ Err Time) ↔ ((from to : ℤ) → ¬ (IsMonth month from to))
+  pub owners_month : (owner month : List ℕ) (r : Result X ReportFault) → (r ≡ Err Month) ↔ ((from to : ℤ) → ¬ (IsMonth month from to))
       → OnOk r (IsTrue (is_owner s owner))
       → ((from to : ℤ) → IsMonth month from to → IfOk r (λ text. IsOwnerReport s owner from to (octets text)))
       → ((from to : ℤ) → IsMonth month from to → IfErr r (IsOwnerFault s owner)) → IsOwnersMonth s owner month (shown octets r)
-  owners_month owner month (Ok text) time known report fault = record {
+  owners_month owner month (Ok text) refused known report fault = record {
     answer_is = record { known = known; report = report; fault = fault };
-    time = λ is. absurd (differs is);
-    no_month = λ none. absurd (is_ok (time.1 none));
+    bad_month = λ is. absurd (is_no_fault (octets text) is);
+    no_month = λ none. absurd (is_no_fault text (refused.1 none));
   }
-    where
-      Answers : {Y : Type 0} → Result Y ReportFault → Type 0
-      Answers (Ok y) = Unit {0}
-      Answers (Err why) = ⊥
-
-      differs : Ok (octets text) ≡ Err Time → ⊥
-      differs is = subst Answers is tt
-
-      is_ok : Ok text ≡ Err Time → ⊥
-      is_ok is = subst Answers is tt
-  owners_month owner month (Err why) time known report fault = record {
+  owners_month owner month (Err why) refused known report fault = record {
     answer_is = record { known = known; report = report; fault = fault };
-    time = λ is. let same : why ≡ Time = cc in time.0 (ap Err same);
-    no_month = λ none. subst (λ (r : Result X ReportFault). RefusesMonth (shown octets r)) (sym (time.1 none)) tt;
+    bad_month = λ is. let same : why ≡ Month = cc in refused.0 (ap Err same);
+    no_month = λ none. subst (λ (r : Result X ReportFault). RefusesMonth (shown octets r)) (sym (refused.1 none)) tt;
+  }
+
+  pub gateways_room : (gateway time : List ℕ) (r : Result X ReportFault) → (r ≡ Err Time) ↔ (time_in time ≡ None)
+      → OnOk r (IsTrue (is_gateway s gateway))
+      → ((at : ℕ) → time_in time ≡ Some at → IfOk r (λ text. IsRoomReport s gateway at (octets text)))
+      → ((at : ℕ) → time_in time ≡ Some at → IfErr r (IsGatewayFault s gateway)) → IsGatewaysRoom s gateway time (shown octets r)
+  gateways_room gateway time (Ok text) refused known report fault = record {
+    answer_is = record { known = known; report = report; fault = fault };
+    bad_time = λ is. absurd (is_no_fault (octets text) is);
+    no_time = λ none. absurd (is_no_fault text (refused.1 none));
+  }
+  gateways_room gateway time (Err why) refused known report fault = record {
+    answer_is = record { known = known; report = report; fault = fault };
+    bad_time = λ is. let same : why ≡ Time = cc in refused.0 (ap Err same);
+    no_time = λ none. subst (λ (r : Result X ReportFault). RefusesTime (shown octets r)) (sym (refused.1 none)) tt;
   }
 
   pub gateways_bands : (gateway : List ℕ) (r : Result X ReportFault) → OnOk r (IsTrue (is_gateway s gateway))
@@ -56,6 +65,7 @@ module _ {X : Type 0} (octets : X → List ℕ) (s : State) where
 
 -- the store is unavailable, or it is kept
 either : (X Kept : Type 0) (fault : Fault) (why : ReportFault) → (is_disk (store_fault_in {T = X} (Err why)) ≡ false → Kept) → fault ≡ fault_of_report why → (fault ≡ told.Unavailable) ⊎ Kept
+either X Kept fault Month kept is = inr (kept refl)
 either X Kept fault Time kept is = inr (kept refl)
 either X Kept fault Owner kept is = inr (kept refl)
 either X Kept fault Gateway kept is = inr (kept refl)
@@ -88,15 +98,5 @@ module _ {Kept Stands Left Stays : Type 0} (kept : Kept → Stands) (left : Left
 
 -- where the desk couldn't be opened, nothing is printed
 pub prints_unopened : (Kept Left : Type 0) (before : Option (List ℕ)) (IsAnswer : Result (List ℕ) ReportFault → Type 0) {T : Type 0} (fault : Fault)
-    → fault ≡ told.Unavailable → Left → Keeps before before → IsAnswer (Err (Unavailable store.Memory)) → PrintsBy Kept Left before before IsAnswer (err {T = T} fault)
-prints_unopened Kept Left before IsAnswer fault is left kept answer = record { answer = Err (Unavailable store.Memory); answer_is = answer; prints = (is, kept, inl is, left) }
-
-abbrev pub unasked : Result (List ℕ) ReportFault
-unasked = Err (Unavailable store.Memory)
-
-pub unavailable_is_no_time : unasked ≡ Err Time → ⊥
-unavailable_is_no_time is = subst Waits is tt
-  where
-    Waits : Result (List ℕ) ReportFault → Type 0
-    Waits (Err (Unavailable fault)) = Unit {0}
-    Waits _ = ⊥
+    → fault ≡ told.Unavailable → Left → Keeps before before → IsAnswer unasked → PrintsBy Kept Left before before IsAnswer (err {T = T} fault)
+prints_unopened Kept Left before IsAnswer fault is left kept answer = record { answer = unasked; answer_is = answer; prints = (is, kept, inl is, left) }

@@ -6,12 +6,12 @@ use Rattle.desk_store.specs.declared.faults.StoreFault.{StoreFault}
 use Rattle.desk_store.specs.Calls.{IsRead}
 use Rattle.desk_store.specs.Meaning.{Meaning}
 use Rattle.desk_engine.specs.declared.report_faults.ReportFault.{ReportFault}
-use Rattle.desk_engine.specs.declared.report_faults.ReportFault.TheVariants.{Time, Owner, Gateway, Unavailable}
+use Rattle.desk_engine.specs.declared.report_faults.ReportFault.TheVariants.{Month, Time, Owner, Gateway, Unavailable}
 use Rattle.desk_engine.specs.InOrder.{kept_after}
 use Rattle.desk_cli.specs.OnTables.{WasOpened}
 use Rattle.desk_cli.specs.commands.Checking.{IsCheck, check_text}
 use Rattle.desk_cli.specs.steps.Checking.{IsCheckOf}
-use Rattle.desk_cli.proofs.Printed.{shown}
+use Rattle.desk_cli.specs.steps.Printing.{shown}
 
 pub is_check : {K X : Type 0} (m : Meaning K) (c : Settings) (heard : List Envelope) (old new : K) (octets : X → List ℕ)
     → WasOpened m old c heard → m.sound new → (r : Result X ReportFault) → IsCheckOf m old new octets r → IsCheck c heard (shown octets r)
@@ -19,6 +19,7 @@ is_check m c heard old new octets was sound (Ok text) told =
     let is = told (kept_after c heard) sound was.store.holds in
     (is.0, is.1, is.2 ∙ ap (λ config. check_text config is.0) was.store.configuration)
 is_check m c heard old new octets was sound (Err (Unavailable fault)) told = told (kept_after c heard) sound was.store.holds
+is_check m c heard old new octets was sound (Err Month) told = absurd told
 is_check m c heard old new octets was sound (Err Time) told = absurd told
 is_check m c heard old new octets was sound (Err Owner) told = absurd told
 is_check m c heard old new octets was sound (Err Gateway) told = absurd told

@@ -2,7 +2,7 @@
 use Rattle.std.specs.Prelude.{List, [], ◌∷◌, Option, Some, None, codes, bytes_eq, if◌then◌else◌}
 use Rattle.clap.specs.Faults.{fault_of}
 use Rattle.clap.specs.Kinds.{Kinds}
-use Rattle.clap.specs.Simple.{App, new_app, with_subcommand, subcommand_of}
+use Rattle.clap.specs.Simple.{App, matches_of, new_app, with_rule, with_subcommand, subcommand_of}
 use Rattle.clap.specs.Walk.{Row, Text}
 use Rattle.clap.specs.declared.error.kind.ErrorKind.TheVariants.{MissingSubcommand}
 use Rattle.desk_cli.specs.commands.Checking.{check_app, check_named}
@@ -12,10 +12,14 @@ use Rattle.desk_cli.specs.commands.Init.{init_app, init_named}
 use Rattle.desk_cli.specs.commands.Lines.{lines_app, lines_named}
 use Rattle.desk_cli.specs.commands.Log.{log_app, log_named}
 use Rattle.desk_cli.specs.commands.Migrating.{migrate_app, migrate_named}
-use Rattle.desk_cli.specs.commands.Reports.{bands_app, bands_named, report_app, report_named}
+use Rattle.desk_cli.specs.commands.Reports.{bands_app, bands_named, report_app, report_named, room_app, room_named}
 use Rattle.desk_cli.specs.commands.Serving.{serve_app, serve_named}
-use Rattle.desk_cli.specs.Named.{Named, refused}
-use Rattle.desk_cli.specs.Options.{config_of}
+use Rattle.desk_cli.specs.Named.{Named, names, refused, version}
+use Rattle.desk_cli.specs.Options.{config_of, flag_rule, is_set}
+
+-- the command line without commands
+abbrev pub top_app : App
+top_app = with_rule (new_app (codes "desk")) (flag_rule (codes "version"))
 
 -- a command line with the commands that read messages or records, and those that make a file for them and move it
 abbrev pub with_readers : App → App
@@ -30,10 +34,11 @@ with_readers app =
 -- the command line
 abbrev pub desk_app : App
 desk_app =
-    with_subcommand (with_subcommand (with_subcommand (with_subcommand (with_subcommand (with_readers (new_app (codes "desk")))
+    with_subcommand (with_subcommand (with_subcommand (with_subcommand (with_subcommand (with_subcommand (with_readers top_app)
     serve_app.top)
     report_app.top)
     bands_app.top)
+    room_app.top)
     log_app.top)
     check_app.top
 
@@ -48,19 +53,24 @@ named_with name rows =
     else if bytes_eq name (codes "serve") then serve_named rows
     else if bytes_eq name (codes "report") then report_named rows
     else if bytes_eq name (codes "bands") then bands_named rows
+    else if bytes_eq name (codes "room") then room_named rows
     else if bytes_eq name (codes "log") then log_named rows
     else if bytes_eq name (codes "check") then check_named rows
     else refused (MissingSubcommand ∷ [])
 
 -- the subcommand that clap enters, with its options
-abbrev pub command_named : Option (Text × List Row) → Named
-command_named None = refused (MissingSubcommand ∷ [])
-command_named (Some (name, rows)) = named_with name rows
+abbrev pub subcommand_named : Option (Text × List Row) → Named
+subcommand_named None = refused (MissingSubcommand ∷ [])
+subcommand_named (Some (name, rows)) = named_with name rows
 
-abbrev pub named_unless : Kinds → Option (Text × List Row) → Named
-named_unless [] met = command_named met
-named_unless (kind ∷ kinds) met = refused (kind ∷ kinds)
+-- the same, unless the version is asked for before it
+abbrev pub command_named : List Row → Option (Text × List Row) → Named
+command_named top met = if is_set (codes "version") top then names version else subcommand_named met
+
+abbrev pub named_unless : Kinds → List Row → Option (Text × List Row) → Named
+named_unless [] top met = command_named top met
+named_unless (kind ∷ kinds) top met = refused (kind ∷ kinds)
 
 -- what the words name, by clap's own rules for the command line above
 abbrev pub named_by : List Text → Named
-named_by words = named_unless (fault_of desk_app words) (subcommand_of desk_app words)
+named_by words = named_unless (fault_of desk_app words) (matches_of desk_app words) (subcommand_of desk_app words)

@@ -11,10 +11,10 @@ use Rattle.registry_core.specs.Settings.{Settings}
 use Rattle.desk_engine.specs.Log.{log_of}
 use Rattle.desk_http.specs.Reports.{IsBandAnswer}
 use Rattle.desk_cli.specs.Ports.{AtPorts}
-use Rattle.desk_cli.specs.Named.{Asked, lines, init, migrate, hear, import, serve, report, bands, log, check}
+use Rattle.desk_cli.specs.Named.{Asked, version, lines, init, migrate, hear, import, serve, report, bands, room, log, check}
 use Rattle.desk_cli.specs.NoDesk.{HoldsNoDesk, RefusesFile}
 use Rattle.desk_cli.specs.OnTables.{IsLeft, KeepsHeard, LeavesRules}
-use Rattle.desk_cli.specs.Printing.{IsOwnersMonth, PrintsBy}
+use Rattle.desk_cli.specs.Printing.{IsGatewaysRoom, IsOwnersMonth, PrintsBy}
 use Rattle.desk_cli.specs.commands.Checking.{IsCheck}
 use Rattle.desk_cli.specs.commands.Hear.{HearsBy}
 use Rattle.desk_cli.specs.commands.Importing.{ImportsBy}
@@ -23,6 +23,7 @@ use Rattle.desk_cli.specs.commands.Lines.{AnswersLines}
 use Rattle.desk_cli.specs.commands.Log.{LogsBy}
 use Rattle.desk_cli.specs.commands.Migrating.{MigratesBy}
 use Rattle.desk_cli.specs.commands.Serving.{ServesBy}
+use Rattle.desk_cli.specs.commands.Version.{PrintsVersion}
 use Rattle.desk_cli.specs.declared.faults.Fault.{Fault}
 use Rattle.desk_cli.specs.declared.faults.Fault.TheVariants.{File}
 
@@ -67,6 +68,7 @@ OnDeskByRules g paths given_back result file Untouched Does =
 module _ {S T : Type 0} (g : Ghosts S) (paths : AtPaths S) (ports : Bool → AtPorts) (given_back : Option (Held S)) (left rest before after : Option (List ℕ)) (result : Result T Fault) where
   -- what was asked was done, by how it ended; what isn't asked of a stream leaves it as it was
   abbrev pub DoesAsked : Asked → Type 0
+  DoesAsked version = PrintsVersion before after result × Keeps left rest × (given_back ≡ None)
   DoesAsked (lines c) = AnswersLines left rest before after c result × (given_back ≡ None)
   DoesAsked (init file c) =
       OnFile paths.makes paths.unmade given_back result file (Unit {0}) (λ conn back. InitsBy g conn back c result)
@@ -90,6 +92,10 @@ module _ {S T : Type 0} (g : Ghosts S) (paths : AtPaths S) (ports : Bool → AtP
   DoesAsked (bands file gateway) =
       OnDeskByRules g paths given_back result file (Keeps before after)
       (λ back c heard. PrintsBy (KeepsHeard g back c heard) (IsLeft g back c heard None) before after (IsBandAnswer (state_of c heard) gateway) result)
+      × Keeps left rest
+  DoesAsked (room file gateway time) =
+      OnDeskByRules g paths given_back result file (Keeps before after)
+      (λ back c heard. PrintsBy (KeepsHeard g back c heard) (IsLeft g back c heard None) before after (IsGatewaysRoom (state_of c heard) gateway time) result)
       × Keeps left rest
   DoesAsked (log file from count which) =
       OnDeskByRules g paths given_back result file (Keeps before after)

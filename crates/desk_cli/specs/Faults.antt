@@ -12,7 +12,7 @@ use Rattle.desk_engine.specs.Lines.{line_feed}
 use Rattle.desk_cli.specs.declared.endings.Ending.{Ending}
 use Rattle.desk_cli.specs.declared.endings.Ending.TheVariants as ending
 use Rattle.desk_cli.specs.declared.faults.Fault.{Fault}
-use Rattle.desk_cli.specs.declared.faults.Fault.TheVariants.{Exists, NotADesk, Schema, Owner, Gateway, Month, CsvSize, CsvEnd, CsvHeader, CsvRecord, Unavailable, File, Network}
+use Rattle.desk_cli.specs.declared.faults.Fault.TheVariants.{Exists, NotADesk, Schema, Owner, Gateway, Month, Time, CsvSize, CsvEnd, CsvHeader, CsvRecord, Unavailable, File, Network}
 
 -- memory, the file, the streams or the network failed; else what was asked is refused
 abbrev pub ending_of_fault : Fault → Ending
@@ -31,6 +31,7 @@ fault_word Schema = codes "schema"
 fault_word Owner = codes "owner"
 fault_word Gateway = codes "gateway"
 fault_word Month = codes "month"
+fault_word Time = codes "time"
 fault_word CsvSize = codes "csv size"
 fault_word CsvEnd = codes "csv end"
 fault_word CsvHeader = codes "csv header"
@@ -78,7 +79,8 @@ fault_of_store store.Exists = Exists
 
 -- refusals 31, 10 and 11
 abbrev pub fault_of_report : ReportFault → Fault
-fault_of_report report.Time = Month
+fault_of_report report.Month = Month
+fault_of_report report.Time = Time
 fault_of_report report.Owner = Owner
 fault_of_report report.Gateway = Gateway
 fault_of_report (report.Unavailable fault) = fault_of_store fault

@@ -7,13 +7,14 @@ use Rattle.clap.specs.declared.error.kind.ErrorKind.{ErrorKind}
 use Rattle.registry_core.specs.Settings.{Settings}
 use Rattle.desk_engine.specs.declared.log.LogText.{LogText}
 use Rattle.desk_cli.specs.declared.commands.Command.{Command}
-use Rattle.desk_cli.specs.declared.commands.Command.TheVariants.{Lines, Init, Migrate, Hear, Import, Serve, Report, Bands, Log, Check}
+use Rattle.desk_cli.specs.declared.commands.Command.TheVariants.{Version, Lines, Init, Migrate, Hear, Import, Serve, Report, Bands, Room, Log, Check}
 use Rattle.desk_cli.specs.declared.usage.BadValue.{BadValue}
 use Rattle.desk_cli.specs.declared.usage.Usage.{Usage}
 use Rattle.desk_cli.specs.declared.usage.Usage.TheVariants.{Words, Value, NotText, Memory}
 
 -- a command with its values, as texts and numbers
 pub data Asked : Type 0 where
+  version : Asked
   lines : Settings → Asked
   init : Text → Settings → Asked
   migrate : Text → Asked
@@ -26,11 +27,14 @@ pub data Asked : Type 0 where
   report : Text → Text → Text → Asked
   -- the file and the gateway
   bands : Text → Text → Asked
+  -- the file, the gateway and the time
+  room : Text → Text → Text → Asked
   -- the file, the number of the first message, how many messages at most, and which text of each
   log : Text → ℕ → ℕ → LogText → Asked
   check : Text → Asked
 
 abbrev pub asked_by : Command → Asked
+asked_by Version = version
 asked_by (Lines config) = lines config
 asked_by (Init file config) = init file.now config
 asked_by (Migrate file) = migrate file.now
@@ -39,6 +43,7 @@ asked_by (Import file sender) = import file.now sender
 asked_by (Serve file port connections logged) = serve file.now port connections logged
 asked_by (Report file owner month) = report file.now owner.now month.now
 asked_by (Bands file gateway) = bands file.now gateway.now
+asked_by (Room file gateway time) = room file.now gateway.now time.now
 asked_by (Log file from count which) = log file.now from count which
 asked_by (Check file) = check file.now
 

@@ -1,28 +1,41 @@
 -- A report that a command prints.
-use Rattle.std.specs.Prelude.{◌≡◌, ◌⊎◌, ℕ, ℤ, List, Option, Result, Ok, Err}
+use Rattle.std.specs.Prelude.{◌≡◌, ◌⊎◌, ℕ, ℤ, List, Option, None, Result, Ok, Err}
 use Rattle.std.specs.Io.KnownBytes.{Appends, Keeps}
 use Rattle.registry_core.specs.State.{State}
 use Rattle.desk_store.specs.Calls.{IsUnavailability}
 use Rattle.desk_engine.specs.declared.report_faults.ReportFault.{ReportFault}
 use Rattle.desk_engine.specs.declared.report_faults.ReportFault.TheVariants as report
-use Rattle.desk_engine.specs.declared.report_faults.ReportFault.TheVariants.{Time}
+use Rattle.desk_engine.specs.declared.report_faults.ReportFault.TheVariants.{Month, Time}
 use Rattle.desk_engine.specs.Months.{IsMonth}
-use Rattle.desk_http.specs.Reports.{IsOwnerAnswer}
+use Rattle.desk_engine.specs.Rooms.{time_in}
+use Rattle.desk_http.specs.Reports.{IsOwnerAnswer, IsRoomAnswer}
 use Rattle.desk_cli.specs.Faults.{fault_of_report}
 use Rattle.desk_cli.specs.declared.faults.Fault.{Fault}
 use Rattle.desk_cli.specs.declared.faults.Fault.TheVariants.{File, Unavailable}
 
 -- what is told of a text that is no month's: that, or that the desk can't be read
 abbrev pub RefusesMonth : Result (List ℕ) ReportFault → Type 0
-RefusesMonth (Err Time) = Unit {0}
+RefusesMonth (Err Month) = Unit {0}
 RefusesMonth (Err (report.Unavailable fault)) = IsUnavailability fault
 RefusesMonth _ = ⊥
 
 -- the owner's report of a month, or why there is none; a bad month is told of what is none alone, whoever the owner is
 pub record IsOwnersMonth (s : State) (owner month : List ℕ) (answer : Result (List ℕ) ReportFault) : Type 0 where
   pub answer_is : IsOwnerAnswer s owner month answer
-  pub time : answer ≡ Err Time → (from to : ℤ) → ¬ (IsMonth month from to)
+  pub bad_month : answer ≡ Err Month → (from to : ℤ) → ¬ (IsMonth month from to)
   pub no_month : ((from to : ℤ) → ¬ (IsMonth month from to)) → RefusesMonth answer
+
+-- what is told of a text that is no time: that, or that the desk can't be read
+abbrev pub RefusesTime : Result (List ℕ) ReportFault → Type 0
+RefusesTime (Err Time) = Unit {0}
+RefusesTime (Err (report.Unavailable fault)) = IsUnavailability fault
+RefusesTime _ = ⊥
+
+-- the gateway's room at a time, or why there is none; a bad time is told of what is none alone, whoever the gateway is
+pub record IsGatewaysRoom (s : State) (gateway time : List ℕ) (answer : Result (List ℕ) ReportFault) : Type 0 where
+  pub answer_is : IsRoomAnswer s gateway time answer
+  pub bad_time : answer ≡ Err Time → time_in time ≡ None
+  pub no_time : time_in time ≡ None → RefusesTime answer
 
 -- What says that the desk's file is kept and that a crash leaves it; what the writer holds before and after; the report that was
 -- asked for, or why there is none.

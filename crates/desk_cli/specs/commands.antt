@@ -8,3 +8,4 @@ pub mod Log
 pub mod Migrating
 pub mod Reports
 pub mod Serving
+pub mod Version

@@ -4,9 +4,9 @@ ghost use Rattle.std.specs.Prelude.{◌≡◌, IfOk};
 ghost use Rattle.clap.specs.Matches.{found_of};
 ghost use Rattle.clap.specs.Simple.{App, app_of, subcommand_rows_of};
 ghost use Rattle.clap.specs.Walk.{rows_of};
-ghost use Rattle.desk_cli.specs.CommandLine.{command_named, desk_app, named_with, with_readers};
+ghost use Rattle.desk_cli.specs.CommandLine.{command_named, desk_app, named_with, top_app, with_readers};
 ghost use Rattle.desk_cli.specs.Named.{TellsNamed};
-ghost use Rattle.desk_cli.specs.steps.CommandLine.{AddsCommand};
+ghost use Rattle.desk_cli.specs.steps.CommandLine.{AddsCommand, IsCommand};
 
 mod checking;
 mod hear;
@@ -17,8 +17,9 @@ mod log;
 mod migrating;
 mod reports;
 mod serving;
+mod version;
 
-use crate::options::command;
+use crate::options::{command, flag, is_set, with_word};
 use crate::usage::{Usage, no_command};
 pub use checking::check_command;
 use checking::{check_app, check_of};
@@ -38,15 +39,18 @@ pub use migrating::migrate_command;
 use migrating::{migrate_app, migrate_of};
 use radio_core::Name;
 use registry_core::{Config, Whole};
-pub use reports::{bands_command, report_command};
-use reports::{bands_app, bands_of, report_app, report_of};
+pub use reports::{bands_command, report_command, room_command};
+use reports::{bands_app, bands_of, report_app, report_of, room_app, room_of};
 pub use serving::serve_command;
 use serving::{serve_app, serve_of};
 use std::alloc::{AllocError, Global};
+pub use version::version_command;
 
 /// A command with its values.
 #[derive(Clone, Copy)]
 pub enum Command<'a> {
+    /// Prints which desk this is.
+    Version,
     /// Answers the messages of standard input, one a line, for a new desk that is kept in memory.
     Lines {
         config: Config,
@@ -87,6 +91,12 @@ pub enum Command<'a> {
         file: &'a str,
         gateway: &'a str,
     },
+    /// Prints the report of a gateway's room at a time.
+    Room {
+        file: &'a str,
+        gateway: &'a str,
+        time: &'a str,
+    },
     /// Prints at most `count` messages that the desk has heard, from number `from` on, or their answers, one a line.
     Log {
         file: &'a str,
@@ -109,13 +119,22 @@ Example:
 pub(crate) fn desk_app<'a>(alloc: Global) -> Result<clap::Command<'a>, AllocError>
     ensures { IfOk result (λ c. app_of c ≡ desk_app) }
 {
-    let about = "A LoRaWAN device registry and airtime desk";
-    let desk = with_readers(alloc, command(alloc, "desk", about, EXAMPLE));
+    let desk = with_readers(alloc, top_app(alloc)?);
     let desk = added(desk, serve_app(alloc));
     let desk = added(desk, report_app(alloc));
     let desk = added(desk, bands_app(alloc));
+    let desk = added(desk, room_app(alloc));
     let desk = added(desk, log_app(alloc));
     added(desk, check_app(alloc))
+}
+
+/// The command line without commands.
+fn top_app<'a>(alloc: Global) -> Result<clap::Command<'a>, AllocError>
+    ensures { IsCommand top_app result }
+{
+    let about = "A LoRaWAN device registry and airtime desk";
+    let version = flag(alloc, "version", "Prints which desk this is");
+    with_word(Ok(command(alloc, "desk", about, EXAMPLE)), version)
 }
 
 /// A command line with the commands that read messages or records, and those that make a file for them and move it.
@@ -144,8 +163,11 @@ pub(crate) fn command_of<'a>(
     matches: &ArgMatches<'a>,
     desk: &mut clap::Command<'a>,
 ) -> Result<Command<'a>, Usage>
-    ensures { TellsNamed (command_named (subcommand_rows_of matches.now)) result }
+    ensures { TellsNamed (command_named (rows_of (found_of matches.now)) (subcommand_rows_of matches.now)) result }
 {
+    if is_set(matches, "version") {
+        return Ok(Command::Version);
+    }
     let Some((name, options)) = matches.subcommand() else {
         return Err(no_command(desk));
     };
@@ -170,6 +192,7 @@ fn command_with<'a>(
         "serve" => serve_of(options),
         "report" => report_of(options),
         "bands" => bands_of(options),
+        "room" => room_of(options),
         "log" => log_of(options),
         "check" => check_of(options),
         _ => Err(no_command(desk)),

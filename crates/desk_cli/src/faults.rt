@@ -25,6 +25,8 @@ pub enum Fault {
     Gateway,
     /// The text is no month's.
     Month,
+    /// The text is no time's.
+    Time,
     /// The gateway report is longer than one may be, or has too many records.
     CsvSize,
     /// It doesn't end in LF.
@@ -64,6 +66,7 @@ impl Display for Fault {
             Fault::Owner => f.write_str("owner"),
             Fault::Gateway => f.write_str("gateway"),
             Fault::Month => f.write_str("month"),
+            Fault::Time => f.write_str("time"),
             Fault::CsvSize => f.write_str("csv size"),
             Fault::CsvEnd => f.write_str("csv end"),
             Fault::CsvHeader => f.write_str("csv header"),
@@ -93,7 +96,8 @@ impl From<ReportFault> for Fault {
 
     fn from(fault: ReportFault) -> Self {
         match fault {
-            ReportFault::Time => Fault::Month,
+            ReportFault::Month => Fault::Month,
+            ReportFault::Time => Fault::Time,
             ReportFault::Owner => Fault::Owner,
             ReportFault::Gateway => Fault::Gateway,
             ReportFault::Unavailable(fault) => fault.into(),

@@ -7,7 +7,7 @@ ghost use Rattle.desk_cli.specs.Doing.{DoesAsked, OnDeskFile, OnFile};
 ghost use Rattle.desk_cli.specs.Faults.{Ends};
 ghost use Rattle.desk_cli.specs.Named.{asked_by};
 ghost use Rattle.desk_cli.specs.OnTables.{IsLeft, KeepsHeard};
-ghost use Rattle.desk_cli.specs.Printing.{IsOwnersMonth, PrintsBy};
+ghost use Rattle.desk_cli.specs.Printing.{IsGatewaysRoom, IsOwnersMonth, PrintsBy};
 ghost use Rattle.desk_cli.specs.Ports.{at_ports};
 ghost use Rattle.desk_cli.specs.commands.Checking.{IsCheck};
 ghost use Rattle.desk_cli.specs.commands.Hear.{HearsBy};
@@ -20,7 +20,8 @@ ghost use Rattle.std.specs.Prelude.{None};
 
 use crate::commands::{
     Command, bands_command, check_command, hear_command, import_command, init_command,
-    lines_command, log_command, migrate_command, report_command, serve_command,
+    lines_command, log_command, migrate_command, report_command, room_command, serve_command,
+    version_command,
 };
 use crate::endings::Ending;
 use crate::faults::end;
@@ -66,6 +67,7 @@ pub(crate) fn perform<S: Alter, N: Files<S>, B: Network, R: Read, W: Write, F: W
 {
     rules_are_kept();
     match command {
+        Command::Version => (version_command(answers, faults), None),
         Command::Lines { config } => {
             (lines_command(alloc, config, reader, answers, faults), None)
         }
@@ -99,6 +101,11 @@ pub(crate) fn perform<S: Alter, N: Files<S>, B: Network, R: Read, W: Write, F: W
         Command::Bands { file, gateway } => {
             bands_file(alloc, files, file, gateway, answers, faults)
         }
+        Command::Room {
+            file,
+            gateway,
+            time,
+        } => room_file(alloc, files, file, gateway, time, answers, faults),
         Command::Log {
             file,
             from,
@@ -253,6 +260,27 @@ fn bands_file<S: Alter, N: Files<S>, W: Write, F: Write>(
         files.open(file),
         faults,
         |conn| bands_command(alloc, conn, gateway, answers, faults)
+    )
+}
+
+fn room_file<S: Alter, N: Files<S>, W: Write, F: Write>(
+    alloc: Global,
+    files: N,
+    file: &str,
+    gateway: &str,
+    time: &str,
+    answers: &mut W,
+    faults: &mut F,
+) -> Performed<S>
+    ensures { Ends F.contents faults.old faults.new result.0 (λ done. OnDeskFile S.Store (N.paths files) result.1 done file.now
+        (Keeps (W.contents answers.old) (W.contents answers.new))
+        (λ back c heard. PrintsBy (KeepsHeard S.Store back c heard) (IsLeft S.Store back c heard None) (W.contents answers.old) (W.contents answers.new)
+        (IsGatewaysRoom (state_of c heard) gateway.now time.now) done)) }
+{
+    on_file!(
+        files.open(file),
+        faults,
+        |conn| room_command(alloc, conn, gateway, time, answers, faults)
     )
 }
 

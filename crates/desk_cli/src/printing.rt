@@ -1,9 +1,107 @@
-//! What goes to the standard output at once.
-ghost use Rattle.desk_cli.specs.steps.Printing.{IsPrinted};
+//! A report of the desk in a file, on the standard output.
+ghost use Rattle.std.specs.Prelude.{◌≡◌, ℕ, false, List, None, Result, Err};
+ghost use Rattle.std.specs.Io.KnownBytes.{Keeps};
+ghost use Rattle.sqlite.specs.Held.{state};
+ghost use Rattle.sqlite.specs.State.{HasCleanDisk};
+ghost use Rattle.registry_core.specs.declared.messages.Envelope.{Envelope};
+ghost use Rattle.registry_core.specs.Heard.{state_of};
+ghost use Rattle.registry_core.specs.Settings.{Settings};
+ghost use Rattle.registry_core.specs.State.{State};
+ghost use Rattle.desk_store.specs.Calls.{IsRead};
+ghost use Rattle.desk_engine.specs.declared.report_faults.ReportFault.{ReportFault};
+ghost use Rattle.desk_engine.specs.InOrder.{WasInOrder};
+ghost use Rattle.desk_engine.specs.Reporting.{store_fault_in};
+ghost use Rattle.desk_cli.specs.Doing.{OnDesk};
+ghost use Rattle.desk_cli.specs.Faults.{Ends};
+ghost use Rattle.desk_cli.specs.NoDesk.{HoldsNoDesk, RefusesFile};
+ghost use Rattle.desk_cli.specs.OnTables.{IsLeft, KeepsHeard};
+ghost use Rattle.desk_cli.specs.Printing.{PrintsBy};
+ghost use Rattle.desk_cli.specs.steps.Jobs.{prints};
+ghost use Rattle.desk_cli.specs.steps.Printing.{IsPrinted, shown, unasked};
 
-use crate::faults::Fault;
+use crate::endings::Ending;
+use crate::faults::{Fault, end};
+use crate::jobs::{Job, by_store};
 use desk_engine::{ReportFault, write_whole};
-use std::io::Write;
+use desk_store::Keeper;
+use sqlite::{Alter, Connection};
+use std::alloc::Global;
+use std::io::{self, Read, Write};
+
+/// A report that a store is asked for.
+pub(crate) trait Report {
+    /// What is answered of what the registry holds: the text, or why there is none.
+    ghost is_answer: { Self → State → Result (List ℕ) ReportFault → Type 0 };
+
+    /// Asks for it.
+    fn ask<K: Keeper>(&self, alloc: Global, keeper: &mut K) -> Result<Vec<u8>, ReportFault>
+        ensures read { IsRead K.meaning keeper.old keeper.new (store_fault_in result) }
+        ensures told { (c : Settings) (heard : List Envelope) → WasInOrder K.meaning c heard keeper.old keeper.new
+            → is_answer self.now (state_of c heard) (shown (λ text. text.items) result) };
+
+    /// If there is no memory to open the desk, that is why there is no text.
+    ghost unopened: { (report : Self) (s : State) → is_answer report s unasked };
+}
+
+/// Prints the report from the desk of the connection's database, and gives the connection back.
+///
+/// With `File` the writer failed. Nothing is changed. What is no desk's of schema 2 is refused, by `NotADesk`, `Schema` or
+/// `Unavailable`, and stays as it is.
+pub(crate) fn print_report<S: Alter, Q: Report, W: Write, F: Write>(
+    alloc: Global,
+    conn: Connection<S>,
+    report: &Q,
+    answers: &mut W,
+    faults: &mut F,
+) -> (Ending, Connection<S>)
+    requires idle { conn.in_transaction ≡ false }
+    requires unlimited { conn.step_limit ≡ None }
+    ensures { Ends F.contents faults.old faults.new result.0 (λ done. OnDesk S.Store conn result.1 done
+        (Keeps (W.contents answers.old) (W.contents answers.new))
+        (λ c heard. PrintsBy (KeepsHeard S.Store result.1 c heard) (IsLeft S.Store result.1 c heard None) (W.contents answers.old) (W.contents answers.new)
+        (Q.is_answer report.now (state_of c heard)) done)) }
+{
+    let (done, conn) = print_by_store(alloc, conn, report, answers);
+    (end(faults, done), conn)
+}
+
+/// The report is printed, and the connection is given back.
+fn print_by_store<S: Alter, Q: Report, W: Write>(
+    alloc: Global,
+    conn: Connection<S>,
+    report: &Q,
+    answers: &mut W,
+) -> (Result<(), Fault>, Connection<S>)
+    requires idle { conn.in_transaction ≡ false }
+    requires unlimited { conn.step_limit ≡ None }
+    ensures prints { HasCleanDisk (state S.Store result.1) → (c : Settings) (heard : List Envelope) → KeepsHeard S.Store conn c heard
+        → PrintsBy (KeepsHeard S.Store result.1 c heard) (IsLeft S.Store result.1 c heard None) (W.contents answers.old) (W.contents answers.new)
+        (Q.is_answer report.now (state_of c heard)) result.0 }
+    ensures no_desk { HasCleanDisk (state S.Store result.1) → HoldsNoDesk S.Store conn
+        → RefusesFile S.Store conn result.1 (Keeps (W.contents answers.old) (W.contents answers.new)) result.0 }
+    ensures clean { HasCleanDisk (state S.Store result.1) → HasCleanDisk (state S.Store conn) }
+{
+    by_store(alloc, conn, &Printed(report), &mut io::empty(), answers)
+}
+
+/// The report is printed.
+#[derive(Drop)]
+struct Printed<'a, Q: Report>(&'a Q);
+
+impl<Q: Report> Job for Printed<'_, Q> {
+    ghost does = { λ job. prints (Q.is_answer job.0.now) };
+
+    fn run<K: Keeper, R: Read, W: Write>(
+        &self,
+        alloc: Global,
+        keeper: &mut K,
+        _reader: &mut R,
+        answers: &mut W,
+    ) -> Result<(), Fault> {
+        let report = self.0.ask(alloc, keeper);
+        print(answers, &report)
+    }
+}
 
 /// Writes the report, and hands it on; or tells why there is none.
 pub(crate) fn print<W: Write>(

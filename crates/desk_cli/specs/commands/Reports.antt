@@ -1,8 +1,8 @@
--- `desk report` and `desk bands`: their words.
+-- `desk report`, `desk bands` and `desk room`: their words.
 use Rattle.std.specs.Prelude.{List, Ok, codes}
 use Rattle.clap.specs.Simple.{App, new_app, with_rule}
 use Rattle.clap.specs.Walk.{Row}
-use Rattle.desk_cli.specs.Named.{Named, bands, named_as, report}
+use Rattle.desk_cli.specs.Named.{Named, bands, named_as, report, room}
 use Rattle.desk_cli.specs.Options.{◌>>=◌, place_rule, placed}
 
 -- the words of `desk report`
@@ -34,3 +34,19 @@ bands_named rows = named_as do
   file ← placed (codes "file") rows
   gateway ← placed (codes "gateway") rows
   Ok (bands file gateway)
+
+-- the words of `desk room`
+abbrev pub room_app : App
+room_app =
+    with_rule (with_rule (with_rule (new_app (codes "room"))
+    (place_rule (codes "file")))
+    (place_rule (codes "gateway")))
+    (place_rule (codes "time"))
+
+-- what they name
+abbrev pub room_named : List Row → Named
+room_named rows = named_as do
+  file ← placed (codes "file") rows
+  gateway ← placed (codes "gateway") rows
+  time ← placed (codes "time") rows
+  Ok (room file gateway time)

@@ -1,37 +1,32 @@
-//! `desk report` and `desk bands`: reports from a desk's file.
+//! `desk report`, `desk bands` and `desk room`: reports from a desk's file.
 ghost use Rattle.std.specs.Prelude.{◌≡◌, false, List, None};
 ghost use Rattle.std.specs.Io.KnownBytes.{Keeps};
 ghost use Rattle.clap.specs.Matches.{found_of};
 ghost use Rattle.clap.specs.Walk.{rows_of};
-ghost use Rattle.desk_cli.specs.commands.Reports.{bands_app, bands_named, report_app, report_named};
+ghost use Rattle.desk_cli.specs.commands.Reports.{bands_app, bands_named, report_app, report_named, room_app, room_named};
 ghost use Rattle.desk_cli.specs.Doing.{OnDesk};
 ghost use Rattle.desk_cli.specs.Faults.{Ends};
 ghost use Rattle.desk_cli.specs.Named.{TellsNamed};
 ghost use Rattle.desk_cli.specs.steps.CommandLine.{IsCommand};
-ghost use Rattle.sqlite.specs.Held.{state};
-ghost use Rattle.sqlite.specs.State.{HasCleanDisk};
+ghost use Rattle.desk_cli.specs.steps.Printing.{unasked_month, unasked_room};
 ghost use Rattle.registry_core.specs.declared.messages.Envelope.{Envelope};
 ghost use Rattle.registry_core.specs.Heard.{state_of};
 ghost use Rattle.registry_core.specs.Settings.{Settings};
 ghost use Rattle.desk_http.specs.Reports.{IsBandAnswer};
-ghost use Rattle.desk_cli.specs.NoDesk.{HoldsNoDesk, RefusesFile};
 ghost use Rattle.desk_cli.specs.OnTables.{IsLeft, KeepsHeard};
-ghost use Rattle.desk_cli.specs.Printing.{IsOwnersMonth, PrintsBy};
-ghost use Rattle.desk_cli.specs.steps.Jobs.{prints};
+ghost use Rattle.desk_cli.specs.Printing.{IsGatewaysRoom, IsOwnersMonth, PrintsBy};
 
 use super::Command;
 use crate::endings::Ending;
-use crate::faults::{Fault, end};
-use crate::jobs::{Job, by_store};
 use crate::options::{command_on_file, place, placed, with_word};
-use crate::printing::print;
+use crate::printing::{Report, print_report};
 use crate::usage::Usage;
 use clap::ArgMatches;
-use desk_engine::{band_report, owner_report};
+use desk_engine::{ReportFault, band_report, owner_report, room_report};
 use desk_store::Keeper;
 use sqlite::{Alter, Connection};
 use std::alloc::{AllocError, Global};
-use std::io::{self, Read, Write};
+use std::io::Write;
 
 /// The words of `desk report`: its name, the file, the owner and the month.
 pub(crate) fn report_app<'a>(alloc: Global) -> Result<clap::Command<'a>, AllocError>
@@ -74,6 +69,37 @@ pub(crate) fn bands_of<'a>(options: &ArgMatches<'a>) -> Result<Command<'a>, Usag
     Ok(Command::Bands { file, gateway })
 }
 
+/// The words of `desk room`: its name, the file, the gateway and the time.
+pub(crate) fn room_app<'a>(alloc: Global) -> Result<clap::Command<'a>, AllocError>
+    ensures { IsCommand room_app result }
+{
+    let about = "Prints how long a downlink of a gateway may be that begins at a time";
+    let example = "Example:\n  desk room town.db gw-a 1706745601061696";
+    let gateway = place(alloc, "gateway", "GATEWAY", "The gateway");
+    let time = place(
+        alloc,
+        "time",
+        "TIME",
+        "The time, in microseconds since 1970",
+    );
+    let command = with_word(command_on_file(alloc, "room", about, example), gateway);
+    with_word(command, time)
+}
+
+/// The command that they give.
+pub(crate) fn room_of<'a>(options: &ArgMatches<'a>) -> Result<Command<'a>, Usage>
+    ensures { TellsNamed (room_named (rows_of (found_of options.now))) result }
+{
+    let file = placed(options, "file")?;
+    let gateway = placed(options, "gateway")?;
+    let time = placed(options, "time")?;
+    Ok(Command::Room {
+        file,
+        gateway,
+        time,
+    })
+}
+
 /// Prints the owner's report of a month from the desk of the connection's database, and gives the connection back.
 ///
 /// A text that is no month's is `Month`, for any owner, and then an owner that nobody added is `Owner`. With `File` the
@@ -94,55 +120,23 @@ pub fn report_command<S: Alter, W: Write, F: Write>(
         (λ c heard. PrintsBy (KeepsHeard S.Store result.1 c heard) (IsLeft S.Store result.1 c heard None) (W.contents answers.old) (W.contents answers.new)
         (IsOwnersMonth (state_of c heard) owner.now month.now) done)) }
 {
-    let (done, conn) = print_report(alloc, conn, owner, month, answers);
-    (end(faults, done), conn)
+    print_report(alloc, conn, &OwnersMonth { owner, month }, answers, faults)
 }
 
-/// The report is printed, and the connection given back.
-fn print_report<S: Alter, W: Write>(
-    alloc: Global,
-    conn: Connection<S>,
-    owner: &str,
-    month: &str,
-    answers: &mut W,
-) -> (Result<(), Fault>, Connection<S>)
-    requires idle { conn.in_transaction ≡ false }
-    requires unlimited { conn.step_limit ≡ None }
-    ensures prints { HasCleanDisk (state S.Store result.1) → (c : Settings) (heard : List Envelope) → KeepsHeard S.Store conn c heard
-        → PrintsBy (KeepsHeard S.Store result.1 c heard) (IsLeft S.Store result.1 c heard None) (W.contents answers.old) (W.contents answers.new)
-        (IsOwnersMonth (state_of c heard) owner.now month.now) result.0 }
-    ensures no_desk { HasCleanDisk (state S.Store result.1) → HoldsNoDesk S.Store conn
-        → RefusesFile S.Store conn result.1 (Keeps (W.contents answers.old) (W.contents answers.new)) result.0 }
-    ensures clean { HasCleanDisk (state S.Store result.1) → HasCleanDisk (state S.Store conn) }
-{
-    by_store(
-        alloc,
-        conn,
-        &OwnersMonth { owner, month },
-        &mut io::empty(),
-        answers,
-    )
-}
-
-/// The report of this owner's month is printed.
+/// The owner's report of a month.
 #[derive(Drop)]
 struct OwnersMonth<'a> {
     owner: &'a str,
     month: &'a str,
 }
 
-impl Job for OwnersMonth<'_> {
-    ghost does = { λ job. prints (λ s. IsOwnersMonth s job.owner.now job.month.now) };
+impl Report for OwnersMonth<'_> {
+    ghost is_answer = { λ report s answer. IsOwnersMonth s report.owner.now report.month.now answer };
 
-    fn run<K: Keeper, R: Read, W: Write>(
-        &self,
-        alloc: Global,
-        keeper: &mut K,
-        _reader: &mut R,
-        answers: &mut W,
-    ) -> Result<(), Fault> {
-        let report = owner_report(alloc, keeper, self.owner, self.month);
-        print(answers, &report)
+    ghost unopened = { λ report s. unasked_month s report.owner.now report.month.now };
+
+    fn ask<K: Keeper>(&self, alloc: Global, keeper: &mut K) -> Result<Vec<u8>, ReportFault> {
+        owner_report(alloc, keeper, self.owner, self.month)
     }
 }
 
@@ -161,52 +155,64 @@ pub fn bands_command<S: Alter, W: Write, F: Write>(
         (λ c heard. PrintsBy (KeepsHeard S.Store result.1 c heard) (IsLeft S.Store result.1 c heard None) (W.contents answers.old) (W.contents answers.new)
         (IsBandAnswer (state_of c heard) gateway.now) done)) }
 {
-    let (done, conn) = print_bands(alloc, conn, gateway, answers);
-    (end(faults, done), conn)
+    print_report(alloc, conn, &GatewaysBands { gateway }, answers, faults)
 }
 
-/// The bands are printed, and the connection is given back.
-fn print_bands<S: Alter, W: Write>(
-    alloc: Global,
-    conn: Connection<S>,
-    gateway: &str,
-    answers: &mut W,
-) -> (Result<(), Fault>, Connection<S>)
-    requires idle { conn.in_transaction ≡ false }
-    requires unlimited { conn.step_limit ≡ None }
-    ensures prints { HasCleanDisk (state S.Store result.1) → (c : Settings) (heard : List Envelope) → KeepsHeard S.Store conn c heard
-        → PrintsBy (KeepsHeard S.Store result.1 c heard) (IsLeft S.Store result.1 c heard None) (W.contents answers.old) (W.contents answers.new)
-        (IsBandAnswer (state_of c heard) gateway.now) result.0 }
-    ensures no_desk { HasCleanDisk (state S.Store result.1) → HoldsNoDesk S.Store conn
-        → RefusesFile S.Store conn result.1 (Keeps (W.contents answers.old) (W.contents answers.new)) result.0 }
-    ensures clean { HasCleanDisk (state S.Store result.1) → HasCleanDisk (state S.Store conn) }
-{
-    by_store(
-        alloc,
-        conn,
-        &GatewaysBands { gateway },
-        &mut io::empty(),
-        answers,
-    )
-}
-
-/// The report of this gateway's bands is printed.
+/// The report of a gateway's bands.
 #[derive(Drop)]
 struct GatewaysBands<'a> {
     gateway: &'a str,
 }
 
-impl Job for GatewaysBands<'_> {
-    ghost does = { λ job. prints (λ s. IsBandAnswer s job.gateway.now) };
+impl Report for GatewaysBands<'_> {
+    ghost is_answer = { λ report s answer. IsBandAnswer s report.gateway.now answer };
 
-    fn run<K: Keeper, R: Read, W: Write>(
-        &self,
-        alloc: Global,
-        keeper: &mut K,
-        _reader: &mut R,
-        answers: &mut W,
-    ) -> Result<(), Fault> {
-        let report = band_report(alloc, keeper, self.gateway);
-        print(answers, &report)
+    ghost unopened = { λ report s. record { known = tt; report = tt; fault = tt } };
+
+    fn ask<K: Keeper>(&self, alloc: Global, keeper: &mut K) -> Result<Vec<u8>, ReportFault> {
+        band_report(alloc, keeper, self.gateway)
+    }
+}
+
+/// Prints the report of a gateway's room at a time, likewise. A text that is no time is `Time`, for any gateway, and then a gateway
+/// that nobody added is `Gateway`.
+pub fn room_command<S: Alter, W: Write, F: Write>(
+    alloc: Global,
+    conn: Connection<S>,
+    gateway: &str,
+    time: &str,
+    answers: &mut W,
+    faults: &mut F,
+) -> (Ending, Connection<S>)
+    requires idle { conn.in_transaction ≡ false }
+    requires unlimited { conn.step_limit ≡ None }
+    ensures { Ends F.contents faults.old faults.new result.0 (λ done. OnDesk S.Store conn result.1 done
+        (Keeps (W.contents answers.old) (W.contents answers.new))
+        (λ c heard. PrintsBy (KeepsHeard S.Store result.1 c heard) (IsLeft S.Store result.1 c heard None) (W.contents answers.old) (W.contents answers.new)
+        (IsGatewaysRoom (state_of c heard) gateway.now time.now) done)) }
+{
+    print_report(
+        alloc,
+        conn,
+        &GatewaysRoom { gateway, time },
+        answers,
+        faults,
+    )
+}
+
+/// The report of a gateway's room at a time.
+#[derive(Drop)]
+struct GatewaysRoom<'a> {
+    gateway: &'a str,
+    time: &'a str,
+}
+
+impl Report for GatewaysRoom<'_> {
+    ghost is_answer = { λ report s answer. IsGatewaysRoom s report.gateway.now report.time.now answer };
+
+    ghost unopened = { λ report s. unasked_room s report.gateway.now report.time.now };
+
+    fn ask<K: Keeper>(&self, alloc: Global, keeper: &mut K) -> Result<Vec<u8>, ReportFault> {
+        room_report(alloc, keeper, self.gateway, self.time)
     }
 }

@@ -44,13 +44,14 @@ impl Write for Slow {
     }
 }
 
-static LINES: [(Fault, &str); 13] = [
+static LINES: [(Fault, &str); 14] = [
     (Fault::Exists, "desk: exists\n"),
     (Fault::NotADesk, "desk: not a desk\n"),
     (Fault::Schema, "desk: schema\n"),
     (Fault::Owner, "desk: owner\n"),
     (Fault::Gateway, "desk: gateway\n"),
     (Fault::Month, "desk: month\n"),
+    (Fault::Time, "desk: time\n"),
     (Fault::CsvSize, "desk: csv size\n"),
     (Fault::CsvEnd, "desk: csv end\n"),
     (Fault::CsvHeader, "desk: csv header\n"),

@@ -2,9 +2,10 @@ use Rattle.desk_cli.proofs.commands.desk_app.Goals as goal
 
 pub returns : goal.returns
 returns c =
-    let readers = c.with_readers-desk.ensures _ c.command.ensures.app in
+    let readers = c.with_readers-desk.ensures _ c.in_ok-top_app.ensures.0 in
     let one = c.added-desk.ensures _ _ readers c.serve_app.ensures in
     let two = c.added-desk-2.ensures _ _ one c.report_app.ensures in
     let three = c.added-desk-3.ensures _ _ two c.bands_app.ensures in
-    let four = c.added-desk-4.ensures _ _ three c.log_app.ensures in
-    c.added.ensures _ _ four c.check_app.ensures
+    let four = c.added-desk-4.ensures _ _ three c.room_app.ensures in
+    let five = c.added-desk-5.ensures _ _ four c.log_app.ensures in
+    c.added.ensures _ _ five c.check_app.ensures

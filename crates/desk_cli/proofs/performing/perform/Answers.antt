@@ -4,6 +4,9 @@ use Rattle.desk_cli.proofs.ByRules.{answers_by_rules, by_rules, imports_by_rules
 use Rattle.desk_cli.proofs.Ended.{ends_so}
 use Rattle.desk_cli.proofs.performing.perform.Goals as goal
 
+pub returns-in-Version : goal.returns-in-Version
+returns-in-Version g c = rw c.in-Version.is (ends_so c.version_command.ensures (λ r done. (done, Keeps-refl _, refl)))
+
 pub returns-in-Lines : goal.returns-in-Lines
 returns-in-Lines g c = rw c.in-Lines.is (ends_so c.lines_command.ensures (λ r done. (done, refl)))
 
@@ -35,6 +38,12 @@ returns-in-Report g c = rw c.in-Report.is (ends_so c.report_file.ensures (λ r d
 
 pub returns-in-Bands : goal.returns-in-Bands
 returns-in-Bands g c = rw c.in-Bands.is (ends_so c.bands_file.ensures (λ r done. (
+  by_rules _ (g.N.Files.paths c.args.files) _ _ _ _ _ (λ back config heard. prints_by_rules c.rules_are_kept.ensures _ back config heard _ _ _ _) done,
+  Keeps-refl _,
+)))
+
+pub returns-in-Room : goal.returns-in-Room
+returns-in-Room g c = rw c.in-Room.is (ends_so c.room_file.ensures (λ r done. (
   by_rules _ (g.N.Files.paths c.args.files) _ _ _ _ _ (λ back config heard. prints_by_rules c.rules_are_kept.ensures _ back config heard _ _ _ _) done,
   Keeps-refl _,
 )))

@@ -32,6 +32,9 @@ dev_eui,uplinks,b1_us,b1_peak_us,b2_us,b2_peak_us,b3_us,b3_peak_us,b4_us,b4_peak
 const BANDS: &str =
     "band,limit_us,bookings,booked_us,peak_us\nB1,3600000,0,0,0\nB2,36000000,0,0,0\nB3,36000000,0,0,0\nB4,3600000,0,0,0\nB5,360000000,0,0,0\nB6,36000000,0,0,0\n";
 
+const ROOM: &str =
+    "band,limit_us,used_us,room_us\nB1,3600000,0,3000000\nB2,36000000,0,3000000\nB3,36000000,0,3000000\nB4,3600000,0,3000000\nB5,360000000,0,3000000\nB6,36000000,0,3000000\n";
+
 const HOLDS: &str = "\
 schema: 2
 receiver: desk
@@ -60,7 +63,7 @@ const LOG: &str = "\
 /// Arguments, the standard input, and what is answered where nothing fails.
 pub(super) type Row = (&'static [&'static [u8]], &'static str, &'static str);
 
-pub(super) static ROWS: [Row; 6] = [
+pub(super) static ROWS: [Row; 7] = [
     (&[b"desk", b"hear", b"f.db"], ADD_OWNER, OWNER_ADDED),
     (
         &[b"desk", b"import", b"f.db", b"--sender", b"bridge"],
@@ -73,6 +76,11 @@ pub(super) static ROWS: [Row; 6] = [
         MONTH,
     ),
     (&[b"desk", b"bands", b"f.db", b"gw-a"], "", BANDS),
+    (
+        &[b"desk", b"room", b"f.db", b"gw-a", b"1706745601061696"],
+        "",
+        ROOM,
+    ),
     (&[b"desk", b"log", b"f.db"], "", LOG),
     (&[b"desk", b"check", b"f.db"], "", HOLDS),
 ];

@@ -51,7 +51,7 @@ type Row = (
     &'static str,
 );
 
-static ROWS: [Row; 18] = [
+static ROWS: [Row; 20] = [
     (
         &[b"desk", b"import", b"f.db", b"--sender", b"office"],
         WORKED,
@@ -125,6 +125,20 @@ static ROWS: [Row; 18] = [
     ),
     (
         &[b"desk", b"bands", b"f.db", b"gw-a"],
+        "",
+        Ending::Refused,
+        "",
+        "desk: gateway\n",
+    ),
+    (
+        &[b"desk", b"room", b"f.db", b"gw-a", b"2024-02"],
+        "",
+        Ending::Refused,
+        "",
+        "desk: time\n",
+    ),
+    (
+        &[b"desk", b"room", b"f.db", b"gw-a", b"1706745600000000"],
         "",
         Ending::Refused,
         "",
