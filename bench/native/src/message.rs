@@ -42,6 +42,16 @@ pub enum Message {
     LimitSet { gateway: String, band: usize, limit: u64 },
 }
 
+impl Message {
+    /// Whether only an operator may send it.
+    pub fn is_registration(&self) -> bool {
+        !matches!(
+            self,
+            Message::JoinHeard { .. } | Message::FrameHeard { .. } | Message::DownBook { .. } | Message::DownDone { .. }
+        )
+    }
+}
+
 /// The JSON value of a text, if it is one and not too long.
 pub fn parse(text: &[u8]) -> Option<Value> {
     if text.len() > LONGEST_TEXT {

@@ -6,9 +6,9 @@ use crate::radio::{self, Channel, BANDS, HOUR, LONGEST_AIRTIME, RX2};
 use std::borrow::Cow;
 use std::collections::{BTreeSet, HashMap, HashSet};
 
-const FIRST_ADDRESS: u32 = 0x01a0_0000;
+pub const FIRST_ADDRESS: u32 = 0x01a0_0000;
 /// The beginning of 2000 and of 2100.
-const TIMES: std::ops::RangeInclusive<u64> = 946_684_800_000_000..=4_102_444_800_000_000;
+pub const TIMES: std::ops::RangeInclusive<u64> = 946_684_800_000_000..=4_102_444_800_000_000;
 
 struct Sender {
     role: Role,
@@ -79,7 +79,7 @@ pub struct Registry {
     limits: HashMap<(String, usize), u64>,
 }
 
-fn ensure(holds: bool, refusal: Refusal) -> Result<(), Refusal> {
+pub fn ensure(holds: bool, refusal: Refusal) -> Result<(), Refusal> {
     if holds { Ok(()) } else { Err(refusal) }
 }
 
@@ -130,11 +130,7 @@ impl Registry {
     }
 
     fn decide(&mut self, role: Role, message: &Message) -> Result<Success, Refusal> {
-        let is_registration = !matches!(
-            message,
-            Message::JoinHeard { .. } | Message::FrameHeard { .. } | Message::DownBook { .. } | Message::DownDone { .. }
-        );
-        ensure(role == Role::Operator || !is_registration, Refusal::WrongRole)?;
+        ensure(role == Role::Operator || !message.is_registration(), Refusal::WrongRole)?;
         match message {
             Message::SenderAdd { sender, role } => self.sender_add(sender, *role),
             Message::OwnerAdd { owner } => {
@@ -325,7 +321,7 @@ impl Registry {
 }
 
 /// From the end of an uplink to the beginning of its receive window.
-fn delay(is_join: bool, window: u8) -> u64 {
+pub fn delay(is_join: bool, window: u8) -> u64 {
     let first = if is_join { 5_000_000 } else { 1_000_000 };
     first + if window == 2 { 1_000_000 } else { 0 }
 }
