@@ -379,6 +379,47 @@ def moved(desk, file, count):
     desk.wants(alone == rows_of(file), f"{file} alone holds what it does with its log")
 
 
+def page_size(file):
+    return int.from_bytes(file.read_bytes()[16:18], "big")
+
+
+def smaller_pages(desk):
+    """A desk in an empty file that sqlite3 made with pages of 2,048 octets keeps them, and is the same desk otherwise."""
+    usual, file = desk.made("usual.db"), Path("town.db")
+    made = subprocess.run(["sqlite3", file, "PRAGMA page_size = 2048; VACUUM"], capture_output=True, text=True)
+    desk.wants((made.returncode, made.stderr, page_size(file)) == (0, "", 2_048), f"sqlite3 makes an empty file: {made}")
+    desk.ends(0, "", "init", file)
+    desk.ends(1, "desk: exists\n", "init", file)
+    desk.ends(0, "", "hear", file, given=MESSAGES, written=ANSWERS)
+    for words, given in [
+        (["import", "--sender", "bridge"], REPORT),
+        (["report", "town", "2024-02"], ""),
+        (["bands", "gw-a"], ""),
+        (["check"], ""),
+        (["log"], ""),
+        (["log", "--answers"], ""),
+        (["hear"], more_messages(500)),
+    ]:
+        found, wanted = (desk.run(words[0], name, *words[1:], given=given) for name in (file, usual))
+        desk.wants(found == wanted and found[0] == 0, f"{words}: {found[0]} {found[2]!r}, and {wanted[0]} {wanted[2]!r} on usual pages")
+    program, port = desk.serving(file, 10)
+    desk.wants(posted(port, LIMIT) + "\n" == LIMIT_ANSWER, "a message over HTTP")
+    program.send_signal(signal.SIGKILL)
+    program.communicate()
+    desk.ends(0, "", "hear", usual, given=LIMIT, written=LIMIT_ANSWER)
+    desk.ends(0, "", "hear", file, given=LIMIT, written=LIMIT_ANSWER)
+    desk.wants(rows_of(file) == rows_of(usual), "the rows are those of the file with usual pages")
+    made = subprocess.run(["sqlite3", f"file:{file}?mode=ro", ".backup backup.db"], capture_output=True, text=True)
+    desk.wants((made.returncode, made.stderr) == (0, ""), f"sqlite3's .backup: {made}")
+    desk.wants(desk.run("check", "backup.db") == desk.run("check", usual), "the backup is the same desk")
+    execute(file, "DROP TABLE band_limit")
+    execute(file, "UPDATE meta SET version = 1")
+    desk.ends(0, "", "migrate", file)
+    desk.ends(0, "", "hear", file, given=MESSAGES, written=ANSWERS)
+    sizes = [page_size(Path(name)) for name in (file, "backup.db", usual)]
+    desk.wants(sizes == [2_048, 2_048, 4_096], f"the files have pages of {sizes} octets")
+
+
 def moved_logs(desk):
     """When a command has ended, its log has been moved into the file."""
     file, count = desk.made(given=""), MESSAGES.count("\n")
@@ -485,6 +526,7 @@ PARTS = [
     responses,
     killed,
     backups,
+    smaller_pages,
     moved_logs,
     full_disk,
     full_output,
