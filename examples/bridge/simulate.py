@@ -425,11 +425,23 @@ class Town:
         device.session = Session(dev_addr, keys, join_nonce=join_nonce)
         self.counts["devices joined"] += 1
 
+    def is_listening(self, device: Device, sent: Transmitted) -> bool:
+        """A device listens in the windows of its last frame alone. A replay of an earlier one, heard by another gateway, has windows too."""
+        return any(
+            heard.gateway == sent.gateway
+            and heard.phy_payload == device.last_frame.phy_payload
+            and (sent.tmst - heard.tmst) % (1 << 32) in WINDOWS[False]
+            for heard in self.heard
+        )
+
     def read_downlink(self, sent: Transmitted) -> None:
         frame = security.read_data_frame(sent.phy_payload)
         device = next((device for device in self.devices if device.session and device.session.dev_addr == frame.dev_addr), None)
         if device is None:
             self.wrong(f"a downlink to {frame.dev_addr:08x}, which no device has")
+            return
+        if not self.is_listening(device, sent):
+            self.counts["downlinks that no device listened to"] += 1
             return
         session = device.session
         mic = security.data_mic(session.keys.network, security.DOWN, frame.dev_addr, frame.fcnt, sent.phy_payload[:-4])
