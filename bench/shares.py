@@ -31,6 +31,7 @@ from normal_operation import ROOT, normal_operation
 sys.path.append(str(ROOT / "checks"))
 from common import add_program, ready, text_of, wants  # noqa: E402
 
+WHATS = ["lines", "hear", "import"]
 NAMED = re.compile(r"\((\d+)\)(?: (.*))?")
 # the first that fits decides
 GROUPS = [
@@ -157,10 +158,12 @@ def main():
     words.add_argument("--size", type=int, default=5_000)
     words.add_argument("--folder", type=Path, default=Path("/dev/shm"))
     words.add_argument("--most", type=int, default=0, metavar="N")
-    words.add_argument("what", nargs="*", choices=["lines", "hear", "import"], metavar="WHAT")
+    words.add_argument("what", nargs="*", metavar="WHAT")
     given = words.parse_args()
+    whats = given.what or WHATS
+    wants(set(whats) <= set(WHATS), f"{' '.join(whats)}: not of {', '.join(WHATS)}")
     desk, native = ready(given.program), given.native.resolve() if given.native else built()
-    for what in given.what or ["lines", "hear", "import"]:
+    for what in whats:
         with tempfile.TemporaryDirectory(dir=given.folder) as folder:
             measure(what, desk, native, given.size, Path(folder), given.most)
 
