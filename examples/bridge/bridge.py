@@ -235,7 +235,8 @@ class Bridge:
         number = answer["Uplink"]
         self.journal.set_uplink(message, number)
         if answer["Copy"]:
-            self.journal.open_again(number, now_us() - JOIN_DELAYS[2])
+            # one that comes after the second window is of no use: the device may have sent its next frame, and this be a replay
+            self.journal.open_again(number, now_us() - delay(phy_payload, 2))
             return
         if is_join(phy_payload):
             dev_addr = answer["DevAddr"]
