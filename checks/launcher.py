@@ -319,7 +319,7 @@ def at_terminal():
         except OSError:
             pass  # the end of a terminal that nobody has open
         os.close(ours)
-        holds(ran.wait() == 7 and b"\rdesk: 2 of 3, 0:0" in shown, f"a terminal shows {shown}")
+        holds(ran.wait() == 7 and b"\rdesk: 2 of 3, 0:0" in shown and b", about 1 min left" in shown, f"a terminal shows {shown}")
 
 
 def main():
