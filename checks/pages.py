@@ -1,7 +1,7 @@
 #!/usr/bin/env python3
 """Checks the pages: links, lengths and words; and the words of comments in scripts.
 
-    checks/pages.py [--crates]
+    checks/pages.py [--crates | --docs]
 
 The pages are the Markdown files that git tracks. A link to a file has to name one that is there, and a link to a heading one that the
 page has. A page has at most the lines that LENGTHS gives it. In CONTRIBUTING.md the table "What to run" names each script of checks/
@@ -11,8 +11,11 @@ Pages, docstrings and comments have none of the words in WORDS, which were this 
 explains those that definitions still use, and so are dated runs in docs/log/, which stay as they were written.
 
 It doesn't see: former words that are plain English elsewhere ("holds", "keeps", "words", "answers", "in order", "copy"); code in
-backticks, blocks, names and paths; what scripts print; comments of crates.txt; whether a sentence is clear. Comments of crates/ have
-such words still: with --crates it prints those too, and how many there are, and that is no error.
+backticks, blocks, names and paths; what scripts print; comments of crates.txt; whether a sentence is clear.
+
+With --crates it also prints such words in comments of crates/, and how many there are in each file and each crate; those are no errors.
+With --docs it does so for documentation alone: doc comments of sources, but for tests, and comments of specs/. There it also sees the
+words in DOC_WORDS, and each is an error.
 
 It prints each error and fails if there is one. Run it when a page or a comment changes.
 """
@@ -67,8 +70,13 @@ WORDS = {
     r"\bgo(?:es|ing)? by\b|\bwent by\b": "follow",
     r"\bof wh(?:ich|om)\b|none of them or some|\bbeside\b|\bso many\b": "two sentences, next to, as many as N",
 }
-
-
+# what documentation in crates/ has no more either
+DOC_WORDS = {
+    r"\bholds?\b|\bheld\b|\bkeeps?\b|\bkeeping\b|\bkept\b": "store, satisfy, stay, is true",
+    r"\bword of\b|\bcommand line's words\b": "argument",
+    r"\ba growth\b|\bgrowths?\b": "allocation",
+    r"\b(?:never|isn't|not|it|store) down\b": "failed",
+}
 SCRIPTS = ["*.py", "*.sh", "dev", "desk", ".ci/run"]
 
 
@@ -103,6 +111,20 @@ def comments_of(script):
     return re.sub(r"`[^`\n]*`|^    .*$|\S+\.(?:py|sh|md|txt)\b|\w+_\w+", "", "\n".join(found), flags=re.M)
 
 
+def documentation_of(source):
+    """The doc comments of a source, or the comments of a file of definitions, each as one line, without code and names."""
+    begins = r"--+" if source.suffix == ".antt" else r"//[/!]"
+    found, before = [], -2
+    for number, line in enumerate(source.read_text().splitlines()):
+        comment = re.match(rf"\s*{begins}(?:\s(.*)|)$", line)
+        if comment and before == number - 1 and comment[1]:
+            found[-1] += " " + comment[1]
+        elif comment:
+            found.append(comment[1] or "")
+        before = number if comment else before
+    return re.sub(r"`[^`\n]*`|\w+_\w+", "", "\n".join(found))
+
+
 def anchors_of(page):
     """The names by which headings are linked to, as the usual viewers of Markdown make them."""
     anchors = []
@@ -134,9 +156,9 @@ def too_long(page, name):
         yield f"it has {lines} lines, and may have {most}"
 
 
-def own_words(prose):
-    for words, instead in WORDS.items():
-        for found in re.finditer(words, prose, re.I):
+def own_words(prose, words=WORDS):
+    for former, instead in words.items():
+        for found in re.finditer(former, prose, re.I):
             around = " ".join(prose[max(0, found.start() - 30) : found.end() + 30].split())
             yield f"{found[0]!r} in {around!r}: write {instead}"
 
@@ -164,29 +186,45 @@ def errors_of(page):
         yield from scripts_to_run(page)
 
 
-def count_in_crates():
-    """Prints the words of WORDS in comments of crates/, and how many there are in each crate."""
-    counts = Counter()
+def count_in_crates(documentation):
+    """Prints the former words in comments of crates/, or in documentation alone, and how many there are in each file and crate.
+
+    Returns how many there are.
+    """
+    in_files, in_crates = Counter(), Counter()
     for source in files("crates/*.rt", "crates/*.antt"):
-        for found in own_words(comments_of(source)):
-            name = source.relative_to(ROOT)
-            counts[name.parts[1]] += 1
-            print(f"{name}: {found}")
-    print(f"comments of crates/: {counts.total()} words;", ", ".join(f"{crate} {count}" for crate, count in counts.most_common()))
+        name = source.relative_to(ROOT)
+        if not documentation:
+            found = own_words(comments_of(source))
+        elif name.parts[2] == "specs" or (name.parts[2] == "src" and not {"tests", "tests.rt"} & set(name.parts)):
+            found = own_words(documentation_of(source), WORDS | DOC_WORDS)
+        else:
+            continue
+        for word in found:
+            in_files[name.as_posix()] += 1
+            in_crates[name.parts[1]] += 1
+            print(f"{name}: {word}")
+    for name, count in in_files.most_common():
+        print(f"{count:5} {name}")
+    kind = "documentation" if documentation else "comments"
+    print(f"{kind} of crates/: {in_crates.total()} words" + (";" if in_crates else ""), ", ".join(f"{crate} {count}" for crate, count in in_crates.most_common()))
+    return in_crates.total()
 
 
 def main():
     words = argparse.ArgumentParser(description=__doc__, formatter_class=argparse.RawDescriptionHelpFormatter)
-    words.add_argument("--crates", action="store_true", help="print such words of comments in crates/ too")
-    if words.parse_args().crates:
-        count_in_crates()
+    which = words.add_mutually_exclusive_group()
+    which.add_argument("--crates", action="store_true", help="print such words of comments in crates/ too")
+    which.add_argument("--docs", action="store_true", help="print such words of documentation in crates/ too")
+    given = words.parse_args()
+    in_crates = count_in_crates(given.docs) if given.crates or given.docs else 0
     pages, scripts = files("*.md"), files(*SCRIPTS)
     errors = [f"{page.relative_to(ROOT)}: {error}" for page in pages for error in errors_of(page)]
     errors += [f"{script.relative_to(ROOT)}: {error}" for script in scripts for error in own_words(comments_of(script))]
     for error in errors:
         print(error)
     print(f"{len(pages)} pages, {len(scripts)} scripts, {len(errors)} errors")
-    sys.exit(bool(errors))
+    sys.exit(bool(errors) or (given.docs and in_crates > 0))
 
 
 if __name__ == "__main__":

@@ -1,4 +1,4 @@
--- What a command did by the store of a desk, said of the connection that it gave back.
+-- What a command did with the store of a desk, stated of the connection that it gave back.
 use Rattle.std.proofs.Common.{◌≡◌, ℕ, List, Option, None, Result, Err, IsTrue, inl, inr, sym, subst}
 use Rattle.sqlite_trees.specs.Tree.{Trees}
 use Rattle.sqlite_trees.specs.declared.store.Store.{Ghosts}
@@ -17,7 +17,7 @@ use Rattle.desk_cli.specs.declared.faults.Fault.TheVariants.{Unavailable}
 module _ {S : Type 0} (g : Ghosts S) (settled : (s : S) (db : Trees) → IsTrue (g.view s).is_open → g.recovers s db → db ≡ (g.view s).committed)
     (c : Settings) (heard : List Envelope) (back : Held S) where
   module _ {Does : Tables S → Tables S → Type 0} (by : ByStore g c heard back Does) where
-    -- what the store keeps, the file keeps
+    -- the file represents what the store represents
     pub kept_by : (all : List Envelope) → StoreKeeps (meaning_of g) c heard by.old by.new all → KeepsHeard g back c all
     kept_by = keeps g c heard by.old by.new by.was by.same back settled by.was_sound by.sound by.left by.in_order
 

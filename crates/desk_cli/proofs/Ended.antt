@@ -4,7 +4,7 @@ use Rattle.desk_cli.specs.Faults.{Ends}
 use Rattle.desk_cli.specs.declared.endings.Ending.{Ending}
 use Rattle.desk_cli.specs.declared.faults.Fault.{Fault}
 
--- what is said of the result is said otherwise
+-- one statement about the result in place of another
 pub ends_so : {F : Type 0} {contents : F → Option (List ℕ)} {before after : F} {ending : Ending} {Says Tells : Result (Unit {0}) Fault → Type 0}
     → Ends contents before after ending Says → ((result : Result (Unit {0}) Fault) → Says result → Tells result) → Ends contents before after ending Tells
 ends_so by so = record { result = by.result; ended = by.ended; says = so by.result by.says }

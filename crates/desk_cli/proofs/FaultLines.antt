@@ -15,7 +15,7 @@ module _ {n : ℕ} where
       let rest = after_calls calls.0 parts t calls.2 first.0 in
       (rest.0, rest.1 ∙ ap (λ l. l ++ concat parts) first.1 ∙ append_assoc (inline_text s) x (concat parts))
 
-  -- what was written to it in some calls follows what it held
+  -- what was written to it in some calls follows what it had
   pub written_in_calls : (s : InlineText n) (text : List ℕ) (t : InlineText n) → WritesInCalls AppendsIfIntact s text t → AppendsIfIntact s text t
   written_in_calls s text t wrote = subst (λ l. AppendsIfIntact s l t) wrote.whole (after_calls s wrote.parts t wrote.calls)
 

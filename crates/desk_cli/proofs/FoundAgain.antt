@@ -1,4 +1,4 @@
--- What a stop leaves of a desk's files, and what opens of them.
+-- The files that a crash leaves of a desk, and the desk that opens from them.
 use Rattle.std.proofs.Common.{◌≡◌, ◌⊎◌, ◌++◌, ◌∷◌, [], inl, inr, List, Option, Some, IsTrue, ap}
 use Rattle.std.proofs.Math.Logic.{∥∥₁_map}
 use Rattle.std.proofs.lemmas.Bool.{and_from}

@@ -1,4 +1,4 @@
--- What a desk's files hold is what a connection to them keeps, and what a stop leaves holds a desk.
+-- A connection to a desk's files represents what they contain, and the files that a crash leaves contain a desk.
 use Rattle.std.proofs.Common.{◌≡◌, inl, inr, List, Option, IsTrue, refl, sym, ap, ap₂, subst, ◌∙◌}
 use Rattle.std.proofs.Math.Logic.{∥∥₁_map}
 use Rattle.sqlite_disk.specs.declared.Disk.{Ghosts}
@@ -36,7 +36,7 @@ module _ {D : Type 0} {g : Ghosts D} (conn : Held (FileStore D g)) (c : Settings
       subst (IsOfDesk c kept) (sym same) desk
 
 module _ {D : Type 0} {g : Ghosts D} (octets : Image) (conn : Held (FileStore D g)) where
-  -- a desk that files held is found, all committed, and a crash leaves it
+  -- a desk that files contained is found, all committed, and a crash leaves it
   pub found : IsOpened conn → FindsIn octets (file_state conn)
       → ((db : Trees) → IsTrue (store.view conn.store).is_open → store.recovers conn.store db → db ≡ (store.view conn.store).committed)
       → (c : Settings) (heard : List Envelope) → HoldHeard c heard octets → KeepsHeard over_files conn c heard

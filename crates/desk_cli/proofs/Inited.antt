@@ -1,4 +1,4 @@
--- Why a desk isn't made, as it is told.
+-- The error for which a desk isn't made.
 use Rattle.std.proofs.Common.{◌≡◌, ◌↔◌, Err, refl, ap, ◌∙◌}
 use Rattle.desk_store.specs.declared.faults.StoreFault.{StoreFault}
 use Rattle.desk_store.specs.declared.faults.StoreFault.TheVariants as store
@@ -7,7 +7,7 @@ use Rattle.desk_cli.specs.Faults.{fault_of_store}
 use Rattle.desk_cli.specs.declared.faults.Fault.{Fault}
 use Rattle.desk_cli.specs.declared.faults.Fault.TheVariants as told
 
--- that there is something already is told for itself alone
+-- `Exists` comes only if there is something already
 pub says_exists : {T P : Type 0} (fault : StoreFault) (f : Fault) → f ≡ fault_of_store fault → (fault ≡ store.Exists) ↔ P → (err {T = T} f ≡ Err told.Exists) ↔ P
 says_exists store.Exists f is h = (λ e. h.0 refl, λ p. ap Err is)
 says_exists store.Memory f is h = (λ e. cc, λ p. let e = h.1 p in cc)

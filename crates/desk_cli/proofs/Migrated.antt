@@ -1,4 +1,4 @@
--- Why a desk isn't moved, as it is told.
+-- The error for which a desk isn't moved.
 use Rattle.std.proofs.Common.{◌≡◌, Err, inl, inr, refl, ap, ◌∙◌}
 use Rattle.std.specs.Prelude.{◌⊎◌}
 use Rattle.desk_store.specs.Calls.{IsUnavailability}
@@ -14,7 +14,7 @@ pub told_or_unavailable : {T : Type 0} (fault wanted : StoreFault) (f : Fault) �
 told_or_unavailable fault wanted f is (inl same) = inl (ap Err (is ∙ ap fault_of_store same))
 told_or_unavailable fault wanted f is (inr down) = inr (ap Err (is ∙ is_unavailable fault down))
 
--- a store's fault is told as one of four
+-- the command's error for a store's error is one of four
 pub says_fault : {T : Type 0} (fault : StoreFault) (f : Fault) → f ≡ fault_of_store fault
     → (err {T = T} f ≡ Err NotADesk) ⊎ ((err {T = T} f ≡ Err Schema) ⊎ ((err {T = T} f ≡ Err Exists) ⊎ (err {T = T} f ≡ Err Unavailable)))
 says_fault store.NotADesk f is = inl (ap Err is)

@@ -27,12 +27,12 @@ unfolding kept_after
 was_new g c made list store = record { list = list; store = store }
 
 module _ {S : Type 0} (g : Ghosts S) (c : Settings) (before : List Envelope) (old : Tables S) (was : WasOpened (meaning_of g) old c before) where
-  -- a crash leaves what it holds
+  -- a crash leaves what it represents
   pub survives : ((s : S) (db : Trees) → IsTrue (g.view s).is_open → g.recovers s db → db ≡ (g.view s).committed)
       → (meaning_of g).sound old → Survives (meaning_of g) c old before None
   survives settled sound = inl (own_law g settled old (kept_after c before) sound was.store.up was.store.holds)
 
--- a database holds one thing, and of what was heard the law tells
+-- a database represents one thing, and the law is about what was heard
 module _ (law : RulesAreKept) (c : Settings) where
   pub keeps_rules : (heard : List Envelope) (db : Database) → IsOfDesk c (kept_after c heard) db → KeepsRules c db
   unfolding kept_after
@@ -50,7 +50,7 @@ module _ (law : RulesAreKept) (c : Settings) where
 pub opened_in_order : {K : Type 0} (m : Meaning K) (c : Settings) (heard : List Envelope) (old new : K) → WasOpened m old c heard → m.sound new → WasInOrder m c heard old new
 opened_in_order m c heard old new was sound = record { its = sym was.store.configuration; sound = sound; order = record { list = was.list; kept = was.store.holds } }
 
--- it isn't shut but by a fault of the disk
+-- it is failed only by a disk error
 pub unshut_by : {K : Type 0} (m : Meaning K) (old new : K) {disk foreign : Bool} → IsCall m old new disk foreign → disk ≡ false → m.down new ≡ m.down old
 unshut_by m old new call is = call.shut ∙ ap (λ disk. disk || m.down old) is
 

@@ -28,7 +28,7 @@ is_unavailable NotADesk is = absurd is
 is_unavailable SchemaVersion is = absurd is
 is_unavailable Exists is = absurd is
 
--- what there is no desk for is told as one of three
+-- the error for which there is no desk is one of three
 pub says_opening : (fault : StoreFault) (f : Fault) → f ≡ fault_of_store fault → fault ≢ Exists → (f ≡ told.NotADesk) ⊎ ((f ≡ told.Schema) ⊎ (f ≡ told.Unavailable))
 says_opening Memory f is other = inr (inr is)
 says_opening Disk f is other = inr (inr is)

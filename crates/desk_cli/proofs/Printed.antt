@@ -19,7 +19,7 @@ use Rattle.desk_cli.specs.steps.Printing.{IsPrinted, shown, unasked}
 use Rattle.desk_cli.specs.declared.faults.Fault.{Fault}
 use Rattle.desk_cli.specs.declared.faults.Fault.TheVariants as told
 
--- a text is no fault
+-- a text is not an error
 is_no_fault : {X : Type 0} {why : ReportFault} (text : X) → Ok text ≡ Err why → ⊥
 is_no_fault text is = subst IsText is tt
   where
@@ -63,7 +63,7 @@ module _ {X : Type 0} (octets : X → List ℕ) (s : State) where
   gateways_bands gateway (Ok text) known report fault = record { known = known; report = report; fault = fault }
   gateways_bands gateway (Err why) known report fault = record { known = known; report = report; fault = fault }
 
--- the store is unavailable, or it is kept
+-- the store is unavailable, or it is unchanged
 either : (X Kept : Type 0) (fault : Fault) (why : ReportFault) → (is_disk (store_fault_in {T = X} (Err why)) ≡ false → Kept) → fault ≡ fault_of_report why → (fault ≡ told.Unavailable) ⊎ Kept
 either X Kept fault Month kept is = inr (kept refl)
 either X Kept fault Time kept is = inr (kept refl)
@@ -77,7 +77,7 @@ either X Kept fault (Unavailable store.SchemaVersion) kept is = inr (kept refl)
 either X Kept fault (Unavailable store.Exists) kept is = inr (kept refl)
 
 module _ (Kept Left : Type 0) (before after : Option (List ℕ)) (IsAnswer : Result (List ℕ) ReportFault → Type 0) {T : Type 0} where
-  -- it is printed, or it is told why not
+  -- it is printed, or the reason why not is returned
   pub prints : {X : Type 0} (octets : X → List ℕ) (report : Result X ReportFault) (r : Result T Fault) → IsAnswer (shown octets report)
       → (is_disk (store_fault_in report) ≡ false → Kept) → Left → IsPrinted octets report before after r → PrintsBy Kept Left before after IsAnswer r
   prints octets (Ok text) (Ok x) is kept left printed = record { answer = Ok (octets text); answer_is = is; prints = (printed, kept refl) }
@@ -85,7 +85,7 @@ module _ (Kept Left : Type 0) (before after : Option (List ℕ)) (IsAnswer : Res
   prints octets (Err why) (Ok x) is kept left printed = absurd printed
   prints {X = X} octets (Err why) (Err fault) is kept left printed = record { answer = Err why; answer_is = is; prints = (printed.0, printed.1, either X Kept fault why kept printed.0, left) }
 
--- what is said of a store is said of the file that it is in
+-- a statement about a store is true of the file that it is in
 module _ {Kept Stands Left Stays : Type 0} (kept : Kept → Stands) (left : Left → Stays) (before after : Option (List ℕ)) (IsAnswer : Result (List ℕ) ReportFault → Type 0) {T : Type 0} where
   prints_so : (answer : Result (List ℕ) ReportFault) (r : Result T Fault) → PrintsAnswer Kept Left before after answer r → PrintsAnswer Stands Stays before after answer r
   prints_so (Ok text) (Ok x) by = (by.0, kept by.1)

@@ -1,4 +1,4 @@
--- Answers that tell what words name.
+-- Results that are what the arguments name.
 use Rattle.std.proofs.Common.{◌≡◌, true, [], ◌∷◌, List, Option, Result, Err, inl, inr, refl, subst, sym}
 use Rattle.clap.specs.Faults.{fault_of, is_simple_and_free}
 use Rattle.clap.specs.Kinds.{Kinds, HasKind, IsAmong}
@@ -15,14 +15,14 @@ use Rattle.desk_cli.specs.declared.commands.Command.{Command}
 use Rattle.desk_cli.specs.declared.usage.Usage.{Usage}
 use Rattle.desk_cli.specs.declared.usage.Usage.TheVariants.{Words, Value, NotText, Memory}
 
--- words that have no fault name what the subcommand that they enter says
+-- arguments without an error name what the subcommand that they enter names
 unfaulted : (kinds : Kinds) (top top_found : List Row) (met found : Option (Text × List Row)) (r : Result Command Usage)
     → kinds ≡ [] → top_found ≡ top → found ≡ met → TellsNamed (command_named top_found found) r → TellsNamed (named_unless kinds top met) r
 unfaulted kinds top top_found met found r free same_top same tells =
     subst (λ ks. TellsNamed (named_unless ks top met) r) (sym free)
     (subst (λ m. TellsNamed (command_named top m) r) same (subst (λ rows. TellsNamed (command_named rows found) r) same_top tells))
 
--- an error on the words has one of their faults
+-- an error about the arguments has one of their kinds
 faulted : (kinds : Kinds) (top : List Row) (met : Option (Text × List Row)) (error : Error) (usage : Usage)
     → HasKind kinds error → IsUsageOf error usage → TellsNamed (named_unless kinds top met) (Err usage)
 faulted kinds top met error Memory has is = tt

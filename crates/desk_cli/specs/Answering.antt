@@ -1,4 +1,4 @@
--- What lines that are answered leave of a desk, by how it ended: the same words for a store and for a desk's file.
+-- What lines that are answered leave of a desk, by how it ended. It is stated for a store and for a desk's file alike.
 use Rattle.std.specs.Prelude.{◌≡◌, ◌⊎◌, ℕ, List, [], ◌∷◌, ◌++◌, Option, None, Result, Ok, Err}
 use Rattle.std.specs.Io.KnownBytes.{Appends, Consumes, IsAtEnd}
 use Rattle.registry_core.specs.declared.messages.Envelope.{Envelope}
@@ -10,14 +10,14 @@ use Rattle.desk_engine.specs.Outcomes.{doubt_of_text}
 use Rattle.desk_cli.specs.declared.faults.Fault.{Fault}
 use Rattle.desk_cli.specs.declared.faults.Fault.TheVariants.{File, Unavailable}
 
--- the message in doubt is none, or that of the line after these
+-- there is no in-flight message, or it is that of the line after these
 abbrev pub IsDoubtAfter : Settings → List (List ℕ) → List ℕ → Option Envelope → Type 0
 IsDoubtAfter c lines input doubt =
     (doubt ≡ None)
     ⊎ ((line : List ℕ) × (fault : StoreFault) × IsBeginning (lines ++ line ∷ []) (all_lines input) × (doubt ≡ doubt_of_text c line (outcome.Unavailable fault)))
 
--- What had been heard; what says that these are kept, and that these are left, or these with one more; what a reader has left
--- before and after, and what a writer holds before and after.
+-- `heard` is the log before. `Kept` states that a log is represented, and `Left` that a crash leaves a log, or it with the in-flight
+-- message. `left` and `rest` are what the reader has left before and after, `before` and `after` what the writer has before and after.
 module _ (c : Settings) (heard : List Envelope) (Kept : List Envelope → Type 0) (Left : List Envelope → Option Envelope → Type 0) (left rest before after : Option (List ℕ)) where
   -- all lines of the input were heard, and exactly their answers were written
   pub record AnswersAll : Type 0 where
@@ -35,7 +35,7 @@ module _ (c : Settings) (heard : List Envelope) (Kept : List Envelope → Type 0
     pub beginning : IsBeginning lines (all_lines input)
     pub kept : Kept (heard_lines c heard lines)
 
-  -- the first lines of the input were heard and exactly their answers were written; the next is the one in doubt
+  -- the first lines of the input were heard and exactly their answers were written; the next is the in-flight message, if there is one
   pub record AnswersFirst : Type 0 where
     pub input : List ℕ
     pub read : Consumes left rest input
@@ -46,7 +46,7 @@ module _ (c : Settings) (heard : List Envelope) (Kept : List Envelope → Type 0
     pub left_is : Left (heard_lines c heard lines) doubt
     pub answers : Appends before after (answer_lines c heard lines)
 
-  -- by how it ended
+  -- what is true, by how it ended
   abbrev pub AnswersBy : {T : Type 0} → Result T Fault → Type 0
   AnswersBy (Ok x) = AnswersAll
   AnswersBy (Err File) = HearsFirst

@@ -65,7 +65,7 @@ after_word text = after_first is_gap text
 abbrev pub with_space : List ℕ → List ℕ → List ℕ
 with_space field fields = field ++ (codes " " ++ fields)
 
--- of a message its sender, its number and its type
+-- a message's sender, its transaction number and its type
 abbrev pub head_fields : Option Head → List ℕ
 head_fields (Some head) = with_space head.sender (with_space (decimal head.transaction) head.type_name)
 head_fields None = codes "- - -"
@@ -87,7 +87,7 @@ connection_line s = with_space (end_field s.end) (with_space (text_field s.metho
 
 -- ---- what is written
 
--- the line is that of a connection that ended so, of which these octets were noted
+-- the line is that of a connection that ended so, given the octets that were recorded
 pub record IsLineOf (end : ServeEnd) (read written : Record) (line : List ℕ) : Type 0 where
   pub served : Served
   pub ended : served.end ≡ end
@@ -97,13 +97,13 @@ pub record IsLineOf (end : ServeEnd) (read written : Record) (line : List ℕ) :
   pub was_written : served.written ≡ written.count
   pub line_is : line ≡ connection_line served
 
--- of which octets were noted, or none
+-- the same if octets were recorded; else there is no line
 abbrev pub IsLine : ServeEnd → Option Record → Option Record → List ℕ → Type 0
 IsLine end (Some read) (Some written) line = IsLineOf end read written line
 IsLine end _ _ line = ⊥
 
--- What the writer of the log holds. Where there is a log, the line of a connection was written to it, or a beginning of the line where a
--- write failed; or there was no memory for the line or no time, and nothing was written. Where there is none, there is none afterwards.
+-- What the writer of the log has. If there is a log, the line of a connection was written to it, or the first octets of the line if a write
+-- failed; or there was no memory for the line or no time, and nothing was written. If there is none, there is none afterwards.
 abbrev pub Logs : {G : Type 0} → (G → Option (List ℕ)) → Option G → Option G → ServeEnd → Option Record → Option Record → Type 0
 Logs contents None None end read written = Unit {0}
 Logs contents (Some before) (Some after) end read written =

@@ -11,7 +11,7 @@ exit_number Refused = 1
 exit_number Misused = 2
 exit_number Failed = 3
 
--- the want of memory is a failure, and all else that is wrong with words is a misuse, help too
+-- out of memory is a failure; everything else that is wrong with arguments is a misuse, and so is help
 abbrev pub ending_of : Usage → Ending
 ending_of Memory = Failed
 ending_of _ = Misused

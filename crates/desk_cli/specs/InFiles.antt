@@ -1,4 +1,4 @@
--- A desk in the two files of a database: what a connection to them is, and what a stop leaves of them.
+-- A desk in the two files of a database: what a connection to them is, and what a crash leaves of them.
 use Rattle.std.specs.Prelude.{◌≡◌, ◌⊎◌, ◌++◌, List, [], ◌∷◌, Option, Some, IsTrue}
 use Rattle.sqlite_disk.specs.declared.Disk.{Ghosts}
 use Rattle.sqlite_store.specs.declared.store.FileStore.{FileStore}
@@ -16,28 +16,28 @@ use Rattle.desk_engine.specs.InOrder.{kept_after}
 use Rattle.desk_tables.specs.InOrder.{AreOfDesk}
 use Rattle.desk_cli.specs.OnTables.{IsLeft, KeepsHeard}
 
--- the octets of the two files hold exactly the tables of a desk of this configuration that has heard these
+-- the octets of the two files are exactly the tables of a desk of this configuration that represents this log
 pub record HoldHeard (c : Settings) (heard : List Envelope) (octets : Image) : Type 0 where
   pub list : IsHeard c heard
   pub trees : Trees
   pub database : HoldsDatabase octets trees
   pub tables : AreOfDesk c (kept_after c heard) trees
 
--- they hold that, or that with the message in doubt
+-- they are those of this log, or of this log with the in-flight message
 abbrev pub HoldLeft : Settings → List Envelope → Option Envelope → Image → Type 0
 HoldLeft c heard doubt octets = HoldHeard c heard octets ⊎ ((e : Envelope) × (doubt ≡ Some e) × HoldHeard c (heard ++ e ∷ []) octets)
 
 module _ {D : Type 0} {g : Ghosts D} where
-  -- what a connection is that was opened where the files held these octets, on a disk that has given back what was written to it
+  -- what is true of a connection that was opened on files with these octets, on a disk that has returned what was written to it
   abbrev pub Shows : Image → Held (FileStore D g) → Type 0
   Shows octets conn = HasCleanDisk (file_state conn) → IsOpened conn × FindsIn octets (file_state conn)
 
--- a desk that files held is what a connection to them keeps
+-- a desk that files contained is what the connection to them represents
 abbrev pub DesksAreFound : {D : Type 0} → Ghosts D → Type 0
 DesksAreFound {D} g = (octets : Image) (conn : Held (FileStore D g)) → Shows octets conn → HasCleanDisk (file_state conn)
     → (c : Settings) (heard : List Envelope) → HoldHeard c heard octets → KeepsHeard over_files conn c heard
 
--- whatever octets a crash leaves of a connection's files at this moment hold what was heard, or that with the message in doubt
+-- whatever octets a crash leaves of a connection's files at this moment contain the log, or the log with the in-flight message
 abbrev pub DesksAreLeft : {D : Type 0} → Ghosts D → Type 0
 DesksAreLeft {D} g = (conn : Held (FileStore D g)) (octets : Image) → IsTrue (store.view conn.store).is_numbered → (store.state conn.store).may_leave octets
     → (c : Settings) (heard : List Envelope) (doubt : Option Envelope) → IsHeard c heard → IsLeft over_files conn c heard doubt → ∥ HoldLeft c heard doubt octets ∥₁

@@ -1,4 +1,4 @@
--- Counts within their limits, as words write them (this project's forms).
+-- Counts within their limits, as arguments write them (this project's forms).
 use Rattle.std.specs.Prelude.{ℕ, ◌&&◌, List, Option, Some, None, nat_le, option_and_then, if◌then◌else◌}
 use Rattle.desk_wire.specs.Decimals.{count_in}
 

@@ -1,4 +1,4 @@
--- The values of commands: the words that give them, and how they are read.
+-- The values of commands: the arguments that give them, and how they are read.
 use Rattle.std.specs.Prelude.{ℕ, ◌+◌, ◌^◌, Bool, true, false, ◌&&◌, List, [], ◌∷◌, Option, Some, None, Result, Ok, Err, codes, nat_le, bytes_eq, option_and_then, if◌then◌else◌}
 use Rattle.std.specs.Option.{option_map_or}
 use Rattle.clap.specs.Simple.{App, new_rule, with_rule}
@@ -11,13 +11,13 @@ use Rattle.desk_wire.specs.Hexadecimal.{addr_in}
 use Rattle.desk_cli.specs.declared.usage.BadValue.{BadValue}
 use Rattle.desk_cli.specs.declared.usage.BadValue.TheVariants.{Receiver, Operator, Base, Addresses, Block, Missing}
 
--- ---- their words
+-- ---- their arguments
 
 -- an option of one value, with its default
 abbrev pub option_rule : Text → Text → Rule
 option_rule name default = record (new_rule name) { long = Some name; value_names = 1; defaults = default ∷ [] }
 
--- an option of one value that has to be there
+-- an option of one value that is required
 abbrev pub needed_rule : Text → Rule
 needed_rule name = record (new_rule name) { long = Some name; value_names = 1; required = true }
 
@@ -29,7 +29,7 @@ optional_rule name = record (new_rule name) { long = Some name; value_names = 1 
 abbrev pub flag_rule : Text → Rule
 flag_rule name = record (new_rule name) { long = Some name; action = Some SetTrue }
 
--- a word that has to be there, known by its place
+-- a required argument without a name, known by its place
 abbrev pub place_rule : Text → Rule
 place_rule name = record (new_rule name) { value_names = 1; required = true }
 
@@ -42,7 +42,7 @@ with_settings app =
     (option_rule (codes "base") (codes "01a00000")))
     (option_rule (codes "addresses") (codes "65536"))
 
--- ---- what they give
+-- ---- the values that they give
 
 -- a value, or which value is bad
 abbrev pub OrBad : Type 0 → Type 0
@@ -53,7 +53,7 @@ abbrev pub ◌>>=◌ : {X Y : Type 0} → OrBad X → (X → OrBad Y) → OrBad 
 (Ok x) >>= next = next x
 (Err bad) >>= next = Err bad
 
--- it has to be there, or else this value is bad
+-- the value, or the bad one if there is none
 abbrev pub or_bad : {X : Type 0} → Option X → BadValue → OrBad X
 or_bad (Some x) bad = Ok x
 or_bad None bad = Err bad
@@ -61,7 +61,7 @@ or_bad None bad = Err bad
 abbrev pub name_of : Text → Option Text
 name_of text = if is_name text then Some text else None
 
--- the addresses are some, and they end at the last address or before
+-- there is at least one address, and the last is ffffffff or before
 abbrev pub is_block : ℕ → ℕ → Bool
 is_block base addresses = nat_le 1 addresses && nat_le (base + addresses) (2 ^ 32)
 
@@ -79,11 +79,11 @@ value_at form option rows = option_and_then form (first_of option rows)
 abbrev pub value_or : {X : Type 0} → (Text → Option X) → X → Text → List Row → Option X
 value_or form default option rows = option_map_or form (first_of option rows) (Some default)
 
--- whether an option without a value is there
+-- an option without a value is given
 abbrev pub is_set : Text → List Row → Bool
 is_set option rows = option_map_or (λ text. bytes_eq text (codes "true")) (first_of option rows) false
 
--- the word in a place. clap takes no words that leave a place empty.
+-- the argument in a place; clap accepts no arguments that leave a place empty
 abbrev pub placed : Text → List Row → OrBad Text
 placed name rows = or_bad (first_of name rows) Missing
 

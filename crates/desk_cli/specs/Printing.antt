@@ -13,32 +13,32 @@ use Rattle.desk_cli.specs.Faults.{fault_of_report}
 use Rattle.desk_cli.specs.declared.faults.Fault.{Fault}
 use Rattle.desk_cli.specs.declared.faults.Fault.TheVariants.{File, Unavailable}
 
--- what is told of a text that is no month's: that, or that the desk can't be read
+-- the error for a text that is not a month: that, or that the desk can't be read
 abbrev pub RefusesMonth : Result (List ℕ) ReportFault → Type 0
 RefusesMonth (Err Month) = Unit {0}
 RefusesMonth (Err (report.Unavailable fault)) = IsUnavailability fault
 RefusesMonth _ = ⊥
 
--- the owner's report of a month, or why there is none; a bad month is told of what is none alone, whoever the owner is
+-- the owner's report of a month, or why there is none; `Month` only for a text that isn't a month, whoever the owner is
 pub record IsOwnersMonth (s : State) (owner month : List ℕ) (answer : Result (List ℕ) ReportFault) : Type 0 where
   pub answer_is : IsOwnerAnswer s owner month answer
   pub bad_month : answer ≡ Err Month → (from to : ℤ) → ¬ (IsMonth month from to)
   pub no_month : ((from to : ℤ) → ¬ (IsMonth month from to)) → RefusesMonth answer
 
--- what is told of a text that is no time: that, or that the desk can't be read
+-- the error for a text that is not a time: that, or that the desk can't be read
 abbrev pub RefusesTime : Result (List ℕ) ReportFault → Type 0
 RefusesTime (Err Time) = Unit {0}
 RefusesTime (Err (report.Unavailable fault)) = IsUnavailability fault
 RefusesTime _ = ⊥
 
--- the gateway's room at a time, or why there is none; a bad time is told of what is none alone, whoever the gateway is
+-- the gateway's room at a time, or why there is none; `Time` only for a text that isn't a time, whoever the gateway is
 pub record IsGatewaysRoom (s : State) (gateway time : List ℕ) (answer : Result (List ℕ) ReportFault) : Type 0 where
   pub answer_is : IsRoomAnswer s gateway time answer
   pub bad_time : answer ≡ Err Time → time_in time ≡ None
   pub no_time : time_in time ≡ None → RefusesTime answer
 
--- What says that the desk's file is kept and that a crash leaves it; what the writer holds before and after; the report that was
--- asked for, or why there is none.
+-- `Kept` states that the desk's file is unchanged, and `Left` that a crash leaves it. `before` and `after` are what the writer has before
+-- and after. What follows is for the report that was asked for, or why there is none.
 module _ (Kept Left : Type 0) (before after : Option (List ℕ)) where
   -- exactly the report was written; or why not, and then nothing was, unless the writer failed
   abbrev pub PrintsAnswer : {T : Type 0} → Result (List ℕ) ReportFault → Result T Fault → Type 0

@@ -1,4 +1,4 @@
-//! Lines answered over any store, and why not all of them were.
+//! Answers lines over any store, and returns why not all of them were answered.
 ghost use Rattle.std.specs.Prelude.{◌≡◌, List};
 ghost use Rattle.registry_core.specs.declared.messages.Envelope.{Envelope};
 ghost use Rattle.registry_core.specs.Settings.{Settings};
@@ -12,7 +12,11 @@ use desk_store::Keeper;
 use std::alloc::Global;
 use std::io::{Read, Write};
 
-/// Answers the messages of the reader, one a line, and flushes the answers.
+/// Delivers the messages of the reader, one a line, writes their answers, and flushes them.
+///
+/// # Errors
+///
+/// Returns `File` if a read or a write failed, and `Unavailable` if the store was.
 pub(crate) fn answer_lines<K: Keeper, R: Read, W: Write>(
     alloc: Global,
     keeper: &mut K,

@@ -1,4 +1,4 @@
-//! Why a file can't be opened, for a user at a terminal. No contract says why a system refuses a file, so this is tested only, by
+//! Why a file can't be opened, for a user at a terminal. No contract states why a system refuses a file, so this is only tested, by
 //! `checks/terminal.py`.
 use sqlite::{Error, ErrorCode};
 use std::fmt::{self, Display, Formatter};
@@ -33,8 +33,8 @@ impl Display for Cause {
     }
 }
 
-/// The line for a terminal that says which file can't be opened, and why: by sqlite's error, where it was asked, and by what the system
-/// says of the file. None where standard error is no terminal, or memory runs out.
+/// Returns the line for a terminal that names the file that can't be opened, and why: by sqlite's error, if there is one, and by what the
+/// system reports of the file. `None` if standard error is not a terminal, or memory runs out.
 pub(crate) fn line_for_terminal(
     rt: &HostRuntime,
     path: &str,

@@ -1,4 +1,4 @@
-//! A log of connections: one line for each, written once the connection was let go.
+//! A log of connections: one line for each, written after the connection was finished.
 ghost use Rattle.std.specs.Prelude.{◌≡◌, IfSome};
 ghost use Rattle.desk_cli.specs.ConnectionLog.{IsLine, IsLineOf, Logs};
 ghost use Rattle.desk_cli.specs.steps.Logging.{Puts};
@@ -23,8 +23,8 @@ struct Came {
     at: Instant,
 }
 
-/// A port that writes a line to a log for each connection, if it has a log. What it reads and writes are the octets of the port
-/// below. A line that can't be written, or for which there is no memory or no time, is left out.
+/// A port that writes a line to a log for each connection, if it has a log. What it reads and writes are the octets of the port below. A
+/// line that can't be written, or for which there is no memory or no time, is left out.
 #[derive(Drop)]
 pub struct Logged<'a, P, C, G> {
     port: P,
@@ -34,7 +34,7 @@ pub struct Logged<'a, P, C, G> {
 }
 
 impl<'a, P, C: Clock, G: Write> Logged<'a, P, C, G> {
-    /// A port with this log, or with none.
+    /// Returns a port with this log, or with none.
     pub fn new(port: P, clock: &'a C, log: Option<G>) -> Self
         ensures port { result.port ≡ port }
         ensures log { result.log ≡ log }
@@ -47,19 +47,19 @@ impl<'a, P, C: Clock, G: Write> Logged<'a, P, C, G> {
         }
     }
 
-    /// The port below.
+    /// Returns the port below.
     #[cfg(test)]
     pub(crate) fn port(&self) -> &P {
         &self.port
     }
 
-    /// The port below, and the log.
+    /// Returns the port below, and the log.
     #[cfg(test)]
     pub(crate) fn into_parts(self) -> (P, Option<G>) {
         (self.port, self.log)
     }
 
-    /// When a connection came that is logged.
+    /// Notes when a connection came, if it is logged.
     fn coming(&self, alloc: Global) -> Option<Came> {
         if self.log.is_none() {
             return None;
@@ -68,7 +68,7 @@ impl<'a, P, C: Clock, G: Write> Logged<'a, P, C, G> {
         Some(Came { alloc, at })
     }
 
-    /// The line of a connection that was let go. `None` where it isn't logged, or there is no memory or no time.
+    /// Returns the line of a connection that was finished. `None` if it isn't logged, or there is no memory or no time.
     fn line(
         &self,
         read: &Option<Record>,
@@ -84,7 +84,7 @@ impl<'a, P, C: Clock, G: Write> Logged<'a, P, C, G> {
     }
 }
 
-/// The line of a connection that came then, of which these octets were noted.
+/// Returns the line of a connection that came then, given the octets that were recorded.
 fn line_since<C: Clock>(
     clock: &C,
     came: Came,
@@ -148,7 +148,7 @@ impl<P: Listening, C: Clock, G: Write> Listening for Logged<'_, P, C, G> {
     }
 }
 
-/// Writes a line to a log, if there are both. Without its line a connection was served all the same.
+/// Writes a line to a log, if there are both. A connection whose line can't be written was served all the same.
 fn put_line<G: Write>(log: &mut Option<G>, line: Option<Vec<u8>>)
     ensures { Puts G.contents log.old log.new line }
 {

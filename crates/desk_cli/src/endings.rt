@@ -9,18 +9,18 @@ use std::process::ExitCode;
 /// How the program ends. The exit statuses are this project's.
 #[derive(Clone, Copy, PartialEq, Eq)]
 pub enum Ending {
-    /// It did what was asked. Status 0.
+    /// The program did what was asked. Status 0.
     Done,
     /// What was asked is refused. Status 1.
     Refused,
-    /// The words name no command, or ask for help. Status 2.
+    /// The arguments name no command, or ask for help. Status 2.
     Misused,
     /// Memory, a file or the network failed. Status 3.
     Failed,
 }
 
 impl Ending {
-    /// The exit status.
+    /// Returns the exit status.
     pub fn status(self) -> ExitCode
         ensures { exit_status result ≡ exit_number self }
     {
@@ -28,7 +28,7 @@ impl Ending {
     }
 }
 
-/// How the program ends where words name no command.
+/// Returns how the program ends if its arguments name no command.
 pub fn ending_of(usage: &Usage) -> Ending
     ensures { result ≡ ending_of usage.now }
 {

@@ -1,4 +1,4 @@
-//! Where a desk's file is, and how it is opened.
+//! Opens the file of a desk.
 ghost use Rattle.std.specs.Prelude.{◌≡◌, false, None, IfOk, IfErr};
 ghost use Rattle.sqlite_wal.specs.Files.{image_at};
 ghost use Rattle.desk_cli.specs.Doing.{AtPaths, known_alike};
@@ -15,7 +15,11 @@ pub trait Files<S: Alter>: Drop + Sized {
     /// What is known of a connection to the file at a path, and which files can't be opened or made.
     ghost paths: { Self → AtPaths S };
 
-    /// The database of the file, which has to be there.
+    /// Opens the database of the file, which has to be there.
+    ///
+    /// # Errors
+    ///
+    /// Returns `File` if it can't be opened.
     fn open(self, path: &str) -> Result<Connection<S>, Fault>
         ensures opened { IfOk result (λ conn. (paths self).opens path.now conn) }
         ensures unopened { IfErr result (λ fault. (paths self).unopened path.now) }
@@ -23,7 +27,11 @@ pub trait Files<S: Alter>: Drop + Sized {
         ensures unlimited { IfOk result (λ conn. conn.step_limit ≡ None) }
         ensures fault { IfErr result (λ fault. fault ≡ Fault.File) };
 
-    /// The database of the file, which is made where there is none.
+    /// Opens the database of the file, which is made if there is none.
+    ///
+    /// # Errors
+    ///
+    /// Returns `File` if it can't be opened or made.
     fn make(self, path: &str) -> Result<Connection<S>, Fault>
         ensures made { IfOk result (λ conn. (paths self).makes path.now conn) }
         ensures unmade { IfErr result (λ fault. (paths self).unmade path.now) }
@@ -32,8 +40,8 @@ pub trait Files<S: Alter>: Drop + Sized {
         ensures fault { IfErr result (λ fault. fault ≡ Fault.File) };
 }
 
-/// The files of the machine. `start` represents what they hold when they are opened. If one can't be opened and there is a
-/// terminal, `why` gets a line for it.
+/// The files of the machine. `start` represents what they contain when they are opened. If one can't be opened and there is a terminal,
+/// `why` gets a line for it.
 #[derive(Drop)]
 pub(crate) struct HostFiles<'a, T: Start> {
     pub rt: &'a HostRuntime,
@@ -42,7 +50,7 @@ pub(crate) struct HostFiles<'a, T: Start> {
 }
 
 impl<T: Start> Files<FileStore<FileFrom<T>>> for HostFiles<'_, T> {
-    // A connection shows what the files hold, on a disk that has given back what was written to it. Std doesn't say why there is none.
+    // A connection shows what the files contain, on a disk that has returned what was written to it. Std doesn't report why there is none.
     ghost paths = { λ files. known_alike (Shows (image_at T.Start)) };
 
     fn open(self, path: &str) -> Result<Connection<FileStore<FileFrom<T>>>, Fault> {

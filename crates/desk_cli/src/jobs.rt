@@ -1,4 +1,4 @@
-//! What a command does by the desk in a file, whatever store it is opened as.
+//! What a command does with the desk in a file, whatever store opens it.
 ghost use Rattle.std.specs.Prelude.{◌≡◌, false, List, None};
 ghost use Rattle.std.specs.Io.KnownBytes.{Keeps};
 ghost use Rattle.sqlite.specs.Held.{state};
@@ -16,12 +16,16 @@ use sqlite::{Alter, Connection};
 use std::alloc::Global;
 use std::io::{Read, Write};
 
-/// What a command does by a store: it may read and write, and tells why it isn't done.
+/// What a command does with a store. It may read and write.
 pub(crate) trait Job {
     /// What it has done, by how it ended.
     ghost does: { Self → Done };
 
     /// Does it.
+    ///
+    /// # Errors
+    ///
+    /// Returns why it isn't done.
     fn run<K: Keeper, R: Read, W: Write>(
         &self,
         alloc: Global,
@@ -36,8 +40,8 @@ pub(crate) trait Job {
             (W.contents answers.old) (W.contents answers.new) result };
 }
 
-/// Does it by the desk of the connection's database, and gives the connection back. Nothing is read or written before the desk
-/// is open. What is no desk's of schema 2 is refused, and stays as it is.
+/// Does the job with the desk of the connection's database, and gives the connection back. Nothing is read or written before the desk is
+/// open. A database that is not a desk of schema 2 is refused, and stays as it is.
 pub(crate) fn by_store<S: Alter, J: Job, R: Read, W: Write>(
     alloc: Global,
     conn: Connection<S>,

@@ -1,11 +1,11 @@
-//! Counts within their limits, as words write them.
+//! Reads counts within their limits from arguments.
 ghost use Rattle.std.specs.Prelude.{◌≡◌, option_and_then};
 ghost use Rattle.desk_wire.specs.Decimals.{count_in};
 ghost use Rattle.desk_cli.specs.Numbers.{connections_of, port_of, up_to};
 
 use desk_wire::count_of;
 
-/// The count, where it is at least 1 and at most this.
+/// Returns the count if it is at least 1 and at most `most`.
 fn count_up_to(most: u32, text: &str) -> Option<u32>
     ensures { result ≡ option_and_then (up_to most) (count_in text.now) }
 {
@@ -17,7 +17,7 @@ fn count_up_to(most: u32, text: &str) -> Option<u32>
     }
 }
 
-/// A port: one to ten decimal digits, 1 to 65,535.
+/// Returns the port that a text writes: one to ten decimal digits, 1 to 65,535. `None` for any other text.
 pub(crate) fn port_of(text: &str) -> Option<u16>
     ensures { result ≡ port_of text.now }
 {
@@ -25,7 +25,7 @@ pub(crate) fn port_of(text: &str) -> Option<u16>
     u16::try_from(port).ok()
 }
 
-/// How many connections: one to ten decimal digits, 1 to 1,000,000.
+/// Returns the number of connections that a text writes: one to ten decimal digits, 1 to 1,000,000. `None` for any other text.
 pub(crate) fn connections_of(text: &str) -> Option<u32>
     ensures { result ≡ connections_of text.now }
 {

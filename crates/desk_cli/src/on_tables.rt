@@ -1,4 +1,4 @@
-//! The whole over tables: a desk is made, it answers texts, and what its database then holds.
+//! The headline over tables: a desk is made, answers texts, and its database represents the log.
 ghost use Rattle.std.specs.Prelude.{◌≡◌, [], map, false, None, IfOk};
 ghost use Rattle.sqlite_trees.specs.Tree.{Trees};
 ghost use Rattle.sqlite.specs.Held.{state};
@@ -16,10 +16,13 @@ use registry_core::laws::{nothing_is_heard, rules_are_kept};
 use sqlite::{Alter, Connection, MemStore};
 use std::alloc::Global;
 
-/// Makes a desk in a database that has nothing, answers texts in order, and gives the connection back: with an outcome for each
-/// text, or why there is no desk, or no room for the outcomes.
+/// Makes a desk in a database that has nothing, delivers texts in order, and gives the connection back with an outcome for each text.
 ///
-/// What is said of values is said of a disk that has given back what was written to it.
+/// The clauses about values are for a disk that has returned what was written to it.
+///
+/// # Errors
+///
+/// Returns, with the connection, why there is no desk, or `Memory` if memory for the outcomes ran out.
 pub fn run_on_tables<S: Alter>(
     alloc: Global,
     conn: Connection<S>,
@@ -30,19 +33,19 @@ pub fn run_on_tables<S: Alter>(
     requires unlimited { conn.step_limit ≡ None }
     ensures outcomes { HasCleanDisk (state S.Store result.1) → IfOk result.0 (λ outcomes. AreOutcomes config [] (map (λ t. t.now) texts.now) outcomes.items) }
 
-    // Unless an outcome tells a fault of the disk, the database holds what was heard and nothing else, and all of it is committed.
+    // Unless an outcome is `Disk`, the database represents exactly the log, and all of it is committed.
     ensures tables { HasCleanDisk (state S.Store result.1) → IfOk result.0 (λ outcomes. has_disk outcomes.items ≡ false
         → HasHeard config (heard_all config [] (deliveries_of (map (λ t. t.now) texts.now) outcomes.items)) (state S.Store result.1).now
         × ((state S.Store result.1).now ≡ (state S.Store result.1).committed)) }
 
-    // Whatever they tell, a crash leaves what was heard, or after a fault of the disk that with the message in doubt.
+    // Whatever the outcomes are, a crash leaves the log, or after a disk error possibly the log with the in-flight message.
     ensures crash { HasCleanDisk (state S.Store result.1) → IfOk result.0 (λ outcomes. (trees : Trees) → (state S.Store result.1).may_leave trees
         → LeftHeard config (heard_all config [] (deliveries_of (map (λ t. t.now) texts.now) outcomes.items))
         (first_doubt config (map (λ t. t.now) texts.now) outcomes.items) trees) }
 
-    // Whatever the database then holds, and whatever a crash leaves, goes by the registry's rules: no two sessions have one device
-    // and one nonce, no two uplinks have one session, one kind and one counter, and no hour of any gateway's band holds more booked
-    // time on air than its limit. What is said of the database is said while no outcome tells a fault of the disk.
+    // Whatever the database then represents, and whatever a crash leaves, satisfies the registry's rules: no two sessions have one device
+    // and one nonce, no two uplinks have one session, one kind and one counter, and no hour of any gateway's band has more booked airtime
+    // than its limit. For the database this is stated if no outcome is `Disk`.
     ensures rules { HasCleanDisk (state S.Store result.1) → IfOk result.0 (λ outcomes. has_disk outcomes.items ≡ false
         → KeepsRules config (state S.Store result.1).now) }
     ensures rules_left { HasCleanDisk (state S.Store result.1) → IfOk result.0 (λ outcomes. LeavesRules S.Store result.1 config) }
@@ -61,7 +64,12 @@ pub fn run_on_tables<S: Alter>(
     }
 }
 
-/// The same in memory, for every configuration and every list of texts: nothing is asked of the caller, and nothing of a disk.
+/// Does the same in memory, for every configuration and every list of texts, with no condition on the caller or a disk. Returns the
+/// outcomes and the connection.
+///
+/// # Errors
+///
+/// Returns why there is no desk, or `Memory` if an allocation failed.
 pub fn run_in_memory(
     alloc: Global,
     config: Config,

@@ -1,4 +1,4 @@
-//! A desk's file, opened for a command.
+//! Opens the file of a desk for a command.
 ghost use Rattle.std.specs.Prelude.{◌≡◌, false, None, List, IfOk, IfErr};
 ghost use Rattle.sqlite.specs.Held.{state};
 ghost use Rattle.sqlite.specs.State.{HasCleanDisk};
@@ -13,8 +13,11 @@ use desk_tables::Tables;
 use sqlite::{Alter, Connection};
 use std::alloc::Global;
 
-/// The desk that the connection's database holds; or the connection, beside why there is none: `Unavailable`, `NotADesk` or
-/// `Schema`.
+/// Opens the desk of the connection's database.
+///
+/// # Errors
+///
+/// Returns the error with the connection: `Unavailable`, `NotADesk` or `Schema`.
 pub(crate) fn opened<S: Alter>(
     alloc: Global,
     conn: Connection<S>,

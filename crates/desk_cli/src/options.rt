@@ -1,4 +1,4 @@
-//! The values of commands: the words that give them, and how they are read.
+//! The values of commands: their options and positional arguments, and how they are read.
 ghost use Rattle.std.specs.Prelude.{◌≡◌, codes, false, option_map};
 ghost use Rattle.clap.specs.Matches.{found_of};
 ghost use Rattle.clap.specs.Simple.{app_of, new_app, with_rule};
@@ -22,7 +22,7 @@ use radio_core::Name;
 use registry_core::{Config, GREATEST_WHOLE, Whole};
 use std::alloc::{AllocError, Global};
 
-/// A command without words of its own: its name, what it does, and an example.
+/// Returns a command without arguments: its name, what it does, and an example.
 pub(crate) fn command<'a>(
     alloc: Global,
     name: &'a str,
@@ -37,7 +37,11 @@ pub(crate) fn command<'a>(
         .after_help(example)
 }
 
-/// A command with one word more, if there was memory for it.
+/// Adds an argument to a command.
+///
+/// # Errors
+///
+/// Returns the command's error, and `AllocError` if an allocation failed.
 pub(crate) fn with_word<'a>(
     command: Result<clap::Command<'a>, AllocError>,
     word: Arg<'a>,
@@ -47,7 +51,7 @@ pub(crate) fn with_word<'a>(
     command?.arg(word)
 }
 
-/// A command on a desk's file, which is its first word.
+/// Returns a command on a desk's file, which is its first positional argument.
 pub(crate) fn command_on_file<'a>(
     alloc: Global,
     name: &'a str,
@@ -60,7 +64,7 @@ pub(crate) fn command_on_file<'a>(
     with_word(Ok(command(alloc, name, about, example)), file)
 }
 
-/// An option of one value, with its default.
+/// Returns an option of one value, with its default.
 pub(crate) fn option<'a>(
     alloc: Global,
     name: &'a str,
@@ -78,7 +82,7 @@ pub(crate) fn option<'a>(
         .help(help)
 }
 
-/// An option of one value that has to be there.
+/// Returns an option of one value that has to be given.
 pub(crate) fn needed<'a>(alloc: Global, name: &'a str, form: &'a str, help: &'a str) -> Arg<'a>
     ensures rule { rule_of result ≡ needed_rule name.entry.now }
     ensures local { result.global ≡ false }
@@ -90,7 +94,7 @@ pub(crate) fn needed<'a>(alloc: Global, name: &'a str, form: &'a str, help: &'a 
         .help(help)
 }
 
-/// An option of one value that may be left out.
+/// Returns an option of one value that may be left out.
 pub(crate) fn optional<'a>(alloc: Global, name: &'a str, form: &'a str, help: &'a str) -> Arg<'a>
     ensures rule { rule_of result ≡ optional_rule name.entry.now }
     ensures local { result.global ≡ false }
@@ -98,7 +102,7 @@ pub(crate) fn optional<'a>(alloc: Global, name: &'a str, form: &'a str, help: &'
     Arg::new(alloc, name).long(name).value_name(form).help(help)
 }
 
-/// An option without a value.
+/// Returns an option without a value.
 pub(crate) fn flag<'a>(alloc: Global, name: &'a str, help: &'a str) -> Arg<'a>
     ensures rule { rule_of result ≡ flag_rule name.entry.now }
     ensures local { result.global ≡ false }
@@ -109,7 +113,7 @@ pub(crate) fn flag<'a>(alloc: Global, name: &'a str, help: &'a str) -> Arg<'a>
         .help(help)
 }
 
-/// A word that has to be there, known by its place.
+/// Returns a positional argument that has to be given.
 pub(crate) fn place<'a>(alloc: Global, name: &'a str, form: &'a str, help: &'a str) -> Arg<'a>
     ensures rule { rule_of result ≡ place_rule name.entry.now }
     ensures local { result.global ≡ false }
@@ -120,7 +124,7 @@ pub(crate) fn place<'a>(alloc: Global, name: &'a str, form: &'a str, help: &'a s
         .help(help)
 }
 
-/// A command with the four options of a desk's configuration.
+/// Returns a command with the four options of a desk's configuration.
 pub(crate) fn command_with_settings<'a>(
     alloc: Global,
     name: &'a str,
@@ -149,7 +153,7 @@ pub(crate) fn command_with_settings<'a>(
     with_word(with_word(with_word(command, operator), base), addresses)
 }
 
-/// The configuration of the four options.
+/// Returns the configuration that the four options give, or the first value that is bad.
 #[tactic(auto, unfolding(crate::specs::Options::config_of))]
 pub(crate) fn config_of(options: &ArgMatches<'_>) -> Result<Config, BadValue>
     ensures { result ≡ config_of (rows_of (found_of options.now)) }
@@ -197,14 +201,14 @@ pub(crate) fn connections_at(options: &ArgMatches<'_>, option: &str) -> Option<u
     connections_of(text_at(options, option)?)
 }
 
-/// The number that an option has.
+/// Returns the number that an option has, or `None` if it isn't there or isn't a number in the form.
 pub(crate) fn number_at(options: &ArgMatches<'_>, option: &str) -> Option<Whole>
     ensures { result ≡ value_at message_number option.now (rows_of (found_of options.now)) }
 {
     message_number(text_at(options, option)?)
 }
 
-/// The number that an option has, or the greatest if the option is left out.
+/// Returns the number that an option has, or the greatest if the option is left out.
 pub(crate) fn number_or_greatest(options: &ArgMatches<'_>, option: &str) -> Option<Whole>
     ensures { result ≡ value_or message_number greatest_whole option.now (rows_of (found_of options.now)) }
 {
@@ -214,7 +218,7 @@ pub(crate) fn number_or_greatest(options: &ArgMatches<'_>, option: &str) -> Opti
     }
 }
 
-/// Whether an option without a value is there.
+/// Returns whether an option without a value is given.
 pub(crate) fn is_set(options: &ArgMatches<'_>, option: &str) -> bool
     ensures { result ≡ is_set option.now (rows_of (found_of options.now)) }
 {
@@ -230,7 +234,7 @@ fn name_of(text: &str) -> Option<Name>
     Name::new(text.as_bytes())
 }
 
-/// The word in a place.
+/// Returns the positional argument of this name, or `Missing` if it isn't given.
 pub(crate) fn placed<'a>(options: &ArgMatches<'a>, place: &str) -> Result<&'a str, BadValue>
     ensures { behind result ≡ placed place.now (rows_of (found_of options.now)) }
 {

@@ -1,4 +1,4 @@
-//! A report of the desk in a file, on the standard output.
+//! Prints a report of the desk in a file on standard output.
 ghost use Rattle.std.specs.Prelude.{◌≡◌, ℕ, false, List, None, Result, Err};
 ghost use Rattle.std.specs.Io.KnownBytes.{Keeps};
 ghost use Rattle.sqlite.specs.Held.{state};
@@ -28,12 +28,12 @@ use sqlite::{Alter, Connection};
 use std::alloc::Global;
 use std::io::{self, Read, Write};
 
-/// A report that a store is asked for.
+/// A report that a store can give.
 pub(crate) trait Report {
-    /// What is answered of what the registry holds: the text, or why there is none.
+    /// The report of the registry's state, or why there is none.
     ghost is_answer: { Self → State → Result (List ℕ) ReportFault → Type 0 };
 
-    /// Asks for it.
+    /// Returns the report's text, or why there is none.
     fn ask<K: Keeper>(&self, alloc: Global, keeper: &mut K) -> Result<Vec<u8>, ReportFault>
         ensures read { IsRead K.meaning keeper.old keeper.new (store_fault_in result) }
         ensures told { (c : Settings) (heard : List Envelope) → WasInOrder K.meaning c heard keeper.old keeper.new
@@ -43,10 +43,10 @@ pub(crate) trait Report {
     ghost unopened: { (report : Self) (s : State) → is_answer report s unasked };
 }
 
-/// Prints the report from the desk of the connection's database, and gives the connection back.
+/// Prints the report of the desk in the connection's database, and gives the connection back. Nothing is changed.
 ///
-/// With `File` the writer failed. Nothing is changed. What is no desk's of schema 2 is refused, by `NotADesk`, `Schema` or
-/// `Unavailable`, and stays as it is.
+/// With `File` the writer failed. A database that is not a desk of schema 2 is refused by `NotADesk`, `Schema` or `Unavailable`, and stays
+/// as it is.
 pub(crate) fn print_report<S: Alter, Q: Report, W: Write, F: Write>(
     alloc: Global,
     conn: Connection<S>,
@@ -65,7 +65,7 @@ pub(crate) fn print_report<S: Alter, Q: Report, W: Write, F: Write>(
     (end(faults, done), conn)
 }
 
-/// The report is printed, and the connection is given back.
+/// Prints the report, and gives the connection back.
 fn print_by_store<S: Alter, Q: Report, W: Write>(
     alloc: Global,
     conn: Connection<S>,
@@ -84,7 +84,7 @@ fn print_by_store<S: Alter, Q: Report, W: Write>(
     by_store(alloc, conn, &Printed(report), &mut io::empty(), answers)
 }
 
-/// The report is printed.
+/// The job that prints the report.
 #[derive(Drop)]
 struct Printed<'a, Q: Report>(&'a Q);
 
@@ -103,7 +103,7 @@ impl<Q: Report> Job for Printed<'_, Q> {
     }
 }
 
-/// Writes the report, and hands it on; or tells why there is none.
+/// Writes the report and flushes it, or returns why there is none.
 pub(crate) fn print<W: Write>(
     answers: &mut W,
     report: &Result<Vec<u8>, ReportFault>,

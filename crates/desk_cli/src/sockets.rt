@@ -1,4 +1,4 @@
-//! The ports of 127.0.0.1 as this system gives them.
+//! The ports of 127.0.0.1 on this system.
 ghost use Rattle.desk_http.specs.Served.{unknown};
 ghost use Rattle.std.specs.Prelude.{◌≡◌, is_some};
 
@@ -14,16 +14,16 @@ use std::time::{Clock, Duration, Instant};
 /// Seconds until a connection's first octet; after them the connection is closed.
 const FIRST_OCTET: u64 = 1;
 
-/// Seconds that a read after the first octet, or a write, waits for the peer at most.
+/// The longest time that a read after the first octet, or a write, waits for the peer, in seconds.
 const LONGEST_WAIT: u64 = 5;
 
-/// Seconds for reading a request and writing its response, at most.
+/// The longest time for reading a request and writing its response, in seconds.
 const LONGEST_REQUEST: u64 = 10;
 
-/// Seconds for which what a peer sends after its response is read, at most.
+/// The longest time for reading what a peer sends after its response, in seconds.
 const LONGEST_DRAIN: u64 = 1;
 
-/// Reads that wait for a peer to close, at most.
+/// The greatest number of reads that wait for a peer to close.
 const READS_BEFORE_CLOSE: usize = 64;
 
 /// What a stream waits for.
@@ -35,7 +35,7 @@ enum Awaited {
 }
 
 impl Awaited {
-    /// How long it waits as a whole, at most.
+    /// Returns the longest time that it waits as a whole.
     fn longest(self) -> Duration {
         Duration::from_secs(match self {
             Awaited::FirstOctet => FIRST_OCTET,
@@ -55,7 +55,11 @@ pub struct Timed<'a, C, S> {
 }
 
 impl<C: Clock, S> Timed<'_, C, S> {
-    /// How long the next read or write may wait. `TimedOut` where no time is left.
+    /// Returns how long the next read or write may wait.
+    ///
+    /// # Errors
+    ///
+    /// Returns `TimedOut` if no time is left.
     fn wait(&self) -> io::Result<Duration> {
         let longest = self.awaited.longest();
         let left = longest.saturating_sub(self.since.elapsed(self.clock)?);
@@ -65,7 +69,7 @@ impl<C: Clock, S> Timed<'_, C, S> {
         Ok(left.min(Duration::from_secs(LONGEST_WAIT)))
     }
 
-    /// From now on the stream waits for the peer to close.
+    /// Makes the stream wait for the peer to close, from now on.
     fn await_close(&mut self) -> io::Result<()> {
         self.since = Instant::now(self.clock)?;
         self.awaited = Awaited::Close;
@@ -74,7 +78,7 @@ impl<C: Clock, S> Timed<'_, C, S> {
 }
 
 impl<C: Clock, S: Read + OpenStream> Read for Timed<'_, C, S> {
-    // What the stream below gives, octet for octet.
+    // What the stream below reads, octet for octet.
     ghost remaining = { λ timed. S.remaining timed.stream };
 
     fn read(&mut self, buf: &mut [u8]) -> io::Result<usize> {
@@ -88,7 +92,7 @@ impl<C: Clock, S: Read + OpenStream> Read for Timed<'_, C, S> {
 }
 
 impl<C: Clock, S: Write + OpenStream> Write for Timed<'_, C, S> {
-    // What the stream below takes, octet for octet.
+    // What the stream below writes, octet for octet.
     ghost contents = { λ timed. S.contents timed.stream };
 
     fn write(&mut self, buf: &[u8]) -> io::Result<usize> {
@@ -101,8 +105,7 @@ impl<C: Clock, S: Write + OpenStream> Write for Timed<'_, C, S> {
     }
 }
 
-/// Reads on until the peer closes, so that it gets what was written to it: a socket that is closed with octets unread
-/// resets its connection.
+/// Reads until the peer closes, so that it gets what was written to it: a socket that is closed with unread octets resets its connection.
 fn read_to_close<C: Clock, S: Read + OpenStream + Drop>(reader: Timed<'_, C, S>) -> io::Result<()> {
     let mut reader = reader;
     reader.await_close()?;
@@ -123,13 +126,13 @@ pub struct Port<'a, C, L> {
 }
 
 impl<'a, C: Clock, L: OpenListener> Port<'a, C, L> {
-    /// Where the tests connect to.
+    /// Returns the address to which the tests connect.
     #[cfg(test)]
     pub(crate) fn address(&self) -> io::Result<SocketAddr> {
         self.listener.local_addr()
     }
 
-    /// A stream of a connection that came then, with this port's clock.
+    /// Returns a stream of a connection that came then, with this port's clock.
     fn timed(
         &self,
         since: Instant,
@@ -173,7 +176,7 @@ where
         end: ServeEnd,
     ) -> io::Result<()> {
         let flushed = writer.flush();
-        // Apart: a writer that is dropped would send what a flush failed to.
+        // Separately: a writer that is dropped would send what a flush failed to.
         let (sender, _) = writer.into_parts();
         flushed?;
         sender.stream.shutdown(Shutdown::Write)?;
@@ -193,7 +196,7 @@ pub struct Sockets<'a, R, G> {
 }
 
 impl<'a, R, G> Sockets<'a, R, G> {
-    /// The ports that this runtime reaches. `log` gets a line for each connection of a port that is listened at with a log.
+    /// Returns the ports that this runtime reaches. `log` gets a line for each connection of a port that is listened at with a log.
     pub fn new(rt: &'a R, log: G) -> Self {
         Sockets { rt, log }
     }

@@ -1,4 +1,4 @@
-//! The machine stops, and a desk's files are opened again.
+//! The machine crashes, and the files of a desk are opened again.
 ghost use Rattle.std.specs.Prelude.{◌≡◌, false, List, [], Option, None, map, IfOk, IsTrue};
 ghost use Rattle.sqlite.specs.Files.{file_state, over_files};
 ghost use Rattle.registry_core.specs.declared.messages.Envelope.{Envelope};
@@ -15,13 +15,16 @@ use sqlite::{Connection, FileStore, Files, Options};
 use sqlite_disk::{Crash, Memory};
 use std::alloc::Global;
 
-/// The machine stops at this moment and comes back, and what it left of the connection's files is opened. The connection to that; or
-/// `Disk`, where they can't be opened, whatever the reason.
+/// Lets the machine crash at this moment, and opens what that left of the connection's files. Returns the connection to it.
+///
+/// # Errors
+///
+/// Returns `Disk` if the files can't be opened, whatever the reason.
 pub fn opened_after_stop<D: Crash + Drop>(
     alloc: Global,
     conn: Connection<FileStore<D>>,
 ) -> Result<Connection<FileStore<D>>, StoreFault>
-    // On disks that always give back what was written: what it holds is one of what a crash of the connection could leave.
+    // On disks that always return what was written: what is found is one of what a crash of the connection could leave.
     ensures { ((disk : D) → IsTrue (D.Disk.is_clean disk)) → IfOk result (λ again. (c : Settings) (heard : List Envelope) (doubt : Option Envelope)
         → IsLeft over_files conn c heard doubt → IsFound c heard doubt (file_state again).now) }
 {
@@ -34,8 +37,12 @@ pub fn opened_after_stop<D: Crash + Drop>(
     }
 }
 
-/// A desk is made on files that have nothing, and answers texts in order; then the machine stops, and the files are opened again. An
-/// outcome for each text, and the connection to what was found then; or why there is none.
+/// Makes a desk on files that have nothing, delivers texts in order, lets the machine crash, and opens the files again. Returns an outcome
+/// for each text, and the connection to what was found then.
+///
+/// # Errors
+///
+/// Returns why there is no desk, or why the files can't be opened.
 fn run_and_stop<D: Crash + Drop>(
     alloc: Global,
     conn: Connection<FileStore<D>>,
@@ -59,9 +66,13 @@ fn run_and_stop<D: Crash + Drop>(
     }
 }
 
-/// A desk is made in files in memory that have nothing, and answers texts in order; then the machine stops, which loses whatever a disk
-/// may lose, and the files are opened again. An outcome for each text, and the connection to what was found then; or why there is
-/// none. Nothing is asked of the caller.
+/// Makes a desk in files in memory that have nothing, delivers texts in order, lets the machine crash, which loses whatever a disk may
+/// lose, and opens the files again. Returns an outcome for each text, and the connection to what was found then. It has no condition on the
+/// caller.
+///
+/// # Errors
+///
+/// Returns why there is no desk, why the files can't be opened, or `Memory` if an allocation failed.
 pub fn run_through_stop(
     alloc: Global,
     config: Config,
@@ -69,7 +80,7 @@ pub fn run_through_stop(
 ) -> Result<(Vec<Outcome>, Connection<FileStore<Memory>>), StoreFault>
     ensures outcomes { IfOk result (λ ran. AreOutcomes config [] (map (λ t. t.now) texts.now) ran.0.items) }
 
-    // What is found is what was heard, or after a fault of the disk that with the message in doubt.
+    // What is found represents the log, or after a disk error possibly the log with the in-flight message.
     ensures found { IfOk result (λ ran. IsFound config (heard_all config [] (deliveries_of (map (λ t. t.now) texts.now) ran.0.items))
         (first_doubt config (map (λ t. t.now) texts.now) ran.0.items) (file_state ran.1).now) }
 {
@@ -79,7 +90,7 @@ pub fn run_through_stop(
     }
 }
 
-/// A connection to files in memory that have nothing.
+/// Returns a connection to files in memory that have nothing.
 fn new_files(alloc: Global) -> Result<Connection<FileStore<Memory>>, StoreFault>
     ensures idle { IfOk result (λ conn. conn.in_transaction ≡ false) }
     ensures unlimited { IfOk result (λ conn. conn.step_limit ≡ None) }

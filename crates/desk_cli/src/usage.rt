@@ -1,4 +1,4 @@
-//! Why words name no command.
+//! Why arguments name no command.
 ghost use Rattle.std.specs.Prelude.{◌≡◌, [], ◌∷◌, Err};
 ghost use Rattle.clap.specs.declared.error.kind.ErrorKind.TheVariants.{MissingSubcommand};
 ghost use Rattle.desk_cli.specs.Named.{refused, TellsNamed};
@@ -8,12 +8,12 @@ ghost use Rattle.desk_cli.specs.declared.usage.Usage.TheVariants.{Value};
 use clap::error::{Error, ErrorKind};
 use std::fmt::{self, Display, Formatter};
 
-/// A value that isn't in its form, or values that don't go together.
+/// A value that isn't in its form, or values that contradict each other.
 #[derive(Clone, Copy)]
 pub enum BadValue {
-    /// `--receiver` is no name.
+    /// `--receiver` isn't a name.
     Receiver,
-    /// `--operator` is no name.
+    /// `--operator` isn't a name.
     Operator,
     /// `--base` isn't eight hexadecimal digits.
     Base,
@@ -21,7 +21,7 @@ pub enum BadValue {
     Addresses,
     /// The block of addresses is empty or goes beyond the last address.
     Block,
-    /// `--sender` is no name.
+    /// `--sender` isn't a name.
     Sender,
     /// `--port` isn't one to ten decimal digits, or isn't 1 to 65,535.
     Port,
@@ -31,20 +31,20 @@ pub enum BadValue {
     FirstMessage,
     /// `--count` of `log` isn't one to sixteen decimal digits, or isn't 1 to 9,007,199,254,740,991.
     Messages,
-    /// No word stands in a place. clap tells of that first, so the user doesn't see it.
+    /// A positional argument isn't given. clap reports that first, so the user doesn't see it.
     Missing,
 }
 
-/// Why words name no command. Its `Display` is the text for the user.
+/// Why arguments name no command. Its `Display` is the text for the user.
 #[derive(Drop)]
 pub enum Usage {
-    /// clap's error on the words, or the help that they ask for.
+    /// clap's error for the arguments, or the help that they ask for.
     Words(Error),
     /// A value is bad.
     Value(BadValue),
-    /// A word isn't UTF-8.
+    /// An argument isn't UTF-8.
     NotText,
-    /// Memory ran out before the words were read.
+    /// An allocation failed before the arguments were read.
     Memory,
 }
 
@@ -91,7 +91,7 @@ impl From<BadValue> for Usage {
     }
 }
 
-/// No command where one is needed.
+/// Returns clap's error for a missing command, or `Memory` if an allocation failed.
 pub(crate) fn no_command(desk: &mut clap::Command<'_>) -> Usage
     ensures { TellsNamed (refused (MissingSubcommand ∷ [])) (Err result) }
 {
@@ -101,7 +101,7 @@ pub(crate) fn no_command(desk: &mut clap::Command<'_>) -> Usage
     }
 }
 
-/// clap's error, the want of memory told apart.
+/// Returns `Memory` if clap ran out of memory, else `Words` with clap's error.
 pub(crate) fn usage_of(error: Error) -> Usage
     ensures { IsUsageOf error result }
 {

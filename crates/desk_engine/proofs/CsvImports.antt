@@ -31,13 +31,13 @@ use Rattle.desk_engine.specs.steps.CsvImporting.{HearsEnvelopes, HearsSome, line
 
 -- ---- answers
 
--- an outcome that isn't Unavailable is the text that is told
+-- an outcome that isn't Unavailable is the answer's text
 told_line : (told : Told) (o : Outcome) → IsOutcome told o → is_unavailable o ≡ false → line_of o ≡ text_of told ++ line_feed ∷ []
 told_line told (outcome.Answered text) is answered = ap (λ t. text_of t ++ line_feed ∷ []) (sym is)
 told_line told (outcome.Refused refusal text) is answered = ap (λ t. text_of t ++ line_feed ∷ []) (sym is)
 told_line told (outcome.Unavailable fault) is answered = absurd (true≢false answered)
 
--- what is written of the answers is what the envelopes are told
+-- what is written of the answers is the answers of the envelopes
 answers_written : (c : Settings) (heard es : List Envelope) (os : List Outcome) → AreAnswers c heard es os → flat_map line_of os ≡ answer_envelopes c heard es
 answers_written c heard [] [] are = refl
 answers_written c heard (e ∷ es) (o ∷ os) are =
@@ -46,7 +46,7 @@ answers_written c heard (e ∷ es) (o ∷ os) are =
 answers_written c heard [] (o ∷ os) are = absurd are
 answers_written c heard (e ∷ es) [] are = absurd are
 
--- the message in doubt is the one after those that were answered, or none is
+-- the in-flight message is the one after those that were answered, or there is none
 in_doubt : (es : List Envelope) (os : List Outcome) (stopped : Option StoreFault)
     → (doubt_at_stop es os stopped ≡ None) ⊎ (doubt_at_stop es os stopped ≡ slice_get es (length os))
 in_doubt [] os stopped = inl refl
@@ -145,7 +145,7 @@ module _ (c : Settings) (heard : List Envelope) (sender : List ℕ) (Kept : List
   no_memory : ((input : List ℕ) × Consumes rest_before rest input) → ImportEndsBy c heard sender Kept Left rest_before rest before before (end.Unavailable store.Memory)
   no_memory read = (nothing_imported (Appends before before) read (Appends-nil before), tt)
 
-  -- the input couldn't be read, or not be kept
+  -- the input couldn't be read, or memory for it ran out
   pub no_text : (e : ImportEnd) → (e ≡ end.Read) ⊎ (e ≡ end.Unavailable store.Memory) → ((input : List ℕ) × Consumes rest_before rest input)
       → ImportEndsBy c heard sender Kept Left rest_before rest before before e
   no_text e is read = elim is [
@@ -153,7 +153,7 @@ module _ (c : Settings) (heard : List Envelope) (sender : List ℕ) (Kept : List
     | inr memory ↦ subst (ImportEndsBy c heard sender Kept Left rest_before rest before before) (sym memory) (no_memory read)
   ]
 
-  -- what was read couldn't be read as a report for want of memory
+  -- memory ran out when the input was read as a report
   pub unread : (input : List ℕ) → Consumes rest_before rest input → ImportEndsBy c heard sender Kept Left rest_before rest before before (end.Unavailable store.Memory)
   unread input read = no_memory (input, read)
 

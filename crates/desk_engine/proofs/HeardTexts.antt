@@ -1,4 +1,4 @@
--- What deliveries leave of what is heard: a heard list, with what they add at its end.
+-- The log after deliveries: a log, with what they add at its end.
 use Rattle.std.proofs.Common.{◌≡◌, ◌∙◌, ℕ, ◌<◌, Bool, true, false, List, [], ◌∷◌, ◌++◌, length, Result, Ok, Err, cond, refl, ap, sym, append-nil, append_assoc}
 use Rattle.std.specs.Prelude.{nat_lt, not, ◌&&◌}
 use Rattle.registry_core.specs.declared.messages.Envelope.{Envelope}

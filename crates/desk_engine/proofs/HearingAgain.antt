@@ -1,4 +1,4 @@
--- What was told stays, and the same texts again are told the same.
+-- An answer that was given stays, and the same texts get the same answers again.
 use Rattle.std.proofs.Common.{◌≡◌, ℕ, Bool, true, false, List, [], ◌∷◌, ◌++◌, map, Option, Some, None, Result, Ok, Err, refl, ap, sym, ◌∙◌}
 use Rattle.std.specs.Prelude.{IfOk, is_some, find, if◌then◌else◌}
 use Rattle.std.specs.List.{AllByRecursion}
@@ -83,7 +83,7 @@ record Again (c : Settings) (before after : List Envelope) (e : Envelope) : Type
   reply : reply_to c after e ≡ reply_to c before e
   stays : heard_with c after e ≡ after
 
--- where its pair has a place, that tells what it is replied, and nothing is heard
+-- if its transaction number has a place, that determines its answer, and nothing is heard
 placed : (c : Settings) (before after : List Envelope) (e : Envelope) (kept : Envelope × Answer) → is_sender (state_of c before) e.sender ≡ true → is_sender (state_of c after) e.sender ≡ true
     → pair_place c before e ≡ Some kept → pair_place c after e ≡ Some kept → Again c before after e
 placed c before after e kept known_before known_after at_before at_after = record {
@@ -156,7 +156,7 @@ all_extend stay c heard (text ∷ texts) none =
     let next : List Envelope = heard_after c heard (delivered text) in
     further c heard next (heard_all c next (map delivered texts)) (read_extends stay c heard (envelope_of_text c text) none.0) (all_extend stay c next texts none.1)
 
--- from a list that extends what the texts leave, they are told the same, and it stays
+-- from a log that extends what the texts leave, they get the same answers, and it stays
 each_again : (same : SameMessageTells) (stay : SendersStay) (c : Settings) (before after : List Envelope) (texts : List (List ℕ)) → AddNoSender c texts
     → Extends c (heard_all c before (map delivered texts)) after → (told_each c after texts ≡ told_each c before texts) × (heard_all c after (map delivered texts) ≡ after)
 unfolding AddNoSender

@@ -125,7 +125,7 @@ module _ {K : Type 0} (m : Meaning K) where
 
   -- ---- all
 
-  -- a call that told what the store knew found it up
+  -- a store whose look-up succeeded wasn't failed
   pub found_up : (old : K) (r : Result Loaded StoreFault) (found : Loaded) → TellsDown m old r → r ≡ Ok found → m.down old ≡ false
   found_up old r found down is = was_up m old r down (ap is_ok is)
 

@@ -36,14 +36,14 @@ use Rattle.desk_engine.proofs.KeptAfter.{length-kept_after}
 use Rattle.desk_engine.proofs.Places.{cases_option, entry_of-entries_of, has_pair-pair_place, no_place, same_envelope, stands_for}
 use Rattle.desk_engine.proofs.Replies.{heard_with-new, reply-known, reply-stranger}
 
--- ---- what is said
+-- ---- the cases
 
 pub says_outcome : (told : Told) (o : Outcome) → Says told o → IsOutcome told o
 says_outcome told (Answered text) said = said
 says_outcome told (Refused refusal text) said = said
 says_outcome told (Unavailable fault) said = subst IsUnavailability (sym said) tt
 
--- an outcome that tells no fault but want of memory
+-- an outcome whose only error may be out of memory
 pub record IsQuiet (o : Outcome) : Type 0 where
   pub disk : is_disk (outcome_fault o) ≡ false
   pub foreign : is_foreign (outcome_fault o) ≡ false
@@ -82,7 +82,7 @@ repeats_refused c e message answer (Unavailable fault) said = tt
 pub says_at : (a b : Settings) (told : Settings → Told) (o : Outcome) → a ≡ b → Says (told a) o → Says (told b) o
 says_at a b told o same said = subst (λ c. Says (told c) o) same said
 
--- ---- a stranger
+-- ---- an unknown sender
 
 pub stranger_outcome : (c : Settings) (heard : List Envelope) (e : Envelope) (o : Outcome) → is_sender (state_of c heard) e.sender ≡ false
     → Says (told_of_refusal c UnknownSender (Some (head_of_envelope e))) o → IsOutcome (told_of_envelope c heard e) o
@@ -221,7 +221,7 @@ pub decided_by : (c own : Settings) (heard : List Envelope) (e : Envelope) (view
 decided_by c own heard e view effect message answer m a its messaged answered made = rw (messaged, answered)
     (subst (λ s. IsHeard s heard → entry_of e (entries_of s heard) ≡ None → IsView s (state_of s heard) e view → IsDecided s heard e effect message answer) its made)
 
--- after a fault the store holds what it held, and the message is in doubt where the fault is the disk's
+-- after an error the store represents what it did, and the message is in flight if the error is `Disk`
 pub survives_fault : {K : Type 0} (m : Meaning K) (c : Settings) (new : K) (heard : List Envelope) (e : Envelope) (fault : StoreFault)
     → m.down new ≡ is_disk (Some fault)
     → (m.down new ≡ false → m.leaves new (kept_after c heard ∷ []))

@@ -46,7 +46,7 @@ module _ {K : Type 0} (m : Meaning K) where
     rests = λ stored sound rests. rests;
   }
 
-  -- what a crash leaves stays, with its doubt
+  -- what a crash leaves stays, with its in-flight message
   pub survives_reads : (c : Settings) (heard : List Envelope) (doubt now : Option Envelope) (old new : K) (fault : Option StoreFault)
       → IsRead m old new fault → m.sound new → m.holds old (kept_after c heard)
       → Survives m c old heard doubt → Survives m c new heard (doubt_after (m.down old) doubt now)

@@ -28,7 +28,7 @@ answers-push c heard (x ∷ xs) (y ∷ ys) e o all one is = (all.0, all.1, answe
 answers-push c heard [] (y ∷ ys) e o all one is = absurd all
 answers-push c heard (x ∷ xs) [] e o all one is = absurd all
 
--- ---- what wasn't Unavailable tells no fault
+-- ---- outcomes that aren't Unavailable have no error
 
 pub is_answered : (o : Outcome) → ((fault : StoreFault) → o ≡ Unavailable fault → ⊥) → is_unavailable o ≡ false
 is_answered (Answered text) other = refl
@@ -85,7 +85,7 @@ module _ {K : Type 0} (m : Meaning K) where
       doubt_at : Envelope → Option Envelope
       doubt_at x = if is_disk (Some fault) then Some x else None
 
-  -- an import that heard all leaves no doubt
+  -- an import that heard all leaves no message in flight
   pub import_ends : (old new : K) (es : List Envelope) (os : List Outcome) (done : List Envelope)
       → Hears m old new false false (λ c heard. heard_in_order c heard done) (λ c. None)
       → Hears m old new false false (λ c heard. heard_in_order c heard done) (λ c. doubt_at_stop es os None)

@@ -12,7 +12,7 @@ use Rattle.std.proofs.lemmas.List.Quantifiers.{position-Some}
 use Rattle.std.proofs.lemmas.List.Sums.{fails_before_first}
 use Rattle.desk_engine.specs.Lines.{InputsAreCut, cut, has_line_feed, input_of, line_feed, with_octet}
 
--- the parts make the input, and no LF stands in any of them
+-- the parts make the input, and none of them has an LF
 abbrev IsParted : List ℕ → List (List ℕ) × List ℕ → Type 0
 IsParted input c = (input ≡ input_of c.0 c.1) × (list_any has_line_feed c.0 ≡ false) × (has_line_feed c.1 ≡ false)
 
@@ -55,13 +55,13 @@ inputs_are_cut input lines rest = (
 abbrev is_line_feed : ℕ → Bool
 is_line_feed octet = octet == line_feed
 
--- no LF stands before it
+-- there is no LF before it
 none_before : (octets : List ℕ) (n : ℕ) → n ≤ position_or_len is_line_feed octets → has_line_feed (take n octets) ≡ false
 none_before octets n within = list_any_none is_line_feed (take n octets) (All-from_get_or (λ x. is_line_feed x ≡ false) (take n octets) 0 (λ i inside.
     let below : i < n = omega (arith, length-take n octets) in
     ap is_line_feed (get_or-take n octets i 0 below) ∙ fails_before_first is_line_feed octets i 0 (omega arith)))
 
--- what stands before it, and what stands after it
+-- what precedes it, and what follows it
 pub parted_at : (octets : List ℕ) (place : ℕ) → position is_line_feed octets ≡ Some place
     → (octets ≡ take place octets ++ line_feed ∷ drop (place + 1) octets) × (has_line_feed (take place octets) ≡ false)
 parted_at octets place is =

@@ -1,4 +1,4 @@
--- What one more envelope makes of what is kept.
+-- What one more envelope makes of what a store represents.
 use Rattle.std.proofs.Common.{◌≡◌, ℕ, false, suc, List, [], ◌∷◌, ◌++◌, length, map, refl, ap, sym, subst, ◌∙◌}
 use Rattle.std.proofs.lemmas.List.{map-append}
 use Rattle.registry_core.specs.declared.answers.Answer.{Answer}
@@ -28,7 +28,7 @@ length-answers_after : (c : Settings) (s : State) (heard : List Envelope) → le
 length-answers_after c s [] = refl
 length-answers_after c s (h ∷ hs) = ap suc (length-answers_after c (step c s h).0 hs)
 
--- a store keeps as many entries as were heard
+-- a store has as many entries as messages were heard
 pub length-kept_after : (c : Settings) (heard : List Envelope) → length (kept_after c heard).entries ≡ length heard
 unfolding kept_after
 length-kept_after c heard = length-answers_after c (opening c) heard
@@ -46,7 +46,7 @@ with_own_texts c heard e = λ i. made
     (sym (state_after-push c (opening c) heard e) i)
     (sym (ap (map (entry_at c)) (answers_after-push c (opening c) heard e) ∙ map-append (entry_at c) (answers_of c heard) _) i)
 
--- what a step makes of a kept list, with its texts, is what is kept of the list with the envelope
+-- what a step makes of the state after a log, with its texts, is the state after the log with the envelope
 pub with_entry-kept_after : (c : Settings) (heard : List Envelope) (e : Envelope) (message : List ℕ) (d : Decision) (text : List ℕ)
     → d ≡ decision_of c (state_of c heard) e → message ≡ message_text c.receiver e → text ≡ answer_text c.receiver (head_of_envelope e) d.1
     → with_entry (kept_after c heard) e message d.0 text ≡ kept_after c (heard ++ e ∷ [])
@@ -56,16 +56,16 @@ with_entry-kept_after c heard e message d text decided messaged answered =
     ∙ ap (λ (x : Decision). kept_with c heard e (message_text c.receiver e) x (answer_text c.receiver (head_of_envelope e) x.1)) decided
     ∙ with_own_texts c heard e
 
--- and it goes by the registry's rules
+-- and it satisfies the registry's rules
 pub rules_of : RulesAreKept → (c : Settings) (heard : List Envelope) (kept : Kept) → kept_after c heard ≡ kept → GoesByRules kept.facts
 unfolding kept_after
 rules_of law c heard kept same = subst (λ (k : Kept). GoesByRules k.facts) same (law c heard)
 
--- a store that is up holds one thing at most
+-- a store that isn't failed represents at most one thing
 abbrev pub HoldsOne : {K : Type 0} → Meaning K → Type 0
 HoldsOne {K} m = (keeper : K) (a b : Kept) → m.sound keeper → m.down keeper ≡ false → m.holds keeper a → m.holds keeper b → a ≡ b
 
--- so what a store holds that is in order goes by the rules
+-- so what a store represents satisfies the rules, if it is that of a log
 pub holds_rules : {K : Type 0} (m : Meaning K) → HoldsOne m → RulesAreKept → (c : Settings) (heard : List Envelope) (keeper : K) → m.sound keeper
     → IsInOrder m c keeper heard → HoldsRules m keeper
 holds_rules m one law c heard keeper sound order = λ kept up held.

@@ -88,7 +88,7 @@ next_line xs ys =
 pub beginning-refl : (lines : List (List ℕ)) → IsBeginning lines lines
 beginning-refl lines = ([], sym (append-nil lines))
 
--- the lines up to an LF, the last of which it ends
+-- the lines up to an LF, which ends the last of them
 pub beginning-ended : (input more : List ℕ) → IsBeginning (all_lines input) (all_lines ((input ++ line_feed ∷ []) ++ more))
 beginning-ended input more =
     subst (λ lines. IsBeginning lines (all_lines ((input ++ line_feed ∷ []) ++ more))) (whole_lines-line_feed input)

@@ -1,4 +1,4 @@
--- A line so long that it is no message is told the same where it is cut.
+-- A line too long for a message gets the same answer if it is cut off.
 use Rattle.std.proofs.Common.{◌≡◌, ◌+◌, ◌-◌, ℕ, List, [], ◌∷◌, ◌++◌, true, false, nat_lt, length, take, append-nil, refl, sym, ap, ◌∙◌, inl, inr, arith}
 use Rattle.std.proofs.lemmas.Bool.{lt-ltb, cases_lt}
 use Rattle.std.proofs.Math.Seq.{take-append-add}
@@ -12,7 +12,7 @@ use Rattle.desk_engine.specs.Outcomes.{doubt_of_text, doubt_read}
 use Rattle.desk_engine.specs.steps.Lines.{line_with, part}
 use Rattle.desk_engine.specs.Told.{longest_message, envelope_of_text, told_of_read, text_of}
 
--- what is kept with some octets more is what is kept of them all
+-- the buffer with some more octets is the buffer of them all
 pub line_with-part : (line octets : List ℕ) → line_with (part line) octets ≡ part (line ++ octets)
 line_with-part line octets = elim (cases_lt longest_message (length line)) [
   | inl long ↦

@@ -41,7 +41,7 @@ doubt_again : (b : Bool) (doubt now : Option Envelope) → doubt_after b (doubt_
 doubt_again true doubt now = refl
 doubt_again false doubt now = refl
 
--- only Unavailable for a fault of the disk leaves a doubt
+-- only Unavailable after a disk error leaves a message in flight
 no_doubt_read : (r : Result Envelope WireFault) (o : Outcome) → is_unavailable o ≡ false → doubt_read r o ≡ None
 no_doubt_read (Ok e) (outcome.Answered text) u = refl
 no_doubt_read (Ok e) (outcome.Refused refusal text) u = refl
@@ -93,7 +93,7 @@ module _ {K : Type 0} (m : Meaning K) (c : Settings) where
     answers = subst (Appends w v) (sym (answer_lines-append c heard lines more)) (Appends-trans w u v _ _ first.answers second.answers);
   }
 
-  -- ---- the kept part of a line for the whole
+  -- ---- the buffered part of a line in place of the whole
 
   hears-whole : (heard : List Envelope) (old new : K) (line : List ℕ) (now : Option Envelope) → HasHeardLines m c heard old new (part line ∷ []) now
       → HasHeardLines m c heard old new (line ∷ []) now
@@ -123,7 +123,7 @@ module _ {K : Type 0} (m : Meaning K) (c : Settings) where
   takes-heard T heard old new w v x line text (Err Write) told hears written failed = ((λ e. cc), hears)
   takes-heard T heard old new w v x line text (Err (Unavailable fault)) told hears written failed = cc
 
-  -- it was told this
+  -- it got this answer
   pub takes-told : (T : Type 0) (heard : List Envelope) (old new : K) (w v : Option (List ℕ)) (line text : List ℕ) (o : Outcome) (r : Result T Stop)
       → (length line == 0) ≡ false → is_unavailable o ≡ false → text_of (told_of_text c heard line) ≡ text → IsInOrder m c new (heard_after c heard (delivery_of_line line))
       → ((doubt : Option Envelope) → Survives m c old heard doubt
@@ -162,7 +162,7 @@ module _ {K : Type 0} (m : Meaning K) (c : Settings) where
         size,
       )
 
-  -- ---- where a run stands
+  -- ---- how far a run has read
 
   -- the last line was answered
   pub ends-done : (heard : List Envelope) (start mid new : K) (w u v : Option (List ℕ)) (input line slice : List ℕ)
@@ -225,7 +225,7 @@ module _ {K : Type 0} (m : Meaning K) (c : Settings) where
   goes-stopped T stop heard start mid new w u v input line slice stands same took more =
       ends-stopped T stop heard start mid new w u v input ((input ++ line_feed ∷ []) ++ more) line slice (cuts.beginning-ended input more) stands same took
 
-  -- other octets were kept
+  -- other octets were buffered
   pub goes-on : (heard : List Envelope) (start mid : K) (w u : Option (List ℕ)) (input line octets next : List ℕ)
       → has_line_feed octets ≡ false → next ≡ line_with line octets
       → HasReadTo m c heard start mid w u input line

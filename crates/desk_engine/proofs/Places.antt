@@ -1,4 +1,4 @@
--- Where an envelope's pair stands in a heard list.
+-- Where a sender and transaction number are in a log.
 use Rattle.std.proofs.Common.{◌≡◌, true, false, cond, List, [], ◌∷◌, ◌++◌, map, Option, Some, None, refl, ap, sym, ◌∙◌, subst}
 use Rattle.std.specs.Prelude.{◌⊎◌, ◌||◌, option_map, is_some, unwrap_or}
 use Rattle.std.specs.List.{find, list_any}
@@ -50,7 +50,7 @@ no_place c heard e none = elim (cases_option (pair_place c heard e)) [
   | inr found ↦ let k : None ≡ Some (entry_at c found.0) = sym none ∙ entry_of-entries_of c heard e ∙ ap (option_map (entry_at c)) found.1 in cc
 ]
 
--- what stands at a place that was found
+-- what is at a place that was found
 pub record StandsFor (e other : Envelope) : Type 0 where
   pub in_range : IsEnvelope other
   pub pair : same_pair e other ≡ true

@@ -72,7 +72,7 @@ placed c s (h ∷ hs) e x at =
 
 -- ---- the earlier delivery
 
--- what an answer says of the envelope after it
+-- what follows of an answer for the envelope after it
 record IsKept (c : Settings) (after : List Envelope) (e : Envelope) (text : List ℕ) : Type 0 where
   answer : Answer
   at : IsHeardAt c after e answer

@@ -55,7 +55,7 @@ module _ (tells_clear : IsClearTells) (tells_hours : HoursWithinTells) (s : Stat
   abbrev limit : ℕ
   limit = limit_standing s gateway band
 
-  -- they hold where there is room
+  -- they pass if there is room
   abbrev added : ℕ → Checked Decision
   added n = down_added s number gateway band start (new n)
 
@@ -72,7 +72,7 @@ module _ (tells_clear : IsClearTells) (tells_hours : HoursWithinTells) (s : Stat
       by true false e f = rw (e, f) (λ ok. cc)
       by false b e f = rw e (λ ok. cc)
 
-  -- no microsecond has room in each state whose hours are kept
+  -- a length of no microseconds has room in each state whose hours are within their limits
   in_none : (x : ℤ) → is_in (new 0) x ≡ false
   in_none x = grind (arith, ints)
 
@@ -140,7 +140,7 @@ last_two c s number gateway window octets uplink copy band there heard lies =
     after_wants last (goes_to (address_of c uplink.session) down) UnknownDevAddr _ refl (after_wants last (not (is_answered s.bookings number)) Answered _ refl
     (after_wants last (counts_as (next_down s.bookings s.uplinks uplink.session) down) DownCounter _ refl (after_known last (band_at rate.freq rate.dr) band OutOfBand _ refl lies (λ air. refl))))))))
 
--- it is booked where both hold
+-- it is booked if both pass
 books_where : (s : State) (number : ℕ) (gateway : List ℕ) (band : Band) (start : ℕ) (span : Interval)
     → tells_booking (decision_or_refusal (down_added s number gateway band start span)).1 ≡ is_ok (down_added s number gateway band start span)
 unfolding down_added

@@ -1,4 +1,4 @@
--- Every band has a room, and the lines say which.
+-- Every band has a room, and the lines have it.
 use Rattle.std.proofs.Common.{◌≡◌, ◌⊎◌, ◌∙◌, inl, inr, ℕ, zero, suc, ◌≤◌, Bool, true, false, List, [], ◌∷◌, ◌++◌, ap, refl, subst, arith}
 use Rattle.std.specs.Prelude.{ℤ, pos, ◌-ℤ◌, ◌&&◌}
 use Rattle.std.proofs.lemmas.Bool.{and_parts}
@@ -85,7 +85,7 @@ band_line_is clear hours order unique time near band limit all of_band spans sta
 
 -- ---- the report
 
--- a state that was heard keeps what the near ones rest on
+-- the state after a log satisfies what makes the near downlinks suffice
 pub keeps_air : DownlinksAreShort → RulesAreKept → (c : Settings) (heard : List Envelope) → KeepsAir (kept_after c heard).facts
 unfolding kept_after
 keeps_air short rules c heard = record { short = short c heard; hours = (rules c heard).hours }

@@ -31,7 +31,7 @@ outcomes-push c heard (x ∷ xs) (y ∷ ys) t o all one = (all.0, outcomes-push 
 outcomes-push c heard [] (y ∷ ys) t o all one = absurd all
 outcomes-push c heard (x ∷ xs) [] t o all one = absurd all
 
--- ---- the message in doubt
+-- ---- the in-flight message
 
 pub has_disk-push : (os : List Outcome) (o : Outcome) → has_disk (os ++ o ∷ []) ≡ (has_disk os || is_disk (outcome_fault o))
 has_disk-push [] o = elim (is_disk (outcome_fault o)) as (λ b. (b || false) ≡ b) [ true ↦ refl | false ↦ refl ]
@@ -84,7 +84,7 @@ module _ {K : Type 0} (m : Meaning K) where
   delivered-push c heard old mid new [] (y ∷ ys) t o all told one = absurd all
   delivered-push c heard old mid new (x ∷ xs) [] t o all told one = absurd all
 
-  -- what a run has told, of a store that was in order
+  -- the outcomes so far of a run, on a store that represented a log
   pub record HasTold (c : Settings) (heard : List Envelope) (old mid : K) (ts : List (List ℕ)) (os : List Outcome) : Type 0 where
     pub outcomes : AreOutcomes c heard ts os
     pub delivered : AreDelivered m c heard old mid ts os
@@ -110,7 +110,7 @@ module _ {K : Type 0} (m : Meaning K) where
   most_heard_at_sizes unsized c heard old new [] (o ∷ os) told = absurd told
   most_heard_at_sizes unsized c heard old new (t ∷ ts) [] told = absurd told
 
--- what the texts say, as far as the loop has come
+-- the texts, as far as the loop has come
 pub seen_more : (ts : List (Bor (List ℕ))) (i : ℕ) (d : Bor (List ℕ)) → i < length ts → map (λ t. t.now) (take (i + 1) ts) ≡ map (λ t. t.now) (take i ts) ++ (get_or ts i d).now ∷ []
 seen_more ts i d within = ap (map (λ (t : Bor (List ℕ)). t.now)) (take_more ts i d within) ∙ map-append (λ (t : Bor (List ℕ)). t.now) (take i ts) (get_or ts i d ∷ [])
 

@@ -39,7 +39,7 @@ unread c heard wanted (UnknownType head) o is said = with_fault c heard wanted (
 unread c heard wanted (BadBody head) o is said = with_fault c heard wanted (BadBody head) o is said
 unread c heard wanted Memory o is said = subst (IsUnread c heard wanted) (sym said) (without_memory c heard wanted)
 
--- it tells no fault but want of memory, and refuses what isn't heard
+-- its only error may be out of memory, and it refuses what isn't heard
 pub record IsRefusedText (o : Outcome) : Type 0 where
   pub quiet : IsQuiet o
   pub refused : IfRefused o IsUnheard

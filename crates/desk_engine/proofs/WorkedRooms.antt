@@ -28,7 +28,7 @@ down_at band time = record { uplink = 1; gateway = gw_a; band = band; span = rec
 abbrev with_bookings : List Booking → State
 with_bookings bookings = record (opening desk) { gateways = λ _. true; bookings = bookings }
 
--- the last two checks of a DownBook hold for a downlink of this length that begins then
+-- the last two checks of a DownBook pass for a downlink of this length that begins then
 abbrev has_room : State → Band → ℕ → ℕ → Bool
 has_room s band time n = is_ok (down_added s 1 gw_a band time (record { start = pos time; len = n }))
 

@@ -1,4 +1,4 @@
--- A gateway report, heard in order: what was heard of it and what was written for it, by how it ended.
+-- A gateway report whose records are heard in order: what was heard and what was written, by how the import ended.
 use Rattle.std.specs.Prelude.{◌≡◌, ◌⊎◌, ℕ, List, [], ◌∷◌, ◌++◌, Option, Some, None, Ok, Err, slice_get, take, ⊤}
 use Rattle.std.specs.Io.KnownBytes.{Appends, Consumes, IsAtEnd, Keeps}
 use Rattle.registry_core.specs.declared.messages.Envelope.{Envelope}
@@ -15,22 +15,23 @@ use Rattle.desk_engine.specs.Importing.{heard_in_order}
 use Rattle.desk_engine.specs.Lines.{line_feed}
 use Rattle.desk_engine.specs.Told.{told_of_envelope, text_of}
 
--- what the envelopes are told, in order, each text with an LF
+-- the answers of the envelopes in order, each text with an LF
 abbrev pub answer_envelopes : Settings → List Envelope → List Envelope → List ℕ
 answer_envelopes c heard [] = []
 answer_envelopes c heard (e ∷ es) = text_of (told_of_envelope c heard e) ++ line_feed ∷ answer_envelopes c (heard_with c heard e) es
 
--- why the store was unavailable for a record
+-- the store's error, if the store was unavailable for a record
 abbrev pub fault_of_import : ImportEnd → Option StoreFault
 fault_of_import (Unavailable fault) = Some fault
 fault_of_import (Write fault) = fault
 fault_of_import _ = None
 
--- What had been heard, and by whom the report is; what says that these are kept, and that these are left, or these with one more;
--- what a reader has left before and after, and what a writer holds before and after.
+-- `heard` is the log before, and `sender` the message sender of the records. `Kept` states that the store represents a log, and `Left` the
+-- same with a possible in-flight message. `left` and `rest` are what the reader has left before and after, `before` and `after` what the
+-- writer has before and after.
 module _ (c : Settings) (heard : List Envelope) (sender : List ℕ) (Kept : List Envelope → Type 0) (Left : List Envelope → Option Envelope → Type 0)
     (left rest before after : Option (List ℕ)) where
-  -- every record was heard, and of their answers this was written
+  -- every record was heard, and this was written of their answers
   pub record ImportsAll (Written : List ℕ → Type 0) : Type 0 where
     pub input : List ℕ
     pub read : Consumes left rest input
@@ -40,7 +41,7 @@ module _ (c : Settings) (heard : List Envelope) (sender : List ℕ) (Kept : List
     pub kept : Kept (heard_in_order c heard envelopes)
     pub answers : Written (answer_envelopes c heard envelopes)
 
-  -- The input is no report: nothing of it was heard, and nothing was written. Of one that is too long only the first octets were read.
+  -- The input is not a report: no record was heard, and nothing was written. If it is too long, only its first octets were read.
   pub record RefusesReport (why : CsvFault) : Type 0 where
     pub input : List ℕ
     pub read : Consumes left rest input
@@ -48,7 +49,7 @@ module _ (c : Settings) (heard : List Envelope) (sender : List ℕ) (Kept : List
     pub kept : Kept heard
     pub answers : Keeps before after
 
-  -- The first records were heard, and of them this was written. The next is the one in doubt.
+  -- The first records were heard, and this was written of their answers. A disk error leaves the next record in flight.
   pub record ImportsFirst (Written : List ℕ → Type 0) : Type 0 where
     pub input : List ℕ
     pub read : Consumes left rest input
@@ -60,7 +61,7 @@ module _ (c : Settings) (heard : List Envelope) (sender : List ℕ) (Kept : List
     pub left_is : Left (heard_in_order c heard (take count envelopes)) doubt
     pub answers : Written (answer_envelopes c heard (take count envelopes))
 
-  -- by how it ended
+  -- what is true of an import, by how it ended
   abbrev pub ImportEndsBy : ImportEnd → Type 0
   ImportEndsBy Done = ImportsAll (Appends before after)
   ImportEndsBy (NoReport Memory) = ⊥

@@ -1,4 +1,4 @@
--- What is heard of deliveries.
+-- The log after deliveries.
 use Rattle.std.specs.Prelude.{ℕ, Bool, List, [], ◌∷◌, Result, Ok, Err, if◌then◌else◌}
 use Rattle.registry_core.specs.declared.messages.Envelope.{Envelope}
 use Rattle.registry_core.specs.Heard.{heard_with}
@@ -11,7 +11,7 @@ pub record Delivery : Type 0 where
   pub text : List ℕ
   pub unavailable : Bool
 
--- what is heard with one more envelope, unless it was answered Unavailable
+-- the log with one more envelope, unless that was answered Unavailable
 abbrev pub heard_unless : Bool → Settings → List Envelope → Envelope → List Envelope
 heard_unless unavailable c heard e = if unavailable then heard else heard_with c heard e
 
@@ -19,11 +19,11 @@ abbrev pub heard_read : Bool → Settings → List Envelope → Result Envelope 
 heard_read unavailable c heard (Ok e) = heard_unless unavailable c heard e
 heard_read unavailable c heard (Err fault) = heard
 
--- what is heard with one more delivery
+-- the log after one more delivery
 abbrev pub heard_after : Settings → List Envelope → Delivery → List Envelope
 heard_after c heard d = heard_read d.unavailable c heard (envelope_of_text c d.text)
 
--- what is heard after the deliveries
+-- the log after the deliveries
 abbrev pub heard_all : Settings → List Envelope → List Delivery → List Envelope
 heard_all c heard [] = heard
 heard_all c heard (d ∷ ds) = heard_all c (heard_after c heard d) ds

@@ -6,9 +6,9 @@ use Rattle.desk_store.specs.Calls.{IsCall}
 use Rattle.desk_store.specs.Meaning.{Meaning}
 use Rattle.desk_engine.specs.InOrder.{HoldsRules, IsInOrder, Survives, WasInOrder, doubt_after}
 
--- The calls told a fault of the disk or none, and that what is stored is no desk's or not. Where the store was in order for
--- a heard list, it ends in order for what `after` makes of it; a crash then leaves that, or that with the message in doubt;
--- and what it holds goes by the registry's rules.
+-- `disk` and `foreign` state whether one of the calls returned `Disk` or `NotADesk`. If the store represented a log, it represents the log
+-- that `after` makes of it. A crash then leaves that log, or that log with the in-flight message. What the store represents satisfies the
+-- registry's rules.
 pub record Hears {K : Type 0} (m : Meaning K) (old new : K) (disk foreign : Bool) (after : Settings → List Envelope → List Envelope) (doubtful : Settings → Option Envelope) : Type 0 where
   pub call : IsCall m old new disk foreign
   pub order : (c : Settings) (heard : List Envelope) → WasInOrder m c heard old new → IsInOrder m c new (after c heard)
@@ -16,15 +16,15 @@ pub record Hears {K : Type 0} (m : Meaning K) (old new : K) (disk foreign : Bool
       → Survives m c new (after c heard) (doubt_after (m.down old) doubt (doubtful c))
   pub rules : (c : Settings) (heard : List Envelope) → WasInOrder m c heard old new → HoldsRules m new
 
--- ---- the same, of a call that told what came of it
+-- ---- the same, of a call that returned how it ended
 
 module _ {K : Type 0} (m : Meaning K) (c : Settings) (heard : List Envelope) (old new : K) where
-  -- it is in order for what is heard now, and a crash leaves that, or that with the message in doubt
+  -- the store represents this log, and a crash leaves it, or it with the in-flight message
   pub record StoreLeaves (after : List Envelope) (now : Option Envelope) : Type 0 where
     pub order : IsInOrder m c new after
     pub crash : (doubt : Option Envelope) → Survives m c old heard doubt → Survives m c new after (doubt_after (m.down old) doubt now)
 
-  -- no fault of the disk has shut it, and a crash leaves that alone
+  -- the store is failed only if it was before, and a crash leaves this log
   pub record StoreKeeps (after : List Envelope) : Type 0 where
     pub leaves : StoreLeaves after None
     pub still : m.down new ≡ m.down old

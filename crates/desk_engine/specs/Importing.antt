@@ -9,19 +9,19 @@ use Rattle.desk_engine.specs.declared.outcomes.Outcome.{Outcome}
 use Rattle.desk_engine.specs.Outcomes.{IsOutcome, is_unavailable}
 use Rattle.desk_engine.specs.Told.{told_of_envelope}
 
--- what is heard after the envelopes, one after another
+-- the log after the envelopes, one after another
 abbrev pub heard_in_order : Settings → List Envelope → List Envelope → List Envelope
 heard_in_order c heard [] = heard
 heard_in_order c heard (e ∷ es) = heard_in_order c (heard_with c heard e) es
 
--- each answer is what its envelope is told after the ones before it, and none is Unavailable
+-- each outcome is the answer of its envelope after the ones before it, and none is Unavailable
 abbrev pub AreAnswers : Settings → List Envelope → List Envelope → List Outcome → Type 0
 AreAnswers c heard [] [] = Unit {0}
 AreAnswers c heard (e ∷ es) (o ∷ os) = IsOutcome (told_of_envelope c heard e) o × (is_unavailable o ≡ false) × AreAnswers c (heard_with c heard e) es os
 AreAnswers c heard [] (o ∷ os) = ⊥
 AreAnswers c heard (e ∷ es) [] = ⊥
 
--- the message that a fault of the disk leaves in doubt: the first without an answer
+-- the in-flight message after a disk error: the first with no answer
 abbrev pub doubt_at_stop : List Envelope → List Outcome → Option StoreFault → Option Envelope
 doubt_at_stop [] os stopped = None
 doubt_at_stop (e ∷ es) [] stopped = if is_disk stopped then Some e else None

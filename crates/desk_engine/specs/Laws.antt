@@ -1,4 +1,4 @@
--- Laws of what is heard of texts.
+-- Laws of the log after deliveries.
 use Rattle.std.specs.Prelude.{◌≡◌, ℕ, ◌<◌, ◌||◌, Bool, false, List, [], ◌∷◌, ◌++◌, length, map, All, Option, Some, None, IfOk, if◌then◌else◌}
 use Rattle.registry_core.specs.declared.answers.Answer.{Answer}
 use Rattle.registry_core.specs.declared.messages.Envelope.{Envelope}
@@ -14,19 +14,20 @@ use Rattle.desk_engine.specs.Deliveries.{Delivery, heard_after, heard_all}
 use Rattle.desk_engine.specs.Hearing.{Hears}
 use Rattle.desk_engine.specs.Told.{Told, envelope_of_text, told_of_envelope, told_of_text}
 
--- one more delivery leaves a heard list, while there is room
+-- a log with one more delivery is a log, as long as it has fewer messages than it may have
 abbrev pub DeliveriesLeaveHeardLists : Type 0
 DeliveriesLeaveHeardLists = (c : Settings) (heard : List Envelope) (d : Delivery) → IsSettings c → IsHeard c heard → length heard < most_heard
     → IsHeard c (heard_after c heard d)
 
--- deliveries leave what was heard before them at the front
+-- deliveries add to a log at its end only
 abbrev pub DeliveriesAddAtTheEnd : Type 0
 DeliveriesAddAtTheEnd = (c : Settings) (heard : List Envelope) (ds : List Delivery) → (more : List Envelope) × (heard_all c heard ds ≡ heard ++ more)
 
 -- ---- calls in which messages may be heard
 
 module _ {K : Type 0} (m : Meaning K) where
-  -- calls, and then more: what the first heard is heard before what the others heard, and the first fault of the disk leaves its message in doubt
+  -- calls, and then more: the log has what the first heard before what the others heard, and the first disk error determines the in-flight
+  -- message
   abbrev pub CallsHearInOrder : Type 0
   CallsHearInOrder = (old mid new : K) (first_disk first_foreign disk foreign : Bool) (first_after after : Settings → List Envelope → List Envelope) (first_doubt doubtful : Settings → Option Envelope)
       → Hears m old mid first_disk first_foreign first_after first_doubt → Hears m mid new disk foreign after doubtful
@@ -37,13 +38,13 @@ module _ {K : Type 0} (m : Meaning K) where
   ReadsHearNothing = (old new : K) (fault : Option StoreFault) → IsRead m old new fault
       → Hears m old new (is_disk fault) (is_foreign fault) (λ c heard. heard) (λ c. None)
 
-  -- and so does no call
+  -- without a call nothing is heard
   abbrev pub NoCallHearsNothing : Type 0
   NoCallHearsNothing = (keeper : K) → Hears m keeper keeper false false (λ c heard. heard) (λ c. None)
 
--- ---- what was told stays
+-- ---- an answer that was given stays
 
--- whatever is delivered, by whichever sender, the place of an envelope that was heard stays, with the answer that was given there
+-- whatever is delivered, by any sender, an envelope of the log stays at its place, with the answer that was given there
 abbrev pub KeptAnswersStay : Type 0
 KeptAnswersStay = (c : Settings) (heard : List Envelope) (d : Delivery) (e : Envelope) (kept : Envelope × Answer) → pair_place c heard e ≡ Some kept
     → pair_place c (heard_after c heard d) e ≡ Some kept
@@ -54,14 +55,14 @@ KeptAnswersStay = (c : Settings) (heard : List Envelope) (d : Delivery) (e : Env
 abbrev pub delivered : List ℕ → Delivery
 delivered text = record { text = text; unavailable = false }
 
--- An envelope's own text is answered as the envelope is, and hearing the text hears the envelope.
+-- An envelope's own text is answered as the envelope is, and the log after the text is the log after the envelope.
 abbrev pub MessagesAreDelivered : Type 0
 MessagesAreDelivered = (c : Settings) (heard : List Envelope) (e : Envelope) → IsSettings c → IsEnvelope e → let text : List ℕ = message_text c.receiver e in
     (told_of_text c heard text ≡ told_of_envelope c heard e) × (heard_after c heard (delivered text) ≡ heard_with c heard e)
 
 -- ---- the same texts again
 
--- what each text is told, after the ones before it
+-- the answer of each text, after the ones before it
 abbrev pub told_each : Settings → List Envelope → List (List ℕ) → List Told
 told_each c heard [] = []
 told_each c heard (text ∷ texts) = told_of_text c heard text ∷ told_each c (heard_after c heard (delivered text)) texts
@@ -70,8 +71,8 @@ told_each c heard (text ∷ texts) = told_of_text c heard text ∷ told_each c (
 abbrev pub AddsNoSender : Settings → List ℕ → Type 0
 AddsNoSender c text = IfOk (envelope_of_text c text) (λ e. adds_sender e.message ≡ false)
 
--- Texts of which none adds a sender, delivered again at once, and again none of them answered Unavailable, are told what they
--- were told, and leave what is heard as it was.
+-- If no text adds a sender and the texts are delivered again at once, and none is answered Unavailable then either, each gets the answer
+-- that it got, and the log stays the same.
 abbrev pub HeardAgain : Type 0
 HeardAgain = (c : Settings) (heard : List Envelope) (texts : List (List ℕ)) → All (AddsNoSender c) texts → let after : List Envelope = heard_all c heard (map delivered texts) in
     (told_each c after texts ≡ told_each c heard texts) × (heard_all c after (map delivered texts) ≡ after)

@@ -1,4 +1,4 @@
--- A month as its text, and when it begins and ends.
+-- A month as a text, and when it begins and ends.
 use Rattle.std.specs.Prelude.{◌≡◌, ℕ, ◌+◌, ◌*◌, ◌/◌, ◌%◌, List, [], ◌∷◌, ◌++◌, ℤ, pos, ◌+ℤ◌, ◌*ℤ◌, codes}
 use Rattle.std.specs.Int.{IsInRange}
 use Rattle.jiff.specs.Words.{IsYmd, days_in_month, epoch_day}
@@ -19,8 +19,7 @@ day_length = 86400000000
 abbrev pub BeginsAt : ℕ → ℕ → ℤ → Type 0
 BeginsAt year month time = (first : _) × IsYmd (pos year) (pos month) (pos 1) first × (time ≡ epoch_day first *ℤ pos day_length)
 
--- The text is that of a month from 2000-01 to 2099-12 (this project's range), which begins at the one time and ends before
--- the other.
+-- The text is a month from 2000-01 to 2099-12 (this project's range). The month begins at `from` and ends before `to`.
 pub record IsMonth (text : List ℕ) (from to : ℤ) : Type 0 where
   pub year : ℕ
   pub month : ℕ

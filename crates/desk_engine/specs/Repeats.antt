@@ -26,8 +26,8 @@ IsAnsweredAgain answer (Answered text) = text.items ≡ answer
 IsAnsweredAgain answer (Refused refusal text) = ⊥
 IsAnsweredAgain answer (Unavailable fault) = IsUnavailability fault
 
--- Every repeat gets the first answer: where two of the texts are one envelope, with one sender, one transaction number and one
--- message, and the earlier one is answered, the later one is answered with the same octets, or is Unavailable.
+-- Every repeat gets the first answer. Take two texts of the list that are one envelope: the same sender, transaction number and message. If
+-- the earlier one is answered, the later one is answered with the same octets, or is Unavailable.
 abbrev pub RepeatsGetFirstAnswers : Settings → List (List ℕ) → List Outcome → Type 0
 RepeatsGetFirstAnswers c texts outcomes = (earlier later : ℕ) (e : Envelope) (answer : List ℕ) (first again : Outcome) → earlier < later
     → IsDeliveredAt c texts outcomes earlier e first → IsAnswered answer first → IsDeliveredAt c texts outcomes later e again → IsAnsweredAgain answer again

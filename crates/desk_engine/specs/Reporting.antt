@@ -1,4 +1,4 @@
--- What a report answers where there is none.
+-- Why there is no report.
 use Rattle.std.specs.Prelude.{◌≡◌, ℕ, false, List, Option, Some, None, Result, Err}
 use Rattle.registry_core.specs.State.{State}
 use Rattle.desk_store.specs.declared.faults.StoreFault.{StoreFault}
@@ -7,12 +7,12 @@ use Rattle.desk_engine.specs.declared.report_faults.ReportFault.{ReportFault}
 use Rattle.desk_engine.specs.declared.report_faults.ReportFault.TheVariants.{Month, Time, Owner, Gateway, Unavailable}
 use Rattle.desk_engine.specs.Reports.{is_gateway, is_owner}
 
--- the store's fault, if that is why there is no report
+-- the store's error, if that is why there is no report
 abbrev pub store_fault_in : {T : Type 0} → Result T ReportFault → Option StoreFault
 store_fault_in (Err (Unavailable fault)) = Some fault
 store_fault_in _ = None
 
--- why there is no report on an owner, for what is a month
+-- why there is no report on an owner, if the month is one
 abbrev pub IsOwnerFault : State → List ℕ → ReportFault → Type 0
 IsOwnerFault s owner Owner = is_owner s owner ≡ false
 IsOwnerFault s owner (Unavailable fault) = IsUnavailability fault

@@ -1,4 +1,4 @@
--- Reports as texts, octet for octet: what an owner's devices sent in a month, and what a gateway's bands have booked.
+-- Reports as texts, octet for octet: what an owner's devices sent in a month, and what is booked in a gateway's bands.
 use Rattle.std.specs.Prelude.{◌≡◌, ℕ, ◌==◌, Bool, ◌&&◌, List, [], ◌∷◌, ◌++◌, length, IsTrue, ℤ, codes}
 use Rattle.std.specs.Fmt.{decimal}
 use Rattle.std.specs.List.{flat_map, list_any}
@@ -21,22 +21,22 @@ owner_header = codes "dev_eui,uplinks,b1_us,b1_peak_us,b2_us,b2_peak_us,b3_us,b3
 abbrev pub band_columns : Use → List ℕ
 band_columns used = codes "," ++ (decimal used.airtime ++ (codes "," ++ decimal used.peak))
 
--- a device's line: its DevEUI, how many uplinks it sent, and how it used each band
+-- a device's line: its DevEUI, the number of its uplinks, and its use of each band
 unfoldable pub device_line : ℕ → ℕ → (Band → Use) → List ℕ
 device_line dev_eui uplinks used =
     eui_digits dev_eui ++ (codes "," ++ (decimal uplinks ++ (flat_map (λ band. band_columns (used band)) bands ++ line_feed ∷ [])))
 
--- an owner has the name; what has not the form of a name is nobody's
+-- there is an owner of this name; a text without the form of a name is no owner's
 abbrev pub is_owner : State → List ℕ → Bool
 is_owner s name = is_name name && s.owners name
 
--- the report on the owner's devices, by their uplinks, joins and data, that start from the one time on and before the other
+-- the report on the owner's devices, by their uplinks, joins and data, that start at `from` or later and before `to`
 pub record IsOwnerReport (s : State) (owner : List ℕ) (from to : ℤ) (text : List ℕ) : Type 0 where
-  -- the owner's devices, each once, in order of DevEUI
+  -- the owner's devices, each once, ordered by DevEUI
   pub devices : List ℕ
   pub rising : IsStrictlyIncreasing devices
   pub owned : (dev_eui : ℕ) → list_any (λ other. other == dev_eui) devices ≡ is_owned s owner dev_eui
-  -- how each used each band
+  -- each device's use of each band
   pub used : ℕ → Band → Use
   pub used_is : (dev_eui : ℕ) (band : Band) → IsUse (in_band band (uplinks_from s.uplinks s.sessions dev_eui from to)) (used dev_eui band)
   pub text_is : text ≡ owner_header ++ flat_map (λ dev_eui. device_line dev_eui (length (uplinks_from s.uplinks s.sessions dev_eui from to)) (used dev_eui)) devices
@@ -47,7 +47,7 @@ pub record AgreeOn (owner : List ℕ) (s t : State) : Type 0 where
   pub owned : (dev_eui : ℕ) → is_owned s owner dev_eui ≡ is_owned t owner dev_eui
   pub uplinks : (dev_eui : ℕ) (from to : ℤ) → IsTrue (is_owned s owner dev_eui) → uplinks_from s.uplinks s.sessions dev_eui from to ≡ uplinks_from t.uplinks t.sessions dev_eui from to
 
--- then they give the same report
+-- states that agree on an owner give the same report on it
 abbrev pub OwnerReportsAgree : Type 0
 OwnerReportsAgree = (owner : List ℕ) (s t : State) (from to : ℤ) (a b : List ℕ) → AgreeOn owner s t
     → IsOwnerReport s owner from to a → IsOwnerReport t owner from to b → a ≡ b
@@ -57,12 +57,12 @@ OwnerReportsAgree = (owner : List ℕ) (s t : State) (from to : ℤ) (a b : List
 abbrev pub band_header : List ℕ
 band_header = codes "band,limit_us,bookings,booked_us,peak_us" ++ line_feed ∷ []
 
--- a band's line: its number, its limit, and how it is used
+-- a band's line: its number, its limit, and its use
 unfoldable pub band_line : Band → ℕ → Use → List ℕ
 band_line band limit used =
     codes "B" ++ (decimal (band_number band) ++ (codes "," ++ (decimal limit ++ (codes "," ++ (decimal used.count ++ (band_columns used ++ line_feed ∷ []))))))
 
--- a gateway has the name; what has not the form of a name is nobody's
+-- there is a gateway of this name; a text without the form of a name is no gateway's
 abbrev pub is_gateway : State → List ℕ → Bool
 is_gateway s name = is_name name && s.gateways name
 

@@ -1,4 +1,4 @@
--- How much a gateway may still send from a time on, band by band, and as a text, octet for octet.
+-- How much a gateway may still send from a time on, by band, and as a text, octet for octet.
 use Rattle.std.specs.Prelude.{◌≡◌, ◌↔◌, ℕ, ◌+◌, ◌<◌, ◌≤◌, Bool, true, false, List, [], ◌∷◌, ◌++◌, Option, Some, IsTrue, is_ok, pos, ◌-ℤ◌, codes}
 use Rattle.std.specs.Fmt.{decimal}
 use Rattle.std.specs.List.{flat_map}
@@ -30,14 +30,14 @@ use Rattle.desk_wire.specs.Decimals.{decimal_in}
 use Rattle.desk_wire.specs.Optional.{◌>>=◌, only_if}
 use Rattle.desk_engine.specs.Lines.{line_feed}
 
--- the time that a text writes: one to sixteen decimal digits, of a number from the beginning of 2000 to the beginning of 2100,
--- UTC, in microseconds since 1970
+-- the time that a text writes, in microseconds since 1970 UTC: one to sixteen decimal digits, from the beginning of 2000 to the beginning
+-- of 2100
 unfoldable pub time_in : List ℕ → Option ℕ
 time_in text = decimal_in text >>= only_if is_time
 
--- The greatest length, from 1 to 3,000,000 microseconds, that a downlink of the gateway in the band may have if it begins at the
--- time. It shares no microsecond with a downlink of the gateway that isn't dropped, in any band, and with it every hour of the
--- gateway's band is within the limit. 0 if no length has room.
+-- The room: the greatest length, from 1 to 3,000,000 microseconds, that a downlink of the gateway in the band may have if it begins at the
+-- time. Such a downlink shares no microsecond with another downlink of the gateway that isn't dropped, in any band. With it no hour of the
+-- gateway's band is above the limit. The room is 0 if no length satisfies this.
 abbrev pub IsBandRoom : State → List ℕ → Band → ℕ → ℕ → Type 0
 IsBandRoom s gateway band time room =
     IsRoom (downlinks s.bookings gateway) (downlinks_in s.bookings gateway band) (pos time) (limit_standing s gateway band) greatest_length room
@@ -64,21 +64,21 @@ pub record IsRoomReport (s : State) (gateway : List ℕ) (time : ℕ) (text : Li
 
 -- ---- what a DownBook is answered
 
--- of the lengths from 1 to 3,000,000 microseconds just those up to the room pass a DownBook's last two checks: the gateway isn't on
--- the air then, and every hour of its band is within the limit
+-- of the lengths from 1 to 3,000,000 microseconds, exactly those up to the room pass the last two checks of a DownBook: the gateway isn't
+-- on the air then, and no hour of its band is above the limit
 abbrev pub RoomPassesChecks : Type 0
 RoomPassesChecks = (s : State) (number : ℕ) (gateway : List ℕ) (band : Band) (time room n : ℕ) → IsBandRoom s gateway band time room → 0 < n → n ≤ greatest_length
     → (n ≤ room) ↔ IsTrue (is_ok (down_added s number gateway band time (record { start = pos time; len = n })))
 
--- the answer comes of those two checks: each check before them holds
+-- one of those two checks decides the answer: each check before them passes
 abbrev pub comes_of_air : Answer → Bool
 comes_of_air (DownSuccess airtime band booking start) = true
 comes_of_air (Refused Collision) = true
 comes_of_air (Refused Duty) = true
 comes_of_air _ = false
 
--- Whatever was heard, let each check of a DownBook before those two hold. Then it is booked exactly if its airtime is at most the room
--- of its gateway and band where it begins, and else it is refused by one of the two.
+-- Whatever was heard, let each check of a DownBook before those two pass. Then it is booked if and only if its airtime is at most the room
+-- of its gateway and band at its start. Otherwise one of the two refuses it.
 abbrev pub RoomAgrees : Type 0
 RoomAgrees = (c : Settings) (heard : List Envelope) (e : Envelope) (number : ℕ) (gateway : List ℕ) (window : Window) (octets : List ℕ) (uplink : Uplink) (copy : Reception) (band : Band) (room : ℕ)
     → e.message ≡ DownBook number gateway window octets

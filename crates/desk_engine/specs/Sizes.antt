@@ -1,4 +1,4 @@
--- When a delivery is Unavailable for size.
+-- When a delivery is Unavailable because the store is out of space.
 use Rattle.std.specs.Prelude.{◌≡◌, ◌≤◌, ℕ, List, [], ◌∷◌, length, Some}
 use Rattle.registry_core.specs.declared.messages.Envelope.{Envelope}
 use Rattle.registry_core.specs.Heard.{most_heard}
@@ -13,8 +13,8 @@ use Rattle.desk_engine.specs.InOrder.{HasNoRoom}
 use Rattle.desk_engine.specs.Outcomes.{delivery_of, doubt_of_text, outcome_fault}
 
 module _ {K : Type 0} (m : Meaning K) (c : Settings) where
-  -- The text was delivered to this store, which had heard these, and the call left that one. Where the outcome is Unavailable
-  -- for size, as many were heard as ever may be, or the store's medium named its own size in this call.
+  -- The text was delivered to the store `old`, which represented this log, and the call left the store `new`. If the outcome is Unavailable
+  -- with `Size`, the log has as many messages as it may have, or the store's medium named its own size in this call.
   pub record IsDelivered (heard : List Envelope) (old new : K) (text : List ℕ) (o : Outcome) : Type 0 where
     pub hears : Hears m old new (is_disk (outcome_fault o)) (is_foreign (outcome_fault o))
         (λ s list. heard_after s list (delivery_of text o)) (λ s. doubt_of_text s text o)
@@ -28,7 +28,8 @@ module _ {K : Type 0} (m : Meaning K) (c : Settings) where
   AreDelivered heard old new [] (o ∷ os) = ⊥
   AreDelivered heard old new (t ∷ ts) [] = ⊥
 
--- Of stores whose media have no size of their own: each that is Unavailable for size came when as many were heard as ever may be.
+-- For stores whose media have no size of their own: where an outcome is Unavailable with `Size`, the log has as many messages as it may
+-- have.
 abbrev pub SizesAreMostHeard : Settings → List Envelope → List (List ℕ) → List Outcome → Type 0
 SizesAreMostHeard c heard (t ∷ ts) (o ∷ os) =
     (outcome_fault o ≡ Some Size → most_heard ≤ length heard) × SizesAreMostHeard c (heard_after c heard (delivery_of t o)) ts os

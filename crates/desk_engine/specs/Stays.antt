@@ -1,4 +1,4 @@
--- A store that no message came to.
+-- A store to which no message was delivered.
 use Rattle.std.proofs.Common.{◌≡◌, Bool, true, false, List, Option, None, inl, inr, refl, sym, ◌∙◌}
 use Rattle.std.proofs.lemmas.Bool.{true≢false}
 use Rattle.registry_core.specs.declared.messages.Envelope.{Envelope}
@@ -8,7 +8,7 @@ use Rattle.desk_engine.specs.InOrder.{Survives, WasInOrder, doubt_after}
 use Rattle.desk_engine.specs.Hearing.{StoreKeeps}
 
 module _ {K : Type 0} (m : Meaning K) (c : Settings) (heard : List Envelope) (keeper : K) where
-  -- a store that is up is in no doubt
+  -- a crash leaves the same log as before: a store that isn't failed has no in-flight message
   still_survives : (down : Bool) → m.down keeper ≡ down → (doubt : Option Envelope) → Survives m c keeper heard doubt
       → Survives m c keeper heard (doubt_after down doubt None)
   still_survives true is doubt survives = survives

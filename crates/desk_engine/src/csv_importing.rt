@@ -1,4 +1,4 @@
-//! A gateway report from a reader, heard in order, answers to a writer.
+//! Hears a gateway report from a reader, and writes the answers to a writer.
 ghost use Rattle.std.specs.Prelude.{◌≡◌, ◌⊎◌, ◌≤◌, ℕ, List, length, IfOk, IfErr, OnOk};
 ghost use Rattle.std.specs.List.{flat_map};
 ghost use Rattle.std.specs.Io.KnownBytes.{Appends, Consumes, IsAtEnd};
@@ -26,25 +26,28 @@ use std::io::{Read, Write};
 /// How the import of a gateway report ended.
 #[derive(Clone, Copy)]
 pub enum ImportEnd {
-    /// Every record is heard and answered.
+    /// Every record was heard and answered.
     Done,
-    /// What was read is no gateway report: nothing is heard. (Want of memory is told as `Unavailable`.)
+    /// The input is not a gateway report. No record was heard. (Out of memory is `Unavailable`.)
     NoReport(CsvFault),
-    /// A read failed: nothing is heard.
+    /// A read failed. No record was heard.
     Read,
-    /// A write failed. Every record is heard; or those before the one that the store was unavailable for, and why it was.
+    /// A write failed. With `None`, every record was heard. With an error, the store was unavailable for a record, with this error, and the
+    /// records before it were heard.
     Write(Option<StoreFault>),
-    /// The store was unavailable for a record, or there was no memory to keep the report. The records before it are answered.
+    /// The store was unavailable for a record, or memory for the report ran out. The records before it are answered.
     Unavailable(StoreFault),
 }
 
-/// Hears the records of a gateway report in order, as messages of this sender, up to the first that is answered Unavailable,
-/// and writes the answers of those that were heard, one a line.
+/// Hears the records of a gateway report in order, as messages of this sender, up to the first that is answered Unavailable. Writes the
+/// answers of those that were heard, one a line, and flushes the writer.
 ///
-/// Nothing is heard before the report is read whole, and nothing is written before all are heard. Of a report that is too
-/// long no more is read than tells so. With `Done` exactly the answers of all records were written and handed on, with
-/// `Unavailable` exactly those of the records before the one that found the store so. In each case the store is in order for
-/// what was heard, and so a record that comes again gets its first answer.
+/// It hears no record before the report is read to its end, and writes nothing before all are heard. If a report is too long, it reads only
+/// enough to see that.
+///
+/// With `Done` exactly the answers of all records were written. With `Unavailable` exactly those of the records before the one that the
+/// store was unavailable for. In each case the store represents the log with the records that were heard, so a record that is delivered
+/// again gets its first answer.
 pub fn import_report<K: Keeper, R: Read, W: Write>(
     alloc: Global,
     keeper: &mut K,
@@ -69,7 +72,7 @@ pub fn import_report<K: Keeper, R: Read, W: Write>(
     }
 }
 
-/// The octets of the reader: all of them, or as many as are too many for a report.
+/// Reads the whole input; of one that is too long for a report, enough octets to see that.
 fn report_text<R: Read>(alloc: Global, reader: &mut R) -> Result<Vec<u8>, ImportEnd>
     ensures read { IfOk result (λ text. Consumes (R.remaining reader.old) (R.remaining reader.new) text.items
         × (length text.items ≤ longest_report → IsAtEnd (R.remaining reader.new))) }
@@ -116,7 +119,7 @@ fn hear_envelopes<K: Keeper, W: Write>(
     }
 }
 
-/// Writes the answers, one a line, and hands them on.
+/// Writes the answers, one a line, and flushes the writer.
 fn write_answers<W: Write>(writer: &mut W, outcomes: &[Outcome]) -> io::Result<()>
     ensures { OnOk result (Appends (W.contents writer.old) (W.contents writer.new) (flat_map line_of outcomes.now)) }
 {

@@ -1,4 +1,4 @@
-//! The whole over plain lists, from nothing, with no premise.
+//! The headline over a store in memory that is new, with no premise.
 ghost use Rattle.std.specs.Prelude.{◌≡◌, ℕ, false, [], map, take, IfOk};
 ghost use Rattle.registry_core.specs.Rules.{GoesByRules};
 ghost use Rattle.registry_core.specs.Heard.{state_of};
@@ -18,7 +18,11 @@ use registry_core::Config;
 use registry_core::laws::{nothing_is_heard, rules_are_kept};
 use std::alloc::{AllocError, Global};
 
-/// Answers texts in order over lists made for it, for every configuration and every list of texts.
+/// Delivers texts in order to a new store in memory, for every configuration and every list of texts. Returns the store and the outcomes.
+///
+/// # Errors
+///
+/// Returns `AllocError` if memory for the store or for the outcomes ran out.
 pub fn run_from_nothing(
     alloc: Global,
     config: Config,
@@ -26,21 +30,21 @@ pub fn run_from_nothing(
 ) -> Result<(Lists, Vec<Outcome>), AllocError>
     ensures outcomes { IfOk result (λ ran. AreOutcomes config [] (map (λ t. t.now) texts.now) ran.1.items) }
 
-    // What the lists keep is what the registry and the heard list give.
+    // What the store represents is the abstract registry after the log of these deliveries.
     ensures kept { IfOk result (λ ran. kept_of ran.0
         ≡ kept_after config (heard_all config [] (deliveries_of (map (λ t. t.now) texts.now) ran.1.items))) }
 
-    // No two sessions have one device and one nonce, no two uplinks have one session, one kind and one counter, and no hour of
-    // any gateway's band holds more booked time on air than its limit: after each beginning of the list, and in what the lists keep.
+    // No two sessions have one device and one nonce, no two uplinks have one session, one kind and one counter, and no hour of any
+    // gateway's band has more booked airtime than its limit: after any first texts of the list, and in the store.
     ensures rules_before { IfOk result (λ ran. (n : ℕ) → GoesByRules (state_of config
         (heard_all config [] (take n (deliveries_of (map (λ t. t.now) texts.now) ran.1.items))))) }
     ensures rules { IfOk result (λ ran. GoesByRules (kept_of ran.0).facts) }
 
-    // Every repeat gets the first answer, and the frame that is received first is the uplink.
+    // Every repeat gets the first answer, and the first accepted frame is the uplink.
     ensures repeats { IfOk result (λ ran. RepeatsGetFirstAnswers config (map (λ t. t.now) texts.now) ran.1.items) }
     ensures uplinks { IfOk result (λ ran. UplinksStayBooked config [] (deliveries_of (map (λ t. t.now) texts.now) ran.1.items)) }
 
-    // None is told a fault of the disk, or that what is stored is no desk's; and size only when as many were heard as ever may be.
+    // No outcome has `Disk` or `NotADesk`, and `Size` comes only if the log has as many messages as it may have.
     ensures faults { IfOk result (λ ran. (has_disk ran.1.items ≡ false) × (has_foreign ran.1.items ≡ false)) }
     ensures sizes { IfOk result (λ ran. SizesAreMostHeard config [] (map (λ t. t.now) texts.now) ran.1.items) }
 {
@@ -53,7 +57,7 @@ pub fn run_from_nothing(
     }
 }
 
-/// The lists, in a box: they are large, and would be moved about.
+/// Returns a new store in a box, because it is large and would be moved.
 fn opened(alloc: Global, config: Config) -> Result<Box<Lists>, AllocError>
     ensures opens { IfOk result (λ lists. kept_of lists.value ≡ record { facts = opening config; entries = [] }) }
     ensures config { IfOk result (λ lists. settings_of lists.value ≡ config) }

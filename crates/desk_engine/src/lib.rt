@@ -1,4 +1,4 @@
-//! Hears messages once, over any store: texts in, texts out.
+//! Hears each message once, over any store: `deliver` takes a text and returns its outcome.
 #![tactic(auto)]
 
 mod band_reports;

@@ -1,4 +1,4 @@
-//! The log of a desk: the messages that it has heard, or their answers, one a line.
+//! Writes the log of a desk: the messages that it has heard, or their answers, one a line.
 ghost use Rattle.std.specs.Prelude.{◌≡◌, ◌++◌, ◌∷◌, [], List, option_map};
 ghost use Rattle.registry_core.specs.declared.messages.Envelope.{Envelope};
 ghost use Rattle.registry_core.specs.Numbered.{item_at};
@@ -26,15 +26,15 @@ pub enum LogText {
 /// How the writing of a log ended.
 #[derive(Clone, Copy, PartialEq, Eq)]
 pub enum LogEnd {
-    /// All lines are written, this many.
+    /// All lines were written, this many.
     Done(u64),
-    /// A write failed or took nothing. Whole lines are written, and of the line after them its first octets or none.
+    /// A write failed or took nothing. Some lines were written, and possibly the first octets of the next line.
     Write,
-    /// The store was unavailable. Whole lines are written.
+    /// The store was unavailable. Some lines were written, each to its end.
     Unavailable(StoreFault),
 }
 
-/// The number of a message that a text writes: one to sixteen decimal digits, 1 to 9,007,199,254,740,991. `None` for any other text.
+/// Returns the message number that a text writes: one to sixteen decimal digits, 1 to 9,007,199,254,740,991. `None` for any other text.
 pub fn message_number(text: &str) -> Option<Whole>
     ensures { result ≡ message_number text.now }
 {
@@ -49,7 +49,7 @@ pub fn message_number(text: &str) -> Option<Whole>
 /// messages were heard, each followed by one LF (octet 10). The first message has the number 1. Writes nothing if `from` is 0 or
 /// above the number of messages heard.
 ///
-/// It loads one message at a time, and doesn't flush the writer.
+/// It loads one message at a time, and doesn't flush the writer. Returns how that ended.
 pub fn write_log<K: Keeper, W: Write>(
     keeper: &mut K,
     from: Whole,
@@ -64,7 +64,7 @@ pub fn write_log<K: Keeper, W: Write>(
     write_entries(keeper, from, most, which, writer)
 }
 
-/// The same, by the entries that the store has.
+/// Writes the log by the entries that the store has.
 fn write_entries<K: Keeper, W: Write>(
     keeper: &mut K,
     from: Whole,
@@ -93,7 +93,7 @@ fn write_entries<K: Keeper, W: Write>(
     LogEnd::Done(count)
 }
 
-/// The line of the message with this number, from 1, with its LF, if there is one.
+/// Returns the line of the message with this number, from 1, with its LF, if there is one.
 fn line_at<K: Keeper>(
     keeper: &mut K,
     number: u64,

@@ -1,4 +1,4 @@
-//! A month as its text, and when it begins and ends.
+//! A month as a text, and when it begins and ends.
 ghost use Rattle.std.specs.Prelude.{◌≡◌, ◌+◌, ◌*◌, ◌/◌, ◌%◌, ◌<◌, ◌↔◌, ℕ, ℤ, pos, ◌+ℤ◌, ◌*ℤ◌, IfSome, IsNone};
 ghost use Rattle.std.specs.Int.{IsInRange};
 ghost use Rattle.duty_core.specs.Range.{IsStart};
@@ -17,7 +17,7 @@ pub(crate) struct Month {
     pub to: i64,
 }
 
-/// The number of two decimal digits.
+/// Returns the number of two decimal digits.
 fn two_digits(tens: u8, ones: u8) -> Option<u8>
     ensures some { IfSome result (λ n. (n < 100) × (tens ≡ 48 + n / 10) × (ones ≡ 48 + n % 10)) }
     ensures back { (n : ℕ) → n < 100 → tens ≡ 48 + n / 10 → ones ≡ 48 + n % 10 → result ≡ Some n }
@@ -29,7 +29,7 @@ fn two_digits(tens: u8, ones: u8) -> Option<u8>
     }
 }
 
-/// The year and the month of a text YYYY-MM, from 2000-01 to 2099-12.
+/// Returns the year and the month of a text YYYY-MM, from 2000-01 to 2099-12.
 fn year_and_month(text: &[u8]) -> Option<(u16, u8)>
     ensures some { IfSome result (λ m. IsInRange 2000 2099 m.0 × IsInRange 1 12 m.1 × (text.now ≡ month_text m.0 m.1)) }
     ensures back { (year month : ℕ) → IsInRange 2000 2099 year → IsInRange 1 12 month → text.now ≡ month_text year month
@@ -46,7 +46,7 @@ fn year_and_month(text: &[u8]) -> Option<(u16, u8)>
     Some((year, month))
 }
 
-/// The month's first day.
+/// Returns the month's first day.
 fn first_day(year: u16, month: u8) -> Date
     requires in_years { IsInRange 2000 2099 year }
     requires in_months { IsInRange 1 12 month }
@@ -55,7 +55,7 @@ fn first_day(year: u16, month: u8) -> Date
     date(year as i16, month as i8, 1)
 }
 
-/// When the day begins, in microseconds since 1970 UTC.
+/// Returns when the day begins, in microseconds since 1970 UTC.
 fn start_of(day: Date) -> i64
     ensures value { result ≡ epoch_day day *ℤ pos day_length }
     ensures range { IsStart result }
@@ -63,7 +63,7 @@ fn start_of(day: Date) -> i64
     i64::from(day.to_plain().to_unix_epoch_day()) * DAY
 }
 
-/// When the month begins and when the next one does.
+/// Returns when the month begins and when the next one does.
 fn month_at(year: u16, month: u8) -> Month
     requires in_years { IsInRange 2000 2099 year }
     requires in_months { IsInRange 1 12 month }
@@ -79,7 +79,7 @@ fn month_at(year: u16, month: u8) -> Month
     }
 }
 
-/// The month of a text. `None` exactly where it is no month's.
+/// Returns the month of a text, `None` if and only if the text is not a month.
 pub(crate) fn month_of(text: &str) -> Option<Month>
     ensures none { IsNone result ↔ ((from to : ℤ) → ¬ (IsMonth text.now from to)) }
     ensures some { (from to : ℤ) → IsMonth text.now from to → IfSome result (λ m. (m.from ≡ from) × (m.to ≡ to)) }

@@ -1,12 +1,16 @@
-//! Reads that an interruption doesn't end.
+//! Reads that are made again if they are interrupted.
 ghost use Rattle.std.specs.Prelude.{◌≡◌, ◌<◌, ◌≤◌, length, take, IfOk, OnErr};
 ghost use Rattle.std.specs.Io.KnownBytes.{Consumes, IsAtEnd, Keeps};
 
 use std::io;
 use std::io::{ErrorKind, Read};
 
-/// Reads some octets, none at the end of the input, and answers how many. A read that was interrupted is made again; after
-/// 2^64 - 1 of them it fails.
+/// Reads some octets into `chunk`, and returns how many. It returns 0 only at the end of the input, or if `chunk` is empty. An interrupted
+/// read is made again.
+///
+/// # Errors
+///
+/// Returns the error of a read that failed, and fails after 2^64 - 1 interrupted reads. Nothing was taken from the input then.
 pub fn read_some<R: Read>(reader: &mut R, chunk: &mut [u8]) -> io::Result<usize>
     ensures bound { IfOk result (λ n. n ≤ length chunk.new) }
     ensures some { IfOk result (λ n. Consumes (R.remaining reader.old) (R.remaining reader.new) (take n chunk.new)) }

@@ -1,4 +1,4 @@
-//! Why there is no report.
+//! The errors of a report.
 ghost use Rattle.std.specs.Prelude.{◌≡◌};
 ghost use Rattle.desk_engine.specs.declared.report_faults.ReportFault.TheVariants.{Unavailable};
 
@@ -7,15 +7,15 @@ use desk_store::StoreFault;
 /// Why there is no report.
 #[derive(Clone, Copy, PartialEq, Eq)]
 pub enum ReportFault {
-    /// The text is no month's: refusal 31.
+    /// The text is not a month: refusal 31.
     Month,
-    /// The text is no time's: refusal 31.
+    /// The text is not a time: refusal 31.
     Time,
     /// No owner has the name: refusal 10.
     Owner,
     /// No gateway has the name: refusal 11.
     Gateway,
-    /// The store, or memory, isn't available: refusal 32, or 33 where the store is no desk's.
+    /// The store or memory is unavailable: refusal 33 if what is stored is not a desk, else 32.
     Unavailable(StoreFault),
 }
 

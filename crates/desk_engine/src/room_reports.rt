@@ -1,4 +1,4 @@
-//! How much a gateway may still send from a time on.
+//! The report on how much a gateway may still send from a time on.
 ghost use Rattle.std.specs.Prelude.{◌≡◌, ◌↔◌, ◌-ℤ◌, ℕ, List, Err, IfErr, IfOk, IfSome, IsTrue, None, OnOk, Some, pos};
 ghost use Rattle.std.specs.String.{string_bytes};
 ghost use Rattle.duty_core.specs.Near.{greatest_length};
@@ -34,17 +34,22 @@ const HEADER: &str = "band,limit_us,used_us,room_us\n";
 /// The microseconds of an hour.
 const HOUR: i64 = 3_600_000_000;
 
-/// The greatest length of a downlink that is asked for, in microseconds.
+/// The greatest room that is reported, in microseconds.
 const LONGEST: u32 = 3_000_000;
 
-/// How much the gateway may still send from a time on: a line for each of B1 to B6 with its standing limit within any hour, the use
-/// of the hour that ends at the time by the gateway's bookings in it that aren't dropped, and its room, in microseconds. The room is
-/// the greatest length, up to 3,000,000, of a downlink that begins at the time: it overlaps no booking of the gateway that isn't
-/// dropped, in any band, and keeps every hour within the limit. It is 0 if no length from 1 on does.
+/// Returns how much the gateway may still send from a time on, as CSV: a line for each of B1 to B6 with its limit within any hour, the use
+/// of the hour that ends at the time by the gateway's bookings in it that aren't dropped, and its room. Lengths are in microseconds.
+///
+/// The room is the greatest length, up to 3,000,000, of a downlink that begins at the time, overlaps no booking of the gateway in any band
+/// that isn't dropped, and leaves every hour within the limit. It is 0 if no length from 1 on does.
 ///
 /// The time is a text of one to sixteen decimal digits, in microseconds since 1970 UTC, from the beginning of 2000 to the beginning of
-/// 2100. It is looked at first: any other text is `Time` for any gateway. A gateway that nobody added is `Gateway`, and so is a text
-/// that has not the form of a name. Where the store or memory isn't available, nothing is given.
+/// 2100.
+///
+/// # Errors
+///
+/// Returns `Time` for any other text; this is checked first. Returns `Gateway` if there is no gateway of this name, also if the text hasn't
+/// the form of a name. Returns `Unavailable` with the store's error if the store fails, and with `Memory` if an allocation fails.
 pub fn room_report<K: Keeper>(
     alloc: Global,
     keeper: &mut K,
@@ -75,7 +80,7 @@ pub fn room_report<K: Keeper>(
     Ok(rooms_text(alloc, keeper, &name, start)?)
 }
 
-/// The time that a text writes, in microseconds since 1970 UTC.
+/// Returns the time that a text writes, in microseconds since 1970 UTC.
 #[tactic(auto, unfolding(crate::specs::Rooms::time_in))]
 fn time_of(text: &str) -> Option<u64>
     ensures value { result ≡ time_in text.now }
@@ -85,14 +90,14 @@ fn time_of(text: &str) -> Option<u64>
     if is_time(time) { Some(time) } else { None }
 }
 
-/// From the beginning of 2000 to the beginning of 2100, UTC.
+/// Returns whether the time is from the beginning of 2000 to the beginning of 2100, UTC.
 fn is_time(time: u64) -> bool
     ensures { result ≡ is_time time }
 {
     946_684_800_000_000 <= time && time <= 4_102_444_800_000_000
 }
 
-/// The header, and a line for each band.
+/// Returns the header, and a line for each band.
 fn rooms_text<K: Keeper>(
     alloc: Global,
     keeper: &mut K,
@@ -117,7 +122,7 @@ fn rooms_text<K: Keeper>(
     Ok(text)
 }
 
-/// The line of a band with this limit, by the gateway's downlinks near the time.
+/// Returns the line of a band with this limit, by the gateway's downlinks near the time.
 fn band_line(
     alloc: Global,
     band: Band,
@@ -142,14 +147,14 @@ fn band_line(
     Ok(line)
 }
 
-/// When the downlinks are on the air.
+/// Returns the times on air of the downlinks.
 fn spans_of(alloc: Global, near: &[NearBooking]) -> Result<Vec<Span>, AllocError>
     ensures { IfOk result (λ spans. spans.items ≡ all_spans near.now) }
 {
     near.iter().map(|booking| booking.span).collect(alloc)
 }
 
-/// When those in the band are on the air.
+/// Returns the times on air of those in the band.
 fn spans_in(alloc: Global, near: &[NearBooking], band: Band) -> Result<Vec<Span>, AllocError>
     ensures { IfOk result (λ spans. spans.items ≡ spans_in band near.now) }
 {
@@ -159,7 +164,7 @@ fn spans_in(alloc: Global, near: &[NearBooking], band: Band) -> Result<Vec<Span>
         .collect(alloc)
 }
 
-/// The time as the start of a span.
+/// Returns the time as the start of a span.
 fn start_at(time: u64) -> i64
     requires { IsTrue (is_time time) }
     ensures value { result ≡ pos time }
@@ -168,7 +173,7 @@ fn start_at(time: u64) -> i64
     time as i64
 }
 
-/// Where the hour begins that ends then.
+/// Returns the beginning of the hour that ends at `start`, in microseconds since 1970 UTC.
 fn hour_before(start: i64) -> i64
     requires { IsStart start }
     ensures { result ≡ start -ℤ pos hour }
@@ -176,7 +181,7 @@ fn hour_before(start: i64) -> i64
     start - HOUR
 }
 
-/// The room of a band from the start on, in microseconds.
+/// Returns the room of a band from the start on, in microseconds.
 fn room_of(all: &[Span], of_band: &[Span], start: i64, limit: u64) -> u32
     requires { IsStart start }
     ensures { IsRoom all.now of_band.now start limit greatest_length result }
@@ -184,7 +189,7 @@ fn room_of(all: &[Span], of_band: &[Span], start: i64, limit: u64) -> u32
     room(all, of_band, start, limit, LONGEST)
 }
 
-/// The line of a band, by its columns.
+/// Returns the line of a band, by its columns.
 #[tactic(auto, unfolding(crate::specs::Rooms::room_line))]
 fn line_of(
     alloc: Global,

@@ -1,4 +1,4 @@
-//! How much the air was used.
+//! The use of the air by spans of time.
 ghost use Rattle.std.specs.Prelude.{◌≡◌, IfOk};
 ghost use Rattle.std.specs.String.{string_bytes};
 ghost use Rattle.duty_core.specs.Computed.{peak_of};
@@ -8,8 +8,7 @@ ghost use Rattle.desk_engine.specs.steps.Uses.{use_shown, use_computed};
 use duty_core::{Span, in_order, peak, sweep_peak};
 use std::alloc::{AllocError, Global};
 
-/// How much the air was used: how many times, for how long in all, and the greatest use of any sliding hour, in
-/// microseconds.
+/// The use of the air: how many times, for how long in all, and the greatest use of any sliding hour, in microseconds.
 #[derive(Clone, Copy)]
 pub(crate) struct Use {
     pub count: u64,
@@ -17,7 +16,7 @@ pub(crate) struct Use {
     pub peak: u128,
 }
 
-/// How long it was used in all, in microseconds.
+/// Returns the sum of the lengths, in microseconds.
 fn airtime_of(spans: &[Span]) -> u128
     ensures { result ≡ (use_computed spans.now).airtime }
 {
@@ -28,7 +27,7 @@ fn airtime_of(spans: &[Span]) -> u128
     airtime
 }
 
-/// The greatest use of any sliding hour, in microseconds: by one sweep through the spans where they stand in order of start.
+/// Returns the greatest use of any sliding hour, in microseconds: by a sweep if the spans are ordered by start.
 fn peak_of(spans: &[Span]) -> u128
     ensures { result ≡ peak_of spans.now }
 {
@@ -38,7 +37,7 @@ fn peak_of(spans: &[Span]) -> u128
     peak(spans)
 }
 
-/// How much it was used by what was on the air then.
+/// Returns the use of the air by these spans.
 pub(crate) fn use_of(spans: &[Span]) -> Use
     ensures { use_shown result ≡ use_computed spans.now }
 {
@@ -49,7 +48,7 @@ pub(crate) fn use_of(spans: &[Span]) -> Use
     }
 }
 
-/// The columns of a band: the airtime and the peak, each after a comma.
+/// Returns the columns of a band: the airtime and the peak, each after a comma.
 pub(crate) fn columns_of(alloc: Global, used: &Use) -> Result<String, AllocError>
     ensures { IfOk result (λ text. string_bytes text ≡ band_columns (use_shown used.now)) }
 {

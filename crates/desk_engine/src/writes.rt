@@ -1,4 +1,4 @@
-//! Writes of whole texts.
+//! Writes of a whole text.
 ghost use Rattle.std.specs.Prelude.{◌++◌, ◌∷◌, [], ℕ, OnErr, OnOk, take};
 ghost use Rattle.std.specs.Io.KnownBytes.{Appends};
 ghost use Rattle.desk_engine.specs.Lines.{line_feed};
@@ -6,7 +6,11 @@ ghost use Rattle.desk_engine.specs.Lines.{line_feed};
 use std::io;
 use std::io::{ErrorKind, Write};
 
-/// Writes the text, and hands it on.
+/// Writes the text, and flushes the writer.
+///
+/// # Errors
+///
+/// Returns the error of a write or of the flush. How much was written isn't known then.
 pub fn write_whole<W: Write>(writer: &mut W, text: &[u8]) -> io::Result<()>
     ensures { OnOk result (Appends (W.contents writer.old) (W.contents writer.new) text.now) }
 {
@@ -22,8 +26,12 @@ pub(crate) fn write_with_line_feed<W: Write>(writer: &mut W, line: &[u8]) -> io:
     writer.write_all(b"\n")
 }
 
-/// Writes the octets, and doesn't flush. A write that was interrupted is made again; after 2^64 - 1 writes it fails. On an error it
-/// has written some of the octets, from the first on, or none. `write_all` doesn't promise that.
+/// Writes the octets, and doesn't flush. An interrupted write is made again. Unlike `write_all` it promises what was written if it fails.
+///
+/// # Errors
+///
+/// Returns the error of a write that failed, and fails after 2^64 - 1 writes. It has written some of the octets, from the first on, or
+/// none.
 pub fn write_octets<W: Write>(writer: &mut W, octets: &[u8]) -> io::Result<()>
     ensures whole { OnOk result (Appends (W.contents writer.old) (W.contents writer.new) octets.now) }
     ensures part { OnErr result ((count : ℕ) × Appends (W.contents writer.old) (W.contents writer.new) (take count octets.now)) }

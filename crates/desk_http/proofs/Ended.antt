@@ -54,7 +54,7 @@ drop-all (x ∷ xs) = drop-all xs
 pub spans_fit : (octets : List ℕ) (spans : RequestSpans) (fields : List HeaderSpan) (len : ℕ) → spans.len ≡ len → All (IsHeaderWithin spans.len) fields → All (IsHeaderWithin len) fields
 spans_fit octets spans fields len e h = subst (λ n. All (IsHeaderWithin n) fields) e h
 
--- octets of which a head is all are the head
+-- octets that are exactly a head are that head
 all_head : (octets : List ℕ) (headers : List HeaderSpan) (spans : RequestSpans) (h : RequestHead) → IsRequestAt octets headers spans h → spans.len ≡ length octets → octets ≡ print_request h
 all_head octets headers spans h at all =
     let rest : drop spans.len octets ≡ [] = rw all (drop-all octets) in

@@ -1,4 +1,4 @@
--- What the fields say, from what they say one after another.
+-- What the fields state, from a loop over them.
 use Rattle.std.proofs.Common.{◌≡◌, ◌≤◌, ℕ, Bool, true, false, cond, List, [], ◌∷◌, ◌||◌, codes, length, map, take, refl, ap, ◌∙◌}
 use Rattle.std.proofs.lemmas.List.{take_all}
 use Rattle.std.specs.Prelude.{filter, fold, nat_lt, if◌then◌else◌}

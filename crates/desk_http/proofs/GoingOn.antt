@@ -1,4 +1,4 @@
--- Where a line ends, what was read may become a head: kept octet by octet.
+-- Where a line ends, what was read may become a head: an invariant, octet by octet.
 use Rattle.std.proofs.Common.{◌≡◌, ℕ, List, [], ◌∷◌, ◌++◌, length, inl, inr, refl, sym, ap, ◌∙◌, arith, subst, length-append}
 use Rattle.std.specs.Prelude.{◌⊎◌, ◌≢◌, IsTrue}
 use Rattle.std.proofs.lemmas.List.Elements.{All-take}

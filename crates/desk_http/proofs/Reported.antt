@@ -1,4 +1,4 @@
--- What a report is answered, from what the engine says of it.
+-- How a report is answered, from the engine's contract.
 use Rattle.std.proofs.Common.{◌≡◌, ◌↔◌, ℕ, List, [], Option, Some, None, Result, Ok, Err, IfOk, IfErr, OnOk, IsTrue, codes, refl, ap}
 use Rattle.std.specs.Prelude.{ℤ}
 use Rattle.registry_core.specs.declared.messages.Envelope.{Envelope}

@@ -65,7 +65,7 @@ module _ {K : Type 0} where
   or_else-none None = refl
   or_else-none (Some k) = refl
 
-  -- where a walk goes on after a parameter: so many octets are skipped, with these rows
+  -- where a walk continues after a parameter: this many octets are skipped, with these rows
   abbrev after : ℕ × RowsOf K → List ℕ → Option K
   after r path = seek (r.0 - 1) r.1 path
 
@@ -228,7 +228,7 @@ module _ {K : Type 0} where
       ∙ rw (octets.0, seek-none names 0, param-end k (c ∷ names), after-slashes (has_slash (c ∷ names)) (length (c ∷ names)) (([], k) ∷ []) names, rest) (or_else-none _)
       ∙ part-found (has_slash (c ∷ names)) k ∙ ap (λ b. cond (not b) (Some k) None) (has_slash-any (c ∷ names))
 
-  -- what stands between two parts, and the second of them
+  -- what separates two parts, and the second of them
   abbrev slash_part : K → RowsOf K
   slash_part k = (47 ∷ param_token ∷ [], k) ∷ []
 

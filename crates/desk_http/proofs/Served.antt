@@ -29,7 +29,7 @@ heard_all-append : (c : Settings) (heard : List Envelope) (ds more : List Delive
 heard_all-append c heard [] more = refl
 heard_all-append c heard (d ∷ ds) more = heard_all-append c (heard_after c heard d) ds more
 
--- without a fault of the disk no message is in doubt
+-- without a disk error no message is in flight
 no_doubt : (c : Settings) (text : List ℕ) (outcome : Outcome) → is_disk (outcome_fault outcome) ≡ false → doubt_of_text c text outcome ≡ None
 no_doubt c text outcome is = elim (envelope_of_text c text) as (λ wanted. doubt_read wanted outcome ≡ None) [
   | Ok e ↦ ap (λ b. cond b (Some e) None) is
@@ -142,7 +142,7 @@ module _ {K : Type 0} (m : Meaning K) (in_order : CallsHearInOrder m) (reads : R
       order = first.hears.order c heard (before_both old mid new second was);
     }
 
-    -- What was delivered before the connection. Without a fault of the disk no message of it is in doubt.
+    -- What was delivered before the connection. Without a disk error no message of it is in flight.
     module _ (before : Delivered) (undoubted : before.disk ≡ false → before.doubt ≡ None) where
       request_answers : (old new : K) (request : Request) (body : List ℕ) (response : Response) (served : ServesRequest m old new request body response)
           → WasInOrder m c (heard_all c heard before.deliveries) old new

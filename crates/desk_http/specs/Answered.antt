@@ -1,4 +1,4 @@
--- What requests are answered at a desk that is served, in the words of what was delivered before them.
+-- What requests are answered at a desk that is served, given what was delivered before them.
 use Rattle.std.specs.Prelude.{◌≡◌, ◌<◌, ◌⊎◌, ◌||◌, ◌++◌, ℕ, Bool, false, List, [], ◌∷◌, length, Option, None, Result, if◌then◌else◌}
 use Rattle.registry_core.specs.declared.messages.Envelope.{Envelope}
 use Rattle.registry_core.specs.Settings.{Settings}
@@ -16,7 +16,7 @@ use Rattle.desk_http.specs.Responses.{Response, cut_body, outcome_response, repo
 
 -- ---- what was delivered
 
--- The messages that were delivered, in this order; whether a call told a fault of the disk; and the message that it leaves in doubt.
+-- The messages that were delivered, in this order; whether a call returned `Disk`; and the in-flight message after that.
 pub record Delivered : Type 0 where
   pub deliveries : List Delivery
   pub disk : Bool
@@ -29,11 +29,11 @@ none_delivered = record { deliveries = []; disk = false; doubt = None }
 abbrev pub one_delivered : Settings → List ℕ → Outcome → Delivered
 one_delivered c text outcome = record { deliveries = delivery_of text outcome ∷ []; disk = is_disk (outcome_fault outcome); doubt = doubt_of_text c text outcome }
 
--- no text: the store was read, and told this fault or none
+-- no text: the store was read, and returned this error or none
 abbrev pub only_read : Option StoreFault → Delivered
 only_read fault = record { deliveries = []; disk = is_disk fault; doubt = None }
 
--- The first, and then the others. The first fault of the disk leaves its message in doubt.
+-- The first, and then the others. The first disk error determines the in-flight message.
 abbrev pub and_then : Delivered → Delivered → Delivered
 and_then first others = record {
   deliveries = first.deliveries ++ others.deliveries;
@@ -43,17 +43,17 @@ and_then first others = record {
 
 -- ---- what a request is answered
 
--- what had been heard before the first connection
+-- `heard` is the log before the first connection
 module _ (c : Settings) (heard : List Envelope) where
-  -- A body of so many octets was delivered once: the response tells what its text is told after what was delivered before. Or the body is
-  -- cut off, and nothing was delivered.
+  -- A body of `count` octets was delivered once, and the response has the answer of its text after what was delivered before. Or the body
+  -- is cut off, and nothing was delivered.
   abbrev pub AnswersMessage : ℕ → List ℕ → Delivered → Delivered → Response → Type 0
   AnswersMessage count body old new response =
       ((length body ≡ count) × (outcome : Outcome) × IsOutcome (told_of_text c (heard_all c heard old.deliveries) body) outcome
       × (new ≡ and_then old (one_delivered c body outcome)) × (response ≡ outcome_response outcome))
       ⊎ ((length body < count) × (new ≡ old) × (response ≡ cut_body))
 
-  -- Nothing was delivered: the response is the text that is so of what was heard by then, or why there is none.
+  -- Nothing was delivered: the response is the report of the log by then, or why there is none.
   abbrev pub AnswersReport : Report → Delivered → Delivered → Response → Type 0
   AnswersReport wanted old new response =
       (answer : Result (List ℕ) ReportFault) × IsAnswer c (heard_all c heard old.deliveries) wanted answer × RefusesTime wanted answer

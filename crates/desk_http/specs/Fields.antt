@@ -1,4 +1,4 @@
--- What the fields of a request's head say of its body, and of where the request comes from.
+-- What the fields of a request's head state about its body, and about where the request comes from.
 use Rattle.std.specs.Prelude.{ℕ, List, [], ◌∷◌, length, Bool, ◌&&◌, codes, map, filter, nat_lt, if◌then◌else◌}
 use Rattle.std.specs.List.{list_all, list_any}
 use Rattle.std.specs.Str.{bytes_eq}
@@ -28,7 +28,7 @@ has_field name fields = list_any (is_named name) fields
 abbrev pub has_transfer_encoding : List NamedValue → Bool
 has_transfer_encoding fields = has_field (codes "transfer-encoding") fields
 
--- Some field names an origin, whatever its value. Browsers send one with what a page posts to another place.
+-- Some field names an origin, whatever its value. Browsers send one with what a page posts to another site.
 abbrev pub has_origin : List NamedValue → Bool
 has_origin fields = has_field (codes "origin") fields
 
@@ -44,7 +44,7 @@ is_number text = nat_lt 0 (length text) && list_all is_ascii_digit text
 unfoldable pub length_of : List ℕ → BodyLength
 length_of text = if is_number text then (if nat_lt longest_message (digits_value 10 text) then TooLong else Number (digits_value 10 text)) else Bad
 
--- the length that these values give: none, that of the only one, or more than one, which is bad whatever they are
+-- the length that these values give: none, that of the only one, or bad if there are two or more
 abbrev pub length_by : List (List ℕ) → BodyLength
 length_by [] = Absent
 length_by (value ∷ []) = length_of value

@@ -1,4 +1,4 @@
--- Texts that may be asked for, and what each is answered: the text, or why there is none.
+-- Texts that may be asked for, and the answer to each: the text, or why there is none.
 use Rattle.std.specs.Prelude.{◌≡◌, ◌↔◌, ℕ, List, [], ℤ, Option, Some, None, Result, Err, IfOk, IfErr, OnOk, IsTrue, codes}
 use Rattle.registry_core.specs.declared.messages.Envelope.{Envelope}
 use Rattle.registry_core.specs.Heard.{state_of}
@@ -15,35 +15,36 @@ use Rattle.desk_engine.specs.Reporting.{IsOwnerFault, IsGatewayFault}
 use Rattle.desk_engine.specs.Reports.{IsBandReport, IsOwnerReport, is_gateway, is_owner}
 use Rattle.desk_engine.specs.Rooms.{IsRoomReport, time_in}
 
--- the report on an owner for a month; the report of a gateway's bands; its room at a time; the log from this number on, of messages or of answers
+-- the report on an owner for a month; the report of a gateway's bands; its room at a time; the log from this number on, of messages or of
+-- answers
 pub data Report : Type 0 where
   owner_report : (owner month : List ℕ) → Report
   band_report : (gateway : List ℕ) → Report
   room_report : (gateway time : List ℕ) → Report
   log_part : (which : LogText) (from : ℕ) → Report
 
--- the type of its text
+-- the content type of its text
 abbrev pub kind_of : Report → List ℕ
 kind_of (log_part which from) = codes "application/x-ndjson"
 kind_of _ = codes "text/csv"
 
--- the lines of a log that are given at once, at most (this project's limit)
+-- the greatest number of log lines in one response (this project's limit)
 abbrev pub most_lines : ℕ
 most_lines = 1000
 
--- of what the registry holds: for what is a month, the report where the owner is known, and else why not
+-- the answer by the registry's facts: if the month is one, the report if the owner is known, and else why not
 pub record IsOwnerAnswer (s : State) (owner month : List ℕ) (answer : Result (List ℕ) ReportFault) : Type 0 where
   pub known : OnOk answer (IsTrue (is_owner s owner))
   pub report : (from to : ℤ) → IsMonth month from to → IfOk answer (IsOwnerReport s owner from to)
   pub fault : (from to : ℤ) → IsMonth month from to → IfErr answer (IsOwnerFault s owner)
 
--- the report where the gateway is known, and else why not
+-- the report if the gateway is known, and else why not
 pub record IsBandAnswer (s : State) (gateway : List ℕ) (answer : Result (List ℕ) ReportFault) : Type 0 where
   pub known : OnOk answer (IsTrue (is_gateway s gateway))
   pub report : IfOk answer (IsBandReport s gateway)
   pub fault : IfErr answer (IsGatewayFault s gateway)
 
--- of what the registry holds: for what is a time, the report where the gateway is known, and else why not
+-- the answer by the registry's facts: if the time is one, the report if the gateway is known, and else why not
 pub record IsRoomAnswer (s : State) (gateway time : List ℕ) (answer : Result (List ℕ) ReportFault) : Type 0 where
   pub known : OnOk answer (IsTrue (is_gateway s gateway))
   pub report : (at : ℕ) → time_in time ≡ Some at → IfOk answer (IsRoomReport s gateway at)
@@ -54,19 +55,20 @@ abbrev pub IsLogFault : ReportFault → Type 0
 IsLogFault (Unavailable fault) = IsUnavailability fault
 IsLogFault _ = ⊥
 
--- of these that were heard: the lines from this number on, each with an LF
+-- the answer after this log: its lines from this number on, each with an LF
 pub record IsLogAnswer (c : Settings) (heard : List Envelope) (which : LogText) (from : ℕ) (answer : Result (List ℕ) ReportFault) : Type 0 where
   pub lines : IfOk answer (λ text. text ≡ input_of (log_of which c heard from most_lines) [])
   pub fault : IfErr answer IsLogFault
 
--- of these that were heard
+-- the answer to what was asked for, after this log
 abbrev pub IsAnswer : Settings → List Envelope → Report → Result (List ℕ) ReportFault → Type 0
 IsAnswer c heard (owner_report owner month) answer = IsOwnerAnswer (state_of c heard) owner month answer
 IsAnswer c heard (band_report gateway) answer = IsBandAnswer (state_of c heard) gateway answer
 IsAnswer c heard (room_report gateway time) answer = IsRoomAnswer (state_of c heard) gateway time answer
 IsAnswer c heard (log_part which from) answer = IsLogAnswer c heard which from answer
 
--- whatever was heard: the time is refused exactly where it is no month, and a room's where it is no time
+-- Whatever was heard: an owner's report is refused for its month if and only if that is not a month, and a room's for its time if and only
+-- if that is not a time.
 abbrev pub RefusesTime : Report → Result (List ℕ) ReportFault → Type 0
 RefusesTime (owner_report owner month) answer = (answer ≡ Err Month) ↔ ((from to : ℤ) → ¬ (IsMonth month from to))
 RefusesTime (room_report gateway time) answer = (answer ≡ Err Time) ↔ (time_in time ≡ None)

@@ -15,7 +15,7 @@ use Rattle.desk_http.specs.Reports.{Report, owner_report, band_report, room_repo
 use Rattle.desk_http.specs.Responses.{Response, no_head, cross_origin, no_number, no_route, other_method, no_length, too_long}
 use Rattle.desk_http.specs.Targets.{Resource, messages, reports, bands, room, log, answers, Names, method_of, path_of}
 
--- what is asked for: a message of so many octets to be delivered, or a text; or nothing that is served, and this response refuses it
+-- what is asked for: the delivery of a message of `count` octets, or a text; or nothing that is served, and this response refuses it
 pub data Request : Type 0 where
   refused : Response → Request
   message : (count : ℕ) → Request
@@ -28,16 +28,16 @@ asked_by_length (Number n) = message n
 asked_by_length TooLong = refused too_long
 asked_by_length Bad = refused no_head
 
--- a message under a transfer encoding has no length
+-- a message with a transfer encoding has no length
 abbrev pub asked_of_messages : List NamedValue → Request
 asked_of_messages fields = if has_transfer_encoding fields then refused no_length else asked_by_length (body_length fields)
 
--- a log needs the number of a message
+-- a log needs a message number
 abbrev pub asked_by_number : LogText → Option ℕ → Request
 asked_by_number which None = refused no_number
 asked_by_number which (Some from) = report (log_part which from)
 
--- what is asked of a resource by its own method; the fields of a text's head don't matter
+-- what is asked of a resource by its own method; for a text the fields of the head don't matter
 abbrev pub asked_by_resource : Resource → List NamedValue → Request
 asked_by_resource messages fields = asked_of_messages fields
 asked_by_resource (reports owner month) fields = report (owner_report owner month)
@@ -46,13 +46,13 @@ asked_by_resource (room gateway time) fields = report (room_report gateway time)
 asked_by_resource (log from) fields = asked_by_number Message (message_number from)
 asked_by_resource (answers from) fields = asked_by_number Answer (message_number from)
 
--- what is named, then its method, then what is asked of it
+-- first the resource is checked, then its method, then what is asked of it
 abbrev pub asked_of_named : Option Resource → List ℕ → List NamedValue → Request
 asked_of_named None method fields = refused no_route
 asked_of_named (Some resource) method fields =
     if bytes_eq method (method_of resource) then asked_by_resource resource fields else refused (other_method (method_of resource))
 
--- A request with an origin is refused first, whatever it names and by whatever method: nothing of it is read past its head.
+-- A request with an origin is refused first, whatever its path and method: nothing is read past its head.
 abbrev pub asked_of : Option Resource → List ℕ → List NamedValue → Request
 asked_of named method fields = if has_origin fields then refused cross_origin else asked_of_named named method fields
 
@@ -60,12 +60,13 @@ asked_of named method fields = if has_origin fields then refused cross_origin el
 abbrev pub HeadAsks : RequestHead → Request → Type 0
 HeadAsks h request = (named : Option Resource) × Names (path_of h.target) named × (request ≡ asked_of named h.method (map name_and_value h.fields))
 
--- what is read after the head: of a message all its octets, or the input ended before; and else nothing
+-- what is read after the head: all octets of a message, or fewer if the input ended before; and else nothing
 abbrev pub IsBodyOf : Request → List ℕ → Option (List ℕ) → Type 0
 IsBodyOf (message count) body rest = (length body ≡ count) ⊎ ((length body < count) × IsAtEnd rest)
 IsBodyOf _ body rest = body ≡ []
 
--- What was read is this request with this body: no head; or a head, and after it no more than the body that it asks for. This may be left of the input.
+-- What was read is this request with this body: no head; or a head, and after it no more than the body that it asks for. `rest` is what may
+-- be left of the input.
 pub data IsReadAs (input : List ℕ) (rest : Option (List ℕ)) (request : Request) (body : List ℕ) : Type 0 where
   bad_head : IsNoHead input rest → request ≡ refused no_head → body ≡ [] → IsReadAs input rest request body
   head : (h : RequestHead) → IsRequestHead h → IsWithinLimits h → HeadAsks h request → input ≡ print_request h ++ body → IsBodyOf request body rest

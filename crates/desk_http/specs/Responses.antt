@@ -8,7 +8,7 @@ use Rattle.desk_engine.specs.declared.report_faults.ReportFault.TheVariants as f
 use Rattle.desk_engine.specs.declared.outcomes.Outcome.{Outcome}
 use Rattle.desk_engine.specs.declared.outcomes.Outcome.TheVariants.{Answered, Refused, Unavailable}
 
--- a response: its status, the type of its body, the method that is allowed where another was used, and its body
+-- a response: its status, the type of its body, the method that is allowed if another was used, and its body
 pub record Response : Type 0 where
   pub status : ℕ
   pub kind : List ℕ
@@ -31,9 +31,9 @@ start_lines status kind length =
 unfoldable pub response_text : Response → List ℕ
 response_text r = start_lines r.status r.kind (length r.body) ++ allow_line r.allow ++ codes "connection: close\r\n\r\n" ++ r.body
 
--- ---- which there are
+-- ---- the responses
 
--- one line that says what is wrong
+-- one line that names the error
 abbrev pub plain : ℕ → List ℕ → Response
 plain status line = record { status = status; kind = codes "text/plain"; allow = None; body = line }
 
@@ -69,18 +69,18 @@ unavailable = plain 503 (codes "unavailable\n")
 abbrev pub json : ℕ → List ℕ → Response
 json status text = record { status = status; kind = codes "application/json"; allow = None; body = text }
 
--- a used number is a conflict, and any other message that isn't heard a bad request
+-- 409 Conflict for a used transaction number, and 400 Bad Request for any other message that isn't heard
 abbrev pub status_of : Refusal → ℕ
 status_of TransactionReused = 409
 status_of _ = 400
 
--- the response to a delivery; one that is heard has status 200, whatever its answer says
+-- the response to a delivery; a message that is heard has status 200, also if its answer is a refusal
 abbrev pub outcome_response : Outcome → Response
 outcome_response (Answered text) = json 200 text.items
 outcome_response (Refused refusal text) = json (status_of refusal) text.items
 outcome_response (Unavailable fault) = unavailable
 
--- why there is no text
+-- the response for why there is no text
 abbrev pub fault_response : ReportFault → Response
 fault_response fault.Month = plain 400 (codes "time\n")
 fault_response fault.Time = plain 400 (codes "time\n")

@@ -14,18 +14,18 @@ use Rattle.desk_http.specs.Responses.{Response}
 use Rattle.desk_http.specs.Serving.{ServingEndsBy}
 use Rattle.desk_http.specs.Answered.{Answers, Delivered, none_delivered}
 
--- ---- what a listening means
+-- ---- what a source of connections means
 
--- In one record: the ghost member of the trait. Each speaks of a listening as it was and as it is.
+-- In one record: the ghost member of the trait. Each field relates a source of connections before and after.
 pub record Connections (L R W : Type 0) : Type 1 where
-  -- this connection came, with what it is read by and written by
+  -- this connection was accepted, with its reader and its writer
   pub comes : L → L → R → W → Type 0
-  -- an accept failed: none came
+  -- an accept failed, and no connection came
   pub fails : L → L → Type 0
-  -- this one was let go, with what is left to read and what was written, after it was served so
+  -- this connection was finished, with what is left to read and what was written, after it was served with this end
   pub goes : L → L → R → W → ServeEnd → Type 0
 
--- of which nothing is said, as of sockets
+-- of sockets, for example, nothing is known
 abbrev pub unknown : {L R W : Type 0} → Connections L R W
 unknown = record {
   comes = λ before after reader writer. Unit {0};
@@ -35,7 +35,7 @@ unknown = record {
 
 -- ---- accepts
 
--- this many failed accepts in a row end the serving
+-- after this many failed accepts in a row no more connections are served
 abbrev pub most_failed_accepts : ℕ
 most_failed_accepts = 64
 
@@ -45,20 +45,20 @@ module _ {L R W : Type 0} (l : Connections L R W) where
   FailsEach zero before after = after ≡ before
   FailsEach (suc n) before after = (between : L) × FailsEach n before between × l.fails between after
 
-  -- after fewer failures than end the serving this connection came
+  -- after fewer failures than that, this connection was accepted
   abbrev pub ComesNext : L → L → R → W → Type 0
   ComesNext before after reader writer =
       (failures : ℕ) × (failures < most_failed_accepts) × (between : L) × FailsEach failures before between × l.comes between after reader writer
 
-  -- no connection came: as many accepts failed as end the serving
+  -- no connection came: that many accepts failed in a row
   abbrev pub NoneComes : L → L → Type 0
   NoneComes before after = FailsEach most_failed_accepts before after
 
 -- ---- one after another
 
--- What is done of a request is said of something as it was and as it is: of a store, or of what was delivered so far.
+-- `Does` relates the state before and after a request, its body and its response. The state is a store, or what was delivered so far.
 module _ {L R W K : Type 0} (l : Connections L R W) (remaining : R → Option (List ℕ)) (contents : W → Option (List ℕ)) (Does : K → K → Request → List ℕ → Response → Type 0) where
-  -- One serving: of what the reader gives, to what the writer takes. It ended so.
+  -- One serving, from what the reader gives to what the writer takes, which ended so.
   abbrev pub ServesOnce : K → K → R → R → W → W → ServeEnd → Type 0
   ServesOnce old new reader left writer written end = ServingEndsBy old new
       (λ response. (input : List ℕ) × Consumes (remaining reader) (remaining left) input
@@ -66,7 +66,7 @@ module _ {L R W K : Type 0} (l : Connections L R W) (remaining : R → Option (L
       (Consumes (remaining reader) (remaining left) [] × IsAtEnd (remaining left))
       (contents writer) (contents written) end
 
-  -- The next connection came, was served once, and was let go with what the serving left of it, by how it ended.
+  -- The next connection was accepted, served once, and finished with what the serving left of it, by how that ended.
   pub record ServesConnection (old new : K) (before after : L) : Type 0 where
     pub meanwhile : L
     pub reader : R
@@ -78,41 +78,42 @@ module _ {L R W K : Type 0} (l : Connections L R W) (remaining : R → Option (L
     pub served : ServesOnce old new reader left writer written end
     pub goes : l.goes meanwhile after left written end
 
-  -- so many connections, one after another
+  -- n connections were served, one after another
   abbrev pub ServesEach : ℕ → K → K → L → L → Type 0
   ServesEach zero old new before after = (new ≡ old) × (after ≡ before)
   ServesEach (suc n) old new before after = (mid : K) × (between : L) × ServesEach n old mid before between × ServesConnection mid new between after
 
-  -- Fewer connections, and after the last of them no other came.
+  -- Fewer than n connections were served, and after the last of them no other came.
   abbrev pub ServesFewer : ℕ → K → K → L → L → Type 0
   ServesFewer n old new before after = (count : ℕ) × (count < n) × (between : L) × ServesEach count old new before between × NoneComes l between after
 
-  -- So many connections, by how the serving ended.
+  -- What was served of n connections, by how the serving ended.
   abbrev pub ServesAll : {T : Type 0} → ℕ → K → K → L → L → Result T NetworkFault → Type 0
   ServesAll n old new before after (Ok x) = ServesEach n old new before after
   ServesAll n old new before after (Err fault) = ServesFewer n old new before after
 
 -- ---- what they do to a store
 
--- Messages were delivered, in this order, and reports may have been asked for. Where the store was in order for a heard list, it ends in
--- order for what is heard with the deliveries; a crash then leaves that, or after a fault of the disk that with the message in doubt;
--- and what it holds goes by the registry's rules.
+-- Messages were delivered, in this order, and reports may have been asked for. If the store represented a log, it represents the log with
+-- the deliveries. A crash then leaves that log, or after a disk error possibly that log with the in-flight message. What the store
+-- represents satisfies the registry's rules.
 pub record HearsDeliveries {K : Type 0} (m : Meaning K) (old new : K) : Type 0 where
   pub deliveries : List Delivery
-  -- a call told a fault of the disk
+  -- a call returned `Disk`
   pub disk : Bool
-  -- a call told that what is stored is no desk's
+  -- a call returned `NotADesk`
   pub foreign : Bool
-  -- the message in doubt
+  -- the in-flight message
   pub doubtful : Settings → Option Envelope
   pub undoubted : disk ≡ false → (c : Settings) → doubtful c ≡ None
   pub hears : Hears m old new disk foreign (λ c heard. heard_all c heard deliveries) doubtful
 
--- what was delivered so, at a desk of this configuration
+-- what these deliveries are at a desk of this configuration
 abbrev pub delivered_by : {K : Type 0} {m : Meaning K} {old new : K} → HearsDeliveries m old new → Settings → Delivered
 delivered_by by c = record { deliveries = by.deliveries; disk = by.disk; doubt = by.doubtful c }
 
--- This many connections, or fewer if no other came: what they did to the store, and what each was answered if the store represented a log.
+-- n connections were served, or fewer if no other came: what they did to the store, and what each was answered if the store represented a
+-- log.
 pub record HearsEach {L R W K : Type 0} (m : Meaning K) (l : Connections L R W) (remaining : R → Option (List ℕ)) (contents : W → Option (List ℕ)) {T : Type 0} (n : ℕ) (old new : K) (before after : L) (result : Result T NetworkFault) : Type 0 where
   pub hears : HearsDeliveries m old new
   pub answers : (c : Settings) (heard : List Envelope) → WasInOrder m c heard old new

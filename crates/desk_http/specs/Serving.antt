@@ -1,4 +1,4 @@
--- What a connection is served.
+-- How one connection is served.
 use Rattle.std.specs.Prelude.{◌≡◌, ◌<◌, ◌⊎◌, ℕ, List, length, Option, Some, Result}
 use Rattle.std.specs.Io.KnownBytes.{Appends, Keeps}
 use Rattle.registry_core.specs.declared.messages.Envelope.{Envelope}
@@ -21,7 +21,7 @@ use Rattle.desk_http.specs.Requests.{IsReadAs, Request, refused, message, report
 use Rattle.desk_http.specs.Responses.{Response, response_text, cut_body, outcome_response, report_response}
 
 module _ {K : Type 0} (m : Meaning K) (old new : K) where
-  -- The body was delivered once, with this outcome: it is what the text is told, and the store is in order for what is heard with it.
+  -- The body was delivered once, with this outcome. The outcome is the answer of the text, and the store represents the log with it.
   pub record IsDelivered (body : List ℕ) (outcome : Outcome) : Type 0 where
     pub store : Hears m old new (is_disk (outcome_fault outcome)) (is_foreign (outcome_fault outcome))
         (λ c heard. heard_after c heard (delivery_of body outcome)) (λ c. doubt_of_text c body outcome)
@@ -30,13 +30,13 @@ module _ {K : Type 0} (m : Meaning K) (old new : K) where
     pub fault : IsOfCalls (outcome_fault outcome)
     pub size : (c : Settings) (heard : List Envelope) → WasInOrder m c heard old new → outcome_fault outcome ≡ Some Size → HasNoRoom m new heard
 
-  -- A body of so many octets was delivered once; or it is cut off, and the store stands as before.
+  -- A body of `count` octets was delivered once; or it is cut off, and the store is as before.
   abbrev pub ServesMessage : ℕ → List ℕ → Response → Type 0
   ServesMessage count body response =
       ((length body ≡ count) × (outcome : Outcome) × IsDelivered body outcome × (response ≡ outcome_response outcome))
       ⊎ ((length body < count) × (new ≡ old) × (response ≡ cut_body))
 
-  -- A text was asked for once, and this is the response. The store is read alone, and stays in order.
+  -- A text was asked for once, and this is the response. The store is only read, and represents the same log.
   pub record ServesReport (wanted : Report) (response : Response) : Type 0 where
     pub answer : Result (List ℕ) ReportFault
     pub response_is : response ≡ report_response (kind_of wanted) answer
@@ -45,7 +45,7 @@ module _ {K : Type 0} (m : Meaning K) (old new : K) where
     pub told : (c : Settings) (heard : List Envelope) → WasInOrder m c heard old new → IsAnswer c heard wanted answer
     pub order : (c : Settings) (heard : List Envelope) → WasInOrder m c heard old new → IsInOrder m c new heard
 
-  -- what is done of a request with this body, and the response
+  -- what was done for a request with this body, and the response
   abbrev pub ServesRequest : Request → List ℕ → Response → Type 0
   ServesRequest (refused wanted) body response = (new ≡ old) × (response ≡ wanted)
   ServesRequest (message count) body response = ServesMessage count body response
@@ -55,12 +55,12 @@ module _ {K : Type 0} (m : Meaning K) (old new : K) where
   abbrev pub Serves : List ℕ → Option (List ℕ) → Response → Type 0
   Serves input rest response = (request : Request) × (body : List ℕ) × IsReadAs input rest request body × ServesRequest request body response
 
--- the store stands as before, and nothing was written
+-- the store is as before, and nothing was written
 abbrev pub IsIdle : {K : Type 0} → K → K → Option (List ℕ) → Option (List ℕ) → Type 0
 IsIdle old new before after = (new ≡ old) × Keeps before after
 
--- How a connection was served, by how it ended: with `Done` the response was written whole. With `Write` the store is as with `Done`, and nothing is said
--- of what was written. The store was old and is new, the writer had before and has after.
+-- What is true of one serving, by how it ended. With `Done` the response was written to its end. With `Write` the store is as with `Done`,
+-- and what was written isn't known. The store was `old` and is `new`; the writer had `before` and has `after`.
 abbrev pub ServingEndsBy : {K : Type 0} → K → K → (Response → Type 0) → Type 0 → Option (List ℕ) → Option (List ℕ) → ServeEnd → Type 0
 ServingEndsBy old new serves closed before after (Done status) =
     (response : Response) × (status ≡ response.status) × serves response × Appends before after (response_text response)

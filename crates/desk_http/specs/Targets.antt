@@ -1,4 +1,4 @@
--- What a request's target names.
+-- The resource that a request's target names.
 use Rattle.std.specs.Prelude.{◌≡◌, ℕ, List, [], ◌∷◌, ◌++◌, Bool, false, ◌==◌, not, codes, IsTrue, Option, Some, None}
 use Rattle.std.specs.List.{before_first, list_any}
 
@@ -17,7 +17,7 @@ abbrev pub is_part : List ℕ → Bool
 is_part [] = false
 is_part (c ∷ text) = not (list_any is_slash (c ∷ text))
 
--- what is served, with the names in its path
+-- the resources, with the names in their paths
 pub data Resource : Type 0 where
   messages : Resource
   reports : (owner month : List ℕ) → Resource
@@ -26,7 +26,7 @@ pub data Resource : Type 0 where
   log : (from : List ℕ) → Resource
   answers : (from : List ℕ) → Resource
 
--- the path of each
+-- the path of a resource
 abbrev pub path_to : Resource → List ℕ
 path_to messages = codes "/v1/messages"
 path_to (reports owner month) = codes "/v1/reports/" ++ owner ++ codes "/" ++ month
@@ -35,7 +35,7 @@ path_to (room gateway time) = codes "/v1/room/" ++ gateway ++ codes "/" ++ time
 path_to (log from) = codes "/v1/log/" ++ from
 path_to (answers from) = codes "/v1/answers/" ++ from
 
--- each name in it is a part of a path
+-- each name in it can be a part of a path
 abbrev pub HasParts : Resource → Type 0
 HasParts messages = Unit {0}
 HasParts (reports owner month) = IsTrue (is_part owner) × IsTrue (is_part month)
@@ -48,12 +48,12 @@ HasParts (answers from) = IsTrue (is_part from)
 abbrev pub IsPathTo : List ℕ → Resource → Type 0
 IsPathTo path resource = HasParts resource × (path ≡ path_to resource)
 
--- the path is that of this resource, or of none
+-- the path names this resource, or none
 abbrev pub Names : List ℕ → Option Resource → Type 0
 Names path None = (resource : Resource) → ¬ (IsPathTo path resource)
 Names path (Some resource) = IsPathTo path resource
 
--- the method of each
+-- the method of a resource
 abbrev pub method_of : Resource → List ℕ
 method_of messages = codes "POST"
 method_of _ = codes "GET"

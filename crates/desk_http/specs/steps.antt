@@ -1,4 +1,4 @@
--- What the clauses of private functions say.
+-- Definitions for the contracts of private functions.
 pub mod Answering
 pub mod Fields
 pub mod Heads

@@ -1,4 +1,4 @@
-//! What a request's head asks for: the checks in order.
+//! What a request's head asks for, by checks in order.
 ghost use Rattle.std.specs.Prelude.{◌≡◌, ℕ, List, length, map, IfOk};
 ghost use Rattle.std.specs.List.{All};
 ghost use Rattle.httparse.specs.Spans.{IsHeaderWithin, header_bytes};
@@ -19,28 +19,32 @@ use std::alloc::Global;
 /// What a request's head asks for, or why it is refused at once.
 #[derive(Clone, Copy)]
 pub(crate) enum Asked {
-    /// A field names an origin: a page of a browser asks.
+    /// A field names an origin: the request comes from a page in a browser.
     CrossOrigin,
     NoRoute,
-    /// The route is asked for by another method than its own.
+    /// The method is not the route's own.
     OtherMethod(Route),
-    /// A message under a transfer encoding, or without a length.
+    /// A message with a transfer encoding, or with no length.
     NoLength,
-    /// A length given twice, or not one or more digits.
+    /// A length that is given twice, or isn't one or more digits.
     BadLength,
     TooLong,
-    /// The delivery of a body of so many octets.
+    /// The delivery of a body of this many octets.
     Deliver(u32),
     OwnerReport,
     BandReport,
     Room,
     /// The log from this message on.
     Log(LogText, Whole),
-    /// What stands for the number of a message is none.
+    /// The path has no message number where the log needs one.
     BadNumber,
 }
 
-/// What a head with these parts asks for.
+/// Returns what a head with these parts asks for.
+///
+/// # Errors
+///
+/// Returns `InsertError` if the routes couldn't be put into a router, for example because memory ran out.
 pub(crate) fn asked_of(
     alloc: Global,
     method: &[u8],
@@ -58,7 +62,7 @@ pub(crate) fn asked_of(
     asked_of_target(alloc, method, target, octets, headers)
 }
 
-/// What a head without an origin asks for.
+/// Returns what a head with no origin asks for.
 fn asked_of_target(
     alloc: Global,
     method: &[u8],
@@ -80,7 +84,7 @@ fn asked_of_target(
     Ok(asked_by_route(route, path, octets, headers))
 }
 
-/// What a route is asked for by its own method.
+/// Returns what a request by the route's own method asks for.
 fn asked_by_route(route: Route, path: &str, octets: &[u8], headers: &[HeaderSpan]) -> Asked
     requires { All (IsHeaderWithin (length octets.now)) headers.now }
     ensures { request_of path.now result ≡ asked_by_resource (resource_of path.now route) (map (header_bytes octets.now) headers.now) }
@@ -95,7 +99,7 @@ fn asked_by_route(route: Route, path: &str, octets: &[u8], headers: &[HeaderSpan
     }
 }
 
-/// A log needs the number of a message.
+/// Returns the request of a log, which needs a message number.
 fn asked_of_log(which: LogText, from: &str) -> Asked
     ensures { (path : List ℕ) → request_of path result ≡ asked_by_number which (message_number from.now) }
 {
@@ -105,7 +109,7 @@ fn asked_of_log(which: LogText, from: &str) -> Asked
     }
 }
 
-/// A message needs a length, and under a transfer encoding it has none.
+/// Returns the request of a delivery, which needs a length. With a transfer encoding it has none.
 fn asked_of_messages(octets: &[u8], headers: &[HeaderSpan]) -> Asked
     requires { All (IsHeaderWithin (length octets.now)) headers.now }
     ensures { (path : List ℕ) → request_of path result ≡ asked_of_messages (map (header_bytes octets.now) headers.now) }

@@ -1,4 +1,4 @@
-//! The body of a request, and nothing after it.
+//! Reads the body of a request, and nothing after it.
 ghost use Rattle.std.specs.Prelude.{◌≡◌, ◌<◌, [], length, IfOk, OnOk, MatchBool};
 ghost use Rattle.std.specs.Io.KnownBytes.{Consumes, IsAtEnd};
 
@@ -6,7 +6,7 @@ use crate::heads::ReadFault;
 use desk_engine::read_some;
 use std::io::Read;
 
-/// Reads so many octets, and nothing after them. False where the input ends before.
+/// Reads `count` octets, and nothing after them. Returns false if the input ends before.
 pub(crate) fn read_body<R: Read>(
     reader: &mut R,
     body: &mut Vec<u8>,

@@ -1,4 +1,4 @@
-//! Connections one after another: one request each.
+//! Serves connections one after another, one request each.
 ghost use Rattle.std.specs.Prelude.{◌≡◌, MatchResult};
 ghost use Rattle.desk_http.specs.Served.{ComesNext, HearsEach, NoneComes, ServesAll, ServesConnection};
 ghost use Rattle.desk_http.specs.Serving.{ServesRequest};
@@ -10,11 +10,15 @@ use desk_engine::laws::calls_hear_in_order;
 use desk_store::Keeper;
 use std::alloc::Global;
 
-/// This many failed accepts in a row end the serving.
+/// After this many failed accepts in a row no more connections are served.
 const MOST_FAILED_ACCEPTS: u32 = 64;
 
-/// Serves `connections` connections, one after another, one request each. One that fails after it was accepted counts. An accept
-/// that fails doesn't; after 64 failures in a row it returns `Accepts`, and what was served before stays served.
+/// Serves `connections` connections, one after another, one request each. A connection that fails after it was accepted counts. An accept
+/// that fails doesn't.
+///
+/// # Errors
+///
+/// Returns `Accepts` after 64 failed accepts in a row. What was served before stays served.
 #[tactic(auto, using(crate::proofs::Served::hears_each))]
 pub fn serve_connections<K: Keeper, L: Listening>(
     alloc: Global,
@@ -27,7 +31,7 @@ pub fn serve_connections<K: Keeper, L: Listening>(
     ensures served { ServesAll L.meaning L.Reader.remaining L.Writer.contents (ServesRequest K.meaning) connections
         keeper.old keeper.new listening.old listening.new result }
 
-    // What the messages among them do to a store that was in order, and what each connection is answered.
+    // What the messages among them do to a store that represents a log, and what each connection is answered.
     ensures hears { HearsEach K.meaning L.meaning L.Reader.remaining L.Writer.contents connections
         keeper.old keeper.new listening.old listening.new result }
 {
@@ -51,7 +55,7 @@ fn serve_each<K: Keeper, L: Listening>(
     Ok(())
 }
 
-/// Serves the connection that comes next.
+/// Serves the next connection.
 fn serve_next<K: Keeper, L: Listening>(
     alloc: Global,
     keeper: &mut K,
@@ -63,12 +67,12 @@ fn serve_next<K: Keeper, L: Listening>(
 {
     let (mut reader, mut writer) = accept_next(alloc, listening)?;
     let end = serve_one(alloc, keeper, &mut reader, &mut writer);
-    // Of a response that doesn't go out nothing more can be told.
+    // If the response can't be sent, nobody is left to report that to.
     let _ = listening.finish(reader, writer, end);
     Ok(())
 }
 
-/// The connection that comes next, whatever number of accepts below the most fail before it.
+/// Returns the next connection. Up to 63 accepts in a row may fail before it.
 fn accept_next<L: Listening>(
     alloc: Global,
     listening: &mut L,

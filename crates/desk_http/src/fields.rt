@@ -1,4 +1,4 @@
-//! What the fields of a request's head say of its body, and of where the request comes from.
+//! What the fields of a request's head state about its body, and about where the request comes from.
 ghost use Rattle.std.specs.Prelude.{◌≡◌, length, map, min, true};
 ghost use Rattle.std.specs.List.{All, list_all};
 ghost use Rattle.std.specs.Char.{is_ascii_digit, to_ascii_lowercase};
@@ -10,13 +10,13 @@ ghost use Rattle.desk_http.specs.steps.Fields.{length_after, length_with, or_nam
 use desk_engine::LONGEST_MESSAGE;
 use httparse::spans::HeaderSpan;
 
-/// One octet more than a body may have.
+/// One more octet than a body may have.
 const SURELY_TOO_LONG: u32 = LONGEST_MESSAGE as u32 + 1;
 
 /// The length of a body, by the fields of its head.
 #[derive(Clone, Copy)]
 pub(crate) enum BodyLength {
-    /// No field gives one.
+    /// No field has a length.
     Absent,
     Number(u32),
     /// More than a body may have.
@@ -25,7 +25,7 @@ pub(crate) enum BodyLength {
     Bad,
 }
 
-/// Whether a field names a transfer encoding.
+/// Returns whether a field names a transfer encoding.
 pub(crate) fn has_transfer_encoding(octets: &[u8], headers: &[HeaderSpan]) -> bool
     requires { All (IsHeaderWithin (length octets.now)) headers.now }
     ensures { result ≡ has_transfer_encoding (map (header_bytes octets.now) headers.now) }
@@ -33,7 +33,7 @@ pub(crate) fn has_transfer_encoding(octets: &[u8], headers: &[HeaderSpan]) -> bo
     has_field(octets, headers, b"transfer-encoding")
 }
 
-/// Whether a field names an origin.
+/// Returns whether a field names an origin.
 pub(crate) fn has_origin(octets: &[u8], headers: &[HeaderSpan]) -> bool
     requires { All (IsHeaderWithin (length octets.now)) headers.now }
     ensures { result ≡ has_origin (map (header_bytes octets.now) headers.now) }
@@ -41,7 +41,7 @@ pub(crate) fn has_origin(octets: &[u8], headers: &[HeaderSpan]) -> bool
     has_field(octets, headers, b"origin")
 }
 
-/// Whether a field has this name, in any case. The name is given in lower case.
+/// Returns whether a field has this name, in any case. `name` is in lower case.
 #[tactic(auto, using(crate::proofs::FieldSteps::named_by_all))]
 fn has_field(octets: &[u8], headers: &[HeaderSpan], name: &[u8]) -> bool
     requires within { All (IsHeaderWithin (length octets.now)) headers.now }
@@ -63,7 +63,7 @@ fn or_named(octets: &[u8], so_far: bool, header: HeaderSpan, name: &[u8]) -> boo
     so_far || has_name(header.name.of(octets), name)
 }
 
-/// The length that the fields give.
+/// Returns the length that the fields give.
 #[tactic(auto, using(crate::proofs::FieldSteps::length_by_all))]
 pub(crate) fn body_length(octets: &[u8], headers: &[HeaderSpan]) -> BodyLength
     requires { All (IsHeaderWithin (length octets.now)) headers.now }
@@ -76,7 +76,7 @@ pub(crate) fn body_length(octets: &[u8], headers: &[HeaderSpan]) -> BodyLength
     so_far
 }
 
-/// The length with one more field.
+/// Returns the length with one more field.
 fn length_after(octets: &[u8], so_far: BodyLength, header: HeaderSpan) -> BodyLength
     requires { IsHeaderWithin (length octets.now) header }
     ensures { result ≡ length_after so_far (header_bytes octets.now header) }
@@ -97,7 +97,7 @@ fn length_with(so_far: BodyLength, new: BodyLength) -> BodyLength
     }
 }
 
-/// Whether a text is this name in any case. The name is given in lower case.
+/// Returns whether a text is this name in any case. `name` is in lower case.
 fn has_name(text: &[u8], name: &[u8]) -> bool
     requires { map to_ascii_lowercase name.now ≡ name.now }
     ensures { result ≡ has_name name.now text.now }
@@ -105,7 +105,7 @@ fn has_name(text: &[u8], name: &[u8]) -> bool
     text.eq_ignore_ascii_case(name)
 }
 
-/// The length that a value gives.
+/// Returns the length that a field's value gives.
 #[tactic(auto, unfolding(crate::specs::Fields::length_of))]
 fn length_of(text: &[u8]) -> BodyLength
     ensures { result ≡ length_of text.now }
@@ -121,7 +121,7 @@ fn length_of(text: &[u8]) -> BodyLength
     }
 }
 
-/// One or more digits.
+/// Returns whether the text is one or more digits.
 fn is_number(text: &[u8]) -> bool
     ensures { result ≡ is_number text.now }
 {
@@ -134,7 +134,7 @@ fn has_digits(text: &[u8]) -> bool
     text.iter().all(|c| c.is_ascii_digit())
 }
 
-/// The number that digits write, or one more than a body may have, so that no number of digits overflows.
+/// Returns the number that digits write, or one more than a body may have if that is less, so that no number of digits overflows.
 #[tactic(auto, using(crate::proofs::Digits::capped_more))]
 fn capped(text: &[u8]) -> u32
     requires { list_all is_ascii_digit text.now ≡ true }

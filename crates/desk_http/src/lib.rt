@@ -1,4 +1,4 @@
-//! One HTTP request in, one response out, over any store, reader and writer; and connections one after another.
+//! Reads one HTTP request and writes one response, over any store, reader and writer; and serves connections one after another.
 #![tactic(auto)]
 
 mod asking;

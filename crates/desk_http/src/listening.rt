@@ -1,4 +1,4 @@
-//! Connections that come one after another, as what serves them sees them.
+//! Connections one after another, as the function that serves them sees them.
 ghost use Rattle.std.specs.Prelude.{IfOk, OnErr};
 ghost use Rattle.desk_http.specs.Served.{Connections};
 
@@ -6,23 +6,30 @@ use crate::serving::ServeEnd;
 use std::alloc::Global;
 use std::io::{self, Read, Write};
 
-/// What gives connections one after another, and lets each go after it was served.
+/// A source of connections, one after another. Each is finished after it was served.
 pub trait Listening {
-    /// What a connection is read by.
+    /// Reads what the peer sent.
     type Reader: Read;
-    /// What a connection is written by.
+    /// Writes to the peer.
     type Writer: Write;
 
-    /// What comes, and what goes.
+    /// What accepts and finished connections mean.
     ghost meaning: { Connections Self Self.Reader Self.Writer };
 
-    /// The connection that comes next. An error is one that failed before it came, and is no connection.
+    /// Returns the next connection.
+    ///
+    /// # Errors
+    ///
+    /// Returns the error of a connection that failed before it was accepted.
     fn accept(&mut self, alloc: Global) -> io::Result<(Self::Reader, Self::Writer)>
         ensures comes { IfOk result (λ connection. meaning.comes self.old self.new connection.0 connection.1) }
         ensures fails { OnErr result (meaning.fails self.old self.new) };
 
-    /// Lets a connection go: what was written goes out, and the peer is told that nothing follows. An error is a
-    /// connection that failed.
+    /// Finishes a connection: sends what was written, and lets the peer see that nothing follows.
+    ///
+    /// # Errors
+    ///
+    /// Returns the error of a connection that failed.
     fn finish(
         &mut self,
         reader: Self::Reader,

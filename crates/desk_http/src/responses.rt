@@ -1,4 +1,4 @@
-//! Responses. None takes memory, so that nothing is refused once a message is heard.
+//! Writes responses. This allocates nothing, so that no response fails for lack of memory after a message is heard.
 ghost use Rattle.std.specs.Prelude.{◌≡◌, [], OnOk, option_map, unwrap_or};
 ghost use Rattle.std.specs.Io.KnownBytes.{Appends};
 ghost use Rattle.http.specs.StatusCode.{reason_phrase};
@@ -27,7 +27,7 @@ pub(crate) fn write_response<W: Write>(
     writer.write_all(body)
 }
 
-/// Writes the response that tells of an unavailable store: a constant.
+/// Writes the response for an unavailable store, which is a constant.
 pub(crate) fn write_unavailable<W: Write>(writer: &mut W) -> io::Result<()>
     ensures { OnOk result (Appends (W.contents writer.old) (W.contents writer.new) (response_text unavailable)) }
 {
@@ -63,7 +63,7 @@ fn phrase_of(status: StatusCode) -> &'static str
     }
 }
 
-/// Writes the line that names the method of the route, where another was used.
+/// Writes the line with the method of the route, if another was used.
 fn write_allow<W: Write>(writer: &mut W, allow: Option<&str>) -> io::Result<()>
     ensures { OnOk result (Appends (W.contents writer.old) (W.contents writer.new)
         (allow_line (option_map (λ m. m.now) allow.entry))) }
@@ -74,7 +74,7 @@ fn write_allow<W: Write>(writer: &mut W, allow: Option<&str>) -> io::Result<()>
     }
 }
 
-/// The status of a message that isn't heard.
+/// Returns the status for a message that isn't heard.
 pub(crate) fn status_of(refusal: Refusal) -> StatusCode
     ensures { result ≡ status_of refusal }
 {

@@ -1,4 +1,4 @@
-//! What a request's target names.
+//! The resource that a request's target names.
 ghost use Rattle.std.specs.Prelude.{◌≡◌, ℕ, List, IfOk, Option, None, Some};
 ghost use Rattle.std.specs.Str.{IsUtf8};
 ghost use Rattle.desk_http.specs.Targets.{path_of, method_of};
@@ -11,7 +11,7 @@ use std::str;
 /// The routes that are served.
 #[derive(Clone, Copy)]
 pub(crate) enum Route {
-    /// Messages to be delivered.
+    /// The delivery of messages.
     Messages,
     /// An owner's report of a month.
     OwnerReport,
@@ -25,7 +25,7 @@ pub(crate) enum Route {
     Answers,
 }
 
-/// The method of a route.
+/// Returns the method of a route.
 pub(crate) fn method_of(route: Route) -> &'static str
     ensures { (path : List ℕ) → result.now ≡ method_of (resource_of path route) }
 {
@@ -36,7 +36,7 @@ pub(crate) fn method_of(route: Route) -> &'static str
     }
 }
 
-/// The target as a text.
+/// Returns the target as a text.
 pub(crate) fn text_of(target: &[u8]) -> &str
     requires { IsUtf8 target.now }
     ensures { result.now ≡ target.now }
@@ -47,7 +47,7 @@ pub(crate) fn text_of(target: &[u8]) -> &str
     }
 }
 
-/// The target up to its first question mark.
+/// Returns the target up to its first question mark.
 pub(crate) fn path_of(target: &str) -> &str
     ensures { result.now ≡ path_of target.now }
 {
@@ -57,7 +57,7 @@ pub(crate) fn path_of(target: &str) -> &str
     }
 }
 
-/// What stands after the first slash, or nothing where there is none.
+/// Returns what follows the first slash, or nothing if there is none.
 pub(crate) fn after_slash(text: &str) -> &str
     ensures { result.now ≡ after_slash text.now }
 {
@@ -67,7 +67,7 @@ pub(crate) fn after_slash(text: &str) -> &str
     }
 }
 
-/// What stands before the first slash, or all where there is none.
+/// Returns what precedes the first slash, or the whole text if there is none.
 pub(crate) fn before_slash(text: &str) -> &str
     ensures { result.now ≡ before_slash text.now }
 {
@@ -77,14 +77,18 @@ pub(crate) fn before_slash(text: &str) -> &str
     }
 }
 
-/// What stands after the third slash of a path.
+/// Returns what follows the third slash of a path.
 pub(crate) fn names_of(path: &str) -> &str
     ensures { result.now ≡ names_of path.now }
 {
     after_slash(after_slash(after_slash(path)))
 }
 
-/// The route of a path.
+/// Returns the route of a path, `None` if the path has none.
+///
+/// # Errors
+///
+/// Returns `InsertError` if the routes couldn't be put into a router, for example because memory ran out.
 pub(crate) fn route_of(alloc: Global, path: &str) -> Result<Option<Route>, InsertError>
     ensures { IfOk result (λ route. route ≡ route_of path.now) }
 {

@@ -47,7 +47,7 @@ through text first rest before mid after begins leads later S g most old new has
 pub no_more : (schema : Schema) → Through [] schema schema
 no_more schema S g most old new has empty sound up h = let same = h.1 in (rw same has, rw same empty, rw same sound, rw same up)
 
--- the same from a database of which nothing more is known
+-- the same from a database about which nothing more is known
 abbrev pub Starts : List ℕ → Schema → Schema → Type 1
 Starts text before after = (S : Type 0) (g : Ghosts S) (most : ℕ) (old new : Held S) → (state g old).now.schema ≡ before → IsEmptied (state g old).now
     → RunInTurn g (Some 0) most text old new (Ok tt) → IsLeft g after new
@@ -60,7 +60,7 @@ starts text first rest before mid after begins leads later S g most old new has 
 
 -- ---- none of them is refused
 
--- run in turn inside a transaction, from empty tables of the schema, none is told as Refused
+-- run in turn inside a transaction, from empty tables of the schema, none returns `Refused`
 abbrev pub IsNeverRefused : List ℕ → Schema → Type 1
 IsNeverRefused text before = (S : Type 0) (g : Ghosts S) (most : ℕ) (old new : Held S) (e : Error) → (state g old).now.schema ≡ before → IsEmptied (state g old).now
     → IsTrue old.in_transaction → row_fault e ≡ Refused → RunInTurn g (Some 0) most text old new (Err e) → ⊥

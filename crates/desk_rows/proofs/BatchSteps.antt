@@ -51,7 +51,7 @@ one_more : (trees : Trees) (table : Table) (tables : List Table) → AllByRecurs
 one_more trees table [] all one = (one, tt)
 one_more trees table (t ∷ tables) all one = (all.0, one_more trees table tables all.1 one)
 
--- what a CREATE TABLE leaves, whatever the other tables hold
+-- what a CREATE TABLE leaves, whatever the other tables have
 pub record HasMade (before : Schema) (table : Table) (old new : State) : Type 0 where
   pub schema : new.now.schema ≡ created before table
   pub empty : new.now.trees (next_tree before) ≡ []
@@ -114,7 +114,7 @@ index_leads sql before at table index is there plain means old new count has emp
 
 -- ---- and is never refused
 
--- over empty tables of the schema, it fails neither for what it says nor for where it stands
+-- over empty tables of the schema, it fails neither for its text nor for its place
 pub record IsSpared (sql : List ℕ) (before : Schema) : Type 1 where
   pub runs : (old new : State) (e : Error) → old.now.schema ≡ before → IsEmptied old.now → row_fault e ≡ Refused → ExecutesIn true sql [] old new (Err e) → ⊥
   pub stays : (old : State) → old.now.schema ≡ before → EndsScope 0 sql [] old → ⊥

@@ -1,4 +1,4 @@
--- Rows of two lists beside each other, where each of the second names one of the first by its number.
+-- Pairs of the rows of two lists, if each of the second names one of the first by its number.
 use Rattle.std.proofs.Common.{◌≡◌, ◌==◌, ◌&&◌, ◌||◌, ◌+◌, ◌<◌, ℕ, zero, suc, Bool, true, false, cond, List, [], ◌∷◌, ◌++◌, map, filter, slice_get}
 use Rattle.std.proofs.Common.{eqb-true, true≢false, IsPermutation, refl, sym, ap, ◌∙◌, subst, arith}
 use Rattle.std.specs.List.{list_any}
@@ -12,7 +12,7 @@ use Rattle.sqlite_keyed.specs.Lists.{pairs}
 use Rattle.sqlite_keyed.proofs.ListLemmas.{filter_same}
 use Rattle.desk_rows.proofs.Ordered.{apart_above, apart_below, zip_from}
 
--- ---- two tests of which an element passes one at most
+-- ---- two tests; an element passes at most one of them
 
 module _ {Y : Type 0} (a b : Y → Bool) (apart : (y : Y) → a y ≡ true → b y ≡ false) where
   passing_by : (y : Y) (ones others both : List Y) (s t : Bool) → (s ≡ true → t ≡ false) → IsPermutation (ones ++ others) both
@@ -28,14 +28,14 @@ module _ {Y : Type 0} (a b : Y → Bool) (apart : (y : Y) → a y ≡ true → b
   passing_either [] = IsPermutation-refl []
   passing_either (y ∷ ys) = passing_by y (filter a ys) (filter b ys) (filter (λ y. a y || b y) ys) (a y) (b y) (apart y) (passing_either ys)
 
--- ---- pairs that pass a test, of which an element of the second list is in one at most
+-- ---- pairs that pass a test, if an element of the second list is in at most one
 
 module _ {X Y : Type 0} (p : X × Y → Bool) where
-  -- whether it passes beside one of these
+  -- whether it passes in a pair with one of these
   abbrev pub passes_beside : List X → Y → Bool
   passes_beside xs y = list_any (λ x. p (x, y)) xs
 
-  -- what passes beside one of them passes beside no later one
+  -- what passes in a pair with one of them passes with no later one
   abbrev pub PassOnce : List X → Type 0
   PassOnce [] = Unit {0}
   PassOnce (x ∷ xs) = ((y : Y) → p (x, y) ≡ true → passes_beside xs y ≡ false) × PassOnce xs
@@ -67,7 +67,7 @@ module _ {X Y : Type 0} (p : X × Y → Bool) where
       (IsPermutation-append_right (filter (λ y. p (x, y)) ys) _ (filter (passes_beside xs) ys) (second_ones xs ys once.1))
       (passing_either (λ y. p (x, y)) (passes_beside xs) once.0 ys))
 
--- ---- numbered rows, of which the one with a number has to pass
+-- ---- numbered rows: the one with a number has to pass
 
 module _ {X : Type 0} (t : X → Bool) (r : Bool) (n : ℕ) where
   abbrev named : ℕ × X → Bool

@@ -1,4 +1,4 @@
--- Numbered rows of which some are changed, each in its place.
+-- Numbered rows, some of them changed, each in its place.
 use Rattle.std.proofs.Common.{◌≡◌, inl, inr, ℕ, zero, suc, ◌+◌, ◌<◌, ◌≤◌, ◌==◌, pos, List, [], ◌∷◌, map, filter, length, Bool, true, false, cond, not, Greater, refl, sym, ap, ap₂, subst, ◌∙◌, arith, rules}
 use Rattle.std.specs.Prelude.{nat_lt}
 use Rattle.std.specs.List.{AllByRecursion}
@@ -17,7 +17,7 @@ use Rattle.desk_rows.specs.Rows.{rowids_from}
 use Rattle.desk_rows.proofs.NumberedLemmas.{ints_rise}
 use Rattle.desk_rows.proofs.Ordered.{apart_above, apart_below, encode, zip_from}
 
--- ---- where a numbered row stands
+-- ---- where a numbered row is
 
 pub zip_low : {X : Type 0} (n : ℕ) (xs : List X) (b : ℕ × X) → Has (zip_from n xs) b → n ≤ b.0
 zip_low n [] b h = absurd h
@@ -83,7 +83,7 @@ module _ {X : Type 0} (p : ℕ × X → Bool) (f : X → X) where
       after : List Row
       after = rowids_from (n + 1) (map cells (numbered_changed (n + 1) xs))
 
-      -- the row b put again where the first row stands too
+      -- the row b put again where the first row is too
       Puts : ℕ × X → X → Type 0
       Puts b y = put_row (encode cells (b.0, f b.1)) (without_rowid (pos b.0) (encode cells (n, x) ∷ rest)) ≡ encode cells (n, y) ∷ after
 

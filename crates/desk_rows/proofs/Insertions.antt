@@ -50,7 +50,7 @@ use Rattle.desk_rows.proofs.ReadLemmas.{truth_again}
 use Rattle.desk_rows.proofs.RefusedLemmas.{in_order_unless, insert_cause}
 use Rattle.desk_rows.proofs.TurnedDown.{insert_writes}
 
--- the text is an INSERT of one row, with so many parameters
+-- the text is an INSERT of one row, with this number of parameters
 pub record IsInsert (sql : List ℕ) (many at : ℕ) (terms : List Term) (width : ℕ) : Type 0 where
   pub compiled : Compiled
   pub means : understood desk_schema sql ≡ Ok compiled
@@ -63,7 +63,7 @@ module _ {sql : List ℕ} {many at : ℕ} {terms : List Term} {width : ℕ} (tex
     (bare : Table) (there : slice_get desk_tables at ≡ Some (uncounted bare))
     (source : Row) (one : value_rows params width (length terms / width) terms ≡ source ∷ [])
     {X : Type 0} (cells : X → Row) (xs : List X) (x : X) (stored : old.now.trees bare.tree ≡ table_of cells xs) (casts : cast_row (uncounted bare) source ≡ Null ∷ cells x) where
-  -- the row stands at the end of its table, and all else is as it was
+  -- the row is at the end of its table, and everything else is as it was
   pub row_added : (count : ℕ) → Executes sql params old new (Ok count)
       → (new.now.schema ≡ desk_schema) × (new.now.trees bare.tree ≡ table_of cells (xs ++ x ∷ [])) × KeepsOthers bare.tree old.now.trees new.now.trees × IsDatabase new.now
   row_added count ran =
@@ -75,7 +75,7 @@ module _ {sql : List ℕ} {many at : ℕ} {terms : List Term} {width : ℕ} (tex
         did.4,
       )
 
--- and the schema stays, whatever the tables held
+-- and the schema stays, whatever the tables have
 pub schema_kept : {sql : List ℕ} {many at : ℕ} {terms : List Term} {width : ℕ} (text : IsInsert sql many at terms width) (params : Row) (old new : State) → old.now.schema ≡ desk_schema
     → (bare : Table) → slice_get desk_tables at ≡ Some (uncounted bare) → (source : Row) → value_rows params width (length terms / width) terms ≡ source ∷ []
     → (count : ℕ) → Executes sql params old new (Ok count) → new.now.schema ≡ desk_schema
@@ -150,7 +150,7 @@ module _ {X : Type 0} (cells : X → Row) (key : List ℕ) (x : X) (P : X → Ty
   pub key_free : (xs : List X) → AllByRecursion P xs → list_any same xs ≡ false → clashes plain key (table_of cells (xs ++ x ∷ [])) (Int (pos (1 + length (map cells xs))) ∷ cells x) ≡ false
   key_free xs all absent = no_clash 1 (1 + length (map cells xs)) xs all absent (ap (λ n. 1 + n) (length-map _ _))
 
--- ---- what tells Refused
+-- ---- when `Refused` is returned
 
 module _ (db : Trees) (table : Table) (listed : Has desk_tables table) {X : Type 0} (cells : X → Row) (xs : List X) (x : X) (held : db table.tree ≡ table_of cells xs) (keeps : Keeps Unique desk_schema db)
     (small : 1 + length xs < 2 ^ 63) where
@@ -243,7 +243,7 @@ pub ran_well : {E : Type 0} {P : ℕ → Type 0} {Q : Type 0} (result : Result (
 ran_well (Ok done) h next = next h.0 h.1
 ran_well (Err e) h next = tt
 
--- A row that is in its range where `Fits` is added where `Free` says that its key is free.
+-- A row in its range, by `Fits`, is added if its key is free, by `Free`.
 module _ {sql : List ℕ} {many at : ℕ} {terms : List Term} {width : ℕ} (text : IsInsert sql many at terms width) (params : Row) (old new : State)
     (bare : Table) (there : slice_get desk_tables at ≡ Some (uncounted bare)) (listed : Has desk_tables (uncounted bare))
     (source : Row) (one : value_rows params width (length terms / width) terms ≡ source ∷ []) (typed : accepts_terms terms params ≡ true) (many_is : length params ≡ many)

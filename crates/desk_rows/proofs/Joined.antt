@@ -1,4 +1,4 @@
--- A query of many rows over two tables, of which each row of the second names one of the first: what is shown is of the second alone.
+-- A query of many rows over two tables, if each row of the second names one of the first: only the second is shown.
 use Rattle.std.proofs.Common.{◌≡◌, ◌&&◌, ℕ, List, [], ◌∷◌, map, filter, Bool, Ordering, Less, int_cmp, false, IsPermutation, sym, ap, ◌∙◌, subst}
 use Rattle.std.specs.List.{list_all}
 use Rattle.std.specs.Option.{option_map_or}

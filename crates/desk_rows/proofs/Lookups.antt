@@ -1,4 +1,4 @@
--- Look-ups: what the first row of a query over one table tells, and that it never tells Row nor Refused of tables in order.
+-- Look-ups: what the first row of a query over one table shows, and that a look-up over a desk's tables never returns `Row` or `Refused`.
 use Rattle.std.proofs.Common.{◌≡◌, inl, inr, ℕ, ◌≤◌, List, [], ◌∷◌, ◌++◌, length, find, Bool, true, false, Option, Some, None, option_map, Ok, Err, Result, IfOk, refl, sym, ap, subst, ◌∙◌, append-nil, subst₂, true≢false, IfErr}
 use Rattle.std.specs.List.{list_all, AllByRecursion}
 use Rattle.std.specs.Prelude.{IfSome, is_some}
@@ -38,7 +38,7 @@ use Rattle.desk_rows.proofs.FaultLemmas.{not_row}
 use Rattle.desk_rows.proofs.FaultLemmas.{told_else}
 use Rattle.desk_rows.proofs.RefusedLemmas.{unset}
 
--- over tables of this schema the text is one such query, with so many parameters
+-- over tables of this schema the text is one such query, with this number of parameters
 pub record IsLookupOf (desk : Schema) (sql : List ℕ) (many : ℕ) {trees : List ℕ} (a : Asked trees) : Type 0 where
   pub names : List (List ℕ)
   pub compiled : Compiled
@@ -173,7 +173,7 @@ lookup_reads {sql = sql} text params old new r clean mode survives ran = record 
   leaves = λ has up sure. found_leaves sql params old new (plain_now text params old new has) r (ran sure);
 }
 
--- ---- what a look-up tells
+-- ---- what a look-up returns
 
 module _ {desk : Schema} {sql : List ℕ} {many : ℕ} {trees : List ℕ} {a : Asked trees} (text : IsLookupOf desk sql many a) (Have : Database → Rows → Type 0) (schema : (db : Database) (r : Rows) → Have db r → db.schema ≡ desk)
     (params : Row) (old new : State) (answer : Result Row Error) (run : HasRun sql params old new answer) (many_is : many ≡ length params) (typed : accepts_program desk [] (query_of a) params ≡ true) where
@@ -245,7 +245,7 @@ module _ {sql : List ℕ} {many : ℕ} {trees : List ℕ} {a : Asked trees} (tex
       → Reads old new result (λ r x. option_map seen x ≡ want r)
   finds = finds_of text Holds has_schema params old new answer run many_is typed
 
--- one thing said of what a look-up told, in place of another
+-- one statement about the result of a look-up in place of another
 pub says_so : {desk : Schema} {Have : Database → Rows → Type 0} {X : Type 0} {old new : State} {result : Result X RowFault} {P Q : Rows → X → Type 0} → ReadsOf desk Have old new result P
     → ((r : Rows) → Have old.now r → (x : X) → P r x → Q r x) → ReadsOf desk Have old new result Q
 says_so {result = result} reads so = record { read = reads.read; told = λ sure r has. go result (so r has) (reads.told sure r has); in_order = reads.in_order }

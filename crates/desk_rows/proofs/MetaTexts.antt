@@ -1,4 +1,4 @@
--- The query of the row of meta, whatever tables there are beside it.
+-- The query of the row of meta, whatever other tables there are.
 use Rattle.std.proofs.Common.{◌≡◌, ◌≤◌, length, Ok, arith, ℕ, pos, negsuc, List, [], ◌∷◌, codes, None, false, true, refl}
 use Rattle.sqlite_value.specs.declared.value.Value.TheVariants.{Int}
 use Rattle.sqlite_schema.specs.declared.schema.Table.{Table}

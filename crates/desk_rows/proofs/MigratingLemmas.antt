@@ -123,7 +123,7 @@ version_update : IsUpdate version_text 0 0 meta_table first_row with_version
 unfolding understood everything
 version_update = record { compiled = _; means = refl; command = refl; plain = (refl, refl); whole = omega arith; given = refl }
 
--- what meta tells: a version and settings
+-- the version and the settings of meta
 abbrev Told : Type 0
 Told = ℕ × Settings
 

@@ -1,4 +1,4 @@
--- At most one row has a key, where an index keeps the keys of its table apart.
+-- At most one row has a key, if an index makes the keys of its table distinct.
 use Rattle.std.proofs.Common.{◌≡◌, inl, inr, ℕ, ◌+◌, ◌<◌, ◌^◌, ◌&&◌, pos, List, [], ◌∷◌, filter, length, option_map, Bool, true, false, not, Some, refl, sym, ap, subst, ◌∙◌, arith}
 use Rattle.std.specs.List.{AllByRecursion}
 use Rattle.std.specs.Ordering.{is_ne}

@@ -1,4 +1,5 @@
--- Queries over tables that are joined, and of those the ones over one table: the first row, in the order of the rowids or in another that leaves no tie.
+-- Queries over tables that are joined, and of those the ones over one table: the first row, in the order of the rowids or in another that
+-- leaves no tie.
 use Rattle.std.proofs.Common.{◌≡◌, ◌==◌, ℕ, zero, suc, slice_get, eqb-true, ◌+◌, ◌<◌, ℤ, ◌<ℤ◌, pos, List, [], ◌∷◌, map, filter, find, Bool, true, false, cond, ◌||◌, Option, Some, None, option_map, refl, sym, ap, ◌∙◌, arith, Ordering, Less, Equal, Greater, int_cmp, map-id}
 use Rattle.std.specs.List.{list_all, list_any, AllByRecursion}
 use Rattle.std.specs.Prelude.{IfSome, is_some}
@@ -175,7 +176,7 @@ found_number (suc k) xs = at 1 (suc k) k xs (omega arith)
     at m n zero (x ∷ xs) is = let same : m ≡ n = omega (arith, is) in rw (eq-eqb m n same) (ap (λ j. Some (j, x)) same)
     at m n (suc k) (x ∷ xs) is = rw (apart_above n m (omega (arith, is))) (at (m + 1) n k xs (omega (arith, is)))
 
--- two tests that tell the rows of a list alike find the same
+-- two tests that agree on the rows of a list find the same
 pub found_same : {X : Type 0} (P : X → Type 0) (p q : X → Bool) → ((x : X) → P x → p x ≡ q x) → (xs : List X) → AllByRecursion P xs → find p xs ≡ find q xs
 found_same P p q same [] all = refl
 found_same P p q same (x ∷ xs) all = (λ i. cond (same x all.0 i) (Some x) (find p xs)) ∙ ap (λ o. cond (q x) (Some x) o) (found_same P p q same xs all.1)

@@ -1,4 +1,4 @@
--- Queries of many rows: what holds of all rows of an answer, and of those in order of start.
+-- Queries of many rows: what is true of all rows of an answer, and of those ordered by start.
 use Rattle.std.proofs.Common.{◌≡◌, inl, inr, ℕ, pos, List, [], ◌∷◌, ◌++◌, map, filter, length, Bool, true, false, Vec, None, Ok, Err, Result, IfOk, IfErr, refl}
 use Rattle.std.proofs.Common.{sym, ap, subst, ◌∙◌, map-id, ◌<◌, ◌^◌, Ordering, Less, Equal, int_cmp}
 use Rattle.std.specs.declared.alloc.Global.{Global}
@@ -121,7 +121,7 @@ reads_all {sql} text params {old} {new} many_is typed {seen = seen} {shows = sho
 
 -- ---- rows in an order
 
--- what holds of each that passes
+-- what is true of each that passes
 pub rows_all : {X : Type 0} (P Q : X → Type 0) (order : ℕ × X → ℕ × X → Ordering) (p : X → Bool) → ((x : X) → P x → p x ≡ true → Q x) → (xs : List X)
     → AllByRecursion P xs
     → AllByRecursion (λ (b : ℕ × X). Q b.1) (rows_by order p xs)
@@ -129,7 +129,7 @@ rows_all {X} P Q order p so xs all = all_sorted order (λ (b : ℕ × X). Q b.1)
     (all_kept (λ (b : ℕ × X). Q b.1) (λ b. p b.1) (zip_from 1 xs)
     (all_so (λ (b : ℕ × X). P b.1) (λ b. p b.1 ≡ true → Q b.1) (λ b. so b.1) (zip_from 1 xs) (zip_all P 1 xs all)))
 
--- two tests that tell the rows of a list alike give the same
+-- two tests that agree on the rows of a list give the same
 pub rows_alike : {X : Type 0} (order : ℕ × X → ℕ × X → Ordering) (P : X → Type 0) (p q : X → Bool) → ((x : X) → P x → p x ≡ q x) → (xs : List X)
     → AllByRecursion P xs
     → rows_by order p xs ≡ rows_by order q xs

@@ -39,7 +39,7 @@ none_refers : (among : Among) (rows : List Row) → AllByRecursion (λ (row : Ro
 none_refers among [] = tt
 none_refers among (r ∷ rows) = (refl, none_refers among rows)
 
--- the desk has no foreign key
+-- the schema has no `FOREIGN KEY`
 pub refers : (among : Among) (db : Trees) → Refers among desk_schema db
 refers among db =
     (none_refers among (db 0), (none_refers among (db 1), (none_refers among (db 3), (none_refers among (db 5), (none_refers among (db 7), (none_refers among (db 9), (none_refers among (db 11), (none_refers among (db 13), (none_refers among (db 15), (none_refers among (db 17), (none_refers among (db 22), tt)))))))))))
@@ -52,13 +52,13 @@ pub unset : (limit : Option ℕ) → limit ≡ None → IsSome limit → ⊥
 unset None e h = let x = h in cc
 unset (Some n) e h = cc
 
--- a row that cannot be stored is told otherwise
+-- a row that cannot be stored has another error
 pub not_oversized : {A B : Type 0} (why : Option Refusal) (s stop : Option Error) (e : Error)
     → ◌≡◌ {A = Result A (Option Refusal)} (Err why) (Err None) → s ≡ option_map edit_error why
     → ◌≡◌ {A = Result B (Option Error)} (Err stop) (Err s) → stop ≡ Some e → ⊥
 not_oversized why s stop e big is same some = cc
 
--- ---- a statement inside a transaction, told as Refused
+-- ---- a statement inside a transaction that returns `Refused`
 
 module _ {schema : Schema} (sql : List ℕ) (params : Row) (old new : State) (has : old.now.schema ≡ schema) (command : Command) (writes : WritesRows command)
     (compiled : Compiled) (means : understood schema sql ≡ Ok compiled) (is : compiled.command ≡ command)

@@ -1,4 +1,4 @@
--- What stands at a place of a row, and what is told of a row whatever it is.
+-- What is at a place of a row, and what is returned for a row whatever it is.
 use Rattle.std.proofs.Common.{◌≡◌, ◌<◌, inl, inr, ℕ, ℤ, pos, List, length, Result, Ok, Err, OnErr, true≢false, sym, ◌∙◌}
 use Rattle.std.specs.Prelude.{OnOk}
 use Rattle.std.specs.Result.{IsErr}
@@ -13,7 +13,7 @@ use Rattle.desk_rows.specs.steps.Errors.{Decodes, ReadsAt}
 within : (row : Row) (at : ℕ) → ¬ (column row at ≡ Null) → at < length row
 within row at some = elim (cases_lt at (length row)) [ inl below ↦ below | inr past ↦ absurd (some (get_or_past row at Null past)) ]
 
--- what was to be read at it doesn't stand there
+-- what was to be read at it isn't there
 pub unread : {T : Type 0} (shows : T → Value) (InRange : T → Type 0) (row : Row) (at : ℕ) (fault : RowFault) (x : T) → ReadsAt shows InRange row at (Err fault)
     → InRange x → ¬ (shows x ≡ Null) → ¬ (column row at ≡ shows x)
 unread {T} shows InRange row at fault x reads fits some is =

@@ -39,7 +39,7 @@ module _ {X : Type 0} {Fits : X → Type 0} (t : Stored X Fits) {sql : List ℕ}
     (f : X → X) (kept : (x : X) → Fits x → Fits (f x)) (changed : (b : ℕ × X) → eval_all project (params ∷ encode t.cells b ∷ []) ≡ encode t.cells (b.0, f b.1))
     (place : ℕ) (value : X → Value) (one_column : (m : ℕ) (x : X) → Int (pos m) ∷ t.cells (f x) ≡ replaced place (value x) (Int (pos m) ∷ t.cells x)) (in_no_key : is_in_no_key desk_schema t.table place ≡ true)
     (referred : (m : ℕ) (cells : Row) → is_referred desk_schema Enforced (record { table = t.table; gone = pos m ∷ []; news = (Int (pos m) ∷ cells) ∷ [] }) ≡ true) where
-  -- of the rows that pass: at most one, and where `May` says so just one
+  -- of the rows that pass: at most one, and just one if `May` is true
   changes : {old new : State} (p : ℕ × X → Bool) → ((b : ℕ × X) → list_all (holds (params ∷ encode t.cells b ∷ [])) terms ≡ p b) → ((r : Rows) → Holds old.now r → AreFew (filter p (zip_from 1 (t.rows r))))
       → (ys : Rows → List X) → ((r : Rows) → Holds old.now r → numbered_changed p f 1 (t.rows r) ≡ ys r) → ((r : Rows) → InRange r → AllByRecursion Fits (ys r)) → (May : Rows → Type 0)
       → ((r : Rows) → Holds old.now r → May r → (b : ℕ × X) × (filter p (zip_from 1 (t.rows r)) ≡ b ∷ []) × (b.0 < 2 ^ 63)) → {result : Result (Unit {0}) RowFault} → HasWritten sql params old new result

@@ -1,4 +1,4 @@
--- The tables as one list, so that a change of one of them says the rest at once.
+-- The tables as one list, so that one statement about a change of one of them covers the others.
 use Rattle.std.proofs.Common.{◌≡◌, ◌≢◌, ℕ, ◌==◌, ◌∙◌, List, [], ◌∷◌, ◌++◌, map, cond, Bool, true, false, refl, sym, ap, eqb-true, true≢false, subst}
 use Rattle.std.specs.List.{AllByRecursion}
 use Rattle.std.proofs.lemmas.Bool.{eq-eqb}

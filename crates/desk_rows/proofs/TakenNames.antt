@@ -14,7 +14,7 @@ use Rattle.sqlite_resolve.specs.declared.error.CompileError.{CompileError}
 use Rattle.sqlite_resolve.specs.declared.error.CompileError.TheVariants.{Exists, Misuse, Unsupported}
 use Rattle.sqlite.specs.Listing.{if_select, listing_schema, misses_table, understood}
 
--- it is none for want of a table
+-- it is no error because a table is missing
 abbrev IsFault : CompileError → Type 0
 IsFault e = misses_table (Err e) ≡ false
 

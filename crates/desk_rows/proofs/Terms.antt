@@ -1,4 +1,4 @@
--- What the tests of a WHERE and the keys of an index say of rows, and how a value is kept as it is.
+-- What the tests of a WHERE and the keys of an index mean for rows, and how a value is stored unchanged.
 use Rattle.std.proofs.Common.{◌≡◌, ◌<◌, ◌^◌, ℕ, ℤ, pos, List, Bool, true, false, ◌&&◌, ◌==◌, refl, sym, ap, ◌∙◌}
 use Rattle.std.specs.Int.{from_be_bytes, to_be_bytes, w64}
 use Rattle.std.specs.Ordering.{is_eq, int_eq}

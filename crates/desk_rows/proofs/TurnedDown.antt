@@ -1,4 +1,4 @@
--- Why a command that changes the database is told as Refused: the database turned it down.
+-- When a command that changes the database returns `Refused`: the database refused it.
 use Rattle.std.proofs.Common.{◌≡◌, inl, inr, ℕ, ◌≤◌, List, [], length, Bool, true, false, None, Some, Ok, Err, Result, refl, sym, ap, subst, ◌∙◌, append-nil}
 use Rattle.std.specs.Prelude.{MatchBool}
 use Rattle.sqlite_value.specs.Order.{Row}

@@ -47,7 +47,7 @@ use Rattle.desk_rows.proofs.UpdateRefusals.{Passes, not_refused, update_cause}
 abbrev pub update_of : ℕ → Table → List Term → List Term → Command
 update_of at table terms project = Update at (record { lets = []; body = over_one table.tree terms (col 1 0 ∷ project) })
 
--- the text is that, with so many parameters
+-- the text is that, with this number of parameters
 pub record IsUpdate (sql : List ℕ) (many at : ℕ) (table : Table) (terms project : List Term) : Type 0 where
   pub compiled : Compiled
   pub means : understood desk_schema sql ≡ Ok compiled
@@ -71,7 +71,7 @@ module _ {sql : List ℕ} {many at : ℕ} {table : Table} {terms project : List 
       updated sql params old new has at (over_one table.tree terms (col 1 0 ∷ project)) (ap command_of text.means ∙ text.command)
       (subst IsPlain (sym text.means) text.plain) table there count it
 
-  -- the schema stays, whatever the tables held
+  -- the schema stays, whatever the tables have
   schema_kept : (count : ℕ) → Executes sql params old new (Ok count) → new.now.schema ≡ desk_schema
   schema_kept count it = (ran count it).2
 
@@ -144,7 +144,7 @@ module _ {sql : List ℕ} {many at : ℕ} {table : Table} {terms project : List 
 
 -- ---- what an UPDATE does to the rows
 
--- At most one row passes and is changed; where `May` says that there is one, and it obeys the rules, it is never refused.
+-- At most one row passes and is changed. If there is one, by `May`, and it is in its range, the statement is never refused.
 module _ {sql : List ℕ} {many at : ℕ} {table : Table} {terms project : List Term} (text : IsUpdate sql many at table terms project)
     (params : Row) (old new : State) (there : slice_get desk_tables at ≡ Some table) (listed : Has desk_tables table)
     (typed : accepts_program desk_schema [] (over_one table.tree terms (col 1 0 ∷ project)) params ≡ true) (many_is : length params ≡ many)

@@ -48,7 +48,7 @@ use Rattle.desk_rows.proofs.Terms.{and_true, eui_equal, number_equal, same}
 abbrev equal : Term → Term → Term
 equal a b = op2 (Compare Eq Binary) a b
 
--- each session beside each uplink
+-- the pairs of a session and an uplink
 abbrev asked : Asked (11 ∷ 13 ∷ [])
 asked = all_by (11 ∷ 13 ∷ []) (equal (col 2 2) (col 1 0) ∷ equal (col 1 2) (col 0 0)
     ∷ op2 (Compare Ge Binary) (col 2 6) (col 0 1) ∷ op2 (Compare Lt Binary) (col 2 6) (col 0 2) ∷ equal (col 2 8) (col 0 3) ∷ [])

@@ -1,5 +1,4 @@
--- Laws of calls in a row, for whoever makes several: what one reading call leaves so do several, and what one statement in a
--- transaction does.
+-- Laws of calls in a row: what several reading calls leave, and what one statement in a transaction does.
 use Rattle.std.proofs.Common.{◌≡◌, ◌⊎◌, inl, inr, Bool, true, false, true≢false, refl, IsTrue, arith, sym, subst, ◌∙◌}
 use Rattle.sqlite.specs.State.{State, HasCleanDisk, IsUnchanged, IsRolledBack}
 use Rattle.sqlite.proofs.Callers.{unchanged_then}
@@ -7,7 +6,7 @@ use Rattle.sqlite.proofs.StateLemmas.{survives_then}
 use Rattle.sqlite_schema.specs.declared.schema.Schema.{Schema}
 use Rattle.desk_rows.specs.Calls.{StaysOrRollsBack, IsReadingCallOf, GoesOn, Writes, IsWritingCall}
 
--- what read well may then be found out of its range
+-- what was read may then be found out of its range
 pub read_weaker : {desk : Schema} (old new : State) (a ok : Bool) → (IsTrue ok → IsTrue a) → IsReadingCallOf desk old new a → IsReadingCallOf desk old new ok
 read_weaker old new a ok then_ok read = record { clean = read.clean; mode = read.mode; survives = read.survives; leaves = λ has up sure. go a ok then_ok (read.leaves has up sure) }
   where

@@ -1,4 +1,4 @@
--- The typed rows that the rows of tables stand for: what is held is one thing.
+-- The typed rows that the tables' rows represent. A database has only one list of them.
 use Rattle.std.specs.Prelude.{◌≡◌, ℕ, ◌+◌, ◌==◌, if◌then◌else◌, ℤ, pos, List, [], ◌∷◌, map, Option, Some, None, refl}
 use Rattle.std.specs.Int.{from_be_bytes, w64}
 use Rattle.std.specs.List.{AllByRecursion}
@@ -159,7 +159,7 @@ every : {X : Type 0} (xs : List X) → AllByRecursion (λ x. Unit {0}) xs
 every [] = tt
 every (x ∷ xs) = (tt, every xs)
 
--- what a table holds, where each row is decoded
+-- the typed rows of a table, if each row is decoded
 abbrev again : {X : Type 0} (P : X → Type 0) (cells : X → Row) (of : Row → X) → ((n : ℕ) (x : X) → P x → of (Int (pos n) ∷ cells x) ≡ x)
     → (xs : List X) → AllByRecursion P xs → (rows : List Row) → rows ≡ table_of cells xs → xs ≡ map of rows
 again P cells of back xs all rows is = sym (all_decoded P cells of back 1 xs all) ∙ ap (map of) (sym is)
@@ -237,7 +237,7 @@ module _ (db : Database) (r : Rows) (h : Holds db r) where
   limits_are = again (λ x. Unit {0}) limit_cells limit_in
       (λ n x p i. record { gateway = x.gateway; limit = record { band = band_again x.limit.band i; most = x.limit.most } }) r.limits (every r.limits) (db.trees 22) h.limit
 
-  -- the rows are those that the trees stand for
+  -- the rows are those that the trees represent
   pub held_again : r ≡ rows_in db.trees
   held_again = λ i. record {
     settings = settings_is i;

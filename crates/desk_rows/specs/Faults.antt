@@ -1,4 +1,4 @@
--- How an error of a statement is told, and which faults tables in order never tell.
+-- The error of a call for SQLite's error, and which errors never come over a desk's tables.
 use Rattle.std.specs.Prelude.{◌≡◌, Bool, true, false}
 use Rattle.sqlite.specs.declared.error.Error.{Error}
 use Rattle.sqlite.specs.declared.error.Error.TheVariants.{SqliteFailure}
@@ -6,7 +6,7 @@ use Rattle.sqlite.specs.declared.error.ErrorCode.TheVariants as code
 use Rattle.desk_rows.specs.declared.faults.RowFault.{RowFault}
 use Rattle.desk_rows.specs.declared.faults.RowFault.TheVariants.{Memory, Disk, Size, Refused, Row as OutOfRange}
 
--- what the code of an error tells: memory, the disk, a size, or any other cause
+-- the error by SQLite's code: out of memory, disk, out of space, or any other cause
 abbrev pub row_fault : Error → RowFault
 row_fault (SqliteFailure code.OutOfMemory) = Memory
 row_fault (SqliteFailure code.SystemIoFailure) = Disk

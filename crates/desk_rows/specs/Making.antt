@@ -10,12 +10,12 @@ use Rattle.desk_rows.specs.Schema.{desk_schema}
 abbrev pub IsEmptied : Database → Type 0
 IsEmptied db = AllByRecursion (λ t. db.trees t.tree ≡ []) db.schema.tables
 
--- the eleven tables with their indexes are there and nothing else, and no row
+-- the eleven tables with their indexes and nothing else are there, with no rows
 pub record IsBare (db : Database) : Type 0 where
   pub schema : db.schema ≡ desk_schema
   pub sound : IsDatabase db
   pub empty : IsEmptied db
 
--- the settings alone
+-- only the configuration
 abbrev pub settings_rows : Settings → Rows
 settings_rows c = record { settings = c; senders = []; replies = []; owners = []; gateways = []; devices = []; sessions = []; uplinks = []; copies = []; bookings = []; limits = [] }

@@ -1,4 +1,4 @@
--- The row of meta: which version the schema has, and what the desk is made with, whatever else the database has.
+-- The row of meta: the version of the schema and the desk's configuration, whatever else the database has.
 use Rattle.std.specs.Prelude.{◌≡◌, ◌<◌, ◌^◌, ℤ, pos, [], ◌∷◌, take}
 use Rattle.registry_core.specs.Ranges.{IsName}
 use Rattle.registry_core.specs.Settings.{Settings, IsBlock}
@@ -8,7 +8,7 @@ use Rattle.sqlite_trees.specs.Tree.{Trees}
 use Rattle.sqlite_schema.specs.declared.schema.Schema.{Schema}
 use Rattle.desk_rows.specs.Schema.{meta_table}
 
--- the first table is the one that tells the version
+-- the first table is meta, which has the version, and there is no view
 pub record HasMeta (schema : Schema) : Type 0 where
   pub first : take 1 schema.tables ≡ meta_table ∷ []
   pub no_views : schema.views ≡ []
@@ -20,7 +20,7 @@ pub record IsConfig (c : Settings) : Type 0 where
   pub block : IsBlock c.base c.addresses
   pub fits : c.addresses < 2 ^ 32
 
--- there is one row of meta, and it is in shape
+-- there is one row of meta, and it is in form
 pub record TellsMeta (trees : Trees) (version : ℤ) (c : Settings) : Type 0 where
   pub row : Row
   pub one : trees 0 ≡ row ∷ []

@@ -1,4 +1,4 @@
--- A move from schema 1 to schema 2: what holds before its first statement, and between the two.
+-- A move from schema 1 to schema 2: what is true before its first statement, and between the two.
 use Rattle.std.specs.Prelude.{◌≡◌, ℕ, List, [], codes}
 use Rattle.sqlite.specs.Effect.{Database}
 use Rattle.desk_rows.specs.Rows.{Rows, HoldsTen}
@@ -12,7 +12,7 @@ pub record HoldsFirst (db : Database) (r : Rows) : Type 0 where
   pub ten : HoldsTen 1 first_schema db r
   pub no_limits : r.limits ≡ []
 
--- the eleventh table is there and empty, and meta still tells version 1
+-- the eleventh table is there and empty, and meta still has version 1
 pub record HoldsBetween (db : Database) (r : Rows) : Type 0 where
   pub ten : HoldsTen 1 desk_schema db r
   pub no_limits : r.limits ≡ []

@@ -1,4 +1,4 @@
--- The texts that were heard and answered, as contracts see them.
+-- The texts of messages and answers, as contracts see them.
 use Rattle.std.specs.Prelude.{ℕ, List}
 use Rattle.desk_rows.specs.Rows.{ReplyRow}
 use Rattle.desk_rows.specs.declared.replies.Texts.{Texts}

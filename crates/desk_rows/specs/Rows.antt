@@ -1,4 +1,4 @@
--- The typed rows of the tables, and how they stand in a database.
+-- The typed rows of the tables, and how they are stored in a database.
 use Rattle.std.specs.Prelude.{◌≡◌, ◌==◌, ◌&&◌, Bool, bytes_eq, ℕ, ◌+◌, ◌<◌, ◌≤◌, ◌^◌, pos, List, [], ◌∷◌, length, map, Option, Some, None}
 use Rattle.std.specs.Int.{to_be_bytes, w64}
 use Rattle.std.specs.List.{AllByRecursion}
@@ -74,7 +74,7 @@ pub record DeviceRow : Type 0 where
 
 pub record SessionRow : Type 0 where
   pub session : Session
-  -- how many bookings answer its data uplinks
+  -- the number of bookings that answer its data uplinks
   pub next_down : ℕ
 
 pub record CopyRow : Type 0 where
@@ -84,7 +84,7 @@ pub record CopyRow : Type 0 where
 
 pub record BookingRow : Type 0 where
   pub booking : Booking
-  -- those of its uplink
+  -- the session and the kind of its uplink
   pub session : ℕ
   pub kind : Kind
 
@@ -93,7 +93,7 @@ pub record LimitRow : Type 0 where
   pub gateway : List ℕ
   pub limit : Limit
 
--- what the tables hold, each in the order in which its rows were added
+-- the rows of the tables, each in the order in which they were added
 pub record Rows : Type 0 where
   pub settings : Settings
   pub senders : List SenderRow
@@ -127,13 +127,13 @@ is_uplink session kind counter u = u.session == session && (kind_number u.kind =
 abbrev pub is_copy : ℕ → List ℕ → CopyRow → Bool
 is_copy uplink gateway c = c.uplink == uplink && bytes_eq c.gateway gateway
 
--- a band by its number
+-- a gateway and a band, by the band's number
 abbrev pub is_limit : List ℕ → ℕ → LimitRow → Bool
 is_limit gateway band l = bytes_eq l.gateway gateway && band_number l.limit.band == band
 
--- ---- cells: a row without its rowid, where the column of an INTEGER PRIMARY KEY holds NULL
+-- ---- cells: a row without its rowid, with NULL in the column of an INTEGER PRIMARY KEY
 
--- under the version of the schema
+-- with this version of the schema
 abbrev pub meta_cells : ℕ → Settings → Row
 meta_cells version c = Null ∷ number version ∷ Text c.receiver ∷ Text c.operator ∷ number c.base ∷ number c.addresses ∷ []
 
@@ -168,7 +168,7 @@ limit_cells l = Text l.gateway ∷ number (band_number l.limit.band) ∷ number 
 
 -- ---- tables
 
--- rows with the rowids from a number on, in order
+-- rows with rowids from a number on, in order
 abbrev pub rowids_from : ℕ → List Row → List Row
 rowids_from n [] = []
 rowids_from n (cells ∷ more) = (Int (pos n) ∷ cells) ∷ rowids_from (n + 1) more
@@ -214,8 +214,8 @@ pub record InRange (r : Rows) : Type 0 where
   pub copies : AllByRecursion IsCopy r.copies
   pub bookings : AllByRecursion IsBooking r.bookings
 
--- The database has this schema and nothing else, meta tells this version of it, and the ten tables that each version has
--- hold exactly these rows.
+-- The database has this schema and nothing else, meta has this version of it, and the ten tables that each version has store exactly these
+-- rows.
 pub record HoldsTen (version : ℕ) (desk : Schema) (db : Database) (r : Rows) : Type 0 where
   pub schema : db.schema ≡ desk
   pub sound : IsDatabase db
@@ -231,7 +231,7 @@ pub record HoldsTen (version : ℕ) (desk : Schema) (db : Database) (r : Rows) :
   pub copy : db.trees 15 ≡ table_of copy_cells r.copies
   pub booking : db.trees 17 ≡ table_of booking_cells r.bookings
 
--- The database has schema 2 and nothing else, and its eleven tables hold exactly these rows.
+-- The database has schema 2 and nothing else, and its eleven tables store exactly these rows.
 pub record Holds (db : Database) (r : Rows) : Type 0 where
   pub ten : HoldsTen 2 desk_schema db r
   pub limit : db.trees 22 ≡ table_of limit_cells r.limits

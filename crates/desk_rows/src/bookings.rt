@@ -1,4 +1,4 @@
-//! Bookings of downlinks.
+//! The table of bookings of downlinks.
 ghost use Rattle.std.specs.Prelude.{◌≡◌, ◌+◌, ◌<◌, ◌^◌, ◌++◌, [], ◌∷◌, codes, length, Some, option_map, if◌then◌else◌};
 ghost use Rattle.std.specs.List.{list_any};
 ghost use Rattle.duty_core.specs.Range.{IsStart};
@@ -47,7 +47,7 @@ impl FromRow for Booking {
     }
 }
 
-/// The booking with this number, from 1, if there is one.
+/// Returns the booking with this number, from 1; `None` if there is none.
 pub fn booking<S: Alter>(
     conn: &mut Connection<S>,
     number: Whole,
@@ -61,7 +61,7 @@ pub fn booking<S: Alter>(
     )
 }
 
-/// The text of the look-up of an uplink's answer.
+/// Returns the SQL text of the look-up of an uplink's answer.
 #[tactic(auto, unfolding(sqlite::specs::Listing::understood, sqlite_tied::specs::Compute::everything))]
 fn answer_text() -> &'static str
     ensures { AsksFor result.now 1 answer_asked (codes "1" ∷ []) }
@@ -69,14 +69,14 @@ fn answer_text() -> &'static str
     "SELECT 1 FROM booking WHERE uplink = ?1 AND state <> 2 ORDER BY number"
 }
 
-/// Whether a booking that isn't dropped answers the uplink.
+/// Returns whether a booking that isn't dropped answers the uplink.
 pub fn is_answered<S: Alter>(conn: &mut Connection<S>, uplink: Whole) -> Result<bool, RowFault>
     ensures { Reads (state S.Store conn.old) (state S.Store conn.new) result (λ r answered. answered ≡ list_any (λ row. is_answer_to uplink row.booking) r.bookings) }
 {
     is_found(conn, answer_text(), &[whole(uplink)])
 }
 
-/// The number of the last booking, if there is one.
+/// Returns the number of the last booking, `None` if there is none.
 pub fn last_booking<S: Alter>(conn: &mut Connection<S>) -> Result<Option<u64>, RowFault>
     ensures second { Reads (state S.Store conn.old) (state S.Store conn.new) result (λ r number. number ≡ last_number r.bookings) }
     ensures first { ReadsFirst (state S.Store conn.old) (state S.Store conn.new) result (λ r number. number ≡ last_number r.bookings) }
@@ -116,7 +116,7 @@ pub fn insert_booking<S: Alter>(
     )
 }
 
-/// How a booking stands that has ended.
+/// Returns the state of a booking that has ended: `Sent` or `Dropped`.
 fn ended(sent: bool) -> Standing
     ensures { result ≡ (if sent then Sent else Dropped) }
 {
@@ -127,7 +127,7 @@ fn ended(sent: bool) -> Standing
     }
 }
 
-/// Ends the booking with this number: it is sent, or dropped.
+/// Ends the booking with this number: marks it as sent, or else as dropped.
 pub fn end_booking<S: Alter>(
     tx: &mut Transaction<'_, S>,
     number: Whole,

@@ -1,4 +1,4 @@
-//! Values as columns of a row tell them.
+//! Reads values from the columns of a row.
 ghost use Rattle.std.specs.Prelude.{◌≡◌, ◌⊎◌, ◌+◌, ◌<◌, ◌≤◌, ◌^◌, ℕ, List, Ok, length, IfOk, IfErr};
 ghost use Rattle.std.specs.Int.{to_be_bytes, w64};
 ghost use Rattle.sqlite_value.specs.declared.value.Value.TheVariants.{Blob, Int, Text};
@@ -120,7 +120,7 @@ pub(crate) fn eui_at(row: &Row, at: usize) -> Result<Eui, RowFault>
     }
 }
 
-/// The EUI of eight octets, the most significant first.
+/// Returns the EUI of eight octets, the most significant first.
 #[tactic(auto, using(std::proofs::lemmas::Nat::be_bytes_8))]
 fn eui_of(octets: &[u8]) -> Result<Eui, RowFault>
     ensures reads { (n : ℕ) → IsEui n → octets.now ≡ to_be_bytes w64 n → result ≡ Ok n }
@@ -133,7 +133,7 @@ fn eui_of(octets: &[u8]) -> Result<Eui, RowFault>
     }
 }
 
-/// A span, its length one place on.
+/// Returns the span at a place, with its length at the next place.
 pub(crate) fn span_at(row: &Row, at: u8) -> Result<Span, RowFault>
     ensures reads { (span : Interval) → IsStart span.start → span.len < 2 ^ 32 → column row.now at ≡ Int span.start → column row.now (at + 1) ≡ number span.len
         → at + 1 < length row.now → result ≡ Ok span }

@@ -1,4 +1,4 @@
-//! Gateways.
+//! The table of gateways.
 ghost use Rattle.std.specs.Prelude.{◌≡◌, ◌+◌, ◌<◌, ◌^◌, ◌++◌, [], ◌∷◌, length, false, bytes_eq};
 ghost use Rattle.std.specs.List.{list_any};
 ghost use Rattle.sqlite.specs.Held.{state};
@@ -12,7 +12,7 @@ use crate::writes::write;
 use radio_core::Name;
 use sqlite::{Alter, Connection, Transaction};
 
-/// Whether there is a gateway of this name.
+/// Returns whether there is a gateway of this name.
 pub fn gateway_is_known<S: Alter>(conn: &mut Connection<S>, name: &Name) -> Result<bool, RowFault>
     ensures { Reads (state S.Store conn.old) (state S.Store conn.new) result (λ r known. known ≡ list_any (λ gateway. bytes_eq gateway name.now) r.gateways) }
 {
@@ -23,7 +23,7 @@ pub fn gateway_is_known<S: Alter>(conn: &mut Connection<S>, name: &Name) -> Resu
     )
 }
 
-/// The number of the last gateway, if there is one: how many there are.
+/// Returns the number of the last gateway, `None` if there is none. It is the number of gateways.
 pub fn last_gateway<S: Alter>(conn: &mut Connection<S>) -> Result<Option<u64>, RowFault>
     ensures { Reads (state S.Store conn.old) (state S.Store conn.new) result (λ r number. number ≡ last_number r.gateways) }
 {

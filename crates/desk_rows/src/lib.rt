@@ -1,4 +1,13 @@
-//! Statements on the eleven tables, and those of a move from the ten tables of schema 1.
+//! Statements on the eleven tables of a desk, and those that move the ten tables of schema 1 to schema 2.
+//!
+//! Each look-up runs one query on a connection, and changes nothing. Each change runs one statement inside a transaction, and commits
+//! nothing.
+//!
+//! # Errors
+//!
+//! Each call that fails returns a `RowFault`. If the database has a desk's rows, the disk has returned what was written to it, and the
+//! connection has no step limit, a look-up fails only with `Memory`, `Disk` or `Size`. The same is true of a change whose keys are free and
+//! whose rows are there.
 #![tactic(auto)]
 
 mod bookings;

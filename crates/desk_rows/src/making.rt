@@ -1,4 +1,4 @@
-//! A new desk's tables, and the row that tells what it is made with.
+//! Makes the tables of a new desk, and the row of meta with its configuration.
 ghost use Rattle.std.specs.Prelude.{◌≡◌, None, IsTrue, IfErr, OnOk, is_ok};
 ghost use Rattle.sqlite.specs.Held.{state};
 ghost use Rattle.sqlite.specs.State.{HasCleanDisk, KeepsCommit, Survives};
@@ -14,7 +14,7 @@ use crate::writes::write;
 use registry_core::Config;
 use sqlite::{Alter, Transaction};
 
-/// Schema 2, as sqlite3's `.schema` shows it of a desk's file.
+/// Schema 2, as `.schema` of sqlite3 prints it for a desk's file.
 const TABLES: &str = "\
 CREATE TABLE meta (id INTEGER PRIMARY KEY, version INTEGER NOT NULL, receiver TEXT NOT NULL, \
     operator TEXT NOT NULL, base INTEGER NOT NULL, addresses INTEGER NOT NULL) STRICT; \
@@ -41,7 +41,7 @@ CREATE INDEX booking_uplink ON booking (uplink); \
 CREATE TABLE band_limit (gateway TEXT NOT NULL, band INTEGER NOT NULL, value INTEGER NOT NULL, \
     PRIMARY KEY (gateway, band)) STRICT";
 
-/// The eleven tables with their indexes, in one batch, in a database that has none.
+/// Makes the eleven tables with their indexes, in one batch, in a database that has none.
 pub fn create_tables<S: Alter>(tx: &mut Transaction<'_, S>) -> Result<(), RowFault>
     ensures same_reference { tx.new.conn.ghost_name ≡ tx.old.conn.ghost_name }
     ensures made { HasCleanDisk (state S.Store tx.new.conn.now) → (state S.Store tx.old.conn.now).now.schema ≡ no_schema → OnOk result (IsBare (state S.Store tx.new.conn.now).now) }
@@ -59,7 +59,7 @@ pub fn create_tables<S: Alter>(tx: &mut Transaction<'_, S>) -> Result<(), RowFau
     }
 }
 
-/// The one row of meta: version 2 of the schema, and what the desk is made with.
+/// Adds the one row of meta: version 2 of the schema, and the desk's configuration.
 pub fn insert_settings<S: Alter>(
     tx: &mut Transaction<'_, S>,
     config: &Config,

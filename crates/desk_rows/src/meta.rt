@@ -1,4 +1,4 @@
-//! The row that tells the version of the schema, and what the desk is made with.
+//! The row of meta: the version of the schema, and the desk's configuration.
 ghost use Rattle.std.specs.Prelude.{◌≡◌, ◌∷◌, [], ℤ, None, true, false, IfOk, IfErr, OnOk, OnErr, ◌⊎◌};
 ghost use Rattle.registry_core.specs.Settings.{Settings};
 ghost use Rattle.sqlite.specs.Held.{state};
@@ -12,7 +12,7 @@ use crate::faults::{RowFault, fault_of};
 use registry_core::Config;
 use sqlite::{Alter, Connection, Row};
 
-/// What a row of the query tells, where it is in shape.
+/// Returns the version and the configuration in a row of the query, if the row is in form.
 fn settings_in(row: &Row) -> Result<(i64, Config), RowFault>
     ensures tells { IfOk result (λ told. TellsRow row.now told.0 told.1) }
     ensures untold { OnErr result ((version : ℤ) (c : Settings) → ¬ TellsRow row.now version c) }
@@ -31,7 +31,7 @@ fn settings_in(row: &Row) -> Result<(i64, Config), RowFault>
     }
 }
 
-/// One row of those that the query gave, and nothing beside it.
+/// Returns the version and the configuration in the only row that the query returned.
 fn settings_of(rows: &[Row]) -> Result<(i64, Config), RowFault>
     ensures tells { IfOk result (λ told. (row : _) × (rows.now ≡ row ∷ []) × TellsRow row told.0 told.1) }
     ensures untold { OnErr result ((row : _) → rows.now ≡ row ∷ [] → (version : ℤ) (c : Settings) → ¬ TellsRow row version c) }
@@ -42,8 +42,8 @@ fn settings_of(rows: &[Row]) -> Result<(i64, Config), RowFault>
     settings_in(&rows[0])
 }
 
-/// What the row of meta tells, whatever tables there are beside it: `Row` where there is no row, or more than one, or one
-/// that is out of shape.
+/// Returns the version and the configuration in the row of meta, whatever other tables there are. Returns `Row` if there is no row, or more
+/// than one, or one that isn't in form.
 pub fn read_settings<S: Alter>(conn: &mut Connection<S>) -> Result<(i64, Config), RowFault>
     ensures told { HasMeta conn.old.schema → HasCleanDisk (state S.Store conn.new) → IfOk result (λ told. TellsMeta (state S.Store conn.old).now.trees told.0 told.1) }
     ensures untold { HasMeta conn.old.schema → HasCleanDisk (state S.Store conn.new) → conn.old.step_limit ≡ None

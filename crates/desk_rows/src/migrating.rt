@@ -1,4 +1,4 @@
-//! The two statements that move a desk from schema 1 to schema 2, with the rows that it has.
+//! The two statements that move a desk from schema 1 to schema 2. The rows stay.
 ghost use Rattle.std.specs.Prelude.{◌≡◌, None, IsTrue, IfErr, OnOk, is_ok};
 ghost use Rattle.sqlite.specs.Held.{state};
 ghost use Rattle.sqlite.specs.State.{HasCleanDisk};
@@ -12,7 +12,7 @@ use crate::faults::RowFault;
 use crate::writes::write;
 use sqlite::{Alter, Transaction};
 
-/// Adds the table of limits, empty, to the ten tables. It is refused where a table, an index or a view has the name.
+/// Adds the table of limits, empty, to the ten tables. Fails if a table, an index or a view has its name.
 pub fn create_limits<S: Alter>(tx: &mut Transaction<'_, S>) -> Result<(), RowFault>
     ensures same_reference { tx.new.conn.ghost_name ≡ tx.old.conn.ghost_name }
     ensures write { IsWritingCall (state S.Store tx.old.conn.now) (state S.Store tx.new.conn.now) (is_ok result) }
@@ -30,7 +30,7 @@ pub fn create_limits<S: Alter>(tx: &mut Transaction<'_, S>) -> Result<(), RowFau
     )
 }
 
-/// Has meta tell version 2, once the table of limits is there. All rows stay.
+/// Sets the version in meta to 2, after the table of limits was added. All other rows stay.
 pub fn raise_version<S: Alter>(tx: &mut Transaction<'_, S>) -> Result<(), RowFault>
     ensures same_reference { tx.new.conn.ghost_name ≡ tx.old.conn.ghost_name }
     ensures write { IsWritingCall (state S.Store tx.old.conn.now) (state S.Store tx.new.conn.now) (is_ok result) }

@@ -1,4 +1,4 @@
-//! The rows of the tables and the registry's facts: laws, each the contract of a function that does nothing.
+//! Laws of the tables' rows and the registry's facts, each as the contract of a function with an empty body.
 mod changes;
 mod keys;
 mod look_ups;

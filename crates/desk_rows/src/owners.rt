@@ -1,4 +1,4 @@
-//! Owners.
+//! The table of owners.
 ghost use Rattle.std.specs.Prelude.{◌≡◌, ◌+◌, ◌<◌, ◌^◌, ◌++◌, [], ◌∷◌, length, false, bytes_eq};
 ghost use Rattle.std.specs.List.{list_any};
 ghost use Rattle.sqlite.specs.Held.{state};
@@ -12,7 +12,7 @@ use crate::writes::write;
 use radio_core::Name;
 use sqlite::{Alter, Connection, Transaction};
 
-/// Whether there is an owner of this name.
+/// Returns whether there is an owner of this name.
 pub fn owner_is_known<S: Alter>(conn: &mut Connection<S>, name: &Name) -> Result<bool, RowFault>
     ensures { Reads (state S.Store conn.old) (state S.Store conn.new) result (λ r known. known ≡ list_any (λ owner. bytes_eq owner name.now) r.owners) }
 {
@@ -23,7 +23,7 @@ pub fn owner_is_known<S: Alter>(conn: &mut Connection<S>, name: &Name) -> Result
     )
 }
 
-/// The number of the last owner, if there is one: how many there are.
+/// Returns the number of the last owner, `None` if there is none. It is the number of owners.
 pub fn last_owner<S: Alter>(conn: &mut Connection<S>) -> Result<Option<u64>, RowFault>
     ensures { Reads (state S.Store conn.old) (state S.Store conn.new) result (λ r number. number ≡ last_number r.owners) }
 {

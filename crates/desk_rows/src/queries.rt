@@ -1,4 +1,4 @@
-//! Queries of one row and of many.
+//! Queries for one row and for many.
 ghost use Rattle.std.specs.Prelude.{◌≡◌, ℕ, List, [], ◌∷◌, Result};
 ghost use Rattle.sqlite.specs.Held.{state};
 ghost use Rattle.sqlite.specs.Values.{bound};
@@ -15,9 +15,9 @@ use sqlite::{Alter, Connection, Row};
 use sqlite_value::value::ValueRef;
 use std::alloc::Global;
 
-/// What a row of an answer shows.
+/// A value that a row of an answer shows.
 pub(crate) trait FromRow: Sized {
-    /// What contracts see of it, how a row shows that, and its range.
+    /// What contracts see of the value, the row that shows it, and its range.
     ghost Seen: { Type 0 };
 
     ghost seen: { Self → Seen };
@@ -44,7 +44,7 @@ impl FromRow for u64 {
     }
 }
 
-/// The first row that the query shows, if it shows one.
+/// Returns the first row of the query, `None` if it has none.
 fn first_row<S: Alter>(
     conn: &mut Connection<S>,
     sql: &str,
@@ -66,7 +66,7 @@ fn read<T: FromRow>(found: Result<Option<Row>, RowFault>) -> Result<Option<T>, R
     }
 }
 
-/// What the first row shows, if the query shows one.
+/// Returns the value in the first row of the query, `None` if it has no row.
 pub(crate) fn find<S: Alter, T: FromRow>(
     conn: &mut Connection<S>,
     sql: &str,
@@ -87,7 +87,7 @@ fn known(found: Result<Option<Row>, RowFault>) -> Result<bool, RowFault>
     }
 }
 
-/// Whether the query shows a row.
+/// Returns whether the query has a row.
 pub(crate) fn is_found<S: Alter>(
     conn: &mut Connection<S>,
     sql: &str,
@@ -98,7 +98,7 @@ pub(crate) fn is_found<S: Alter>(
     known(first_row(conn, sql, params))
 }
 
-/// What each row shows, read one after another to the end of the answer. A fault before that is the answer, and never a part.
+/// Returns the values in all rows of the query, read one after another to the last. If one fails it returns an error, and never a part.
 pub(crate) fn find_all<S: Alter, T: FromRow + Drop>(
     alloc: Global,
     conn: &mut Connection<S>,
@@ -115,6 +115,6 @@ pub(crate) fn find_all<S: Alter, T: FromRow + Drop>(
         };
         all.push(T::from_row(row)?)?;
     }
-    // More rows than a list can have.
+    // There are more rows than a list can have.
     Err(RowFault::Memory)
 }

@@ -1,4 +1,4 @@
-//! Messages that were heard, with their answers.
+//! The table of messages that were heard, with their answers.
 ghost use Rattle.std.specs.Prelude.{◌≡◌, ◌+◌, ◌<◌, ◌^◌, ◌++◌, [], ◌∷◌, ℕ, List, codes, length, false, find, option_map};
 ghost use Rattle.std.specs.List.{list_any};
 ghost use Rattle.sqlite.specs.Held.{state};
@@ -42,7 +42,7 @@ impl FromRow for Texts {
     }
 }
 
-/// The text of the look-up of a reply.
+/// Returns the SQL text of the look-up of a message.
 #[tactic(auto, unfolding(sqlite::specs::Listing::understood, sqlite_tied::specs::Compute::everything))]
 fn reply_text() -> &'static str
     ensures { AsksFor result.now 2 reply_asked (codes "message" ∷ codes "answer" ∷ []) }
@@ -50,7 +50,7 @@ fn reply_text() -> &'static str
     "SELECT message, answer FROM reply WHERE sender = ?1 AND number = ?2 ORDER BY seq"
 }
 
-/// The texts of the message that was heard with this sender and number, if there is one.
+/// Returns the texts of the message with this sender and transaction number, `None` if there is none.
 pub fn texts_of<S: Alter>(
     conn: &mut Connection<S>,
     sender: &Name,
@@ -62,7 +62,7 @@ pub fn texts_of<S: Alter>(
     find(conn, reply_text(), &[text(sender), word(number)])
 }
 
-/// The text of the look-up of a reply by its number.
+/// Returns the SQL text of the look-up of a message by its number.
 #[tactic(auto, unfolding(sqlite::specs::Listing::understood, sqlite_tied::specs::Compute::everything))]
 fn numbered_reply_text() -> &'static str
     ensures { AsksFor result.now 1 (by_rowid 3 (is 0 0 ∷ []) (col 1 4 ∷ col 1 5 ∷ [])) (codes "message" ∷ codes "answer" ∷ []) }
@@ -70,7 +70,7 @@ fn numbered_reply_text() -> &'static str
     "SELECT message, answer FROM reply WHERE seq = ?1 ORDER BY seq"
 }
 
-/// The texts of the message that was heard with this number, from 1 in the order of hearing, if there is one.
+/// Returns the texts of the message with this number, from 1 in the order of hearing; `None` if there is none.
 pub fn texts_at<S: Alter>(
     conn: &mut Connection<S>,
     number: Whole,
@@ -81,7 +81,7 @@ pub fn texts_at<S: Alter>(
     find(conn, numbered_reply_text(), &[whole(number)])
 }
 
-/// The number of the last message that was heard, if there is one.
+/// Returns the number of the last message that was heard, `None` if there is none.
 pub fn last_reply<S: Alter>(conn: &mut Connection<S>) -> Result<Option<u64>, RowFault>
     ensures second { Reads (state S.Store conn.old) (state S.Store conn.new) result (λ r number. number ≡ last_number r.replies) }
     ensures first { ReadsFirst (state S.Store conn.old) (state S.Store conn.new) result (λ r number. number ≡ last_number r.replies) }

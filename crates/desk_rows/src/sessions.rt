@@ -1,4 +1,4 @@
-//! Sessions.
+//! The table of sessions.
 ghost use Rattle.std.specs.Prelude.{◌≡◌, ◌==◌, ℕ, filter, map, ◌+◌, ◌<◌, ◌^◌, ◌++◌, [], ◌∷◌, codes, length, false, Some, option_map};
 ghost use Rattle.std.specs.List.{list_any};
 ghost use Rattle.sqlite.specs.Held.{state};
@@ -35,7 +35,7 @@ impl FromRow for Session {
     }
 }
 
-/// The session with this number, from 1, if there is one.
+/// Returns the session with this number, from 1; `None` if there is none.
 pub fn session<S: Alter>(
     conn: &mut Connection<S>,
     number: Whole,
@@ -49,7 +49,7 @@ pub fn session<S: Alter>(
     )
 }
 
-/// The text of the look-up of a session's next downlink counter.
+/// Returns the SQL text of the look-up of a session's next downlink counter.
 #[tactic(auto, unfolding(sqlite::specs::Listing::understood, sqlite_tied::specs::Compute::everything))]
 fn next_down_text() -> &'static str
     ensures { AsksFor result.now 1 next_down_asked (codes "next_down" ∷ []) }
@@ -57,14 +57,14 @@ fn next_down_text() -> &'static str
     "SELECT next_down FROM session WHERE number = ?1 ORDER BY number"
 }
 
-/// How many bookings answer the data uplinks of the session with this number, if there is one.
+/// Returns how many bookings answer the data uplinks of the session with this number, `None` if there is none.
 pub fn next_down<S: Alter>(conn: &mut Connection<S>, number: Whole) -> Result<Option<u64>, RowFault>
     ensures { Reads (state S.Store conn.old) (state S.Store conn.new) result (λ r counter. counter ≡ option_map (λ row. row.next_down) (item_at r.sessions number)) }
 {
     find(conn, next_down_text(), &[whole(number)])
 }
 
-/// The number of the session of the device with this nonce, if there is one.
+/// Returns the number of the session of the device with this nonce, `None` if there is none.
 pub fn session_with<S: Alter>(
     conn: &mut Connection<S>,
     device: Eui,
@@ -80,7 +80,7 @@ pub fn session_with<S: Alter>(
     )
 }
 
-/// The number of the last session, if there is one.
+/// Returns the number of the last session, `None` if there is none.
 pub fn last_session<S: Alter>(conn: &mut Connection<S>) -> Result<Option<u64>, RowFault>
     ensures second { Reads (state S.Store conn.old) (state S.Store conn.new) result (λ r number. number ≡ last_number r.sessions) }
     ensures first { ReadsFirst (state S.Store conn.old) (state S.Store conn.new) result (λ r number. number ≡ last_number r.sessions) }
@@ -106,7 +106,7 @@ impl FromRow for u16 {
     }
 }
 
-/// The last nonce of a device.
+/// Returns the last nonce of a device, `None` if it has no session.
 pub fn last_nonce<S: Alter>(conn: &mut Connection<S>, device: Eui) -> Result<Option<u16>, RowFault>
     ensures { Reads (state S.Store conn.old) (state S.Store conn.new) result
         (λ r nonce. nonce ≡ greatest (map (λ row. row.session.nonce) (filter (λ row. row.session.device == device) r.sessions))) }
@@ -119,7 +119,7 @@ pub fn last_nonce<S: Alter>(conn: &mut Connection<S>, device: Eui) -> Result<Opt
     )
 }
 
-/// Adds a session at the end, none of whose uplinks a booking answers.
+/// Adds a session at the end. No booking answers an uplink of it yet.
 pub fn insert_session<S: Alter>(
     tx: &mut Transaction<'_, S>,
     session: Session,

@@ -1,4 +1,4 @@
-//! When uplinks and downlinks are on the air.
+//! Look-ups of the times on air of uplinks and downlinks.
 ghost use Rattle.std.specs.Prelude.{◌≡◌, ◌&&◌, ◌<◌, ◌^◌, [], ◌∷◌, codes, pos};
 ghost use Rattle.sqlite.specs.Held.{state};
 ghost use Rattle.duty_core.specs.Range.{IsStart};
@@ -51,7 +51,7 @@ impl FromRow for NearBooking {
     }
 }
 
-/// The text of the look-up of a gateway's bookings in a band.
+/// Returns the SQL text of the look-up of a gateway's bookings in a band.
 #[tactic(auto, unfolding(sqlite::specs::Listing::understood, sqlite_tied::specs::Compute::everything))]
 fn bookings_text() -> &'static str
     ensures { AsksFor result.now 2 bookings_asked (codes "start" ∷ codes "airtime" ∷ []) }
@@ -59,7 +59,7 @@ fn bookings_text() -> &'static str
     "SELECT start, airtime FROM booking WHERE gateway = ?1 AND band = ?2 AND state <> 2 ORDER BY start, number"
 }
 
-/// When the gateway's bookings in the band that aren't dropped are on the air, in order of start: equal starts in order of
+/// Returns the times on air of the gateway's bookings in the band that aren't dropped, ordered by start, and those that start together by
 /// number.
 pub fn bookings_of<S: Alter>(
     alloc: Global,
@@ -73,7 +73,7 @@ pub fn bookings_of<S: Alter>(
     find_all(alloc, conn, bookings_text(), &[text(gateway), band(of)])
 }
 
-/// The text of the look-up of a gateway's bookings between two starts.
+/// Returns the SQL text of the look-up of a gateway's bookings between two starts.
 #[tactic(auto, unfolding(sqlite::specs::Listing::understood, sqlite_tied::specs::Compute::everything))]
 fn near_text() -> &'static str
     ensures { AsksFor result.now 3 near_asked (codes "start" ∷ codes "airtime" ∷ codes "band" ∷ []) }
@@ -81,8 +81,8 @@ fn near_text() -> &'static str
     "SELECT start, airtime, band FROM booking WHERE gateway = ?1 AND start > ?2 AND start < ?3 AND state <> 2 ORDER BY start, number"
 }
 
-/// The gateway's bookings that aren't dropped and start near the given start, in microseconds since 1970 UTC, in order of start:
-/// equal starts in order of number.
+/// Returns the gateway's bookings that aren't dropped and start near `start`, in microseconds since 1970 UTC: less than an hour and 3
+/// seconds from it. They are ordered by start, and those that start together by number.
 pub fn near<S: Alter>(
     alloc: Global,
     conn: &mut Connection<S>,
@@ -101,8 +101,8 @@ pub fn near<S: Alter>(
     )
 }
 
-/// When the device's uplinks in the band were on the air that start from the one time on and before the other, in microseconds
-/// since 1970 UTC, in order of start: equal starts in order of number.
+/// Returns the times on air of the device's uplinks in the band that start at `from` or later and before `to`, in microseconds since 1970
+/// UTC. They are ordered by start, and those that start together by number.
 pub fn uplinks_of<S: Alter>(
     alloc: Global,
     conn: &mut Connection<S>,

@@ -1,4 +1,4 @@
-//! Uplinks.
+//! The table of uplinks.
 ghost use Rattle.std.specs.Prelude.{◌≡◌, ◌+◌, ◌<◌, ◌^◌, ◌++◌, [], ◌∷◌, ℕ, length, false, option_map};
 ghost use Rattle.std.specs.List.{list_any};
 ghost use Rattle.sqlite.specs.Held.{state};
@@ -48,7 +48,7 @@ impl FromRow for (u64, Uplink) {
     }
 }
 
-/// The uplink with this number, from 1, and the number, if there is one.
+/// Returns the number and the uplink with this number, from 1; `None` if there is none.
 pub fn uplink<S: Alter>(
     conn: &mut Connection<S>,
     number: Whole,
@@ -62,7 +62,7 @@ pub fn uplink<S: Alter>(
     )
 }
 
-/// The uplink of a session of this kind with this counter, and its number, if there is one.
+/// Returns the uplink of a session of this kind with this counter, and its number; `None` if there is none.
 pub fn uplink_with<S: Alter>(
     conn: &mut Connection<S>,
     session: Whole,
@@ -78,7 +78,7 @@ pub fn uplink_with<S: Alter>(
     )
 }
 
-/// The number of the last uplink, if there is one.
+/// Returns the number of the last uplink, `None` if there is none.
 pub fn last_uplink<S: Alter>(conn: &mut Connection<S>) -> Result<Option<u64>, RowFault>
     ensures second { Reads (state S.Store conn.old) (state S.Store conn.new) result (λ r number. number ≡ last_number r.uplinks) }
     ensures first { ReadsFirst (state S.Store conn.old) (state S.Store conn.new) result (λ r number. number ≡ last_number r.uplinks) }
@@ -104,7 +104,7 @@ impl FromRow for u32 {
     }
 }
 
-/// The last counter of a session's data uplinks.
+/// Returns the last counter of a session's data uplinks, `None` if it has none.
 pub fn last_counter<S: Alter>(
     conn: &mut Connection<S>,
     session: Whole,

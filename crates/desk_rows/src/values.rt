@@ -35,7 +35,7 @@ pub(crate) fn frame(octets: &Octets) -> ValueRef<'_>
     ValueRef::Blob(octets.get())
 }
 
-/// The octets of an EUI, the most significant first.
+/// Returns the octets of an EUI, the most significant first.
 pub(crate) fn octets_of(eui: Eui) -> [u8; 8]
     ensures same { result ≡ to_be_bytes w64 eui }
     ensures range { IsEui eui }
@@ -43,7 +43,7 @@ pub(crate) fn octets_of(eui: Eui) -> [u8; 8]
     eui.get().to_be_bytes()
 }
 
-/// A number that SQLite holds: NULL where it is 2^63 or more, which no column of a number takes.
+/// Returns the number as SQLite stores it, and NULL if it is 2^63 or more, which no column of numbers accepts.
 pub(crate) fn number(n: u64) -> ValueRef<'static>
     ensures { n < 2 ^ 63 → owned result ≡ number n }
 {

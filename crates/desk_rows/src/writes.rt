@@ -1,4 +1,4 @@
-//! One statement that writes.
+//! Runs one statement that writes.
 ghost use Rattle.std.specs.Prelude.{◌≡◌};
 ghost use Rattle.sqlite.specs.Held.{state};
 ghost use Rattle.sqlite.specs.Values.{bound};

@@ -1,4 +1,4 @@
--- What is told of the bookings at a gateway's places is what looking through all bookings tells, in order of start.
+-- What the index finds of the bookings at a gateway's places is what a search of all bookings finds, ordered by start.
 use Rattle.std.proofs.Common.{◌≡◌, ℕ, Bool, true, false, cond, List, [], ◌∷◌, Some, None, map, refl, sym, ◌∙◌, ap, subst}
 use Rattle.std.specs.Prelude.{ℤ, pos, ◌+ℤ◌, ◌-ℤ◌, int_lt, ◌==◌, ◌&&◌, not, bytes_eq, filter}
 use Rattle.std.specs.List.{cons_option, filter_map}

@@ -76,7 +76,7 @@ module _ {X : Type 0} (key : X → ℤ) where
   in_order_permutation (x ∷ xs) =
       IsPermutation-trans (x ∷ xs) (x ∷ in_order key xs) _ (IsPermutation-cons x xs _ (in_order_permutation xs)) (permutation_put x (in_order key xs))
 
-  -- ---- items with one key stand in the order that they have
+  -- ---- items with one key stay in the order that they have
 
   abbrev same_key : ℤ → X → Bool
   same_key k x = int_eq (key x) k

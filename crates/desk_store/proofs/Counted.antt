@@ -1,4 +1,4 @@
--- Counts of those that pass a test, kept as the list changes.
+-- Counts of those that pass a test, updated as the list changes.
 use Rattle.std.proofs.Common.{◌≡◌, ℕ, zero, suc, ◌+◌, ◌≤◌, Bool, true, false, cond, List, [], ◌∷◌, ◌++◌, slice_get, Some, refl, subst, sym, ◌∙◌, ap, arith}
 use Rattle.std.specs.Prelude.{◌==◌, ◌||◌, count_by, nat_lt}
 use Rattle.std.specs.List.{list_any}

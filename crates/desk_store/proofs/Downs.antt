@@ -1,4 +1,4 @@
--- The counts of downlinks by session, kept as uplinks and bookings come and end.
+-- The counts of downlinks by session, updated as uplinks and bookings come and end.
 use Rattle.std.proofs.Common.{◌≡◌, ℕ, ◌+◌, ◌^◌, ◌<◌, ◌≤◌, Bool, true, false, cond, List, [], ◌∷◌, ◌++◌, length, length-append, Option, Some, None, refl, sym, ◌∙◌, ap, add-one, arith, inl, inr}
 use Rattle.std.specs.Prelude.{count_by, min}
 use Rattle.std.specs.Option.{option_map_or}

@@ -1,4 +1,4 @@
--- Look-ups one after another, the last of which may fail.
+-- Look-ups one after another; the last may fail.
 use Rattle.std.proofs.Common.{◌≡◌, ◌∙◌, Option, None, Some, Result, Ok, Err, sym, ap, subst}
 use Rattle.std.specs.Prelude.{◌||◌, IfOk}
 use Rattle.std.specs.Result.{IsErrAnd}
@@ -19,13 +19,13 @@ read_then m a b c fault one two = record {
   rests = λ stored sound rests. two.rests stored sound (one.rests stored (two.was_sound sound) rests);
 }
 
--- the fault of the last is told on
+-- the error of the last is returned
 pub read_fails : {K T : Type 0} (m : Meaning K) (a b : K) (fault : StoreFault) (result : Result T StoreFault) → IsErrAnd result (λ told. told ≡ fault)
     → IsRead m a b (Some fault) → IsRead m a b (fault_in result)
 read_fails m a b fault (Ok x) failed read = absurd failed
 read_fails m a b fault (Err told) failed read = subst (λ f. IsRead m a b (Some f)) (sym failed) read
 
--- and then nothing is said of a value
+-- and then nothing is stated of a value
 pub no_value : {T : Type 0} (P : T → Type 0) (fault : StoreFault) (result : Result T StoreFault) → IsErrAnd result (λ told. told ≡ fault) → IfOk result P
 no_value P fault (Ok x) failed = absurd failed
 no_value P fault (Err told) failed = tt

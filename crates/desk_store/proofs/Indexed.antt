@@ -1,4 +1,4 @@
--- One more uplink that is noted is one more that the index tells.
+-- One more uplink in the list is one more in the index.
 use Rattle.std.proofs.Common.{◌≡◌, ℕ, ◌+◌, Bool, false, cond, List, [], ◌∷◌, ◌++◌, length, Option, Some, refl, sym, ◌∙◌, ap, rules, if◌then◌else◌}
 use Rattle.std.specs.Prelude.{max, nat_eq}
 use Rattle.std.specs.Option.{option_map_or, unwrap_or}
@@ -48,7 +48,7 @@ module _ (uplinks : List Uplink) (uplink : Uplink) (number : ℕ) (last : number
           ∙ sym (greatest-append (λ (u : Uplink). u.counter) (is_data_of n) uplinks uplink ∙ rw kind refl);
     }
 
--- what tells the same is the same index
+-- an index with the same look-ups is the same index
 pub index_unchanged : (uplinks : List Uplink) (old new : UplinkIndex) → IsIndexOf uplinks old → IsUnchanged old.joins new.joins → IsUnchanged old.frames new.frames
     → IsUnchanged old.counters new.counters → IsIndexOf uplinks new
 index_unchanged uplinks old new was joins frames counters = search (rules, common_steps)

@@ -1,4 +1,4 @@
--- An owner's next device is the first that stands in order from there on.
+-- An owner's next device is the first of the ordered set from a bound on.
 use Rattle.std.proofs.Common.{◌≡◌, ℕ, zero, suc, Bool, true, false, cond, List, [], ◌∷◌, Option, Some, None, refl, sym, ◌∙◌, ap, subst, arith}
 use Rattle.std.specs.Prelude.{◌&&◌, ◌==◌, bytes_eq, nat_lt, if◌then◌else◌, IsTrue}
 use Rattle.std.specs.BTreeSet.{BTreeSet, contains, IsKeyRangeOf}
@@ -94,7 +94,7 @@ module _ (devices : List (ℕ × Device)) (owned : BTreeSet Owned) (are : AreOwn
     is_there : contains owned_cmp owned (pair_of owner dev_eui) ≡ true
     is_there = sym (owned_is dev_eui) ∙ (and_parts _ _ passes).0
 
-  -- nothing stands from there on
+  -- there is nothing from there on
   pub next_past : IsKeyRangeOf owned_cmp (bound_above owner after) Unbounded owned [] → IsNextDevice s owner after None
   next_past range = record {
     owned = λ dev_eui none. cc;
@@ -127,6 +127,6 @@ module _ (devices : List (ℕ × Device)) (owned : BTreeSet Owned) (are : AreOwn
           let no : true ≡ false = sym its ∙ apart in cc;
     }
 
-    -- the first that stands there tells it
+    -- the first from there on is it
     pub next_first : IsNextDevice s owner after (if bytes_eq o.owner owner then Some o.dev_eui else None)
     next_first = next_by (bytes_eq o.owner owner) refl

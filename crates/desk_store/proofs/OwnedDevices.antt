@@ -80,7 +80,7 @@ module _ (old new : List (ℕ × Device)) (dev_eui : ℕ) (device : Device) (was
         pair _ refl;
   }
 
-  -- a device that keeps its owner
+  -- a device whose owner stays
   pub put_kept : (before : Device) → Some before ≡ devices_of old dev_eui → before.owner ≡ device.owner → AreOwned new noted
   put_kept before there same = record {
     has = λ pair. put_by (λ owner. ap (λ d. cond (bytes_eq device.owner owner) true (is_owned_by owner d)) (sym there)

@@ -1,4 +1,4 @@
--- A list that rises is parted by a test of its keys, and what a partition point tells of it.
+-- A test of the keys divides a list that rises, and what a partition point means for it.
 use Rattle.std.proofs.Common.{◌≡◌, ℕ, zero, suc, ◌<◌, ◌≤◌, Bool, true, false, cond, List, [], ◌∷◌, length, take, drop, refl, ◌∙◌, ap, arith}
 use Rattle.std.specs.Prelude.{ℤ, pos, ◌+ℤ◌, int_lt, int_le, slice_index_or, filter, insert, not, ◌&&◌}
 use Rattle.std.specs.List.{AllWithin}
@@ -55,7 +55,7 @@ module _ {X : Type 0} (key : X → ℤ) where
   parted_before t xs rises = λ i j d order within passes.
       lt_trans (key (slice_index_or xs i d)) (key (slice_index_or xs j d)) t (rises_far xs i j d rises order within) passes
 
--- ---- what a partition point tells
+-- ---- what a partition point means
 
 module _ {X : Type 0} (p : X → Bool) where
   abbrev IsPointOf : List X → ℕ → Type 0

@@ -56,7 +56,7 @@ both_equal Less s same = let no : ⊥ = cc in absurd no
 both_equal Equal s same = (refl, same)
 both_equal Greater s same = let no : ⊥ = cc in absurd no
 
--- places of which neither goes before the other are one
+-- two places are equal if neither goes before the other
 one_place : (a b : Place) → before a b ≡ false → before b a ≡ false → a ≡ b
 one_place a b ab ba =
     let both = both_equal (int_cmp a.start b.start) (nat_cmp a.number b.number) (equal_by (place_cmp a b) (place_cmp b a) (place_total.antisymm a b) ab ba) in
@@ -217,7 +217,7 @@ module _ {X : Type 0} (start : X → ℤ) (test : X → Bool) where
       by true rest = (numbers_above first (first + 1) xs (omega arith), rest)
       by false rest = rest
 
-  -- places of items that pass, sorted, are where they stand
+  -- places of items that pass, sorted, are the list of their places
   pub places_sorted : (xs : List X) (ps : List Place) → IsSortedBy before ps → IsPermutation (places_that start test xs) ps → ps ≡ places_that start test xs
   places_sorted xs ps sorted same =
       sym (ordered_once (places_that start test xs) ps (in_order_ordered (filter_map (place_of start test) (numbered_from 1 xs)) (numbers_rise 1 xs)) (ordered_sorted ps sorted) same)

@@ -1,4 +1,4 @@
--- One more item that is noted is one more place that the index tells.
+-- One more item in the list is one more place in the index.
 use Rattle.std.proofs.Common.{◌≡◌, ℕ, zero, suc, ◌+◌, Bool, true, false, cond, List, [], ◌∷◌, ◌++◌, length, Option, Some, None, refl, sym, ◌∙◌, ap, arith, add-zero}
 use Rattle.std.specs.Prelude.{ℤ}
 use Rattle.std.specs.Cmp.{IsEquivalence}
@@ -38,7 +38,7 @@ pub shown_written : {V : Type 0} (shown : V → List Place) (b : Bool) (v : V) (
 shown_written shown b v found was places is told =
     ap (λ f. option_map_or shown f []) is ∙ shown_by shown b v was ∙ ap (λ ps. cond b ps (option_map_or shown was [])) told
 
--- what is told of keys that are equal is one
+-- equal keys have the same places
 pub told_same : {K : Type 0} (eq : K → K → Bool) → IsEquivalence eq → (index : StartIndex K) (a b : K) (c : Bool) → eq a b ≡ c
     → cond c (places_in eq index a) (places_in eq index b) ≡ places_in eq index b
 told_same eq laws index a b true same = λ i. option_map_or (λ places. places.items) (lookup (λ k. laws.congr a b k same i) index.keys.entries) []
@@ -48,7 +48,7 @@ module _ {X : Type 0} (start : X → ℤ) where
   pub places_rise : (test : X → Bool) (xs : List X) → Rises (λ (p : Place). p.start) (places_that start test xs)
   places_rise test xs = in_order_rises (λ (p : Place). p.start) (filter_map (place_of start test) (numbered_from 1 xs))
 
-  -- where the items stand, with one more
+  -- the places of the items, with one more
   places_more : (test : X → Bool) (xs : List X) (x : X) (number : ℕ) → number ≡ length xs + 1
       → places_that start test (xs ++ x ∷ [])
       ≡ cond (test x) (put_after (λ (p : Place). p.start) (record { start = start x; number = number }) (places_that start test xs)) (places_that start test xs)
@@ -59,7 +59,7 @@ module _ {X : Type 0} (start : X → ℤ) where
       ∙ ap (in_order key) (filter_map-append (place_of start test) (numbered_from 1 xs) ((number, x) ∷ []))
       ∙ in_order_one_more (filter_map (place_of start test) (numbered_from 1 xs)) (record { start = start x; number = number }) (test x)
 
-  -- ---- an item changed where it stands
+  -- ---- an item changed in its place
 
   changed_by : (test : X → Bool) (f : X → X) → ((n : ℕ) (x : X) → place_of start test (n, f x) ≡ place_of start test (n, x)) → (first : ℕ) (xs : List X) (n : ℕ)
       → filter_map (place_of start test) (numbered_from first (place_changed f xs n)) ≡ filter_map (place_of start test) (numbered_from first xs)
@@ -79,7 +79,7 @@ module _ {X : Type 0} (start : X → ℤ) where
         → (xs : List X) (number : ℕ) (told : K → List Place) → IsStartIndex start eq key xs told → IsStartIndex start eq key (item_changed f xs number) told
     index_changed f same xs number told was = record { places = λ k. was.places k ∙ sym (places_changed (λ x. eq (key x) k) f (same k) xs number) }
 
-    -- what tells the same
+    -- an index with the same places
     pub index_same : (xs : List X) (old new : K → List Place) → IsStartIndex start eq key xs old → ((k : K) → new k ≡ old k) → IsStartIndex start eq key xs new
     index_same xs old new was same = record { places = λ k. same k ∙ was.places k }
 

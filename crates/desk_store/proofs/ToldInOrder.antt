@@ -1,4 +1,4 @@
--- What is told of the items at their places is what looking through all of them tells, in order of start.
+-- What is found of the items at their places is what a search of all items finds, ordered by start.
 use Rattle.std.proofs.Common.{◌≡◌, ℕ, suc, ◌+◌, Bool, true, false, cond, List, [], ◌∷◌, Option, Some, None, slice_get, refl, subst, sym, ◌∙◌, ap, arith}
 use Rattle.std.specs.Prelude.{ℤ, filter, option_and_then}
 use Rattle.std.specs.List.{AllByRecursion, cons_option, filter_map}
@@ -97,7 +97,7 @@ module _ {X : Type 0} (start : X → ℤ) where
       abbrev told : Place → Option Y
       told place = option_and_then shown (item_at xs place.number)
 
-      -- what is told at the places that pass
+      -- what is found at the places that pass
       abbrev told_at : Place → Option Y
       told_at place = option_and_then told (passing (λ (p : Place). test p.start) place)
 

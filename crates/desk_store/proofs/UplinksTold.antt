@@ -1,4 +1,4 @@
--- What is told of the uplinks at a device's places is what looking through all uplinks tells, in order of start.
+-- What the index finds of the uplinks at a device's places is what a search of all uplinks finds, ordered by start.
 use Rattle.std.proofs.Common.{◌≡◌, ℕ, Bool, true, false, cond, List, [], ◌∷◌, ◌++◌, Option, Some, None, refl, sym, ◌∙◌, ap, subst, arith}
 use Rattle.std.specs.Prelude.{◌==◌, ◌&&◌, ◌||◌, ℤ, pos, int_le, int_lt, filter, option_and_then, IsPermutation}
 use Rattle.std.specs.Cmp.{first_so, second_so}
@@ -112,7 +112,7 @@ module _ (uplinks : List Uplink) (sessions : List Session) (dev_eui : ℕ) (band
   abbrev is_sent_in : ℕ → Uplink → Bool
   is_sent_in n uplink = same_numbers (key_of uplink) (n, band_number band) && (int_le from (pos uplink.start) && int_lt (pos uplink.start) to)
 
-  -- where those stand that come after session n
+  -- the places of those that come after session n
   abbrev pub places_later : ℕ → List Place
   places_later n = places_that started (is_sent_later n) uplinks
 
@@ -173,7 +173,7 @@ module _ (uplinks : List Uplink) (sessions : List Session) (dev_eui : ℕ) (band
   pub places_all : places_later 0 ≡ places_from uplinks sessions dev_eui band from to
   places_all = λ i. places_that started (λ u. ((later_all sessions dev_eui u.session i && int_le from (pos u.start)) && int_lt (pos u.start) to) && is_in_band band u) uplinks
 
-  -- ---- what is told at those places
+  -- ---- what is found at those places
 
   abbrev own_span : Uplink → Option Interval
   own_span uplink = Some (interval_of uplink)

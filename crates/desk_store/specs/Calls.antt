@@ -1,13 +1,13 @@
--- What each call of a store does, whatever it answers.
+-- What each call of a store satisfies, whatever it returns.
 use Rattle.std.specs.Prelude.{◌≡◌, ◌||◌, Bool, true, false, List, Option, Some, None, Result, Ok, Err, IfOk, IfSome}
 use Rattle.desk_store.specs.declared.faults.StoreFault.{StoreFault}
 use Rattle.desk_store.specs.declared.faults.StoreFault.TheVariants.{Memory, Disk, Size, NotADesk, SchemaVersion, Exists}
 use Rattle.desk_store.specs.Kept.{Kept}
 use Rattle.desk_store.specs.Meaning.{Meaning}
 
--- ---- faults
+-- ---- errors
 
--- the fault that a call told
+-- the error that a call returned, if it returned one
 abbrev pub fault_in : {T : Type 0} → Result T StoreFault → Option StoreFault
 fault_in (Ok x) = None
 fault_in (Err fault) = Some fault
@@ -16,12 +16,12 @@ abbrev pub is_disk : Option StoreFault → Bool
 is_disk (Some Disk) = true
 is_disk _ = false
 
--- what is stored is no desk's
+-- the error is `NotADesk`
 abbrev pub is_foreign : Option StoreFault → Bool
 is_foreign (Some NotADesk) = true
 is_foreign _ = false
 
--- memory, disk or size: what makes a delivery Unavailable
+-- out of memory, a disk error or out of space: the delivery is answered Unavailable
 abbrev pub IsUnavailability : StoreFault → Type 0
 IsUnavailability Memory = Unit {0}
 IsUnavailability Disk = Unit {0}
@@ -30,13 +30,13 @@ IsUnavailability NotADesk = ⊥
 IsUnavailability SchemaVersion = ⊥
 IsUnavailability Exists = ⊥
 
--- what calls of a store tell: the other two are told where one is made or opened
+-- an error that a call of an open store returns: not `SchemaVersion` or `Exists`, which only making and opening a store return
 abbrev pub IsOfCalls : Option StoreFault → Type 0
 IsOfCalls (Some SchemaVersion) = ⊥
 IsOfCalls (Some Exists) = ⊥
 IsOfCalls _ = Unit {0}
 
--- and calls that only read tell no size
+-- an error that a reading call of an open store returns: `Size` neither
 abbrev pub IsOfReading : Option StoreFault → Type 0
 IsOfReading (Some Size) = ⊥
 IsOfReading (Some SchemaVersion) = ⊥
@@ -46,16 +46,16 @@ IsOfReading _ = Unit {0}
 -- ---- calls
 
 module _ {K : Type 0} where
-  -- Calls in a row, none of them or some, of which one told a fault of the disk, or that what is stored is no desk's, or none
-  -- did. The configuration stays. What is sound was sound. A fault of the disk and nothing else makes the store down.
+  -- One or more calls in a row, or none. `disk`: one of them returned `Disk`. `foreign`: one of them returned `NotADesk`. The configuration
+  -- is the same. If the store is sound now, it was sound before. The store is failed now if it was before or if `disk`, and not otherwise.
   pub record IsCall (m : Meaning K) (old new : K) (disk foreign : Bool) : Type 0 where
     pub same : m.configuration new ≡ m.configuration old
     pub was_sound : m.sound new → m.sound old
     pub shut : m.down new ≡ disk || m.down old
     pub strange : m.foreign new ≡ foreign || m.foreign old
 
-  -- Reading calls in a row, which ended with this fault or with none: what the store holds, what a crash leaves, and what its
-  -- medium stores, a desk's or not, stay.
+  -- One or more reading calls in a row, or none, which ended with this error or with none. What the store represents, what a crash leaves
+  -- and what the medium stores, a desk or not, are the same.
   pub record IsRead (m : Meaning K) (old new : K) (fault : Option StoreFault) : Type 0 where
     pub same : m.configuration new ≡ m.configuration old
     pub was_sound : m.sound new → m.sound old
@@ -67,14 +67,14 @@ module _ {K : Type 0} where
     pub unavailable : (kept : Kept) → m.sound new → m.holds old kept → IfSome fault IsUnavailability
     pub rests : (stored : m.Stored) → m.sound new → m.rests old stored → m.rests new stored
 
-  -- of all that the store held, where it is sound after the call
+  -- `P` is true of whatever the store represented before the call, if the store is sound after it
   abbrev pub ForHeld : Meaning K → K → K → (Kept → Type 0) → Type 0
   ForHeld m old new P = (kept : Kept) → m.sound new → m.holds old kept → P kept
 
-  -- what was read is so of all that the store held
+  -- if the call succeeded, its value satisfies `P` for whatever the store represented before
   abbrev pub Tells : {T : Type 0} → Meaning K → K → K → Result T StoreFault → (Kept → T → Type 0) → Type 0
   Tells m old new result P = ForHeld m old new (λ kept. IfOk result (P kept))
 
-  -- a store that is down tells a fault of the disk
+  -- a failed store returns `Disk`
   abbrev pub TellsDown : {T : Type 0} → Meaning K → K → Result T StoreFault → Type 0
   TellsDown m old result = m.down old ≡ true → result ≡ Err Disk

@@ -1,8 +1,8 @@
--- The devices as contracts see them.
+-- The devices, as contracts see them.
 use Rattle.std.specs.Prelude.{ℕ, List, Option, nat_eq}
 use Rattle.std.specs.Map.{lookup}
 use Rattle.registry_core.specs.declared.facts.Device.{Device}
 
--- the devices by their DevEUIs
+-- the device with a DevEUI, if there is one
 abbrev pub devices_of : List (ℕ × Device) → ℕ → Option Device
 devices_of devices dev_eui = lookup (nat_eq dev_eui) devices

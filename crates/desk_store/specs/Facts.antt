@@ -7,15 +7,15 @@ use Rattle.registry_core.specs.State.{State}
 use Rattle.desk_store.specs.declared.facts.Facts.{Facts}
 use Rattle.desk_store.specs.Devices.{devices_of}
 
--- two pairs of a number and a gateway's name are the same
+-- two pairs have the same number and the same name
 abbrev pub same_key : ℕ × List ℕ → ℕ × List ℕ → Bool
 same_key a b = nat_eq a.0 b.0 && bytes_eq a.1 b.1
 
--- the copies by their uplinks' numbers and their gateways
+-- the reception of an uplink, by the uplink's number, at a gateway
 abbrev pub copies_of : {S : Type 0} → IndexMap (ℕ × List ℕ) Reception S → ℕ → List ℕ → Option Reception
 copies_of copies number gateway = get same_key copies (number, gateway)
 
--- the limits by their gateways and their bands' numbers
+-- the limit that was set for a gateway's band, by the band's number
 abbrev pub limits_of : {S : Type 0} → IndexMap (ℕ × List ℕ) ℕ S → List ℕ → ℕ → Option ℕ
 limits_of limits gateway band = get same_key limits (band, gateway)
 

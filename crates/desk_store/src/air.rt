@@ -1,4 +1,4 @@
-//! When a gateway is on the air, and what its band's limit is, as far as a message asks.
+//! When a gateway is on the air, and the limit of its band, as far as a message needs them.
 ghost use Rattle.std.specs.Prelude.{◌≡◌, [], map, option_and_then, IfOk, Some};
 ghost use Rattle.std.specs.Option.{option_map_or};
 ghost use Rattle.registry_core.specs.Bookings.{limit_standing};
@@ -15,8 +15,8 @@ use radio_core::{Band, Name, Rate, band_of};
 use registry_core::{Message, NearBooking, UplinkView, Window, receive};
 use std::alloc::{AllocError, Global};
 
-/// What the facts hold of a gateway's time on air, for a message that books a downlink or sets a limit. What the message
-/// doesn't ask for is 0 or empty.
+/// What the facts have of a gateway's time on air, for a message that books a downlink or sets a limit. What the message doesn't need is 0
+/// or empty.
 #[derive(Drop)]
 pub(crate) struct AirView {
     pub(crate) limit: u64,
@@ -24,7 +24,7 @@ pub(crate) struct AirView {
     pub(crate) in_band: Vec<Span>,
 }
 
-/// `uplink` is the view of the uplink that the message names.
+/// Returns the air view for a message. `uplink` is the view of the uplink that the message names.
 pub(crate) fn air_for<K: Looks>(
     keeper: &mut K,
     uplink: &Option<UplinkView>,
@@ -54,7 +54,7 @@ pub(crate) fn air_for<K: Looks>(
     }
 }
 
-/// For a downlink at the gateway in the window that opens then, in microseconds, and is sent so.
+/// Returns the air view for a downlink at the gateway, at this rate, in the window that opens then, in microseconds since 1970 UTC.
 fn air_after<K: Looks>(
     keeper: &mut K,
     gateway: &Name,
@@ -74,7 +74,7 @@ fn air_after<K: Looks>(
     }
 }
 
-/// For a downlink at the gateway that starts then, in microseconds, and is sent so.
+/// Returns the air view for a downlink at the gateway, at this rate, that starts then, in microseconds since 1970 UTC.
 fn air_near<K: Looks>(
     keeper: &mut K,
     gateway: &Name,
@@ -95,7 +95,7 @@ fn air_near<K: Looks>(
     })
 }
 
-/// The limit of the gateway's band, if there is one.
+/// Returns the limit of the gateway's band, 0 if there is no band.
 fn limit_of<K: Looks>(keeper: &mut K, gateway: &Name, band: Option<Band>) -> Result<u64, StoreFault>
     ensures read { IsRead K.meaning keeper.old keeper.new (fault_in result) }
     ensures told { Tells K.meaning keeper.old keeper.new result (λ kept limit. limit ≡ option_map_or (limit_standing kept.facts gateway.now) band 0) }
@@ -106,14 +106,14 @@ fn limit_of<K: Looks>(keeper: &mut K, gateway: &Name, band: Option<Band>) -> Res
     }
 }
 
-/// When the bookings are on the air, in the same order.
+/// Returns the times on air of the bookings, in the same order.
 fn spans_of(alloc: Global, near: &[NearBooking]) -> Result<Vec<Span>, AllocError>
     ensures { IfOk result (λ spans. spans.items ≡ map (λ booking. booking.span) near.now) }
 {
     near.iter().map(|booking| booking.span).collect(alloc)
 }
 
-/// When those of the bookings that are in the band are on the air, in the same order.
+/// Returns the times on air of those bookings that are in the band, in the same order.
 fn spans_in(
     alloc: Global,
     near: &[NearBooking],
@@ -135,14 +135,14 @@ fn spans_in_band(alloc: Global, near: &[NearBooking], band: Band) -> Result<Vec<
         .collect(alloc)
 }
 
-/// When the booking is on the air, if it is in the band.
+/// Returns the booking's time on air if it is in the band.
 fn span_in(booking: &NearBooking, band: Band) -> Option<Span>
     ensures { result ≡ span_in band booking.now }
 {
     (booking.band == band).then_some(booking.span)
 }
 
-/// Where the window opens after the uplink's copy at the gateway, and how a downlink in it is sent.
+/// Returns when the window opens after the uplink's reception at the gateway, and the rate of a downlink in it.
 fn window_after(uplink: &Option<UplinkView>, window: Window) -> Option<(u64, Rate)>
     ensures { result ≡ option_and_then (window_seen window) uplink.now }
 {

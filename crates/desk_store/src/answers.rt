@@ -1,4 +1,4 @@
-//! How many bookings answer an uplink, told without looking through them.
+//! How many bookings answer an uplink, without a search of the bookings.
 ghost use Rattle.std.specs.Prelude.{◌≡◌, ◌<◌, ◌≤◌, ◌^◌, ◌++◌, ◌∷◌, [], List, ℕ, length, IsOk, OnOk, OnErr, Some, not};
 ghost use Rattle.indexmap.specs.IndexMap.{spare};
 ghost use Rattle.registry_core.specs.declared.facts.Booking.{Booking};
@@ -11,7 +11,7 @@ use crate::tally::Tally;
 use registry_core::{Booking, Standing};
 use std::alloc::{AllocError, Global};
 
-/// By the number of an uplink, how many bookings name it, and how many of these aren't dropped.
+/// How many bookings name each uplink, by the uplink's number, and how many of these aren't dropped.
 #[derive(Drop)]
 pub(crate) struct Answers {
     pub(crate) named: Tally,
@@ -19,7 +19,7 @@ pub(crate) struct Answers {
 }
 
 impl Answers {
-    /// The counts of no bookings.
+    /// Returns the counts of no bookings.
     pub(crate) fn new(alloc: Global) -> Answers
         ensures { AreCounted [] result }
     {
@@ -29,7 +29,7 @@ impl Answers {
         }
     }
 
-    /// Makes room for one booking more.
+    /// Reserves memory for one more booking.
     pub(crate) fn make_room(&mut self) -> Result<(), AllocError>
         ensures same { (bookings : List Booking) → AreCounted bookings self.old → AreCounted bookings self.new }
         ensures named { OnOk result (1 ≤ spare self.new.named.counts) }
@@ -39,7 +39,7 @@ impl Answers {
         self.standing.make_room()
     }
 
-    /// Counts a booking that goes to the end of the others.
+    /// Counts a booking that is added at the end of the others.
     pub(crate) fn note(&mut self, booking: &Booking) -> Result<(), AllocError>
         ensures noted { (bookings : List Booking) → length bookings < 2 ^ 63 → AreCounted bookings self.old
             → OnOk result (AreCounted (bookings ++ booking.now ∷ []) self.new) }
@@ -55,7 +55,7 @@ impl Answers {
         self.standing.set(uplink, standing)
     }
 
-    /// Counts the booking as sent, or else as dropped, whose number is this one, from 1.
+    /// Counts this booking as sent, or else as dropped.
     pub(crate) fn end(&mut self, booking: &Booking, sent: bool) -> Result<(), AllocError>
         ensures ended { (bookings : List Booking) (number : ℕ) → length bookings < 2 ^ 63 → item_at bookings number ≡ Some booking.now
             → AreCounted bookings self.old → OnOk result (AreCounted (item_changed (ended sent) bookings number) self.new) }
@@ -71,7 +71,7 @@ impl Answers {
     }
 }
 
-/// The booking isn't dropped.
+/// Returns whether the booking isn't dropped.
 fn stands(booking: &Booking) -> bool
     ensures { result ≡ not (is_dropped booking.now.standing) }
 {

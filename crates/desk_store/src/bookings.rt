@@ -1,4 +1,4 @@
-//! The bookings in order; those of one gateway are found in order of start, without looking through the others.
+//! The bookings by number. An index finds those of one gateway, ordered by start, without a search of the others.
 ghost use Rattle.std.specs.Prelude.{◌≡◌, ◌^◌, ◌<◌, [], ◌∷◌, ◌++◌, length, count_by, pos, not, IfOk, OnOk, OnErr};
 ghost use Rattle.std.specs.List.{filter_map};
 ghost use Rattle.duty_core.specs.InOrder.{IsByStart};
@@ -18,7 +18,7 @@ use registry_core::{Booking, NearBooking, Standing};
 use std::alloc::{AllocError, Global};
 use std::marker::Model;
 
-/// The bookings in order, with their index. Contracts see the list.
+/// The bookings by number, with their index. Contracts see the list.
 #[derive(Drop)]
 pub(crate) struct Bookings {
     items: Vec<Booking>,
@@ -58,14 +58,14 @@ impl Bookings {
         self.items.len()
     }
 
-    /// The booking with this number, from 1.
+    /// Returns the booking with this number, from 1.
     pub(crate) fn at(&self, number: u64) -> Option<Booking>
         ensures { result ≡ item_at self.now number }
     {
         item_at(&self.items, number)
     }
 
-    /// The booking goes to the end, or nowhere.
+    /// Adds the booking at the end, or changes nothing.
     pub(crate) fn push(&mut self, booking: Booking) -> Result<(), AllocError>
         ensures ok { OnOk result (self.new ≡ self.old ++ booking ∷ []) }
         ensures err { OnErr result (self.new ≡ self.old) }
@@ -81,7 +81,7 @@ impl Bookings {
         Ok(())
     }
 
-    /// The booking with this number, from 1, is sent, or else dropped, and all else stays; or nothing changes.
+    /// Marks the booking with this number, from 1, as sent, or else as dropped; or changes nothing.
     pub(crate) fn end(&mut self, number: u64, sent: bool) -> Result<(), AllocError>
         ensures ok { OnOk result (self.new ≡ item_changed (ended sent) self.old number) }
         ensures err { OnErr result (self.new ≡ self.old) }
@@ -93,7 +93,7 @@ impl Bookings {
         Ok(())
     }
 
-    /// How many bookings name the uplink with this number, dropped ones too.
+    /// Returns how many bookings name the uplink with this number, dropped ones too.
     pub(crate) fn naming(&self, uplink: u64) -> u64
         ensures count { result ≡ count_by (is_naming uplink) self.now }
         ensures few { length self.now < 2 ^ 63 }
@@ -101,7 +101,7 @@ impl Bookings {
         self.answers.named.at(uplink)
     }
 
-    /// A booking that isn't dropped answers the uplink with this number.
+    /// Returns whether a booking that isn't dropped answers the uplink with this number.
     #[tactic(auto, using(crate::proofs::Counted::any_counted))]
     pub(crate) fn is_answered(&self, uplink: u64) -> bool
         ensures { result ≡ is_answered self.now uplink }
@@ -109,7 +109,7 @@ impl Bookings {
         self.answers.standing.at(uplink) > 0
     }
 
-    /// The gateway's bookings that aren't dropped and begin near the start, in order of start.
+    /// Returns the gateway's bookings that aren't dropped and begin near the start, ordered by start.
     pub(crate) fn near(
         &self,
         alloc: Global,
@@ -125,7 +125,7 @@ impl Bookings {
         )
     }
 
-    /// When the gateway's bookings in the band that aren't dropped are on the air, in order of start.
+    /// Returns the times on air of the gateway's bookings in the band that aren't dropped, ordered by start.
     pub(crate) fn of_band(
         &self,
         alloc: Global,
@@ -138,7 +138,7 @@ impl Bookings {
     }
 }
 
-/// Where a booking with this number stands.
+/// Returns the place of a booking with this number.
 fn place_of(booking: &Booking, number: u64) -> Place
     ensures { result ≡ record { start = booking.now.span.start; number = number } }
 {
@@ -148,7 +148,7 @@ fn place_of(booking: &Booking, number: u64) -> Place
     }
 }
 
-/// The booking with this number, from 1, is sent, or else dropped, and all else stays.
+/// Marks the booking with this number, from 1, as sent, or else as dropped.
 fn end_in(bookings: &mut [Booking], number: u64, sent: bool)
     ensures { bookings.new ≡ item_changed (ended sent) bookings.old number }
 {
@@ -161,14 +161,14 @@ fn end_in(bookings: &mut [Booking], number: u64, sent: bool)
     }
 }
 
-/// The booking isn't dropped.
+/// Returns whether the booking isn't dropped.
 fn is_on_air(booking: &Booking) -> bool
     ensures { result ≡ not (is_dropped booking.now.standing) }
 {
     booking.standing != Standing::Dropped
 }
 
-/// The band of the booking at this place and when it is on the air, if it isn't dropped.
+/// Returns the band and the time on air of the booking at this place, if it isn't dropped.
 fn near_booking_at(bookings: &[Booking], place: &Place) -> Option<NearBooking>
     ensures { result ≡ near_booking_at bookings.now place.now }
 {
@@ -179,7 +179,7 @@ fn near_booking_at(bookings: &[Booking], place: &Place) -> Option<NearBooking>
     })
 }
 
-/// The bookings that stand there and aren't dropped, in the places' order.
+/// Returns the bookings at these places that aren't dropped, in the places' order.
 fn near_at(
     alloc: Global,
     bookings: &[Booking],
@@ -193,7 +193,7 @@ fn near_at(
         .collect(alloc)
 }
 
-/// When the booking at this place is on the air, if it isn't dropped and is in the band.
+/// Returns the time on air of the booking at this place, if it isn't dropped and is in the band.
 fn booking_span_at(bookings: &[Booking], place: &Place, band: Band) -> Option<Span>
     ensures { result ≡ booking_span_at bookings.now band place.now }
 {
@@ -201,7 +201,7 @@ fn booking_span_at(bookings: &[Booking], place: &Place, band: Band) -> Option<Sp
     (is_on_air(&booking) && booking.band == band).then_some(booking.span)
 }
 
-/// When the bookings that stand there are on the air, in the places' order: those in the band that aren't dropped.
+/// Returns the times on air of the bookings at these places that are in the band and aren't dropped, in the places' order.
 fn spans_at(
     alloc: Global,
     bookings: &[Booking],

@@ -1,4 +1,4 @@
-//! The devices by their DevEUIs, those of one owner found in order without looking at the others.
+//! The devices by DevEUI. An index finds those of one owner, ordered by DevEUI, without a search of the others.
 ghost use Rattle.std.specs.Prelude.{◌≡◌, [], OnOk, OnErr, Some, None, bytes_eq, if◌then◌else◌};
 ghost use Rattle.std.specs.Cmp.{partial_order_from_own_ties};
 ghost use Rattle.std.specs.Cmp.Rules.{comparing};
@@ -25,7 +25,7 @@ pub(crate) struct Owned {
     pub(crate) dev_eui: Eui,
 }
 
-/// By owner, and those of one owner by DevEUI.
+/// Ordered by owner, and those of one owner by DevEUI.
 impl PartialOrd for Owned {
     ghost partial_cmp = { as_partial_cmp owned_cmp };
 
@@ -53,7 +53,7 @@ impl Ord for Owned {
     }
 }
 
-/// The devices by their DevEUIs, and each one's owner with it in order. Contracts see the devices.
+/// The devices by DevEUI, and the ordered set of their owners' pairs. Contracts see the devices.
 #[derive(Drop)]
 pub(crate) struct Devices {
     devices: IndexMap<Eui, Device>,
@@ -88,7 +88,7 @@ impl Devices {
         self.devices.get(&dev_eui).copied()
     }
 
-    /// The DevEUI has this device, and all else stays; or nothing changes.
+    /// Stores the device under the DevEUI, or changes nothing.
     pub(crate) fn put(&mut self, dev_eui: Eui, device: Device) -> Result<(), AllocError>
         ensures ok { OnOk result (devices_of self.new ≡ at_number (devices_of self.old) dev_eui (Some device)) }
         ensures err { OnErr result (devices_of self.new ≡ devices_of self.old) }
@@ -108,7 +108,7 @@ impl Devices {
         Ok(())
     }
 
-    /// The device has this owner, and all else stays; or nothing changes.
+    /// Makes this name the device's owner, or changes nothing.
     pub(crate) fn move_to(&mut self, dev_eui: Eui, owner: Name) -> Result<(), AllocError>
         ensures ok { OnOk result (devices_of self.new ≡ devices_with_move (devices_of self.old) dev_eui owner) }
         ensures err { OnErr result (devices_of self.new ≡ devices_of self.old) }
@@ -119,7 +119,7 @@ impl Devices {
         }
     }
 
-    /// The least DevEUI of the owner's devices, above `after` where it is given.
+    /// Returns the least DevEUI of the owner's devices, of those above `after` if that is given.
     pub(crate) fn next_of(&self, owner: &Name, after: Option<Eui>) -> Option<Eui>
         ensures { (s : State) → s.devices ≡ devices_of self.now → IsNextDevice s owner.now after result }
     {
@@ -131,7 +131,7 @@ impl Devices {
     }
 }
 
-/// The device, if it is the owner's.
+/// Returns the device if it is the owner's.
 fn its_device(owned: &Owned, owner: &Name) -> Option<Eui>
     ensures { result ≡ (if bytes_eq owned.now.owner owner.now then Some owned.now.dev_eui else None) }
 {
@@ -141,7 +141,7 @@ fn its_device(owned: &Owned, owner: &Name) -> Option<Eui>
     }
 }
 
-/// Where the owner's devices begin that are above `after`, or all of them.
+/// Returns the bound at which the owner's devices above `after` begin, or all of them if `after` isn't given.
 fn bound_above(owner: &Name, after: Option<Eui>) -> Bound<Owned>
     ensures { result ≡ bound_above owner.now after }
 {

@@ -1,25 +1,26 @@
-//! Why a store doesn't answer.
+//! The errors of a store.
 ghost use Rattle.std.specs.Prelude.{◌≡◌};
 ghost use Rattle.desk_store.specs.declared.faults.StoreFault.TheVariants.{Memory};
 
 use std::alloc::{AllocError, AllocFailed};
 
-/// Why a store doesn't answer. A store that holds something and is sound tells the first three alone; a call may tell the fourth
-/// of what turns out to be no desk's; the last two are told where a desk is made, opened or moved. `Lists` tells `Memory` and
-/// `Size` alone.
+/// Why a call of a store failed.
+///
+/// A call of a sound store that represents something returns only the first three. A call may return `NotADesk` if the file turns out not
+/// to be a desk. Only making, opening and moving a desk return `SchemaVersion` and `Exists`. `Lists` returns only `Memory` and `Size`.
 #[derive(Clone, Copy, PartialEq, Eq)]
 pub enum StoreFault {
-    /// A request for memory was refused: refusal 32.
+    /// Out of memory: an allocation failed. Refusal 32.
     Memory,
-    /// The disk failed, and the store is down from then on: refusal 32.
+    /// A disk error. The store is failed until it is opened again. Refusal 32.
     Disk,
-    /// There is no room for one entry more: refusal 32.
+    /// Out of space: there is no space for one more entry. Refusal 32.
     Size,
-    /// What is there is no desk's: refusal 33.
+    /// What is stored is not a desk. Refusal 33.
     NotADesk,
-    /// It is a desk's in a schema of another version: refusal 34.
+    /// The desk has another schema version. Refusal 34.
     SchemaVersion,
-    /// There is something already where a desk is to be made: refusal 9.
+    /// A desk is to be made where there is something already. Refusal 9.
     Exists,
 }
 

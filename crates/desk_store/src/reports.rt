@@ -1,4 +1,4 @@
-//! What reports ask of the facts: an owner's devices in order, and when a device's uplinks were on the air.
+//! What reports need of the facts: an owner's devices by DevEUI, and the times on air of a device's uplinks.
 ghost use Rattle.std.specs.Prelude.{IfOk, IsPermutation};
 ghost use Rattle.duty_core.specs.InOrder.{IsByStart};
 ghost use Rattle.registry_core.specs.Reports.{in_band, uplinks_from, IsNextDevice};
@@ -14,7 +14,7 @@ use radio_core::{Band, Eui, Name};
 use std::alloc::{AllocError, Global};
 
 impl Facts {
-    /// The least DevEUI of the owner's devices, above `after` where it is given.
+    /// Returns the least DevEUI of the owner's devices, of those above `after` if that is given.
     pub(crate) fn next_device(&self, owner: &Name, after: Option<Eui>) -> Option<Eui>
         ensures { IsNextDevice (facts_of self.now) owner.now after result }
     {
@@ -22,14 +22,14 @@ impl Facts {
     }
 }
 
-/// From the one time on and before the other, in microseconds since 1970 UTC.
+/// The time from `from` on and before `to`, in microseconds since 1970 UTC.
 #[derive(Clone, Copy)]
 pub(crate) struct Period {
     pub(crate) from: i64,
     pub(crate) to: i64,
 }
 
-/// When the device's uplinks in the band were on the air that start in the period, in order of start.
+/// Returns the times on air of the device's uplinks in the band that start in the period, ordered by start.
 pub(crate) fn uplinks_in(
     alloc: Global,
     uplinks: &Uplinks,
@@ -46,7 +46,7 @@ pub(crate) fn uplinks_in(
     uplinks.spans_at(alloc, &places)
 }
 
-/// Where those uplinks stand, session by session.
+/// Returns the places of those uplinks, session by session.
 fn places_in(
     alloc: Global,
     uplinks: &Uplinks,

@@ -1,4 +1,4 @@
-//! Where the items of one key stand in order of time, found without looking through the others.
+//! The places of the items of one key, ordered by start, without a search of the others.
 ghost use Rattle.std.specs.Prelude.{◌≡◌, ◌+◌, [], ◌∷◌, int_le, int_lt, OnOk, OnErr, filter, if◌then◌else◌};
 ghost use Rattle.desk_store.specs.steps.ByKey.{Rises, put_after};
 ghost use Rattle.desk_store.specs.steps.StartIndex.{is_near_place, is_place_in, places_in};
@@ -8,21 +8,21 @@ use indexmap::IndexMap;
 use std::alloc::{AllocError, Global};
 use std::hash::Hash;
 
-/// When an item begins, in microseconds, and its number, from 1.
+/// When an item begins, in microseconds since 1970 UTC, and its number, from 1.
 #[derive(Clone, Copy, PartialEq, Eq, PartialOrd, Ord)]
 pub(crate) struct Place {
     pub(crate) start: i64,
     pub(crate) number: u64,
 }
 
-/// Of each key that has items, where they stand: in order of start, and those that start together in order of number.
+/// The places of each key's items, ordered by start, and those that start together by number.
 #[derive(Drop)]
 pub(crate) struct StartIndex<K: Eq + Hash> {
     pub(crate) keys: IndexMap<K, Vec<Place>>,
 }
 
 impl<K: Copy + Eq + Hash + Drop> StartIndex<K> {
-    /// The index of no items.
+    /// Returns the index of no items.
     pub(crate) fn new(alloc: Global) -> StartIndex<K>
         ensures { (other : K) → places_in K.eq result other ≡ [] }
     {
@@ -31,7 +31,7 @@ impl<K: Copy + Eq + Hash + Drop> StartIndex<K> {
         }
     }
 
-    /// Notes where an item of this key stands that goes to the end of the others, or nothing.
+    /// Adds the place of an item of this key, which comes after all others in number; or changes nothing.
     pub(crate) fn note(&mut self, key: K, place: Place) -> Result<(), AllocError>
         ensures noted { Rises (λ place. place.start) (places_in K.eq self.old key)
             → OnOk result ((other : K) → places_in K.eq self.new other
@@ -45,7 +45,7 @@ impl<K: Copy + Eq + Hash + Drop> StartIndex<K> {
         }
     }
 
-    /// Notes where the first item of a key stands, or nothing.
+    /// Adds the place of a key's first item, or changes nothing.
     fn note_first(&mut self, key: K, place: Place) -> Result<(), AllocError>
         ensures noted { OnOk result ((other : K) → places_in K.eq self.new other
             ≡ (if K.eq key other then place ∷ [] else places_in K.eq self.old other)) }
@@ -57,7 +57,7 @@ impl<K: Copy + Eq + Hash + Drop> StartIndex<K> {
         Ok(())
     }
 
-    /// Where the items of the key stand.
+    /// Returns the places of the key's items.
     pub(crate) fn places(&self, key: &K) -> &[Place]
         ensures { result.now ≡ places_in K.eq self.now key.now }
     {
@@ -68,7 +68,7 @@ impl<K: Copy + Eq + Hash + Drop> StartIndex<K> {
     }
 }
 
-/// The place goes in after all that don't begin later, or nowhere.
+/// Inserts the place after all that don't begin later, or changes nothing.
 fn put(places: &mut Vec<Place>, place: Place) -> Result<(), AllocError>
     ensures put { Rises (λ place. place.start) places.old.items
         → OnOk result (places.new.items ≡ put_after (λ place. place.start) place places.old.items) }
@@ -79,7 +79,7 @@ fn put(places: &mut Vec<Place>, place: Place) -> Result<(), AllocError>
     Ok(())
 }
 
-/// The places that begin near the start.
+/// Returns the places that begin near the start.
 pub(crate) fn places_near(places: &[Place], start: u64) -> &[Place]
     ensures { Rises (λ place. place.start) places.now → result.now ≡ filter (is_near_place start) places.now }
 {
@@ -87,14 +87,14 @@ pub(crate) fn places_near(places: &[Place], start: u64) -> &[Place]
     places_between(places, start - reach + 1, start + reach)
 }
 
-/// The places that begin from the one moment on and before the other.
+/// Returns the places that begin at `from` or later and before `to`.
 pub(crate) fn places_between(places: &[Place], from: i128, to: i128) -> &[Place]
     ensures { Rises (λ place. place.start) places.now → result.now ≡ filter (is_place_in from to) places.now }
 {
     places_before(places_from(places, from), to)
 }
 
-/// The places that begin from this moment on.
+/// Returns the places that begin at this moment or later.
 fn places_from(places: &[Place], moment: i128) -> &[Place]
     ensures { Rises (λ place. place.start) places.now → result.now ≡ filter (λ place. int_le moment place.start) places.now }
 {
@@ -102,7 +102,7 @@ fn places_from(places: &[Place], moment: i128) -> &[Place]
     &places[at..]
 }
 
-/// The places that begin before this moment.
+/// Returns the places that begin before this moment.
 fn places_before(places: &[Place], moment: i128) -> &[Place]
     ensures { Rises (λ place. place.start) places.now → result.now ≡ filter (λ place. int_lt place.start moment) places.now }
 {

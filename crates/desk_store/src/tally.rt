@@ -6,14 +6,14 @@ ghost use Rattle.desk_store.specs.steps.Tally.{tallied};
 use indexmap::IndexMap;
 use std::alloc::{AllocError, Global};
 
-/// Of each number a count: 0 of one that has none.
+/// A count for each number, 0 if none was set.
 #[derive(Drop)]
 pub(crate) struct Tally {
     pub(crate) counts: IndexMap<u64, u64>,
 }
 
 impl Tally {
-    /// Every count is 0.
+    /// Returns a tally in which every count is 0.
     pub(crate) fn new(alloc: Global) -> Tally
         ensures { (number : ℕ) → tallied result number ≡ 0 }
     {
@@ -22,14 +22,14 @@ impl Tally {
         }
     }
 
-    /// The number's count.
+    /// Returns the number's count.
     pub(crate) fn at(&self, number: u64) -> u64
         ensures { result ≡ tallied self.now number }
     {
         self.counts.get(&number).copied().unwrap_or(0)
     }
 
-    /// Makes room for the count of one number more.
+    /// Reserves memory for the count of one more number.
     pub(crate) fn make_room(&mut self) -> Result<(), AllocError>
         ensures same { (number : ℕ) → tallied self.new number ≡ tallied self.old number }
         ensures room { OnOk result (1 ≤ spare self.new.counts) }
@@ -37,7 +37,7 @@ impl Tally {
         self.counts.reserve(1)
     }
 
-    /// The number has this count, and all else stays.
+    /// Sets the number's count, or changes nothing.
     pub(crate) fn set(&mut self, number: u64, count: u64) -> Result<(), AllocError>
         ensures ok { OnOk result ((other : ℕ) → tallied self.new other ≡ (if number == other then count else tallied self.old other)) }
         ensures err { OnErr result ((other : ℕ) → tallied self.new other ≡ tallied self.old other) }

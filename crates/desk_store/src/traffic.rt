@@ -1,5 +1,4 @@
-//! The uplinks and the bookings that answer them, with each session's next downlink counter, told without looking
-//! through them.
+//! The uplinks and the bookings that answer them, and each session's next downlink counter without a search of them.
 ghost use Rattle.std.specs.Prelude.{◌≡◌, ◌+◌, ◌≤◌, [], ◌∷◌, ◌++◌, ℕ, min, IsOk, OnOk, OnErr, if◌then◌else◌};
 ghost use Rattle.indexmap.specs.IndexMap.{spare};
 ghost use Rattle.registry_core.specs.Bookings.{next_down};
@@ -15,8 +14,7 @@ use registry_core::{Booking, Kind, Uplink};
 use std::alloc::{AllocError, Global};
 use std::marker::Model;
 
-/// The uplinks, the bookings, and by a session how many bookings answer its data uplinks, dropped ones too. Contracts
-/// see the lists.
+/// The uplinks, the bookings, and for each session how many bookings answer its data uplinks, dropped ones too. Contracts see the lists.
 #[derive(Drop)]
 pub(crate) struct Traffic {
     uplinks: Uplinks,
@@ -59,14 +57,14 @@ impl Traffic {
         &self.bookings
     }
 
-    /// The session's next downlink counter: how many bookings answer its data uplinks, dropped ones too.
+    /// Returns the session's next downlink counter: how many bookings answer its data uplinks, dropped ones too.
     pub(crate) fn next_down(&self, session: u64) -> u64
         ensures { result ≡ next_down self.now.bookings self.now.uplinks session }
     {
         self.downs.at(session)
     }
 
-    /// The uplink goes to the end, or nowhere. Bookings may name its number before it is there.
+    /// Adds the uplink at the end, or changes nothing. Bookings may name its number before it is there.
     pub(crate) fn push_uplink(&mut self, uplink: Uplink) -> Result<(), AllocError>
         ensures ok { OnOk result (self.new.uplinks ≡ self.old.uplinks ++ uplink ∷ []) }
         ensures err { OnErr result (self.new.uplinks ≡ self.old.uplinks) }
@@ -80,7 +78,7 @@ impl Traffic {
         Ok(())
     }
 
-    /// The booking goes to the end, or nowhere.
+    /// Adds the booking at the end, or changes nothing.
     pub(crate) fn push_booking(&mut self, booking: Booking) -> Result<(), AllocError>
         ensures ok { OnOk result (self.new.bookings ≡ self.old.bookings ++ booking ∷ []) }
         ensures err { OnErr result (self.new.bookings ≡ self.old.bookings) }
@@ -95,7 +93,7 @@ impl Traffic {
         }
     }
 
-    /// The booking with this number, from 1, is sent, or else dropped, and all else stays; or nothing changes.
+    /// Marks the booking with this number, from 1, as sent, or else as dropped; or changes nothing.
     #[tactic(auto, using(crate::proofs::Downs::booking_ended))]
     pub(crate) fn end_booking(&mut self, number: u64, sent: bool) -> Result<(), AllocError>
         ensures ok { OnOk result (self.new.bookings
@@ -108,7 +106,7 @@ impl Traffic {
     }
 }
 
-/// This many more bookings answer the uplink; its session counts them if it is a data uplink.
+/// Counts `more` further bookings that answer the uplink, for its session, if it is a data uplink.
 fn grow(downs: &mut Tally, uplink: &Uplink, more: u64) -> Result<(), AllocError>
     ensures ok { OnOk result ((session : ℕ) → tallied downs.new session
         ≡ (if is_data_of session uplink.now

@@ -1,4 +1,4 @@
-//! What is told of uplinks by their session, without looking through them.
+//! Look-ups of uplinks by their session, without a search of the uplinks.
 ghost use Rattle.std.specs.Prelude.{◌≡◌, ◌+◌, ◌≤◌, [], ◌∷◌, ◌++◌, List, ℕ, length, max, IsOk, OnOk, if◌then◌else◌, ◌==◌, Some, nat_eq};
 ghost use Rattle.std.specs.Option.{option_map_or, unwrap_or};
 ghost use Rattle.indexmap.specs.IndexMap.{get, spare, IsUnchanged};
@@ -9,8 +9,8 @@ use indexmap::IndexMap;
 use registry_core::{Kind, Uplink};
 use std::alloc::{AllocError, Global};
 
-/// The number of the first join uplink and of the first data uplink with a session and a counter, and the last counter of a
-/// session's data uplinks.
+/// The number of the first join uplink and of the first data uplink with a session and a counter, and the last counter of a session's data
+/// uplinks.
 #[derive(Drop)]
 pub(crate) struct UplinkIndex {
     pub(crate) joins: IndexMap<(u64, u32), u64>,
@@ -19,7 +19,7 @@ pub(crate) struct UplinkIndex {
 }
 
 impl UplinkIndex {
-    /// The index of no uplinks.
+    /// Returns the index of no uplinks.
     pub(crate) fn new(alloc: Global) -> UplinkIndex
         ensures { IsIndexOf [] result }
     {
@@ -30,7 +30,7 @@ impl UplinkIndex {
         }
     }
 
-    /// Makes room for one uplink more.
+    /// Reserves memory for one more uplink.
     pub(crate) fn make_room(&mut self) -> Result<(), AllocError>
         ensures joins { IsUnchanged self.old.joins self.new.joins }
         ensures frames { IsUnchanged self.old.frames self.new.frames }
@@ -42,7 +42,7 @@ impl UplinkIndex {
         self.counters.reserve(1)
     }
 
-    /// Notes an uplink that goes to the end of the others with this number.
+    /// Adds an uplink that comes at the end of the others, with this number.
     pub(crate) fn note(&mut self, uplink: &Uplink, number: u64) -> Result<(), AllocError>
         ensures noted { (uplinks : List Uplink) → number ≡ length uplinks + 1 → IsIndexOf uplinks self.old
             → OnOk result (IsIndexOf (uplinks ++ uplink.now ∷ []) self.new) }
@@ -58,7 +58,7 @@ impl UplinkIndex {
     }
 }
 
-/// The pair has the number, unless it has one.
+/// Gives the pair the number, unless it has one.
 fn note_first(
     numbers: &mut IndexMap<(u64, u32), u64>,
     session: u64,
@@ -74,7 +74,7 @@ fn note_first(
     Ok(())
 }
 
-/// The session has the counter, unless it has a greater one.
+/// Gives the session the counter, unless it has a greater one.
 fn note_last(
     counters: &mut IndexMap<u64, u32>,
     session: u64,

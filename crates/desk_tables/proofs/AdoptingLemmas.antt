@@ -56,7 +56,7 @@ settled_read old new read idle unlimited clean ready =
 pub at_rest : (s : State) → IsSettled s → s.now.schema ≡ desk_schema → IsAtRest s s.now
 at_rest s settled schema = record { settled = settled; stored = refl; schema = schema }
 
--- a store over settled tables of a desk, with what they hold counted
+-- a store over settled tables of a desk, with their rows counted
 pub stands : {S : Type 0} (g : Ghosts S) (t : Tables S) (c : Settings) (kept : Kept) (db : Database) → IsSettled (state g t.conn) → t.config ≡ c → t.seen ≡ nothing → (state g t.conn).now ≡ db
     → (is : IsOfDesk c kept db) → AreRowsCounted is.in_order.rows (t.heard, t.counts) → Stands g t kept
 stands g t c kept db settled config unseen same is told =

@@ -67,7 +67,7 @@ pub asks_then : {X Y : Type 0} {a b c : State} {x : X} {result : Result Y RowFau
     → ((r : Rows) → Of r → May r → Said r x → Late r) → ((r : Rows) → Of r → Said r x → (y : Y) → Told r y → Says r y) → Asks a c result Of May Says
 asks_then = asks_then_of has_schema
 
--- what two look-ups in a row told
+-- what two look-ups in a row returned
 pub asks_also_of : {desk : Schema} {Have : Database → Rows → Type 0} (schema : (db : Database) (r : Rows) → Have db r → db.schema ≡ desk) {X Y : Type 0} {a b c : State} {x : X}
     {result : Result Y RowFault} {Said : Rows → X → Type 0} {Told : Rows → Y → Type 0}
     → AsksOf desk Have a b (Ok x) (λ _. Unit {0}) (λ _. Unit {0}) Said → AsksOf desk Have b c result (λ _. Unit {0}) (λ _. Unit {0}) Told

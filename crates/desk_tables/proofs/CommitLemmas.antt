@@ -42,7 +42,7 @@ none_heard p (y ∷ ys) none = go (p y) none (none_heard p ys)
 
 module _ (e : Envelope) (message : List ℕ) (effect : Effect) (answer : List ℕ) (c : Settings) (kept : Kept) (r : Rows)
     (are : AreRowsOf c kept.facts r) (entries : kept.entries ≡ map entry_in r.replies) where
-  -- rows with the effect and the reply are those of what is held with the effect and the entry
+  -- rows with the effect and the message are those of the facts with the effect and the entry
   pub rows_in_order : RowsFollowFacts → Fits effect kept.facts → (db : Database) → Holds db (rows_with effect (reply_row e message answer) r)
       → AreInOrder c db (with_entry kept e message effect answer)
   rows_in_order follow fits db held = record {

@@ -1,4 +1,4 @@
--- What was read, as the rows tell it, and what is written by it.
+-- What was read of the rows, and what is written with it.
 use Rattle.std.proofs.Common.{◌≡◌, ℕ, Bool, true, false, List, [], ◌∷◌, filter, find, Option, Some, None, Result, Ok, option_map, refl, sym, ap, subst, ◌∙◌}
 use Rattle.registry_core.specs.declared.effects.Effect.{Effect}
 use Rattle.registry_core.specs.declared.facts.Session.{Session}
@@ -51,7 +51,7 @@ module _ (uplink : Uplink) (r : Rows) (one : RaisesOne uplink r) where
       → one.session.session ≡ session
   session_is session there = let e = rw one.there at there in cc
 
-  -- the floor of the device of the session tells which device is raised
+  -- the floor of the session's device determines which device is raised
   raised : (session : Session) → one.session.session ≡ session → (floor : Option ℕ)
       → option_map (λ (row : DeviceRow). row.floor) (find (is_device session.device) r.devices) ≡ Some floor → RaisesIf uplink.session session.device r floor
   raised session same floor told =

@@ -1,4 +1,4 @@
--- So many rows, so many that have it.
+-- As many have it as there are rows.
 use Rattle.std.proofs.Common.{◌≡◌, ℕ, ◌||◌, Bool, true, false, cond, List, [], ◌∷◌, map, find, length, Option, Some, is_some, option_map, refl, ap, ◌∙◌, sym, arith}
 use Rattle.std.specs.Prelude.{bytes_eq, nat_eq, unwrap_or}
 use Rattle.std.specs.List.{list_any}

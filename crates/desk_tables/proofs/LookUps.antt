@@ -1,4 +1,4 @@
--- What stands after a look-up, and what it tells.
+-- The state after a look-up, and what the look-up returns.
 use Rattle.std.proofs.Common.{◌≡◌, ◌⊎◌, inl, inr, Bool, true, false, true≢false, IsTrue, None, Some, List, Result, Ok, Err, refl, sym, ap, subst, ◌∙◌, arith}
 use Rattle.std.specs.Prelude.{◌||◌, IfOk}
 use Rattle.sqlite_trees.specs.declared.store.Store.{Ghosts}
@@ -103,7 +103,7 @@ module _ {S : Type 0} (g : Ghosts S) (old : Tables S) (conn : Held S) (down fore
   leaves_on : (all : List Kept) → HasCleanDisk (state g conn) → Survives (state g old.conn) (state g conn) (λ _. ⊥) → Leaves g old all → Leaves g later all
   leaves_on all clean survives left = λ db may. elim (survives.crash clean db may) [ inl before ↦ left db before | inr none ↦ absurd none ]
 
--- ---- faults
+-- ---- errors
 
 is_unavailable_reading : (fault : RowFault) → IsEven fault → IsUnavailability (store_fault (reading_fault fault))
 is_unavailable_reading Memory even = tt
@@ -207,7 +207,7 @@ module _ {S : Type 0} (g : Ghosts S) (old : Tables S) (mid : Held S) (up : old.d
           (read.survives has open_was (early clean)) (read.leaves has open_was (early clean)) settles clean (not_disk still)) was;
     }
 
--- ---- what a look-up of a store tells, and what several in a row do
+-- ---- what a look-up of a store returns, and what several in a row do
 
 module _ {S T : Type 0} (g : Ghosts S) (old : Tables S) (mid : Held S) (new : Tables S) where
   pub read_asked : (answer : Result T RowFault) (result : Result T StoreFault) (Says : Rows → T → Type 0) → old.down ≡ false
@@ -240,7 +240,7 @@ module _ {S T : Type 0} (g : Ghosts S) (old : Tables S) (mid : Held S) (new : Ta
       → Tells (meaning_of g) old new result P
   answered_by_kept answer result P up reads told = kept_asked answer result P up (asks_one reads) told
 
--- ---- what a look-up found is kept
+-- ---- what a look-up found is cached
 
 told_ok : {S T : Type 0} (g : Ghosts S) (mid new : Tables S) (answer : Result T RowFault) (x : T) → IsTold g mid new answer (Ok x) → (answer ≡ Ok x) × (new ≡ mid)
 told_ok {T = T} g mid new (Ok y) x told =
@@ -303,7 +303,7 @@ unread g s = record {
   rests = λ db sound rests. rests;
 }
 
--- ---- a store that is down is asked nothing
+-- ---- a failed store looks up nothing
 
 pub down_read : {S : Type 0} (g : Ghosts S) (s : Tables S) → s.down ≡ true → calls.IsRead (meaning_of g) s s (Some told_as.Disk)
 down_read g s down = record {

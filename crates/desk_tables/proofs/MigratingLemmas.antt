@@ -67,7 +67,7 @@ pub record IsLookedAt (old new : State) : Type 0 where
   pub settled : new.now ≡ new.committed
   pub crash : (trees : Trees) → new.may_leave trees → old.may_leave trees
 
--- it was looked at the row of meta and the schema, then counted, and what came after found no fault of the disk
+-- the row of meta and the schema were looked at, then the rows were counted, and what came after met no disk error
 pub looked_before : (old first counted after : State) → (HasCleanDisk first → IsUnchanged old first) → Survives old first (λ _. ⊥)
     → (HasCleanDisk first → IsTrue first.is_open → first.now ≡ first.committed) → (HasCleanDisk first → old.now.schema ≡ first_schema)
     → IsReadingCallOf first_schema first counted true → doubt counted.is_clean ≤ doubt after.is_clean → HasCleanDisk after → IsLookedAt old counted

@@ -37,7 +37,7 @@ use Rattle.desk_tables.proofs.CountLemmas.{are_few, one_longer}
 use Rattle.desk_tables.proofs.LookUps.{disk_or_as, has_schema}
 use Rattle.desk_tables.proofs.SeenLemmas.{seen_with}
 
--- ---- faults
+-- ---- errors
 
 is_unavailable_writing : (fault : RowFault) → IsEven fault → IsUnavailability (store_fault fault)
 is_unavailable_writing Memory even = tt
@@ -88,7 +88,7 @@ module _ {S : Type 0} (g : Ghosts S) (old : Tables S) (e : Envelope) (message : 
   few : (kept : Kept) → Stands g old kept → length kept.entries < most_heard
   few kept it = let heard = it.heard in omega (arith, room, heard)
 
-  -- rows with the effect and the reply are those of a desk that holds the effect and the entry too
+  -- rows with the effect and the message are those of a desk that represents the effect and the entry too
   with_message : (kept : Kept) (it : Stands g old kept) → CanAdd kept e effect → (db : Database)
       → Holds db (rows_with effect (reply_row e message answer) it.desk.in_order.rows) → IsOfDesk old.config (with_entry kept e message effect answer) db
   with_message kept it can db held =

@@ -1,4 +1,4 @@
--- What a desk's tables tell when they are opened.
+-- What is read of a desk's tables when they are opened.
 use Rattle.std.proofs.Common.{◌≡◌, ◌≢◌, ◌⊎◌, inl, inr, ℕ, ℤ, true, pos, [], ◌∷◌, Result, Ok, Err, IfErr, refl, sym, ap, subst, ◌∙◌}
 use Rattle.std.specs.Result.{IsErrAnd}
 use Rattle.registry_core.specs.Settings.{Settings}
@@ -19,7 +19,7 @@ use Rattle.desk_rows.specs.Rows.{HoldsTen, Rows}
 use Rattle.desk_rows.specs.Schema.{desk_schema}
 use Rattle.desk_tables.specs.steps.Faults.{store_fault}
 
--- ---- faults
+-- ---- errors
 
 pub odd_from_stranger : (fault : RowFault) → store_fault fault ≡ NotADesk → is_odd fault ≡ true
 odd_from_stranger Memory told = cc
@@ -35,9 +35,9 @@ unavailable_from_even Size even = tt
 unavailable_from_even Row even = even refl
 unavailable_from_even Refused even = even refl
 
--- ---- what is returned tells its fault
+-- ---- what is returned has its error
 
--- what the exit of a `?` returns is so of its fault
+-- what is true of the error is true of what the exit of a `?` returns
 pub failed_so : {X : Type 0} (P : StoreFault → Type 0) (fault : StoreFault) (result : Result X StoreFault) → IsErrAnd result (λ told. told ≡ fault)
     → P fault → IfErr result P
 failed_so P fault (Ok x) failed so = tt
@@ -73,7 +73,7 @@ meta_tells version schema_is db r has config = record {
   config = config;
 }
 
--- the row of meta tells one version and one configuration
+-- the row of meta has one version and one configuration
 pub told_once : (trees : Trees) (a b : ℤ) (c d : Settings) → TellsMeta trees a c → TellsMeta trees b d → (a ≡ b) × (c ≡ d)
 told_once trees a b c d one two =
     let both : one.row ∷ [] ≡ two.row ∷ [] = sym one.one ∙ two.one in

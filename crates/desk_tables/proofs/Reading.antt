@@ -1,4 +1,4 @@
--- Look-ups that say the same in other words.
+-- Look-ups whose statements are put in other words.
 use Rattle.std.proofs.Common.{◌≡◌, inl, Result, Ok, Err, refl, sym, subst, arith}
 use Rattle.sqlite.specs.State.{State, Survives}
 use Rattle.desk_rows.specs.declared.faults.RowFault.{RowFault}
@@ -10,12 +10,12 @@ pub says_also : {X : Type 0} (old new : State) (result : Result X RowFault) (P Q
 says_also old new (Ok x) P Q so reads = record { read = reads.read; told = λ clean r holds. so r x (reads.told clean r holds); in_order = reads.in_order }
 says_also old new (Err e) P Q so reads = record { read = reads.read; told = λ clean r holds. tt; in_order = reads.in_order }
 
--- what was told is shown as something else
+-- the result is shown as something else
 pub shows : {X Y : Type 0} (old new : State) (x : X) (y : Y) (P : Rows → X → Type 0) (Q : Rows → Y → Type 0) → ((r : Rows) → P r x → Q r y)
     → Reads old new (Ok x) P → Reads old new (Ok y) Q
 shows old new x y P Q so reads = record { read = reads.read; told = λ clean r holds. so r (reads.told clean r holds); in_order = λ clean limit r holds. tt }
 
--- a look-up that failed tells nothing
+-- a look-up that failed returns no value
 pub fails : {X Y : Type 0} {old new : State} {fault : RowFault} {result : Result Y RowFault} {P : Rows → X → Type 0} {Q : Rows → Y → Type 0}
     → result ≡ Err fault → Reads {X = X} old new (Err fault) P → Reads old new result Q
 fails {Y = Y} {old = old} {new = new} {fault = fault} {Q = Q} failed h =

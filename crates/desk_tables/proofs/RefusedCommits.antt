@@ -1,4 +1,4 @@
--- A commit that a store refuses before it writes: it is down, it is no desk's, or no more may be heard.
+-- A commit that a store refuses before it writes: it is failed, it is not a desk, or no more may be heard.
 use Rattle.std.proofs.Common.{◌≡◌, inl, ℕ, ◌≤◌, true, false, true≢false, List, Some, Err, IsTrue, refl, sym, subst, ◌∙◌, arith}
 use Rattle.std.specs.Prelude.{◌||◌}
 use Rattle.registry_core.specs.declared.effects.Effect.{Effect}
@@ -20,7 +20,7 @@ use Rattle.desk_tables.specs.steps.Settling.{Fails, Settles}
 use Rattle.desk_tables.proofs.LookUps.{disk_or_as}
 
 module _ {S : Type 0} (g : Ghosts S) (old : Tables S) (e : Envelope) (message : List ℕ) (effect : Effect) (answer : List ℕ) where
-  -- it is down
+  -- it is failed
   pub commit_down : old.down ≡ true → IsCommit (meaning_of g) old old e message effect answer (Err Disk)
   commit_down down = record {
     call = record { same = refl; was_sound = λ clean. clean; shut = down; strange = refl };
@@ -38,7 +38,7 @@ module _ {S : Type 0} (g : Ghosts S) (old : Tables S) (e : Envelope) (message : 
   }
 
   module _ (up : old.down ≡ false) where
-    -- it is in a transaction: it holds nothing
+    -- it is in a transaction: it represents nothing
     commit_inside : (new : Held S) (told : StoreFault) → (state g old.conn).in_transaction ≡ true → Settles (state g old.conn) (state g new) Refused told
         → IsCommit (meaning_of g) old
         (record old { conn = new; down = is_disk (Some told) || old.down; foreign = is_foreign (Some told) || old.foreign })

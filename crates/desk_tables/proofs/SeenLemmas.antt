@@ -56,7 +56,7 @@ role_with (AddsBooking booking) reply r name role is = is
 role_with (EndsBooking number sent) reply r name role is = is
 role_with (SetsLimit gateway limit) reply r name role is = is
 
--- of the rows with an effect and a reply, what is kept of what was seen is so
+-- for the rows with an effect and a message, what stays in the cache is right
 pub seen_with : (effect : Effect) (reply : ReplyRow) (r : Rows) (seen : Seen) (db : Database) → IsSeen r seen → Holds db (rows_with effect reply r) → AreSeen (seen_after seen) db
 seen_with effect reply r seen db is holds = λ other has.
     let same : rows_with effect reply r ≡ other = held_again db (rows_with effect reply r) holds ∙ sym (held_again db other has) in
@@ -75,7 +75,7 @@ pub some_found : {X : Type 0} (found there : Option X) → found ≡ there → I
 some_found None there is = tt
 some_found (Some x) there is = sym is
 
--- what was found, beside something
+-- what was found, as part of something
 pub seen_so : {X Y : Type 0} (P : X → Type 0) (Q : Y → Type 0) (f : X → Y) (found : Option X) → ((x : X) → P x → Q (f x)) → IfSome found P → IfSome (option_map f found) Q
 seen_so P Q f None so is = tt
 seen_so P Q f (Some x) so is = so x is

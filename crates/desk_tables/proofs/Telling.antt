@@ -1,4 +1,4 @@
--- What the rows tell of the facts, as look-ups ask for it.
+-- What the rows show of the facts, as look-ups ask for it.
 use Rattle.std.proofs.Common.{◌≡◌, ℕ, Bool, true, false, cond, List, [], ◌∷◌, map, filter, Option, Some, None, option_map, refl, ap}
 use Rattle.std.specs.Prelude.{option_and_then, unwrap_or}
 use Rattle.std.specs.List.{AllByRecursion}
@@ -28,7 +28,7 @@ pub or_zero : {X : Type 0} (f : X → ℕ) (o : Option X) → unwrap_or (option_
 or_zero f None = refl
 or_zero f (Some x) = refl
 
--- what is told beside its number
+-- what is found with its number
 pub beside : {X : Type 0} (n : ℕ) (o : Option X) → option_map (λ (found : ℕ × X). found.1) (option_map (λ x. (n, x)) o) ≡ o
 beside n None = refl
 beside n (Some x) = refl

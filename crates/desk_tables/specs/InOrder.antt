@@ -1,4 +1,4 @@
--- Tables in order: they hold exactly the rows of a configuration, of facts and of entries.
+-- Tables that represent facts and entries: they have exactly their rows, under a configuration.
 use Rattle.std.specs.Prelude.{◌≡◌, ◌≤◌, length, map}
 use Rattle.registry_core.specs.Heard.{most_heard}
 use Rattle.registry_core.specs.Settings.{Settings}
@@ -14,20 +14,20 @@ use Rattle.desk_rows.specs.order.RowsOf.{AreRowsOf}
 abbrev pub entry_in : ReplyRow → Entry
 entry_in r = record { sender = r.sender; transaction = r.number; message = r.message; answer = r.answer }
 
--- what the rows tell
+-- the facts and entries that rows represent
 abbrev pub kept_in : Rows → Kept
 kept_in r = record { facts = facts_in r; entries = map entry_in r.replies }
 
--- ---- whichever schema says what rows a database holds
+-- ---- with either schema
 
--- the database holds these facts and entries under this configuration, and nothing else
+-- the database has exactly the rows of these facts and entries, under this configuration
 pub record AreInOrderBy (Has : Database → Rows → Type 0) (c : Settings) (db : Database) (kept : Kept) : Type 0 where
   pub rows : Rows
   pub held : Has db rows
   pub are : AreRowsOf c kept.facts rows
   pub entries : kept.entries ≡ map entry_in rows.replies
 
--- the database's tables are in order for this, the configuration is one that a desk can have, and no more was heard than may be
+-- the database's tables represent this, the configuration is one that a desk can have, and there are no more messages than there may be
 pub record IsOfDeskBy (Has : Database → Rows → Type 0) (c : Settings) (kept : Kept) (db : Database) : Type 0 where
   pub in_order : AreInOrderBy Has c db kept
   pub config : IsConfig c

@@ -1,4 +1,4 @@
--- What a store has found of its rows, which are as they were then.
+-- The cache of a store over tables, which is right for its rows.
 use Rattle.std.specs.Prelude.{◌≡◌, ℕ, List, find, Option, Some, None, option_map, IfSome}
 use Rattle.registry_core.specs.declared.facts.Session.{Session}
 use Rattle.registry_core.specs.declared.messages.Role.{Role}
@@ -8,7 +8,7 @@ use Rattle.sqlite.specs.Effect.{Database}
 use Rattle.desk_rows.specs.Rows.{Rows, Holds, is_device, is_sender_named}
 use Rattle.desk_tables.specs.declared.seen.Seen.{Seen}
 
--- the role of the sender of this name is this one
+-- the sender of this name has this role
 abbrev pub IsRoleOf : Rows → List ℕ → Role → Type 0
 IsRoleOf r name role = option_map (λ sender. sender.role) (find (is_sender_named name) r.senders) ≡ Some role
 
@@ -24,21 +24,21 @@ IsFloorOf r device floor = option_map (λ row. row.floor) (find (is_device devic
 abbrev pub IsCounterOf : Rows → ℕ → ℕ → Type 0
 IsCounterOf r session last = last_counter r.uplinks session ≡ Some last
 
--- what was found is so of these rows
+-- the cache is right for these rows
 pub record IsSeen (r : Rows) (seen : Seen) : Type 0 where
   pub role : IfSome seen.role (λ s. IsRoleOf r s.name s.role)
   pub session : IfSome seen.session (λ s. IsSessionAt r s.number s.session)
   pub floor : IfSome seen.floor (λ f. IsFloorOf r f.device f.floor)
   pub counter : IfSome seen.counter (λ c. IsCounterOf r c.session c.last)
 
--- and of the rows that the database holds
+-- and for the rows that the database has
 abbrev pub AreSeen : Seen → Database → Type 0
 AreSeen seen db = (r : Rows) → Holds db r → IsSeen r seen
 
--- nothing was found
+-- the empty cache
 abbrev pub nothing : Seen
 nothing = record { role = None; session = None; floor = None; counter = None }
 
--- what is still so after a commit: a sender keeps its role
+-- what is still so after a commit: a sender's role never changes
 abbrev pub seen_after : Seen → Seen
 seen_after seen = record nothing { role = seen.role }

@@ -1,4 +1,4 @@
--- What a store over the tables holds, and what a crash leaves of it.
+-- What a store over the tables represents, and what a crash leaves of it.
 use Rattle.std.specs.Prelude.{◌≡◌, Bool, false, List, [], ◌∷◌, length, None, IsTrue, refl}
 use Rattle.std.proofs.Common.{sym, ap, ap₂, ◌∙◌, subst, inl}
 use Rattle.std.proofs.Math.Logic.{∥∥₁_map}
@@ -19,25 +19,25 @@ use Rattle.desk_tables.specs.InOrder.{AreOfDesk, AreInOrder, IsOfDesk, kept_in}
 use Rattle.desk_tables.specs.Seen.{AreSeen}
 use Rattle.desk_tables.specs.declared.tables.Tables.{Tables}
 
--- a connection between two calls: it is open, and all is committed
+-- a connection between two calls: it is open, and everything is committed
 pub record IsSettled (s : State) : Type 0 where
   pub open_still : IsTrue s.is_open
   pub autocommit : s.in_transaction ≡ false
   pub committed : s.now ≡ s.committed
   pub unlimited : s.step_limit ≡ None
 
--- a connection between two calls: its database is this, under the desk's schema, whatever rows the tables have
+-- a connection between two calls whose database is this, with the desk's schema, whatever rows the tables have
 pub record IsAtRest (s : State) (db : Database) : Type 0 where
   pub settled : IsSettled s
   pub stored : s.now ≡ db
   pub schema : db.schema ≡ desk_schema
 
 module _ {S : Type 0} (g : Ghosts S) (k : Tables S) where
-  -- so far the disk has given back what was written to it
+  -- so far the disk has returned what was written to it
   abbrev pub IsSound : Type 0
   IsSound = HasCleanDisk (state g k.conn)
 
-  -- the database is of a desk that holds these, the counts are theirs, and what was seen is so of its rows
+  -- the database is of a desk that represents these, the counts are theirs, and the cache is right for its rows
   pub record Stands (kept : Kept) : Type 0 where
     pub settled : IsSettled (state g k.conn)
     pub desk : IsOfDesk k.config kept (state g k.conn).now
@@ -45,15 +45,15 @@ module _ {S : Type 0} (g : Ghosts S) (k : Tables S) where
     pub counts : AreCounts kept.facts k.counts
     pub seen : AreSeen k.seen (state g k.conn).now
 
-  -- of a store that is down this says nothing
+  -- of a failed store this states nothing
   abbrev pub HoldsKept : Kept → Type 0
   HoldsKept kept = k.down ≡ false → Stands kept
 
-  -- each database that a crash may leave is of a desk that holds one of these
+  -- each database that a crash may leave is of a desk that represents one of these
   abbrev pub Leaves : List Kept → Type 0
   Leaves all = (db : Trees) → (state g k.conn).may_leave db → (kept : Kept) × IsOneOf all kept × AreOfDesk k.config kept db
 
-  -- its connection is at rest over this database; of a store that is down this says nothing
+  -- its connection is at rest over this database; of a failed store this states nothing
   abbrev pub Rests : Database → Type 0
   Rests db = k.down ≡ false → IsAtRest (state g k.conn) db
 
@@ -73,7 +73,7 @@ meaning_of g = record {
 
 -- ---- laws
 
--- a database holds one thing
+-- a database represents one thing
 pub one_kept : (c : Settings) (db : Database) (a b : Kept) → AreInOrder c db a → AreInOrder c db b → a ≡ b
 one_kept c db a b h i =
     told a h.rows h.are.is h.entries ∙ ap kept_in (held_again db h.rows h.held ∙ sym (held_again db i.rows i.held)) ∙ sym (told b i.rows i.are.is i.entries)
@@ -82,7 +82,7 @@ one_kept c db a b h i =
     told kept r facts entries = λ i. record { facts = facts i; entries = entries i }
 
 module _ {S : Type 0} (g : Ghosts S) where
-  -- While it isn't down, a crash leaves what it holds.
+  -- If the store isn't failed, a crash leaves what it represents.
   pub own_law : ((s : S) (db : Trees) → IsTrue (g.view s).is_open → g.recovers s db → db ≡ (g.view s).committed)
       → (k : Tables S) (kept : Kept) → IsSound g k → k.down ≡ false → HoldsKept g k kept → Leaves g k (kept ∷ [])
   own_law settled k kept clean up holds = λ db may.
@@ -92,12 +92,12 @@ module _ {S : Type 0} (g : Ghosts S) where
       ap₂ (λ schema trees. record { schema = schema; trees = trees }) stands.desk.in_order.held.ten.schema trees in
       (kept, inl refl, subst (IsOfDesk k.config kept) same stands.desk)
 
-  -- While it isn't down, it holds one thing at most.
+  -- If the store isn't failed, it represents at most one thing.
   pub one_law : (k : Tables S) (a b : Kept) → IsSound g k → k.down ≡ false → HoldsKept g k a → HoldsKept g k b → a ≡ b
   one_law k a b clean up one other = one_kept k.config (state g k.conn).now a b (one up).desk.in_order (other up).desk.in_order
 
 module _ {S : Type 0} (is_clean : S → Bool) (recovers : S → Trees → Type 0) where
-  -- A crash leaves something, and that holds one thing.
+  -- A crash leaves something, and that represents one thing.
   pub common_law : ((s : S) → doubt (is_clean s) ≡ 0 → ∥ ((db : Trees) × recovers s db) ∥₁)
       → (k : Tables S) (a b : List Kept) → doubt (is_clean k.conn.store) ≡ 0
       → ((db : Trees) → recovers k.conn.store db → (kept : Kept) × IsOneOf a kept × AreOfDesk k.config kept db)

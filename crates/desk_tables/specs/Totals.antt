@@ -1,4 +1,4 @@
--- How many there are of each thing that a desk holds.
+-- The number of things of each kind that a desk stores.
 use Rattle.std.specs.Prelude.{◌≡◌, ℕ, Bool, List, bytes_eq, is_some, length, nat_eq}
 use Rattle.std.specs.List.{IsDistinct, list_any}
 use Rattle.desk_store.specs.Kept.{Kept}
@@ -6,14 +6,14 @@ use Rattle.desk_store.specs.Parts.{AreCounts}
 use Rattle.desk_rows.specs.order.RowsOf.{same_band}
 use Rattle.desk_tables.specs.declared.totals.Totals.{Totals}
 
--- so many have it: a list has all of them, each of them once, and nothing else
+-- exactly n have it: a list has all of them, each once, and nothing else
 pub record HaveIt {X : Type 0} (same : X → X → Bool) (has : X → Bool) (n : ℕ) : Type 0 where
   pub all : List X
   pub each_once : IsDistinct same all
   pub are_all : (x : X) → has x ≡ list_any (λ y. same y x) all
   pub many : n ≡ length all
 
--- whether a limit was set for this gateway's band, by the band's number
+-- a limit was set for this gateway's band, by the band's number
 abbrev pub is_limit_set : Kept → List ℕ × ℕ → Bool
 is_limit_set kept band = is_some (kept.facts.limits band.0 band.1)
 

@@ -1,4 +1,4 @@
--- What the clauses of private functions and the proofs say.
+-- Definitions for the contracts of private functions, and for the proofs.
 pub mod Adopting
 pub mod Calls
 pub mod Counting

@@ -1,4 +1,4 @@
-//! A connection becomes a store, and is given back.
+//! Makes, opens and closes a store over a connection.
 ghost use Rattle.std.specs.Prelude.{◌≡◌, ◌≢◌, ◌↔◌, ℤ, pos, List, None, false, IfErr, IfOk};
 ghost use Rattle.sqlite_trees.specs.Tree.{Trees};
 ghost use Rattle.registry_core.specs.Settings.{Settings};
@@ -32,8 +32,15 @@ use sqlite::{Alter, Connection};
 use std::alloc::Global;
 
 impl<S: Alter> Tables<S> {
-    /// A new desk in a database that has no table, index or view; or the connection, beside why there is none: `Exists` where
-    /// one of the desk's names is taken, else `NotADesk` where there are others.
+    /// Makes a desk with this configuration in a database that has no table, index or view, and returns its store.
+    ///
+    /// # Errors
+    ///
+    /// Returns the error with the connection. If that is still open, the database is as it was.
+    ///
+    /// - `Exists` if one of the desk's names is taken.
+    /// - `NotADesk` if there is another table, index or view.
+    /// - `Memory`, `Disk` or `Size` if SQLite failed.
     pub fn create(
         alloc: Global,
         conn: Connection<S>,
@@ -71,8 +78,15 @@ impl<S: Alter> Tables<S> {
         }
     }
 
-    /// The desk that the database holds; or the connection, beside why there is none: `NotADesk` where the schema or the row of
-    /// meta isn't a desk's, `SchemaVersion` where that row tells another version, whatever tables there are beside it.
+    /// Opens the desk that the database has, and returns its store. Nothing is written.
+    ///
+    /// # Errors
+    ///
+    /// Returns the error with the connection.
+    ///
+    /// - `SchemaVersion` if the row of meta has another version, whatever other tables there are.
+    /// - `NotADesk` if the schema, the row of meta or the last number of a table isn't a desk's.
+    /// - `Memory`, `Disk` or `Size` if SQLite failed.
     pub fn open(
         alloc: Global,
         conn: Connection<S>,
@@ -103,7 +117,7 @@ impl<S: Alter> Tables<S> {
         }
     }
 
-    /// The store over a connection whose tables are a desk's of this configuration, with what they hold counted.
+    /// Returns the store over a connection whose tables are a desk's of this configuration, after counting their rows.
     pub(crate) fn adopt(
         alloc: Global,
         conn: Connection<S>,
@@ -120,7 +134,7 @@ impl<S: Alter> Tables<S> {
         }
     }
 
-    /// The store over a connection whose tables hold so many messages and numbered things.
+    /// Returns the store over a connection whose tables have this many messages and numbered things.
     pub(crate) fn over(
         alloc: Global,
         conn: Connection<S>,
@@ -143,8 +157,9 @@ impl<S: Alter> Tables<S> {
         }
     }
 
-    /// The connection: of a store that holds something the database is of a desk that holds that, all of it is committed, and the
-    /// connection is at rest, so that it can be opened again. A crash leaves what it left of the store.
+    /// Closes the store, and returns its connection. If the store isn't failed and represents something, the database is of a desk that
+    /// represents the same, all of it is committed, and the connection is idle, so that it can be opened again. A crash leaves what it left
+    /// of the store.
     pub fn close(self) -> Connection<S>
         ensures sound { HasCleanDisk (state S.Store result) → (meaning_of S.Store).sound self }
         ensures in_order { (kept : Kept) → (meaning_of S.Store).sound self → (meaning_of S.Store).down self ≡ false → (meaning_of S.Store).holds self kept

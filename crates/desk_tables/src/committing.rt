@@ -1,4 +1,4 @@
-//! One transaction: an effect, and the message that was heard with its answer.
+//! Commits an effect and a message with its answer in one transaction.
 ghost use Rattle.std.specs.Prelude.{◌≡◌, ◌≢◌, false, Err};
 ghost use Rattle.sqlite.specs.Held.{state};
 ghost use Rattle.desk_rows.specs.declared.faults.RowFault.TheVariants.{Size};
@@ -13,7 +13,7 @@ use desk_rows::{RowFault, fault_of, insert_reply};
 use registry_core::{Effect, Envelope};
 use sqlite::{Alter, Connection, Transaction};
 
-/// Writes the rows of the effect and that of the reply.
+/// Writes the rows of the effect and the row of the message.
 fn write_all<S: Alter>(
     tx: &mut Transaction<'_, S>,
     envelope: &Envelope,
@@ -30,7 +30,7 @@ fn write_all<S: Alter>(
     insert_reply(tx, &envelope.sender, envelope.transaction, message, answer)
 }
 
-/// A transaction over what was read before it.
+/// Runs one transaction, with what was read before it.
 fn transact<S: Alter>(
     conn: &mut Connection<S>,
     envelope: &Envelope,
@@ -51,7 +51,7 @@ fn transact<S: Alter>(
     }
 }
 
-/// What the effect is written by. To look it up names no size of the medium.
+/// Reads what the effect's rows need. No error of this is `Size`.
 fn basis_read<S: Alter>(
     conn: &mut Connection<S>,
     known: &Known,
@@ -66,7 +66,7 @@ fn basis_read<S: Alter>(
     }
 }
 
-/// Adds the effect and the reply, or neither, by what is known of the rows.
+/// Commits the effect and the message, or neither, given what is known of the rows.
 pub(crate) fn commit_rows<S: Alter>(
     conn: &mut Connection<S>,
     known: &Known,

@@ -1,4 +1,4 @@
-//! Whether a schema is the desk's, and whether it is that of schema 1.
+//! Whether a schema is the desk's, schema 2, or schema 1.
 ghost use Rattle.std.specs.Prelude.{◌≡◌, ◌↔◌, ◌&&◌, IsTrue, not};
 ghost use Rattle.std.specs.List.{list_any};
 ghost use Rattle.sqlite_catalog.specs.Change.{is_used};
@@ -28,7 +28,7 @@ const META: TableShape<'static> = TableShape {
     key: Rowid,
 };
 
-/// The one that schema 1 lacks.
+/// The table that schema 1 lacks.
 const LIMIT: TableShape<'static> = TableShape {
     name: b"band_limit",
     tree: 22,
@@ -40,7 +40,7 @@ const LIMIT: TableShape<'static> = TableShape {
     key: Places(&[1, 2]),
 };
 
-/// In the order in which they are made, and so are the indexes: schema 1 has the first ones.
+/// The tables in the order in which they are made. Schema 1 has the first ones, and the same is true of the indexes.
 const TABLES: &[TableShape<'static>] = &[
     META,
     TableShape {
@@ -141,7 +141,7 @@ const TABLES: &[TableShape<'static>] = &[
     LIMIT,
 ];
 
-/// How many of the tables schema 1 has.
+/// The number of tables in schema 1.
 const FIRST_TABLES: usize = 10;
 
 const INDEXES: &[IndexShape<'static>] = &[
@@ -238,10 +238,10 @@ const INDEXES: &[IndexShape<'static>] = &[
     },
 ];
 
-/// How many of the indexes schema 1 has.
+/// The number of indexes in schema 1.
 const FIRST_INDEXES: usize = 12;
 
-/// Whether the first table is the one that tells the version, and there is no view.
+/// Returns whether the first table is meta, which has the version, and there is no view.
 pub(crate) fn has_meta(schema: &Schema) -> bool
     ensures { IsTrue result ↔ HasMeta schema.now }
 {
@@ -251,14 +251,14 @@ pub(crate) fn has_meta(schema: &Schema) -> bool
     is_table(first, &META) && schema.views.is_empty()
 }
 
-/// Whether there is nothing.
+/// Returns whether the schema has nothing.
 pub(crate) fn is_blank(schema: &Schema) -> bool
     ensures { IsTrue result ↔ (schema.now ≡ no_schema) }
 {
     schema.tables.is_empty() && schema.indexes.is_empty() && schema.views.is_empty()
 }
 
-/// Whether it is the desk's, and there is nothing else.
+/// Returns whether the schema is the desk's, and has nothing else.
 pub(crate) fn is_desk(schema: &Schema) -> bool
     ensures { IsTrue result ↔ (schema.now ≡ desk_schema) }
 {
@@ -267,7 +267,7 @@ pub(crate) fn is_desk(schema: &Schema) -> bool
         && schema.views.is_empty()
 }
 
-/// Whether it is schema 1, and there is nothing else.
+/// Returns whether the schema is schema 1, and has nothing else.
 pub(crate) fn is_first_schema(schema: &Schema) -> bool
     ensures { IsTrue result ↔ (schema.now ≡ first_schema) }
 {
@@ -290,14 +290,14 @@ fn is_any_index(schema: &Schema, shapes: &[IndexShape<'_>]) -> bool
         .any(|shape| !shape.is_unique && is_used(schema, shape.name))
 }
 
-/// Whether one of the names of its tables is taken, or of those indexes that are made by a statement of their own.
+/// Returns whether one of the names of the desk's tables is taken, or of those indexes that have a statement of their own.
 pub(crate) fn is_taken(schema: &Schema) -> bool
     ensures { IsTrue result ↔ IsTaken schema.now }
 {
     is_any_table(schema, TABLES) || is_any_index(schema, INDEXES)
 }
 
-/// Whether the name of the table that schema 1 lacks is taken.
+/// Returns whether the name of the table that schema 1 lacks is taken.
 pub(crate) fn is_limit_taken(schema: &Schema) -> bool
     ensures { result ≡ is_used schema.now limit_name }
 {

@@ -1,4 +1,4 @@
-//! Effects: what each reads of the rows that stand, and which rows it writes.
+//! The rows that each effect writes, and what they need of the rows that are there.
 pub(crate) mod basis;
 mod bookings;
 mod copies;

@@ -1,4 +1,4 @@
-//! How a fault of a row call is told.
+//! The store's error for each error of a row call.
 ghost use Rattle.std.specs.Prelude.{◌≡◌};
 ghost use Rattle.desk_tables.specs.steps.Faults.{store_fault};
 

@@ -1,4 +1,4 @@
-//! A message that is heard: its effect and its answer go in together, or neither does.
+//! Commits a message: its effect and its answer together, or neither.
 ghost use Rattle.std.specs.Prelude.{◌<◌};
 ghost use Rattle.registry_core.specs.Heard.{most_heard};
 ghost use Rattle.desk_tables.specs.Store.{common_law, meaning_of, one_law, own_law};
@@ -15,7 +15,7 @@ use registry_core::laws::numbered_items_are_meant;
 use registry_core::{Effect, Envelope, MOST_HEARD};
 use sqlite::Alter;
 
-/// How many there are with the effect.
+/// Returns the counts after the effect.
 fn counts_with(counts: Counts, effect: &Effect) -> Counts
     ensures { CountsWith effect.now counts result }
 {
@@ -39,7 +39,7 @@ fn counts_with(counts: Counts, effect: &Effect) -> Counts
 }
 
 impl<S: Alter> Tables<S> {
-    /// What a transaction is told as: one message more was heard, or why it wasn't.
+    /// Notes how a transaction ended: one more message was heard, or the error for which it wasn't.
     fn note(&mut self, effect: &Effect, answer: Result<(), RowFault>) -> Result<(), StoreFault>
         requires { self.old.heard < most_heard }
         ensures { IsNoted S.Store effect.now self.old self.new answer result }
@@ -60,7 +60,7 @@ impl<S: Alter> Tables<S> {
         }
     }
 
-    /// Adds the effect to the facts and an entry at the end of the heard ones, or neither.
+    /// Applies the effect to the facts and adds an entry at the end of the log, or does neither.
     fn keep(
         &mut self,
         envelope: &Envelope,
@@ -76,7 +76,7 @@ impl<S: Alter> Tables<S> {
         if self.down {
             return Err(StoreFault::Disk);
         }
-        // of a store that holds something all is committed
+        // A store that represents something has committed everything.
         if !self.conn.is_autocommit() {
             return Err(self.fail(RowFault::Refused));
         }

@@ -1,4 +1,4 @@
-//! What the store is asked: a statement or two each, and what a fault is told as.
+//! The look-ups of the store, of one or two statements each, and the errors that they return.
 ghost use Rattle.desk_tables.specs.Store.{meaning_of};
 
 mod limits;

@@ -1,4 +1,4 @@
-//! Moving the tables of schema 1 to schema 2.
+//! Moves the tables of schema 1 to schema 2.
 ghost use Rattle.std.specs.Prelude.{◌≡◌, ◌≢◌, ◌⊎◌, ℤ, pos, false, None, Err, IsTrue, IfOk, IfErr, OnOk, OnErr};
 ghost use Rattle.registry_core.specs.Settings.{Settings};
 ghost use Rattle.sqlite_catalog.specs.Change.{is_used};
@@ -29,8 +29,8 @@ use registry_core::Config;
 use sqlite::{Alter, Connection, Transaction};
 use std::alloc::Global;
 
-/// The configuration of the desk whose tables of schema 1 the database has. `Exists` where the name of the table that it lacks is
-/// taken.
+/// Returns the configuration of the desk whose tables of schema 1 the database has. Returns `Exists` if the name of the table that schema 1
+/// lacks is taken.
 fn first_desk<S: Alter>(conn: &mut Connection<S>) -> Result<Config, StoreFault>
     requires idle { conn.old.in_transaction ≡ false }
     requires unlimited { conn.old.step_limit ≡ None }
@@ -62,7 +62,7 @@ fn first_desk<S: Alter>(conn: &mut Connection<S>) -> Result<Config, StoreFault>
     Ok(config)
 }
 
-/// The table of limits, and then the version.
+/// Makes the table of limits, and then sets the version.
 fn write_second<S: Alter>(tx: &mut Transaction<'_, S>) -> Result<(), RowFault>
     ensures same_reference { tx.new.conn.ghost_name ≡ tx.old.conn.ghost_name }
     ensures makes { MakesSecond (state S.Store tx.old.conn.now) (state S.Store tx.new.conn.now) result }
@@ -71,7 +71,7 @@ fn write_second<S: Alter>(tx: &mut Transaction<'_, S>) -> Result<(), RowFault>
     raise_version(tx)
 }
 
-/// The same as a whole, or nothing.
+/// Does both in one transaction, or nothing.
 fn move_tables<S: Alter>(conn: &mut Connection<S>) -> Result<(), RowFault>
     requires { conn.old.in_transaction ≡ false }
     ensures { Moves (state S.Store conn.old) (state S.Store conn.new) result }
@@ -85,10 +85,17 @@ fn move_tables<S: Alter>(conn: &mut Connection<S>) -> Result<(), RowFault>
 }
 
 impl<S: Alter> Tables<S> {
-    /// The desk whose tables of schema 1 the database holds, moved to schema 2 with all that it holds; or the connection, beside
-    /// why there is none: `NotADesk` where the row of meta isn't a desk's, `SchemaVersion` where that row tells another version
-    /// than 1, then `Exists` where the name of the table that schema 1 lacks is taken, and `NotADesk` where the rest of the schema
-    /// isn't schema 1, or the last number of a table is out of its range. With each fault nothing is changed.
+    /// Moves a desk from schema 1 to schema 2 in one transaction, and returns its store. The desk represents the same log.
+    ///
+    /// # Errors
+    ///
+    /// Returns the error with the connection. If that is still open, the database is as it was. The checks come in this order.
+    ///
+    /// - `NotADesk` if the row of meta isn't a desk's.
+    /// - `SchemaVersion` if that row has another version than 1.
+    /// - `Exists` if the name of the table that schema 1 lacks is taken.
+    /// - `NotADesk` if the rest of the schema isn't schema 1, or the last number of a table is out of its range.
+    /// - `Memory`, `Disk` or `Size` if SQLite failed.
     pub fn migrate(
         alloc: Global,
         conn: Connection<S>,
@@ -125,7 +132,7 @@ impl<S: Alter> Tables<S> {
             Ok(config) => config,
             Err(fault) => return Err((fault, conn)),
         };
-        // Before they are moved: a look-up that fails then leaves them as they are.
+        // Counted before they are moved, so that a look-up that fails leaves them as they are.
         let counted = match counted(&mut conn) {
             Ok(counted) => counted,
             Err(fault) => return Err((store_fault(fault), conn)),

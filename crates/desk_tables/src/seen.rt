@@ -1,4 +1,4 @@
-//! What look-ups have found of the rows as they are, so that it need not be asked for again.
+//! A small cache: what look-ups have found and is still so, which need not be looked up again.
 ghost use Rattle.std.specs.Prelude.{◌≡◌, IfSome, IsTrue, option_map};
 ghost use Rattle.registry_core.specs.Derived.{data_with};
 ghost use Rattle.desk_rows.specs.Rows.{Rows};
@@ -35,7 +35,7 @@ pub(crate) struct SeenCounter {
     pub(crate) last: u32,
 }
 
-/// What was looked up last of each kind, if it was there, and is still so.
+/// What was looked up last of each kind, if it was there and is still so.
 #[derive(Clone, Copy)]
 pub(crate) struct Seen {
     pub(crate) role: Option<SeenRole>,
@@ -44,7 +44,7 @@ pub(crate) struct Seen {
     pub(crate) counter: Option<SeenCounter>,
 }
 
-/// Nothing was looked up.
+/// The empty cache.
 pub(crate) const NOTHING: Seen = Seen {
     role: None,
     session: None,
@@ -52,7 +52,7 @@ pub(crate) const NOTHING: Seen = Seen {
     counter: None,
 };
 
-/// What is kept of a look-up of the sender of this name.
+/// Returns what is cached of a look-up of the sender of this name.
 pub(crate) fn seen_role(name: &Name, found: Option<Role>) -> Option<SeenRole>
     ensures { result ≡ option_map (λ role. record { name = name.now; role = role }) found }
 {
@@ -60,7 +60,7 @@ pub(crate) fn seen_role(name: &Name, found: Option<Role>) -> Option<SeenRole>
     Some(SeenRole { name: *name, role })
 }
 
-/// What is kept of a look-up of the device's floor.
+/// Returns what is cached of a look-up of the device's floor.
 pub(crate) fn seen_floor(device: Eui, found: Option<Option<u64>>) -> Option<SeenFloor>
     ensures { result ≡ option_map (λ floor. record { device = device; floor = floor }) found }
 {
@@ -68,7 +68,7 @@ pub(crate) fn seen_floor(device: Eui, found: Option<Option<u64>>) -> Option<Seen
     Some(SeenFloor { device, floor })
 }
 
-/// What is kept of a look-up of the session's last counter.
+/// Returns what is cached of a look-up of the session's last counter.
 pub(crate) fn seen_counter(session: u64, found: Option<u32>) -> Option<SeenCounter>
     ensures { result ≡ option_map (λ last. record { session = session; last = last }) found }
 {
@@ -76,7 +76,7 @@ pub(crate) fn seen_counter(session: u64, found: Option<u32>) -> Option<SeenCount
     Some(SeenCounter { session, last })
 }
 
-/// What is kept of a look-up of the session with this number.
+/// Returns what is cached of a look-up of the session with this number.
 pub(crate) fn seen_session(number: u64, found: &Option<Session>) -> Option<SeenSession>
     ensures { result ≡ option_map (λ session. record { number = number; session = session }) found.now }
 {
@@ -90,7 +90,7 @@ pub(crate) fn seen_session(number: u64, found: &Option<Session>) -> Option<SeenS
 }
 
 impl Seen {
-    /// The role of the sender of this name, if it was seen.
+    /// Returns the role of the sender of this name, if it is cached.
     pub(crate) fn role_seen(&self, name: &Name) -> Option<Role>
         ensures { (r : Rows) → IsSeen r self.now → IfSome result (IsRoleOf r name.now) }
     {
@@ -100,7 +100,7 @@ impl Seen {
         }
     }
 
-    /// What is still so after a commit: a sender keeps its role.
+    /// Returns what is still so after a commit: a sender's role never changes.
     pub(crate) fn after_commit(&self) -> Seen
         ensures { result ≡ seen_after self.now }
     {
@@ -110,7 +110,7 @@ impl Seen {
         }
     }
 
-    /// The session with this number, if it was seen.
+    /// Returns the session with this number, if it is cached.
     pub(crate) fn session_seen(&self, number: u64) -> Option<Session>
         ensures { (r : Rows) → IsSeen r self.now → IfSome result (IsSessionAt r number) }
     {
@@ -120,7 +120,7 @@ impl Seen {
         }
     }
 
-    /// The floor of this device, if it was seen.
+    /// Returns the floor of this device, if it is cached.
     pub(crate) fn floor_seen(&self, device: Eui) -> Option<Option<u64>>
         ensures { (r : Rows) → IsSeen r self.now → IfSome result (IsFloorOf r device) }
     {
@@ -130,7 +130,7 @@ impl Seen {
         }
     }
 
-    /// Whether the session's last counter was seen, and this one is above it.
+    /// Returns whether the session's last counter is cached, and this one is above it.
     pub(crate) fn is_after(&self, session: u64, counter: u32) -> bool
         ensures { (r : Rows) → IsSeen r self.now → IsTrue result → data_with r.uplinks session counter ≡ None }
     {

@@ -1,4 +1,4 @@
-//! What follows a fault.
+//! What an error of the connection is to the store.
 ghost use Rattle.std.specs.Prelude.{◌≡◌, Some};
 ghost use Rattle.sqlite.specs.Held.{state};
 ghost use Rattle.desk_store.specs.Calls.{is_disk, is_foreign};
@@ -9,7 +9,8 @@ use desk_rows::RowFault;
 use desk_store::StoreFault;
 use sqlite::{Alter, Connection};
 
-/// A fault may have shut the connection, whatever it is told as: a statement that is prepared tells.
+/// Returns the store's error. Whatever the error was, it may have closed the connection: if a statement can't be prepared now, it is
+/// `Disk`.
 pub(crate) fn settle<S: Alter>(conn: &mut Connection<S>, fault: RowFault) -> StoreFault
     ensures { Settles (state S.Store conn.old) (state S.Store conn.new) fault result }
 {
@@ -19,7 +20,7 @@ pub(crate) fn settle<S: Alter>(conn: &mut Connection<S>, fault: RowFault) -> Sto
     }
 }
 
-/// A look-up writes nothing: a size is that of what it would show, for which there was no memory.
+/// A look-up writes nothing, so `Size` is that of a value for which there was no memory.
 pub(crate) fn reading_fault(fault: RowFault) -> RowFault
     ensures { result ≡ reading_fault fault }
 {

@@ -76,7 +76,7 @@ fn has_none(terms: &Terms) -> bool
     terms.roots.is_empty()
 }
 
-/// No CHECK, no reference, no default that is computed, no AUTOINCREMENT.
+/// Returns whether the table has no CHECK, no reference, no computed default and no AUTOINCREMENT.
 fn is_bare(table: &Table) -> bool
     ensures { IsTrue result ↔ (table.now ≡ bare table.now) }
 {

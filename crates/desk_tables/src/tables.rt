@@ -11,19 +11,19 @@ use registry_core::Config;
 use sqlite::{Alter, Connection};
 use std::alloc::Global;
 
-/// A store over the eleven tables. After a fault of the disk it is down for good.
+/// A store over the eleven tables. After a disk error it is failed for good: open the database again.
 #[derive(Drop)]
 pub struct Tables<S: Alter> {
     pub(crate) conn: Connection<S>,
     pub(crate) alloc: Global,
     pub(crate) config: Config,
-    /// A fault of the disk was told.
+    /// A call returned `Disk`.
     pub(crate) down: bool,
-    /// It was told that what is stored is no desk's.
+    /// A call returned `NotADesk`.
     pub(crate) foreign: bool,
     /// The medium named its own size in the last call that wrote.
     pub(crate) sized: bool,
-    /// How many messages were heard.
+    /// The number of messages that were heard.
     pub(crate) heard: u64,
     pub(crate) counts: Counts,
     /// What was looked up since the last commit.
@@ -31,7 +31,7 @@ pub struct Tables<S: Alter> {
 }
 
 impl<S: Alter> Tables<S> {
-    /// What a fault of the connection is told as.
+    /// Returns the store's error for an error of the connection, and notes it.
     pub(crate) fn fail(&mut self, fault: RowFault) -> StoreFault
         ensures { Fails S.Store self.old self.new fault result }
     {
@@ -41,7 +41,7 @@ impl<S: Alter> Tables<S> {
         told
     }
 
-    /// What a look-up tells of an answer of the connection.
+    /// Returns the result of a look-up for that of the connection, and notes its error.
     pub(crate) fn tell<T>(&mut self, answer: Result<T, RowFault>) -> Result<T, StoreFault>
         ensures { IsTold S.Store self.old self.new answer result }
     {

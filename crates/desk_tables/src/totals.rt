@@ -1,4 +1,4 @@
-//! How many there are of each thing that a desk holds.
+//! Counts of all things that a desk stores.
 ghost use Rattle.std.specs.Prelude.{◌≡◌, bytes_eq, is_some, length};
 ghost use Rattle.sqlite.specs.Held.{state};
 ghost use Rattle.desk_store.specs.Calls.{IsRead, Tells, TellsDown, fault_in};
@@ -14,21 +14,21 @@ use desk_rows::{RowFault, last_device, last_gateway, last_limit, last_owner, las
 use desk_store::{Counts, StoreFault};
 use sqlite::{Alter, Connection};
 
-/// How many there are of each thing.
+/// The number of things of each kind that a desk stores.
 #[derive(Clone, Copy)]
 pub struct Totals {
     pub senders: u64,
     pub owners: u64,
     pub gateways: u64,
     pub devices: u64,
-    /// Bands of gateways for which a limit was set.
+    /// The number of gateways' bands for which a limit was set.
     pub limits: u64,
     pub numbered: Counts,
-    /// Messages that were heard, each with its answer.
+    /// The number of messages that were heard, each with its answer.
     pub replies: u64,
 }
 
-/// The last number of senders, of owners and of gateways.
+/// Returns the last numbers of senders, of owners and of gateways.
 fn named_in<S: Alter>(conn: &mut Connection<S>) -> Result<(u64, u64, u64), RowFault>
     ensures { Asks (state S.Store conn.old) (state S.Store conn.new) result (λ r. Unit {0}) (λ r. Unit {0})
         (OfKept (λ kept many. HaveIt bytes_eq (λ name. is_some (kept.facts.senders name)) many.0
@@ -40,7 +40,7 @@ fn named_in<S: Alter>(conn: &mut Connection<S>) -> Result<(u64, u64, u64), RowFa
     Ok((or_none(senders), or_none(owners), or_none(gateways)))
 }
 
-/// The last number of each table that isn't counted already.
+/// Returns the counts, with the last number of each table that isn't counted already.
 fn totals_in<S: Alter>(
     conn: &mut Connection<S>,
     numbered: Counts,
@@ -64,7 +64,12 @@ fn totals_in<S: Alter>(
 }
 
 impl<S: Alter> Tables<S> {
-    /// How many there are of each thing. Nothing changes.
+    /// Returns the number of things of each kind. Nothing changes.
+    ///
+    /// # Errors
+    ///
+    /// Returns `Memory` if an allocation failed, `Disk` after a disk error or if the store is failed, and `NotADesk` if what is stored
+    /// turns out not to be a desk.
     pub fn totals(&mut self) -> Result<Totals, StoreFault>
         ensures read { IsRead (meaning_of S.Store) self.old self.new (fault_in result) }
         ensures down { TellsDown (meaning_of S.Store) self.old result }

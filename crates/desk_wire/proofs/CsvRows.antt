@@ -89,7 +89,7 @@ after_too_many : (es : List Envelope) (sender : List ℕ) (fields : List (List �
 unfolding envelopes_from
 after_too_many es sender fields rest = refl
 
--- ---- the loop: the envelopes so far, and those of the records that are left, of which `left` has the next n
+-- ---- the loop: the envelopes so far, and those of the records that are left; `left` has the next n of these
 
 abbrev pub Rows : Type 0
 Rows = List (List (List ℕ))

@@ -15,7 +15,7 @@ made {X} {P} {x} p = record { holds = λ y same. let e : x ≡ y = cc in subst P
 pub missing : {X : Type 0} {P : X → Type 0} → Keeps P None
 missing = record { holds = λ y same. cc }
 
--- nothing is said of it
+-- nothing is stated of it
 pub any : {X : Type 0} (found : Option X) → Keeps (λ x. ⊤) found
 any found = record { holds = λ x same. tt }
 
@@ -41,7 +41,7 @@ passed_once : {X : Type 0} {P : X → Type 0} (x : X) (b : Bool) → P x → Kee
 passed_once x true p = made p
 passed_once x false p = missing
 
--- a test takes nothing away from what is said
+-- a test leaves a statement true
 pub passed : {X : Type 0} {P : X → Type 0} (test : X → Bool) (found : Option X) → Keeps P found → Keeps P (found >>= only_if test)
 passed test (Some x) p = passed_once x (test x) (p.holds x refl)
 passed test None p = missing

@@ -1,4 +1,4 @@
--- The text of a message is one line: it is not empty and holds no LF.
+-- The text of a message is one line: it is not empty and has no LF.
 use Rattle.std.proofs.Common.{◌≡◌, ℕ, ◌/◌, ◌%◌, ◌+◌, ◌<◌, List, [], ◌∷◌, ◌++◌, Bool, true, false, true≢false, cond, nat_lt, ◌||◌, ◌==◌, length, refl, sym, ap, subst, arith}
 use Rattle.std.specs.List.{list_any}
 use Rattle.std.specs.Char.{digit_char}

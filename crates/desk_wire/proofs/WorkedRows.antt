@@ -88,7 +88,7 @@ asked version receiver rest =
 abbrev by_type : List ℕ → Head
 by_type type_name = record { sender = codes "office"; transaction = 1; type_name = type_name }
 
--- the first fault: no object, the version, the receiver, the type, a member of the type
+-- the first error: no object, the version, the receiver, the type, a member of the type
 first_faults : reads desk (codes "{") ∷ reads desk (asked (codes "1.1") (codes "other") (codes "\"OwnerDrop\"}")) ∷ reads desk (asked (codes "1.0") (codes "other") (codes "\"OwnerDrop\"}"))
     ∷ reads desk (asked (codes "1.0") desk (codes "\"OwnerDrop\"}")) ∷ reads desk (asked (codes "1.0") desk (codes "\"OwnerAdd\"}")) ∷ []
     ≡ Err Malformed ∷ Err (InvalidProtocolVersion (by_type (codes "OwnerDrop"))) ∷ Err (UnknownReceiver (by_type (codes "OwnerDrop")))

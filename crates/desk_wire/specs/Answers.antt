@@ -25,7 +25,7 @@ result_value answer = object
     (member (codes "ResultCode") (string (result_code answer))
     no_members))
 
--- with no members but those of every answer
+-- an answer with no members but those of every answer
 abbrev pub plain_answer_value : List ℕ → Head → Answer → Data
 plain_answer_value receiver head answer = object
     (member (codes "MessageType") (string (head.type_name ++ codes "Ans"))
@@ -80,7 +80,7 @@ answer_value receiver head (DownSuccess airtime band booking start) = object
     no_members))))))))))
 answer_value receiver head (Refused refusal) = plain_answer_value receiver head (Refused refusal)
 
--- the receiver's answer to a text of which no head was read
+-- the receiver's answer to a text with no head
 abbrev pub headless_value : List ℕ → Answer → Data
 headless_value receiver answer = object
     (member (codes "ProtocolVersion") (string (codes "1.0"))

@@ -1,4 +1,4 @@
--- What sub-bands are called (this project's names).
+-- The names of sub-bands (this project's names).
 use Rattle.std.specs.Prelude.{ℕ, List, Option, Some, None, codes, if◌then◌else◌}
 use Rattle.std.specs.Str.{bytes_eq}
 use Rattle.radio_core.specs.declared.bands.Band.{Band}
@@ -12,7 +12,7 @@ band_name B4 = codes "B4"
 band_name B5 = codes "B5"
 band_name B6 = codes "B6"
 
--- the band of this name, exactly
+-- the band with exactly this name
 abbrev pub band_named : List ℕ → Option Band
 band_named text =
     if bytes_eq text (codes "B1") then Some B1

@@ -1,4 +1,4 @@
--- The members of each type: which message they are, and how a message's are put beside others.
+-- The members of each type: which message they are, and the value of a message with them.
 use Rattle.std.specs.Prelude.{◌^◌, Option, Some, codes}
 use Rattle.serde_json.specs.Data.{Data}
 use Rattle.registry_core.specs.declared.messages.Message.{Message}
@@ -8,7 +8,7 @@ use Rattle.desk_wire.specs.Members.{name_at, whole_at, whole_or_null_at, octets_
 use Rattle.desk_wire.specs.Optional.{◌>>=◌}
 use Rattle.desk_wire.specs.Reports.{report_of}
 
--- ---- read
+-- ---- reading
 
 unfoldable pub sender_add_of : Data → Option Message
 sender_add_of value = do

@@ -1,4 +1,4 @@
--- Which envelopes a gateway's report in CSV (RFC 4180) is; its columns are this project's.
+-- The envelopes of a gateway's report in CSV (RFC 4180). Its columns are this project's.
 use Rattle.std.specs.Prelude.{◌≡◌, ℕ, ◌+◌, ◌^◌, ◌-◌, ◌==◌, Bool, false, ◌&&◌, List, [], ◌∷◌, length, Option, Some, None, Result, Ok, Err, codes, nat_lt, option_map, slice_get, ⊤, if◌then◌else◌}
 use Rattle.std.specs.Option.{option_map_or}
 use Rattle.std.specs.Str.{bytes_eq}
@@ -19,7 +19,7 @@ use Rattle.desk_wire.specs.Verdicts.{join_verdict_named}
 use Rattle.desk_wire.specs.declared.csv_faults.CsvFault.{CsvFault}
 use Rattle.desk_wire.specs.declared.csv_faults.CsvFault.TheVariants.{Size, Unended, Header, Record, Memory}
 
--- the octets of a report, and its records behind the header, at most (this project's limits)
+-- the greatest length of a report, in octets, and the greatest number of records after the header (this project's limits)
 abbrev pub longest_report : ℕ
 longest_report = 16777216
 
@@ -28,7 +28,7 @@ most_records = 100000
 
 -- ---- a field in its form
 
--- a counter, or none in an empty field
+-- a counter, or none if the field is empty
 abbrev pub counter_or_none : List ℕ → Option (Option ℕ)
 counter_or_none [] = Some None
 counter_or_none text = option_map Some (decimal_below (2 ^ 32) text)
@@ -87,12 +87,13 @@ abbrev pub with_first : Envelope → Result (List Envelope) CsvFault → Result 
 with_first e (Ok es) = Ok (e ∷ es)
 with_first e (Err fault) = Err fault
 
--- the envelope of record n and those after it; a record that isn't one is the fault
+-- the envelope of record n and those after it; if the record isn't an envelope, that is the error
 abbrev pub record_in : ℕ → Option Envelope → Result (List Envelope) CsvFault → Result (List Envelope) CsvFault
 record_in n None rest = Err (Record n)
 record_in n (Some e) rest = with_first e rest
 
--- the envelopes of the records from number n on, or the first fault; the header is record 1, so a greater number is one too many
+-- the envelopes of the records from number n on, or the first error; the header is record 1, so a number above most_records + 1 is one too
+-- many
 unfoldable pub envelopes_from : List ℕ → ℕ → List (List (List ℕ)) → Result (List Envelope) CsvFault
 envelopes_from sender n [] = Ok []
 envelopes_from sender n (fields ∷ rest) =
@@ -103,8 +104,8 @@ abbrev pub report_of_records : List ℕ → List (List (List ℕ)) → Result (L
 report_of_records sender [] = Err Header
 report_of_records sender (fields ∷ rest) = if is_header fields then envelopes_from sender 2 rest else Err Header
 
--- The records of a text as csv reads them: of fields that may be quoted, with empty lines between them, behind a byte order
--- mark. The header, as many records as there may be, and the one that is too many are all that matter.
+-- The records of a text, as the crate csv reads them: fields may be quoted, lines may be empty, and a byte order mark may come first. Only
+-- the header, as many records as there may be, and one more are read.
 abbrev pub records_of : List ℕ → List (List (List ℕ))
 records_of text = records_from default_config (most_records + 2) StartRecord (strip_bom text)
 
@@ -116,14 +117,14 @@ is_line_feed (Some octet) = octet == 10
 abbrev pub is_ended : List ℕ → Bool
 is_ended text = is_line_feed (slice_get text (length text - 1))
 
--- the envelopes that a text is, each with this sender, or its first fault
+-- the envelopes that a text is, each with this sender, or its first error
 abbrev pub reads_report : List ℕ → List ℕ → Result (List Envelope) CsvFault
 reads_report sender text =
     if nat_lt longest_report (length text) then Err Size
     else if is_ended text then report_of_records sender (records_of text)
     else Err Unended
 
--- ---- what a function gives
+-- ---- what a function returns
 
 abbrev pub IsReportUnlessMemory : CsvFault → Result (List Envelope) CsvFault → Type 0
 IsReportUnlessMemory Memory wanted = ⊤

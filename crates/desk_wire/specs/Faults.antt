@@ -1,4 +1,4 @@
--- How each fault of a text is answered. Want of memory is no answer.
+-- How each error of a text is answered. Out of memory is not answered with a text.
 use Rattle.std.specs.Prelude.{Option, Some, None}
 use Rattle.registry_core.specs.declared.answers.Refusal.{Refusal}
 use Rattle.registry_core.specs.declared.answers.Refusal.TheVariants as refusal
@@ -15,7 +15,7 @@ refusal_of_fault (UnknownType head) = Some refusal.UnknownType
 refusal_of_fault (BadBody head) = Some refusal.BadBody
 refusal_of_fault Memory = None
 
--- the head of the request, where one was read
+-- the head of the request, if one was read
 abbrev pub head_of_fault : WireFault → Option Head
 head_of_fault Malformed = None
 head_of_fault (InvalidProtocolVersion head) = Some head

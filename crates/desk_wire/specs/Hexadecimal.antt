@@ -7,7 +7,7 @@ use Rattle.std.specs.Str.{bytes_eq}
 use Rattle.hex.specs.Hex.{decode_of, encode_lower}
 use Rattle.desk_wire.specs.Optional.{◌>>=◌, only_if}
 
--- the digits: what stands behind a `0x`, where the text begins with one
+-- the digits: what follows `0x` if the text begins with it, and else the whole text
 abbrev pub unprefixed : List ℕ → List ℕ
 unprefixed text = if bytes_eq (take 2 text) (codes "0x") then drop 2 text else text
 

@@ -1,4 +1,4 @@
--- What holds of reading and writing together.
+-- Laws of reading and writing together.
 use Rattle.std.specs.Prelude.{◌≡◌, ◌≢◌, ◌≤◌, ◌==◌, ℕ, List, [], false, length, Ok, Err}
 use Rattle.std.specs.List.{list_any}
 use Rattle.registry_core.specs.declared.messages.Envelope.{Envelope}
@@ -7,16 +7,16 @@ use Rattle.desk_wire.specs.declared.faults.WireFault.TheVariants.{Memory}
 use Rattle.desk_wire.specs.Reading.{reads}
 use Rattle.desk_wire.specs.Writing.{message_text}
 
--- what is written is read as the same envelope
+-- the text of an envelope is read as the same envelope
 abbrev pub MessageReadsBack : Type 0
 MessageReadsBack = (receiver : List ℕ) (e : Envelope) → IsName receiver → IsEnvelope e
     → reads receiver (message_text receiver e) ≡ Ok e
 
--- what is read is in the ranges that the types keep
+-- an envelope that is read has its values in the ranges of their types
 abbrev pub ReadsInRange : Type 0
 ReadsInRange = (receiver text : List ℕ) (e : Envelope) → reads receiver text ≡ Ok e → IsEnvelope e
 
--- no text reads as want of memory: that is told only by what reads it
+-- no text is read as `Memory`: only the code that reads a text returns that
 abbrev pub ReadsNoMemory : Type 0
 ReadsNoMemory = (receiver text : List ℕ) → reads receiver text ≢ Err Memory
 

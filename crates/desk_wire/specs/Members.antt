@@ -31,24 +31,24 @@ name_at member value = text_at member value >>= only_if is_name
 abbrev pub type_name_at : List ℕ → Data → Option (List ℕ)
 type_name_at member value = text_at member value >>= only_if is_type_name
 
--- a number that serde_json gives as an unsigned whole number: `1.0`, `1e0` and `-0` aren't
+-- a number that serde_json reads as an unsigned integer: `1.0`, `1e0` and `-0` aren't
 abbrev pub unsigned_at : List ℕ → Data → Option ℕ
 unsigned_at member value = get member value >>= as_number >>= as_u64
 
--- a whole number below the limit
+-- an integer below the limit
 abbrev pub whole_at : List ℕ → ℕ → Data → Option ℕ
 whole_at member limit value = unsigned_at member value >>= only_if (λ n. nat_lt n limit)
 
--- whether it is null, as one that isn't there is
+-- the member is null, or isn't there
 abbrev pub is_null_at : List ℕ → Data → Bool
 is_null_at member value = is_some (as_null (unwrap_or (get member value) null))
 
--- a whole number below the limit, or null
+-- an integer below the limit, or null
 abbrev pub whole_or_null_at : List ℕ → ℕ → Data → Option (Option ℕ)
 whole_or_null_at member limit value =
     if is_null_at member value then Some None else option_map Some (whole_at member limit value)
 
--- a whole number, 0 to 7
+-- an integer, 0 to 7
 abbrev pub data_rate_at : List ℕ → Data → Option DataRate
 data_rate_at member value = unsigned_at member value >>= data_rate_numbered
 
@@ -68,7 +68,7 @@ role_at member value = text_at member value >>= role_named
 abbrev pub join_verdict_at : List ℕ → Data → Option JoinVerdict
 join_verdict_at member value = text_at member value >>= join_verdict_named
 
--- the whole number 1 or 2
+-- the integer 1 or 2
 abbrev pub window_at : List ℕ → Data → Option Window
 window_at member value = unsigned_at member value >>= window_numbered
 
@@ -76,7 +76,7 @@ window_at member value = unsigned_at member value >>= window_numbered
 abbrev pub band_named_at : List ℕ → Data → Option Band
 band_named_at member value = text_at member value >>= band_named
 
--- a whole number up to the band's own limit
+-- an integer up to the band's own limit
 abbrev pub limit_within : Band → ℕ → Option Limit
 limit_within band most = if nat_le most (limit_of band) then Some (record { band = band; most = most }) else None
 
@@ -87,9 +87,9 @@ limit_at member band value = unsigned_at member value >>= limit_within band
 abbrev pub boolean_at : List ℕ → Data → Option Bool
 boolean_at member value = get member value >>= as_bool
 
--- ---- members put beside others
+-- ---- members for a value that is written
 
--- the value of a whole number, or null
+-- the value of an integer, or null
 abbrev pub whole_or_null : Option ℕ → Data
 whole_or_null (Some n) = number (unsigned n)
 whole_or_null None = null

@@ -1,4 +1,4 @@
--- What may be missing: the next step where something was found, and what passes a test.
+-- Values that may be missing: the next step if there is one, and the value if it passes a test.
 use Rattle.std.specs.Prelude.{Bool, Option, Some, None, option_and_then, if◌then◌else◌}
 
 infixl 10 ◌>>=◌

@@ -1,4 +1,4 @@
--- Which envelope a text is.
+-- The envelope that a text is.
 use Rattle.std.specs.Prelude.{◌≡◌, ℕ, ◌^◌, List, Option, Some, None, Result, Ok, Err, codes, if◌then◌else◌, ⊤}
 use Rattle.std.specs.Str.{bytes_eq, is_utf8}
 use Rattle.std.specs.Option.{ok_or}
@@ -30,7 +30,7 @@ common_members_of value = do
     head = record { sender = sender; transaction = transaction; type_name = type_name };
   })
 
--- ---- the first fault, or the envelope
+-- ---- the first error, or the envelope
 
 -- the message, by its type's name
 unfoldable pub message_of : Head → Data → Result Message WireFault
@@ -51,7 +51,7 @@ abbrev pub with_message : Head → Result Message WireFault → Result Envelope 
 with_message head (Ok message) = Ok (record { sender = head.sender; transaction = head.transaction; message = message })
 with_message head (Err fault) = Err fault
 
--- the version, then the receiver, then the type and its members
+-- the version is checked first, then the receiver, then the type and its members
 unfoldable pub envelope_addressed : List ℕ → CommonMembers → Data → Result Envelope WireFault
 envelope_addressed receiver common value =
     if common.is_current then
@@ -72,17 +72,17 @@ reads_value receiver (Some value) = envelope_of receiver (common_members_of valu
 abbrev pub value_of : List ℕ → Option Data
 value_of text = if is_utf8 text then read text else None
 
--- the envelope that a text is for this receiver, or its first fault
+-- the envelope that a text is for this receiver, or its first error
 abbrev pub reads : List ℕ → List ℕ → Result Envelope WireFault
 reads receiver text = reads_value receiver (value_of text)
 
--- ---- what a function gives
+-- ---- what a function returns
 
 abbrev pub IsUnlessMemory : WireFault → Result Envelope WireFault → Type 0
 IsUnlessMemory Memory wanted = ⊤
 IsUnlessMemory fault wanted = wanted ≡ Err fault
 
--- the function gives what is wanted, unless memory ran out
+-- the function returns `wanted`, unless memory ran out
 abbrev pub Gives : Result Envelope WireFault → Result Envelope WireFault → Type 0
 Gives (Ok envelope) wanted = wanted ≡ Ok envelope
 Gives (Err fault) wanted = IsUnlessMemory fault wanted

@@ -1,4 +1,4 @@
--- What a gateway reports of a frame: which report the members are, and how a report's are put beside others.
+-- What a gateway reports of a frame: which report the members are, and the members of a report.
 use Rattle.std.specs.Prelude.{◌^◌, Option, Some, codes}
 use Rattle.serde_json.specs.Data.{Data}
 use Rattle.radio_core.specs.declared.data_rates.Rate.{Rate}
@@ -7,7 +7,7 @@ use Rattle.registry_core.specs.Wholes.{whole_limit}
 use Rattle.desk_wire.specs.Members.{name_at, whole_at, data_rate_at, octets_at}
 use Rattle.desk_wire.specs.Optional.{◌>>=◌}
 
--- ---- read
+-- ---- reading
 
 -- the frequency in hertz, and the data rate
 unfoldable pub rate_of : Data → Option Rate

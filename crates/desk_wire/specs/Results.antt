@@ -1,12 +1,12 @@
--- How a result is told: a ResultCode and a Description, members of LoRaWAN Backend Interfaces 1.0. How the codes are
--- spelt, which one stands for which refusal, and the descriptions are this project's.
+-- The result of an answer: a ResultCode and a Description, members of LoRaWAN Backend Interfaces 1.0. The spelling of the codes, the code
+-- of each refusal and the descriptions are this project's.
 use Rattle.std.specs.Prelude.{ℕ, List, codes}
 use Rattle.registry_core.specs.declared.answers.Refusal.{Refusal}
 use Rattle.registry_core.specs.declared.answers.Refusal.TheVariants.{Malformed, InvalidProtocolVersion, UnknownReceiver, UnknownSender, TransactionReused, WrongRole, BadBody, UnknownType, Exists, UnknownOwner, UnknownGateway, UnknownDevEui, UnknownDevAddr, BadFrame, OutOfBand, MicFailed, JoinEui, Nonce, Addresses, Replayed, Late, Gap, SessionEnded, NoUplink, DownCounter, Collision, Duty, Answered, NoBooking, Done, Time, Unavailable, NotADesk, SchemaVersion}
 use Rattle.registry_core.specs.declared.answers.Answer.{Answer}
 use Rattle.registry_core.specs.declared.answers.Answer.TheVariants.{Success, JoinSuccess, FrameSuccess, DownSuccess, Refused}
 
--- ---- the table of refusals. The last three are no answers: their lines make the table total
+-- ---- the table of refusals. The last three aren't answered with a text: their lines make the table total
 
 abbrev pub refusal_code : Refusal → List ℕ
 refusal_code Malformed = codes "Other"

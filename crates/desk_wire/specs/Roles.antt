@@ -1,4 +1,4 @@
--- What roles are called (this project's names).
+-- The names of roles (this project's names).
 use Rattle.std.specs.Prelude.{ℕ, List, Option, Some, None, codes, if◌then◌else◌}
 use Rattle.std.specs.Str.{bytes_eq}
 use Rattle.registry_core.specs.declared.messages.Role.{Role}
@@ -8,7 +8,7 @@ abbrev pub role_name : Role → List ℕ
 role_name Operator = codes "operator"
 role_name Radio = codes "radio"
 
--- the role of this name, exactly
+-- the role with exactly this name
 abbrev pub role_named : List ℕ → Option Role
 role_named text =
     if bytes_eq text (codes "operator") then Some Operator

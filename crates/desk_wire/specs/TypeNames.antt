@@ -1,4 +1,4 @@
--- What a MessageType may be (this project's form), and which type each message has.
+-- The form of a MessageType (this project's form), and the type of each message.
 use Rattle.std.specs.Prelude.{ℕ, Bool, ◌&&◌, List, length, nat_le, codes}
 use Rattle.std.specs.Char.{is_ascii_alphabetic}
 use Rattle.std.specs.List.{list_all}

@@ -111,6 +111,6 @@ message_value receiver sender transaction (LimitSet gateway limit) = object
     (member (codes "TransactionID") (number (unsigned transaction))
     no_members))))))))
 
--- the one text of an envelope for a receiver
+-- the text of an envelope for a receiver
 unfoldable pub message_text : List ℕ → Envelope → List ℕ
 message_text receiver e = compact_text (message_value receiver e.sender e.transaction e.message)

@@ -1,4 +1,4 @@
-//! Answers and refusals written as texts: compact JSON, their members in byte order of their names.
+//! Writes answers and refusals as texts: compact JSON, with the members in byte order of their names.
 ghost use Rattle.std.specs.Prelude.{◌≡◌, IfOk, OnOk, option_map};
 ghost use Rattle.json.specs.Tree.{json_tokens};
 ghost use Rattle.serde_json.specs.Written.{outline};
@@ -14,11 +14,15 @@ use radio_core::{Band, DevAddr, Eui, Name};
 use registry_core::{Answer, Envelope, Refusal};
 use std::alloc::{AllocError, Global};
 
-/// The text of the receiver's answer to an envelope: the members of the envelope, with the sender as ReceiverID and
-/// `Ans` behind the MessageType, and Result with ResultCode and Description (LoRaWAN Backend Interfaces 1.0). A join's
-/// success adds Airtime in microseconds, Band, Copy, DevAddr and Uplink, a data frame's Airtime, Band, Copy, Counter,
-/// DevEUI and Uplink, and a downlink's Airtime, Band, Booking and Start in microseconds since 1970 UTC (this project's
-/// members).
+/// Writes the text of the receiver's answer to an envelope: the members of the envelope, with its sender as ReceiverID and `Ans` after the
+/// MessageType, and Result with ResultCode and Description (LoRaWAN Backend Interfaces 1.0).
+///
+/// A successful join adds Airtime in microseconds, Band, Copy, DevAddr and Uplink. A data frame adds Airtime, Band, Copy, Counter, DevEUI
+/// and Uplink. A downlink adds Airtime, Band, Booking and Start in microseconds since 1970 UTC. These members are this project's.
+///
+/// # Errors
+///
+/// Returns `AllocError` if an allocation failed.
 #[tactic(auto, using(crate::proofs::Printed::printed), unfolding(crate::specs::Answers::answer_text))]
 pub fn write_answer(
     alloc: Global,
@@ -33,9 +37,13 @@ pub fn write_answer(
     Ok(out.into_text())
 }
 
-/// The text of the receiver's refusal of a request. With a head it has all members of the envelope, and without one
-/// only ProtocolVersion, Result and SenderID. Refusals 32 to 34 are no answers: for them it would have the ResultCode
-/// `Other` and an empty Description.
+/// Writes the text of the receiver's refusal of a request. With a head it has all members of the envelope, and without one only
+/// ProtocolVersion, Result and SenderID. Refusals 32 to 34 have no text in the protocol: for them it writes the ResultCode `Other` and an
+/// empty Description.
+///
+/// # Errors
+///
+/// Returns `AllocError` if an allocation failed.
 #[tactic(auto, using(crate::proofs::Printed::printed), unfolding(crate::specs::Answers::refusal_text))]
 pub fn write_refusal(
     alloc: Global,
@@ -221,7 +229,7 @@ fn headless_object(
     Ok(out)
 }
 
-/// Airtime and Band, the first members of the answer to a frame on the air.
+/// Writes Airtime and Band, the first members of the answer to a frame on the air.
 fn write_airtime(out: &mut ObjectText, airtime: u32, band: Band) -> Result<(), AllocError>
     ensures { OnOk result (out.new ≡ then_airtime out.old airtime band) }
 {
@@ -229,7 +237,7 @@ fn write_airtime(out: &mut ObjectText, airtime: u32, band: Band) -> Result<(), A
     out.text("Band", band_name(band))
 }
 
-/// MessageType, ProtocolVersion, ReceiverID, Result and SenderID, which follow one another in every answer with a head.
+/// Writes MessageType, ProtocolVersion, ReceiverID, Result and SenderID, which follow one another in every answer with a head.
 fn write_head_and_result(
     alloc: Global,
     out: &mut ObjectText,

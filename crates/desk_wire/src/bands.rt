@@ -1,10 +1,10 @@
-//! What sub-bands are called.
+//! The names of sub-bands.
 ghost use Rattle.std.specs.Prelude.{◌≡◌};
 ghost use Rattle.desk_wire.specs.Bands.{band_name, band_named};
 
 use radio_core::Band;
 
-/// The band of this name, exactly.
+/// Returns the band with exactly this name.
 pub(crate) fn band_named(text: &str) -> Option<Band>
     ensures { result ≡ band_named text.now }
 {

@@ -1,17 +1,18 @@
-//! Why a text is no gateway report.
+//! The errors of a gateway report.
 
-/// Why a text is no gateway report, looked for in this order, or that memory ran out.
+/// Why a text is not a gateway report, or that memory ran out. The length is checked first, then the end, the header, and the records one
+/// after another.
 #[derive(Clone, Copy, PartialEq, Eq)]
 pub enum CsvFault {
-    /// More than 16,777,216 octets, or more than 100,000 records behind the header.
+    /// More than 16,777,216 octets, or more than 100,000 records after the header if the first 100,000 are in their form.
     Size,
-    /// The last octet isn't LF, or there is none.
+    /// The text is empty, or its last octet isn't LF.
     Unended,
     /// The first record isn't the header.
     Header,
-    /// The record with this number, where the header has number 1, has another number of fields than eight, or one that
-    /// isn't in its form. It is the first such.
+    /// The record with this number is the first that isn't in its form: it hasn't eight fields, or one of them isn't in its form. The
+    /// header has number 1.
     Record(u32),
-    /// A growth was refused. Nothing is told of the text.
+    /// Out of memory: an allocation failed. The text may be a gateway report or not.
     Memory,
 }

@@ -1,4 +1,4 @@
-//! A gateway's report in CSV, read as envelopes.
+//! Reads a gateway's report in CSV as envelopes.
 ghost use Rattle.std.specs.Prelude.{◌≡◌, ◌∷◌, ◌++◌, ◌+◌, ℕ, [], suc, IfOk, IfErr, OnOk, true, if◌then◌else◌};
 ghost use Rattle.csv.specs.Records.{fields_of};
 ghost use Rattle.desk_wire.specs.CsvReports.{counter_or_none, envelope_in, envelopes_from, has_field, heard_in, is_header, most_records, reads_report, report_in, report_of_records, IsReportUnlessMemory};
@@ -13,10 +13,10 @@ use radio_core::{DataRate, Name, Octets, Rate};
 use registry_core::{Envelope, Message, Report, Whole};
 use std::alloc::Global;
 
-/// The octets of a report, at most (this project's limit).
+/// The greatest length of a report, in octets (this project's limit).
 pub const LONGEST_REPORT: usize = 16_777_216;
 
-/// The records behind the header, at most (this project's limit).
+/// The greatest number of records after the header (this project's limit).
 const MOST_RECORDS: u32 = 100_000;
 
 fn counter_or_none_of(text: &[u8]) -> Option<Option<u32>>
@@ -109,7 +109,7 @@ fn envelope_of(sender: &Name, row: &ByteRecord) -> Option<Envelope>
     })
 }
 
-/// The field at this place, from 0, is this text.
+/// Returns whether the field at this place, from 0, is this text.
 fn has_field(row: &ByteRecord, place: usize, text: &[u8]) -> bool
     ensures { result ≡ has_field place text.now (fields_of row.now) }
 {
@@ -134,7 +134,7 @@ fn is_header(row: &ByteRecord) -> bool
         && has_field(row, 7, b"verdict")
 }
 
-/// Whether there is one more record, which is then in the row.
+/// Reads one more record into the row. Returns false if there is none.
 fn next_row(rows: &mut Reader<&[u8]>, row: &mut ByteRecord) -> Result<bool, CsvFault>
     ensures reading { IsReading rows.old → IfOk result (λ found. found ≡ true → IsReading rows.new) }
     ensures left { (n : ℕ) → IsReading rows.old → IfOk result (λ found.
@@ -168,7 +168,7 @@ fn put_envelope(
     }
 }
 
-/// The envelopes of the records behind the header.
+/// Returns the envelopes of the records after the header.
 fn envelopes_of(
     alloc: Global,
     rows: &mut Reader<&[u8]>,
@@ -202,7 +202,7 @@ fn envelopes_of(
     }
 }
 
-/// The envelopes of the records behind the header, which is the first record.
+/// Returns the envelopes of the records after the first, which is the header.
 fn report_of_rows(
     alloc: Global,
     rows: &mut Reader<&[u8]>,
@@ -223,23 +223,26 @@ fn report_of_rows(
     envelopes_of(alloc, rows, &mut row, sender)
 }
 
-/// The envelopes that a gateway's report is, each with this sender and the transaction number of its record; or the first
-/// fault, by the order of `CsvFault`. A fault gives nothing.
+/// Reads a gateway's report as envelopes, each with this sender and the transaction number of its record.
 ///
-/// The text is CSV (RFC 4180), each record with these eight fields, quoted or not, the first record with their names:
+/// The text is CSV (RFC 4180). Each record has these eight fields, quoted or not, and the first record has their names:
 ///
 /// | Field | Form |
 /// |---|---|
-/// | transaction | a whole number of 32 bits |
+/// | transaction | an integer below 2^32 |
 /// | type | `JoinHeard` or `FrameHeard` |
 /// | gateway | a name |
-/// | time_us | a whole number of 53 bits, in microseconds since 1970 UTC |
-/// | freq_hz | a whole number of 32 bits, in hertz |
+/// | time_us | an integer below 2^53, in microseconds since 1970 UTC |
+/// | freq_hz | an integer below 2^32, in hertz |
 /// | dr | a data rate, 0 to 7 |
 /// | phy | 0 to 510 hexadecimal digits, an even number of them, in either case, with or without `0x` before them |
-/// | verdict | of a join `Good` or `Bad`; of a data frame a whole number of 32 bits, or nothing |
+/// | verdict | of a join `Good` or `Bad`; of a data frame an integer below 2^32, or nothing |
 ///
-/// A number is one to sixteen decimal digits. Empty lines are no records and aren't counted.
+/// An integer is one to sixteen decimal digits. Empty lines are not records and aren't counted.
+///
+/// # Errors
+///
+/// Returns the first error of the text, by the order that `CsvFault` describes, or `Memory` if an allocation failed.
 pub fn read_report(alloc: Global, text: &[u8], sender: &Name) -> Result<Vec<Envelope>, CsvFault>
     ensures ok { IfOk result (λ envelopes. reads_report sender.now text.now ≡ Ok envelopes.items) }
     ensures err { IfErr result (λ fault. IsReportUnlessMemory fault (reads_report sender.now text.now)) }

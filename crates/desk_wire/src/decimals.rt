@@ -1,4 +1,4 @@
-//! Numbers, read from decimal digits.
+//! Reads numbers from decimal digits.
 ghost use Rattle.std.specs.Prelude.{◌≡◌, ◌^◌};
 ghost use Rattle.std.specs.Char.{is_ascii_digit};
 ghost use Rattle.std.specs.List.{list_all};
@@ -12,14 +12,14 @@ fn are_digits(text: &[u8]) -> bool
     text.iter().all(|octet| octet.is_ascii_digit())
 }
 
-/// One to sixteen decimal digits and nothing else.
+/// Returns whether the text is one to sixteen decimal digits and nothing else.
 fn is_decimal(text: &[u8]) -> bool
     ensures { result ≡ is_decimal text.now }
 {
     1 <= text.len() && text.len() <= 16 && are_digits(text)
 }
 
-/// An integer: one to sixteen decimal digits and nothing else.
+/// Returns the integer that a text writes: one to sixteen decimal digits and nothing else. `None` for any other text.
 #[tactic(auto, unfolding(crate::specs::Decimals::decimal_in))]
 pub fn decimal_of(text: &[u8]) -> Option<u64>
     ensures { result ≡ decimal_in text.now }
@@ -36,7 +36,7 @@ pub(crate) fn u32_of(text: &[u8]) -> Option<u32>
     u32::try_from(decimal_of(text)?).ok()
 }
 
-/// A count: one to ten decimal digits and nothing else, below 2 ^ 32.
+/// Returns the count that a text writes: one to ten decimal digits and nothing else, below 2^32. `None` for any other text.
 pub fn count_of(text: &str) -> Option<u32>
     ensures { result ≡ count_in text.now }
 {

@@ -1,4 +1,4 @@
-//! JSON texts read as a `json::Value`, a tree that borrows from the text. Contracts name the value that `serde_json` reads.
+//! Reads JSON texts as a `json::Value`, a tree that borrows from the text. Contracts name the value that `serde_json` reads.
 ghost use Rattle.std.specs.Prelude.{◌≡◌, true, false, IfOk, option_map, option_and_then};
 ghost use Rattle.std.specs.Option.{is_some};
 ghost use Rattle.json.specs.Value.{value_view, items_view, members_view};
@@ -55,7 +55,7 @@ fn value_of_text<'a>(
     Ok(Some(value))
 }
 
-/// Whether `serde_json` reads every number of the value: none is too large for a float, in ignored members either.
+/// Returns whether `serde_json` reads every number of the value: none is too large for a float, in ignored members either.
 #[cycle(in_range)]
 fn is_in_range(value: &Value<'_>) -> bool
     ensures { result ≡ in_range (value_view value.now) }
@@ -92,7 +92,7 @@ fn members_are_in_range(members: &Vec<(&str, Value<'_>)>) -> bool
     true
 }
 
-/// Looks up a member by its name; the last one if the object has several. `None` if the value is not an object.
+/// Returns the member with this name; the last one if the object has several. `None` if the value is not an object.
 #[tactic(auto, using(crate::proofs::TreeData::member_found))]
 pub(crate) fn member_at<'v, 'a>(value: &'v Value<'a>, member: &str) -> Option<&'v Value<'a>>
     ensures { option_map (λ v. view v.now) result ≡ get member.now (view value.now) }
@@ -121,7 +121,7 @@ pub(crate) fn is_null(value: &Value<'_>) -> bool
     value.is_null()
 }
 
-/// The number if it is an integer from 0 to 2^64 - 1, written with neither point nor exponent.
+/// Returns the number if it is an integer from 0 to 2^64 - 1, written with neither point nor exponent.
 #[tactic(auto, using(crate::proofs::TreeData::number_found))]
 pub(crate) fn unsigned_of(value: &Value<'_>) -> Option<u64>
     ensures { result ≡ option_and_then as_u64 (as_number (view value.now)) }

@@ -1,22 +1,22 @@
-//! Why a text is no envelope.
+//! The errors of a message's text.
 use crate::heads::Head;
 use registry_core::Refusal;
 
-/// Why a text is no envelope for the receiver, looked for in this order, or that memory ran out. Each but `Malformed`
-/// and `Memory` has the head of the request.
+/// Why a text is no envelope for the receiver, checked in this order, or that memory ran out. Each but `Malformed` and `Memory` has the
+/// head of the request.
 #[derive(Clone, Copy)]
 pub enum WireFault {
-    /// No JSON, or a member that every message has is missing or not in its form: refusal 1.
+    /// Not JSON, or a member that every message has is missing or not in its form: refusal 1.
     Malformed,
     /// ProtocolVersion isn't `1.0`: refusal 2.
     InvalidProtocolVersion(Head),
     /// ReceiverID isn't the receiver's: refusal 3.
     UnknownReceiver(Head),
-    /// MessageType is none that the desk knows: refusal 8.
+    /// MessageType is unknown: refusal 8.
     UnknownType(Head),
     /// A member of the type is missing or not in its form: refusal 7.
     BadBody(Head),
-    /// A growth was refused. Nothing is told of the text.
+    /// Out of memory: an allocation failed. The text may be an envelope or not.
     Memory,
 }
 
@@ -24,7 +24,7 @@ impl WireFault {
     ghost use Rattle.std.specs.Prelude.{◌≡◌, option_map};
     ghost use Rattle.desk_wire.specs.Faults.{refusal_of_fault, head_of_fault};
 
-    /// The refusal that the text is answered. `None` for `Memory` alone, which has no answer text.
+    /// Returns the refusal with which the text is answered. `None` for `Memory` only.
     pub fn refusal(&self) -> Option<Refusal>
         ensures { result ≡ refusal_of_fault self.now }
     {
@@ -38,7 +38,7 @@ impl WireFault {
         }
     }
 
-    /// The head of the request. `None` for `Malformed` and `Memory`.
+    /// Returns the head of the request. `None` for `Malformed` and `Memory`.
     pub fn head(&self) -> Option<&Head>
         ensures { option_map (λ head. head.now) result ≡ head_of_fault self.now }
     {

@@ -6,7 +6,7 @@ use crate::type_names::{TypeName, type_name_of};
 use radio_core::Name;
 use registry_core::Envelope;
 
-/// Of a request the sender, its transaction number, and the MessageType, which need not be one that the desk knows.
+/// The sender of a request, its transaction number, and its MessageType, which may be unknown.
 #[derive(Clone, Copy)]
 pub struct Head {
     pub sender: Name,
@@ -14,7 +14,7 @@ pub struct Head {
     pub type_name: TypeName,
 }
 
-/// The head of an envelope that was read.
+/// Returns the head of an envelope.
 pub fn head_of(envelope: &Envelope) -> Head
     ensures { result ≡ head_of_envelope envelope.now }
 {

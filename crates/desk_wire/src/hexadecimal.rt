@@ -1,4 +1,4 @@
-//! Hexadecimal text: octets, EUIs and device addresses read from digits, and written in them.
+//! Hexadecimal text: reads octets, EUIs and device addresses from digits, and writes them as digits.
 ghost use Rattle.std.specs.Prelude.{◌≡◌, ◌/◌, IfOk, length};
 ghost use Rattle.std.specs.String.{string_bytes};
 ghost use Rattle.desk_wire.specs.Hexadecimal.{unprefixed, decoded, octets_in, eui_in, addr_in, octet_digits, eui_digits, addr_digits};
@@ -6,14 +6,14 @@ ghost use Rattle.desk_wire.specs.Hexadecimal.{unprefixed, decoded, octets_in, eu
 use radio_core::{DevAddr, Eui, Octets};
 use std::alloc::{AllocError, Global};
 
-/// The digits: what stands behind a `0x`, where the text begins with one.
+/// Returns the digits: what follows `0x` if the text begins with it, and else the whole text.
 fn unprefixed(text: &[u8]) -> &[u8]
     ensures { result.now ≡ unprefixed text.now }
 {
     text.strip_prefix(b"0x".as_slice()).unwrap_or(text)
 }
 
-/// The octets that digits are. The room is for half as many octets as there are digits, and is written to.
+/// Returns the octets that digits are. It writes to `room`, which is half as long as the digits.
 #[tactic(auto, unfolding(crate::specs::Hexadecimal::decoded))]
 fn decoded(digits: &[u8], room: &mut [u8]) -> Option<Octets>
     requires { length room.old ≡ length digits.now / 2 }
@@ -23,8 +23,8 @@ fn decoded(digits: &[u8], room: &mut [u8]) -> Option<Octets>
     Octets::new(room)
 }
 
-/// The octets that digits are: two digits for each, in either case. `None` exactly where it isn't digits, their number is odd, or
-/// there are more than 255 octets. It takes no memory.
+/// Returns the octets that digits are: two digits for each, in either case. `None` if and only if the text isn't digits, their number is
+/// odd, or there are more than 255 octets. It allocates nothing.
 #[tactic(auto, using(crate::proofs::HexTexts::too_long))]
 fn octets_of_digits(digits: &[u8]) -> Option<Octets>
     ensures { result ≡ decoded digits.now }
@@ -37,14 +37,14 @@ fn octets_of_digits(digits: &[u8]) -> Option<Octets>
     decoded(digits, &mut room[..size])
 }
 
-/// The octets that a text is, with or without `0x` before its digits.
+/// Returns the octets that a text is, with or without `0x` before its digits.
 pub(crate) fn octets_of(text: &[u8]) -> Option<Octets>
     ensures { result ≡ octets_in text.now }
 {
     octets_of_digits(unprefixed(text))
 }
 
-/// The EUI that a text is: exactly 8 octets, the most significant first.
+/// Returns the EUI that a text is: exactly 8 octets, the most significant first.
 #[tactic(auto, unfolding(crate::specs::Hexadecimal::eui_in))]
 pub(crate) fn eui_of(text: &str) -> Option<Eui>
     ensures { result ≡ eui_in text.now }
@@ -54,7 +54,8 @@ pub(crate) fn eui_of(text: &str) -> Option<Eui>
     Some(Eui::new(u64::from_be_bytes(number)))
 }
 
-/// The device address that a text is: 8 digits in either case and nothing else, the most significant first.
+/// Returns the device address that a text is: 8 digits in either case and nothing else, the most significant first. `None` for any other
+/// text.
 #[tactic(auto, unfolding(crate::specs::Hexadecimal::addr_in))]
 pub fn addr_of(text: &str) -> Option<DevAddr>
     ensures { result ≡ addr_in text.now }
@@ -64,7 +65,7 @@ pub fn addr_of(text: &str) -> Option<DevAddr>
     Some(DevAddr::new(u32::from_be_bytes(number)))
 }
 
-/// The text of octets: two digits for each, in lower case.
+/// Returns the text of octets: two digits for each, in lower case.
 #[tactic(auto, unfolding(crate::specs::Hexadecimal::octet_digits))]
 pub(crate) fn octet_digits(alloc: Global, octets: &[u8]) -> Result<String, AllocError>
     ensures { IfOk result (λ text. string_bytes text ≡ octet_digits octets.now) }
@@ -72,7 +73,11 @@ pub(crate) fn octet_digits(alloc: Global, octets: &[u8]) -> Result<String, Alloc
     hex::encode(alloc, octets)
 }
 
-/// The text of an EUI: 16 digits in lower case, the most significant first.
+/// Returns the text of an EUI: 16 digits in lower case, the most significant first.
+///
+/// # Errors
+///
+/// Returns `AllocError` if an allocation failed.
 #[tactic(auto, unfolding(crate::specs::Hexadecimal::eui_digits))]
 pub fn eui_digits(alloc: Global, eui: Eui) -> Result<String, AllocError>
     ensures { IfOk result (λ text. string_bytes text ≡ eui_digits eui) }
@@ -80,7 +85,11 @@ pub fn eui_digits(alloc: Global, eui: Eui) -> Result<String, AllocError>
     octet_digits(alloc, &eui.get().to_be_bytes())
 }
 
-/// The text of a device address: 8 digits in lower case, the most significant first.
+/// Returns the text of a device address: 8 digits in lower case, the most significant first.
+///
+/// # Errors
+///
+/// Returns `AllocError` if an allocation failed.
 #[tactic(auto, unfolding(crate::specs::Hexadecimal::addr_digits))]
 pub fn addr_digits(alloc: Global, addr: DevAddr) -> Result<String, AllocError>
     ensures { IfOk result (λ text. string_bytes text ≡ addr_digits addr) }

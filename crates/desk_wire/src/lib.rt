@@ -1,4 +1,4 @@
-//! Messages, answers and refusals as JSON texts, gateways' reports in CSV, and numbers in digits.
+//! Reads and writes messages, answers and refusals as JSON texts, gateway reports as CSV, and numbers as digits.
 #![tactic(auto)]
 
 mod answers;

@@ -1,4 +1,4 @@
-//! The members of a JSON object, each read in its form.
+//! Reads the members of a JSON object, each in its form.
 ghost use Rattle.std.specs.Prelude.{◌≡◌, ◌^◌, option_map};
 ghost use Rattle.desk_wire.specs.steps.TreeData.{view};
 ghost use Rattle.registry_core.specs.Wholes.{whole_limit};
@@ -39,7 +39,7 @@ pub(crate) fn u32_at(value: &Value<'_>, member: &str) -> Option<u32>
     u32::try_from(unsigned_of(member_at(value, member)?)?).ok()
 }
 
-/// Whether the member is `null`, as one that isn't there is.
+/// Returns whether the member is `null` or isn't there.
 fn is_null_at(value: &Value<'_>, member: &str) -> bool
     ensures { result ≡ is_null_at member.now (view value.now) }
 {
@@ -49,7 +49,7 @@ fn is_null_at(value: &Value<'_>, member: &str) -> bool
     }
 }
 
-/// A whole number of 32 bits, or `Some(None)` where the member is `null`.
+/// Returns an integer below 2^32, or `Some(None)` if the member is `null` or isn't there.
 pub(crate) fn u32_or_null_at(value: &Value<'_>, member: &str) -> Option<Option<u32>>
     ensures { result ≡ whole_or_null_at member.now (2 ^ 32) (view value.now) }
 {
@@ -108,7 +108,7 @@ pub(crate) fn band_at(value: &Value<'_>, member: &str) -> Option<Band>
     band_named(text_at(value, member)?)
 }
 
-/// A whole number up to the band's own limit.
+/// Returns an integer up to the band's own limit.
 pub(crate) fn limit_at(value: &Value<'_>, member: &str, band: Band) -> Option<BandLimit>
     ensures { result ≡ limit_at member.now band (view value.now) }
 {

@@ -1,4 +1,4 @@
-//! A JSON object written member by member.
+//! Writes a JSON object member by member.
 ghost use Rattle.std.specs.Prelude.{◌≡◌, IfOk, OnOk};
 ghost use Rattle.json.specs.Print.{print};
 ghost use Rattle.desk_wire.specs.Hexadecimal.{octet_digits, eui_digits, addr_digits};
@@ -10,11 +10,11 @@ use radio_core::{DevAddr, Eui, Name, Octets};
 use std::alloc::{AllocError, Global};
 use std::marker::Model;
 
-/// The room of a new text, in octets. Most messages and answers are shorter, and a longer one grows.
+/// The capacity of a new text, in octets. Most messages and answers are shorter, and the text grows for a longer one.
 const USUAL_LENGTH: usize = 384;
 
-/// The text of an object, up to the last member that was written. Contracts see the list of its tokens, which begins with
-/// the opening brace. A call that returns an error may have written a part of its member.
+/// The text of an object, up to the last member that was written. Contracts see the list of its tokens, which begins with the opening
+/// brace. A call that returns an error may have written a part of its member.
 #[derive(Drop)]
 pub(crate) struct ObjectText {
     out: Writer,
@@ -34,7 +34,7 @@ impl Model for ObjectText {
 }
 
 impl ObjectText {
-    /// An object with no members so far.
+    /// Returns an object with no members so far.
     pub(crate) fn new(alloc: Global) -> Result<Self, AllocError>
         ensures { IfOk result (λ object. object ≡ opened) }
     {
@@ -106,7 +106,7 @@ impl ObjectText {
         self.text(member, addr_digits(alloc, addr)?.as_str())
     }
 
-    /// ProtocolVersion and ReceiverID, which follow one another in every message and every answer with a head.
+    /// Writes ProtocolVersion and ReceiverID, which follow one another in every message and every answer with a head.
     pub(crate) fn version_and_receiver(&mut self, receiver: &Name) -> Result<(), AllocError>
         ensures { OnOk result (self.new ≡ then_version_and_receiver self.old receiver.now) }
     {
@@ -131,7 +131,7 @@ impl ObjectText {
         self.out.end_object()
     }
 
-    /// The octets that were written.
+    /// Returns the octets that were written.
     pub(crate) fn into_text(self) -> Vec<u8>
         ensures { result.items ≡ print self }
     {

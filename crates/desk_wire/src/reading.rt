@@ -1,4 +1,4 @@
-//! Texts read as envelopes.
+//! Reads texts as envelopes.
 ghost use Rattle.std.specs.Prelude.{◌≡◌};
 ghost use Rattle.desk_wire.specs.steps.TreeData.{view};
 ghost use Rattle.desk_wire.specs.Reading.{common_members_of, message_of, envelope_addressed, envelope_of, reads, Gives};
@@ -24,10 +24,10 @@ struct CommonMembers {
     head: Head,
 }
 
-/// The envelope that a text is for the receiver, or its first fault: refusals 1, 2, 3, 8 and 7 are looked for in this
-/// order. The text is a JSON object (RFC 8259) in UTF-8 that has the members of the envelope (LoRaWAN Backend Interfaces
-/// 1.0) and those of its type, in this project's forms. Further members are ignored, and of equal ones the last stands.
-/// `Memory` is told only where a growth was refused.
+/// Reads a text as an envelope for the receiver.
+///
+/// The text is a JSON object (RFC 8259) in UTF-8 that has the members of the envelope (LoRaWAN Backend Interfaces 1.0) and those of its
+/// type, in this project's forms. Further members are ignored, and of equal ones the last counts.
 ///
 /// | MessageType | Its members |
 /// |---|---|
@@ -37,15 +37,19 @@ struct CommonMembers {
 /// | DeviceAdd | DevEUI and JoinEUI: EUIs; Owner: a name |
 /// | DeviceMove | DevEUI: an EUI; Owner: a name |
 /// | JoinHeard | those of a report; Verdict: `Good` or `Bad` |
-/// | FrameHeard | those of a report; Verdict: a whole number of 32 bits, or `null`, or not there, which is `null` |
-/// | DownBook | Uplink: a whole number of 53 bits; Gateway: a name; Window: 1 or 2; PHYPayload: as of a report |
-/// | DownDone | Booking: a whole number of 53 bits; Sent: `true` or `false` |
-/// | LimitSet | Gateway: a name; Band: `B1` to `B6`; Limit: a whole number, 0 to the band's own limit, in microseconds |
+/// | FrameHeard | those of a report; Verdict: an integer below 2^32, or `null`, or not there, which is `null` |
+/// | DownBook | Uplink: an integer below 2^53; Gateway: a name; Window: 1 or 2; PHYPayload: as in a report |
+/// | DownDone | Booking: an integer below 2^53; Sent: `true` or `false` |
+/// | LimitSet | Gateway: a name; Band: `B1` to `B6`; Limit: an integer, 0 to the band's own limit, in microseconds |
 ///
-/// An EUI is a text of 16 hexadecimal digits, the most significant first, in either case, with or without `0x` before
-/// them. The members of a report are Gateway: a name; Time: a whole number of 53 bits, in microseconds since 1970 UTC;
-/// Freq: a whole number of 32 bits, in hertz; DataRate: a whole number, 0 to 7; PHYPayload: a text of 0 to 510
-/// hexadecimal digits, an even number of them, in either case, with or without `0x` before them.
+/// An EUI is a text of 16 hexadecimal digits, the most significant first, in either case, with or without `0x` before them. The members of
+/// a report are Gateway: a name; Time: an integer below 2^53, in microseconds since 1970 UTC; Freq: an integer below 2^32, in hertz;
+/// DataRate: an integer, 0 to 7; PHYPayload: a text of 0 to 510 hexadecimal digits, an even number of them, in either case, with or without
+/// `0x` before them.
+///
+/// # Errors
+///
+/// Returns the first error of the text: refusals 1, 2, 3, 8 and 7 are checked in this order. Returns `Memory` if an allocation failed.
 pub fn read_message(alloc: Global, text: &[u8], receiver: &Name) -> Result<Envelope, WireFault>
     ensures { Gives result (reads receiver.now text.now) }
 {

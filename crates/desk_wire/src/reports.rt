@@ -1,4 +1,4 @@
-//! What a gateway reports of a frame, read from the members of a message.
+//! Reads a gateway's report of a frame from the members of a message.
 ghost use Rattle.std.specs.Prelude.{◌≡◌};
 ghost use Rattle.desk_wire.specs.steps.TreeData.{view};
 ghost use Rattle.desk_wire.specs.Reports.{rate_of, report_of};

@@ -1,4 +1,4 @@
-//! How an answer tells its result: a ResultCode and a Description.
+//! The ResultCode and the Description of each answer.
 ghost use Rattle.std.specs.Prelude.{◌≡◌};
 ghost use Rattle.desk_wire.specs.Results.{refusal_code, refusal_description, result_code, result_description};
 

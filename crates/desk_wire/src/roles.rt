@@ -1,10 +1,10 @@
-//! What roles are called.
+//! The names of roles.
 ghost use Rattle.std.specs.Prelude.{◌≡◌};
 ghost use Rattle.desk_wire.specs.Roles.{role_name, role_named};
 
 use registry_core::Role;
 
-/// The role of this name, exactly.
+/// Returns the role with exactly this name.
 pub(crate) fn role_named(text: &str) -> Option<Role>
     ensures { result ≡ role_named text.now }
 {

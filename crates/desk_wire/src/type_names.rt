@@ -1,4 +1,4 @@
-//! What a MessageType may be.
+//! The MessageType of a message.
 ghost use Rattle.std.specs.Prelude.{◌≡◌, IsTrue, SomeIff};
 ghost use Rattle.std.specs.Char.{is_ascii_alphabetic};
 ghost use Rattle.std.specs.List.{list_all};
@@ -11,7 +11,7 @@ use std::marker::Model;
 /// A MessageType: 1 to 32 ASCII letters (this project's form). Contracts see its octets.
 #[derive(Clone, Copy)]
 pub struct TypeName {
-    /// A type's name is a name too.
+    /// A type's name has the form of a name too.
     name: Name,
 }
 
@@ -29,7 +29,7 @@ impl Model for TypeName {
 }
 
 impl TypeName {
-    /// `None` exactly where the octets aren't 1 to 32 ASCII letters.
+    /// Returns the type name of these octets, `None` if and only if they aren't 1 to 32 ASCII letters.
     #[tactic(auto, using(crate::proofs::NameTexts::type_name_is_name))]
     pub fn new(octets: &[u8]) -> Option<Self>
         ensures { SomeIff result (IsTrue (is_type_name octets.now)) octets.now }
@@ -40,7 +40,7 @@ impl TypeName {
         }
     }
 
-    /// The octets that `new` took.
+    /// Returns the octets of the name.
     pub fn get(&self) -> &[u8]
         ensures same { result.now ≡ self.now }
         ensures letters { IsTrue (is_type_name self.now) }
@@ -48,7 +48,7 @@ impl TypeName {
         self.name.get()
     }
 
-    /// The same as text.
+    /// Returns the name as text.
     pub fn as_str(&self) -> &str
         ensures { result.now ≡ self.now }
     {
@@ -62,7 +62,7 @@ fn are_letters(octets: &[u8]) -> bool
     octets.iter().all(|octet| octet.is_ascii_alphabetic())
 }
 
-/// The MessageType of a message.
+/// Returns the MessageType of a message.
 pub(crate) fn type_name_of(message: &Message) -> TypeName
     ensures { result ≡ type_name_of message.now }
 {

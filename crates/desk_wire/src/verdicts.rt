@@ -1,10 +1,10 @@
-//! What verdicts are called.
+//! The names of verdicts.
 ghost use Rattle.std.specs.Prelude.{◌≡◌};
 ghost use Rattle.desk_wire.specs.Verdicts.{join_verdict_name, join_verdict_named};
 
 use registry_core::JoinVerdict;
 
-/// The verdict of this name, exactly.
+/// Returns the verdict with exactly this name.
 pub(crate) fn join_verdict_named(text: &[u8]) -> Option<JoinVerdict>
     ensures { result ≡ join_verdict_named text.now }
 {

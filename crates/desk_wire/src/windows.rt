@@ -1,10 +1,10 @@
-//! How receive windows are told: by their numbers.
+//! The numbers of receive windows.
 ghost use Rattle.std.specs.Prelude.{◌≡◌};
 ghost use Rattle.desk_wire.specs.Windows.{window_number, window_numbered};
 
 use registry_core::Window;
 
-/// The window of this number. `None` exactly where it is neither 1 nor 2.
+/// Returns the window with this number, `None` if and only if the number is neither 1 nor 2.
 pub(crate) fn window_numbered(number: u64) -> Option<Window>
     ensures { result ≡ window_numbered number }
 {

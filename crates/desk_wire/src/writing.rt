@@ -1,4 +1,4 @@
-//! Envelopes written as texts.
+//! Writes envelopes as texts.
 ghost use Rattle.std.specs.Prelude.{◌≡◌, IfOk};
 ghost use Rattle.json.specs.Tree.{json_tokens};
 ghost use Rattle.serde_json.specs.Written.{outline};
@@ -15,8 +15,12 @@ use radio_core::{Eui, Name, Octets};
 use registry_core::{BandLimit, Envelope, JoinVerdict, Message, Report, Role, Whole, Window};
 use std::alloc::{AllocError, Global};
 
-/// The one text of an envelope for the receiver: compact JSON, the members in byte order of their names. EUIs
-/// are in lower case without `0x`. `read_message` reads it as the same envelope.
+/// Writes the text of an envelope for the receiver: compact JSON, with the members in byte order of their names, and EUIs in lower case
+/// without `0x`. `read_message` reads it as the same envelope.
+///
+/// # Errors
+///
+/// Returns `AllocError` if an allocation failed.
 #[tactic(auto, using(crate::proofs::Printed::printed), unfolding(crate::specs::Writing::message_text))]
 pub fn write_message(
     alloc: Global,
@@ -178,7 +182,7 @@ fn device_move(
     Ok(out)
 }
 
-/// A message that reports a frame, up to its last member, Verdict. It has not ended yet.
+/// Writes a message that reports a frame, up to its last member, Verdict. The object is left open.
 #[tactic(auto, unfolding(crate::proofs::Printed::whole_texts))]
 fn heard(
     alloc: Global,

@@ -1,4 +1,4 @@
--- Lists that are put in order of start: what such an order keeps.
+-- Lists sorted by start: what sorting leaves the same.
 use Rattle.std.proofs.Common.{◌≡◌, ℕ, zero, suc, ◌+◌, ◌-◌, ◌≤◌, ◌<◌, refl, arith, ap, sym, subst, ◌∙◌, List, [], ◌∷◌, ◌++◌, Bool, true, false, length, get_or, drop, cond, add-one, add-zero, add_assoc}
 use Rattle.std.specs.Prelude.{ℤ, ◌≤ℤ◌, not, filter, All, AllPairs, IsPermutation}
 use Rattle.std.specs.Ordering.{int_eq}
@@ -14,7 +14,7 @@ use Rattle.duty_core.specs.Laws.{OrderIsUnique, OrderedUse, OrderedHours, Ordere
 use Rattle.duty_core.specs.Near.{is_near}
 use Rattle.duty_core.proofs.Order.{use_ignores_order, hours_ignore_order, peak_ignores_order}
 
--- ---- a test keeps the order of start
+-- ---- a test leaves starts ascending
 
 ascends_far : (l : List Interval) → StartsAscend l → (i n : ℕ) (d : Interval) → i + n < length l → (get_or l i d).start ≤ℤ (get_or l (i + n) d).start
 ascends_far l h i zero d within = omega (arith, ints, ap (λ k. (get_or l k d).start) (add-zero i))
@@ -37,7 +37,7 @@ ascend_of_filter p l h k d within =
 abbrev at : ℤ → Interval → Bool
 at start a = int_eq a.start start
 
--- those of each start stand alike in both lists
+-- those of each start are in the same order in both lists
 abbrev Together : List Interval → List Interval → Type 0
 Together xs ys = (start : ℤ) → filter (at start) ys ≡ filter (at start) xs
 
@@ -82,7 +82,7 @@ same_by_together (suc n) (a ∷ xs) ys h t =
     IsPermutation-sym ys (filter first all ++ filter other ys) (subst (λ k. IsPermutation ys (k ++ filter other ys)) (t a.start) (IsPermutation-filter_both first other (λ b. refl) ys)) in
     IsPermutation-trans all (filter first all ++ filter other ys) ys joined parted
 
--- ---- so a test keeps a list in order of start
+-- ---- so a test leaves a list ordered by start
 
 pub filters_keep_order : FiltersKeepOrder
 filters_keep_order p xs ys h =

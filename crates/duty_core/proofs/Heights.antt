@@ -1,4 +1,4 @@
--- What a sweep keeps, in naturals: heights of marks give the use of an hour.
+-- The sweep's invariant, in naturals: heights of marks give the use of an hour.
 use Rattle.std.proofs.Common.{◌≡◌, ℕ, zero, suc, ◌+◌, ◌-◌, ◌*◌, ◌^◌, ◌≤◌, ◌<◌, refl, arith, ap, subst, ◌∙◌, List, [], ◌∷◌, length, get_or, take, sym, add-one, add-zero, add_assoc, below_more}
 use Rattle.std.specs.Prelude.{ℤ, pos, ◌+ℤ◌, ◌≤ℤ◌, ◌<ℤ◌, sum_by}
 use Rattle.std.proofs.lemmas.List.{take_all, get_or_read}

@@ -50,6 +50,6 @@ room_of all of_band start limit most r g le ge within has none = record {
     below n short h (yes k) = k
     below n short h (no k) = absurd (none n (omega (arith, k)) short h)
 
--- where one has no room none above it has
+-- if a length doesn't have room, no greater one does
 pub none_longer : (all of_band : List Interval) (start : ℤ) (limit m n : ℕ) → ¬ HasRoom all of_band start limit m → m ≤ n → ¬ HasRoom all of_band start limit n
 none_longer all of_band start limit m n not h has = not (room_of_shorter all of_band start limit m n h has)

@@ -30,7 +30,7 @@ pub with_new : (l : List Interval) (new : Interval) (t now : ℤ) (u s f : ℕ) 
 with_new l new t now u s f h k e same =
     omega (arith, h ∙ ap (use_of l) same, k ∙ ap (λ t. shared_count new (hour_from t)) same, e, use_of-push l new t)
 
--- ---- the marks stand for a later hour
+-- ---- the marks for a later hour
 
 pub window_later : (l : List Interval) (w : Window) (t s : ℤ) → IsWindow l w t → t ≤ℤ s → IsWindow l w s
 window_later l w t s h k = record {

@@ -1,12 +1,12 @@
-//! How far the edges of a list lie before a place, where the edges don't fall.
+//! How far the edges of a list precede a place, if the edges don't fall.
 //!
-//! Such a height is the sum, over the edges that lie before x, of how far they do. Where the edges don't fall, those at
-//! or before x are the first of the list. So it follows from a mark: from how many there are, and from their places added
-//! up, each place being how far the edge lies after the least `i64`:
+//! Such a height is the sum, over the edges before x, of their distances to x. If the edges don't fall, those at or before x are the first
+//! of the list. So the height follows from a mark: from their number and the sum of their places, where a place is the distance from the
+//! least `i64`:
 //!
 //!     height(x) = passed * place(x) - sum
 //!
-//! A mark for x is also one for what comes later, so it only moves forward.
+//! A mark for x is also one for any later place, so it only moves forward.
 
 ghost use Rattle.std.specs.Prelude.{◌≡◌, ◌↔◌, ◌^◌, ◌<◌, IsTrue};
 ghost use Rattle.duty_core.specs.steps.Marks.{edge_of, IsRising, distance_to, height_of, IsMark, HasPassedAll};
@@ -20,7 +20,7 @@ pub(crate) enum Edge {
     End,
 }
 
-/// Where the edge of the span is.
+/// Returns the place of the edge of the span.
 pub(crate) fn edge_of(span: Span, edge: Edge) -> i64
     ensures { result ≡ edge_of edge span }
 {
@@ -30,7 +30,7 @@ pub(crate) fn edge_of(span: Span, edge: Edge) -> i64
     }
 }
 
-/// Whether no such edge is less than the one before it.
+/// Returns whether no such edge is less than the one before it.
 pub(crate) fn rises(spans: &[Span], edge: Edge) -> bool
     ensures { IsTrue result ↔ IsRising edge spans.now }
 {
@@ -42,7 +42,7 @@ pub(crate) fn rises(spans: &[Span], edge: Edge) -> bool
     true
 }
 
-/// The first edges of a list: how many they are, and their places added up.
+/// The first edges of a list: their number, and the sum of their places.
 #[derive(Clone, Copy)]
 pub(crate) struct Mark {
     passed: usize,
@@ -52,7 +52,7 @@ pub(crate) struct Mark {
 /// The mark of no edges.
 pub(crate) const UNPASSED: Mark = Mark { passed: 0, sum: 0 };
 
-/// The mark moved on to x, and how far the edges that lie before x do so, added up.
+/// Returns the mark moved on to x, and the sum of the distances to x of the edges before x.
 pub(crate) fn climb(spans: &[Span], edge: Edge, from: Mark, x: i64) -> (Mark, u128)
     requires mark { IsMark edge spans.now from.passed from.sum x }
     requires rising { IsRising edge spans.now }
@@ -64,7 +64,7 @@ pub(crate) fn climb(spans: &[Span], edge: Edge, from: Mark, x: i64) -> (Mark, u1
     (mark, height(spans, edge, mark, x))
 }
 
-/// The mark moved on over the edges that aren't after x.
+/// Returns the mark moved on over the edges that aren't after x.
 fn forward(spans: &[Span], edge: Edge, from: Mark, x: i64) -> Mark
     requires { IsMark edge spans.now from.passed from.sum x }
     ensures mark { IsMark edge spans.now result.passed result.sum x }
@@ -83,7 +83,7 @@ fn forward(spans: &[Span], edge: Edge, from: Mark, x: i64) -> Mark
     Mark { passed, sum }
 }
 
-/// How far the edges that lie before x do so, added up: no edge after the mark does.
+/// Returns the sum of the distances to x of the edges before x. All of these are within the mark.
 #[tactic(auto, using(crate::proofs::Signed::signed, crate::proofs::Heights::height_from_mark))]
 fn height(spans: &[Span], edge: Edge, at: Mark, x: i64) -> u128
     requires mark { IsMark edge spans.now at.passed at.sum x }
@@ -95,7 +95,7 @@ fn height(spans: &[Span], edge: Edge, at: Mark, x: i64) -> u128
     at.passed as u128 * place(x) - at.sum
 }
 
-/// How far x lies after the first place, the least `i64`.
+/// Returns the distance of x from the first place, the least `i64`.
 fn place(x: i64) -> u128
     ensures { result ≡ distance_to x }
 {

@@ -1,7 +1,7 @@
 //! How long one more span may be.
 //!
-//! A span that has room has it at every shorter length: a shorter span shares less with the others and with each hour
-//! (`laws::shorter_has_room`). So bisection finds the greatest length: 22 rounds for 3,000,000 microseconds.
+//! If a span has room, so has every shorter one: it shares less with the others and with each hour (`laws::shorter_has_room`). So bisection
+//! finds the greatest length: 22 rounds for 3,000,000 microseconds.
 
 ghost use Rattle.std.specs.Prelude.{◌↔◌, ◌∷◌, ◌++◌, [], IsTrue};
 ghost use Rattle.duty_core.specs.Use.{EveryHourWithin};
@@ -13,9 +13,9 @@ use crate::hours::{clear, fits};
 use crate::interval::Span;
 use crate::sweep::{in_order, sweep_fits};
 
-/// The greatest length, in microseconds and at most `most`, of a span from `start` that shares no microsecond with a span of
-/// `all`, and with which the use of every hour of `of_band` is at most `limit`. Returns 0 if no length from 1 on has room, also
-/// if an hour of `of_band` is above `limit` already.
+/// Returns the greatest length, in microseconds and at most `most`, of a span from `start` that shares no microsecond with a span of `all`,
+/// and with which the use of every hour of `of_band` is at most `limit`. Returns 0 if no length from 1 on has room, also if an hour of
+/// `of_band` is above `limit` already.
 pub fn room(all: &[Span], of_band: &[Span], start: i64, limit: u64, most: u32) -> u32
     requires { IsStart start }
     ensures { IsRoom all.now of_band.now start limit most result }
@@ -34,7 +34,7 @@ pub fn room(all: &[Span], of_band: &[Span], start: i64, limit: u64, most: u32) -
     least
 }
 
-/// Whether a span of that length has room.
+/// Returns whether a span of that length has room.
 fn has_room(all: &[Span], of_band: &[Span], ordered: bool, start: i64, limit: u64, len: u32) -> bool
     requires order { IsTrue ordered → StartsAscend of_band.now }
     requires start { IsStart start }
@@ -46,7 +46,7 @@ fn has_room(all: &[Span], of_band: &[Span], ordered: bool, start: i64, limit: u6
     clear(all, new) && fits_in(of_band, ordered, new, limit)
 }
 
-/// Whether with the new span too the use of every hour is within the limit: by the sweep if the spans are in order of start.
+/// Returns whether the use of every hour is within the limit with the new span too: by the sweep if the spans are ordered by start.
 fn fits_in(of_band: &[Span], ordered: bool, new: Span, limit: u64) -> bool
     requires { IsTrue ordered → StartsAscend of_band.now }
     ensures { IsTrue result ↔ EveryHourWithin (of_band.now ++ new ∷ []) limit }

@@ -1,16 +1,16 @@
-//! The peak, and whether one more span fits, by one sweep through a list in order of start.
+//! The peak, and whether one more span fits, by a sweep through a list that is ordered by start, in linear time.
 //!
-//! Let the height of the starts at x be how far those that lie before x do so, added up, and that of the ends likewise.
-//! Their difference is how many microseconds of the spans lie before x. So for every list, overlapping spans too,
+//! Let the height of the starts at x be the sum of the distances to x of the starts before x, and that of the ends likewise. Their
+//! difference is the number of microseconds of the spans before x. So for every list, overlapping spans too,
 //!
 //!     use(t) = starts(t + hour) - ends(t + hour) - (starts(t) - ends(t))
 //!
-//! Where neither kind of edge falls from one span to the next, each of these four heights follows from a mark that only
-//! moves forward (`marks`). The hours that begin at a start come in order then, and so do those that end at an end: a
-//! window of four marks slides through the list for each kind. Where some end falls, the plain form answers.
+//! If neither starts nor ends fall from one span to the next, each of these four heights follows from a mark that only moves forward
+//! (`marks`). Then the hours that begin at a start come in order, and so do those that end at an end: a window of four marks slides through
+//! the list for each kind. If some end falls, the direct (quadratic) algorithm computes the result.
 //!
-//! No clause speaks of time. The test `sweeps_a_million` shows that the sweep is what runs: neither the plain form nor
-//! marks that begin anew for each hour would end within the time of a test.
+//! No clause states a time. The test `sweeps_a_million` shows that the sweep is what runs: neither the direct algorithm nor marks that
+//! begin anew for each hour would end within the time of a test.
 
 ghost use Rattle.std.specs.Prelude.{◌≡◌, ◌↔◌, ◌^◌, ◌∷◌, ◌++◌, [], max, pos, ◌+ℤ◌, ◌-ℤ◌, ◌<ℤ◌, IsTrue};
 ghost use Rattle.duty_core.specs.Use.{end_of, hour, use_of, IsPeak, EveryHourWithin};
@@ -24,14 +24,15 @@ use crate::hours::{HOUR, edges_fit, fits, hour_to_end, in_hour, peak};
 use crate::interval::Span;
 use crate::marks::{Edge, Mark, UNPASSED, climb, rises};
 
-/// Whether no start is less than the one before it.
+/// Returns whether no start is less than the one before it.
 pub fn in_order(spans: &[Span]) -> bool
     ensures { IsTrue result ↔ StartsAscend spans.now }
 {
     rises(spans, Edge::Start)
 }
 
-/// The greatest use of any hour, in microseconds; 0 for no spans. The spans are in order of start.
+/// Returns the greatest use of any hour, in microseconds; 0 if there are no spans. The spans have to be ordered by start. Its time is
+/// linear in their number, unless a span ends before one that begins earlier.
 pub fn sweep_peak(spans: &[Span]) -> u128
     requires { StartsAscend spans.now }
     ensures peak { IsPeak spans.now result }
@@ -40,7 +41,7 @@ pub fn sweep_peak(spans: &[Span]) -> u128
     swept_peak(spans)
 }
 
-/// The peak, by the sweep (linear) if the ends don't fall either.
+/// Returns the peak: by the sweep if the ends don't fall either.
 #[tactic(auto, using(crate::proofs::Sliding::with_none), unfolding(crate::specs::Computed::peak_of))]
 fn swept_peak(spans: &[Span]) -> u128
     requires { StartsAscend spans.now }
@@ -53,8 +54,9 @@ fn swept_peak(spans: &[Span]) -> u128
     }
 }
 
-/// Whether with the new span too the use of every hour is at most `most` microseconds. The spans are in order of start;
-/// the new one may stand anywhere, so that its own two hours are summed apart.
+/// Returns whether the use of every hour is at most `most` microseconds, with the new span too. The spans have to be ordered by start; the
+/// new one may begin anywhere, and its own two hours are summed separately. Its time is linear in the number of spans, unless one ends
+/// before one that begins earlier.
 #[tactic(auto, using(crate::proofs::Edges::hours_within_tells))]
 pub fn sweep_fits(spans: &[Span], new: Span, most: u64) -> bool
     requires { StartsAscend spans.now }
@@ -64,7 +66,7 @@ pub fn sweep_fits(spans: &[Span], new: Span, most: u64) -> bool
     swept_fits(spans, new, most)
 }
 
-/// Whether the new span fits, by the sweep (linear) if the ends don't fall either.
+/// Returns whether the new span fits: by the sweep if the ends don't fall either.
 #[tactic(auto, using(crate::proofs::Sliding::within_both))]
 fn swept_fits(spans: &[Span], new: Span, most: u64) -> bool
     requires { StartsAscend spans.now }
@@ -77,8 +79,8 @@ fn swept_fits(spans: &[Span], new: Span, most: u64) -> bool
     }
 }
 
-/// The greatest use, with the new span too, of the hours that begin at a start of the list or end at an end of it. The
-/// new one isn't put into the list, whose edges might fall then: it counts in each hour by what it shares with it.
+/// Returns the greatest use, with the new span too, of the hours that begin at a start of the list or end at an end of it. The new span
+/// isn't put into the list, since the list's edges might fall then: in each hour it counts by what it shares with it.
 fn greatest(spans: &[Span], new: Span) -> u128
     requires starts { IsRising Start spans.now }
     requires ends { IsRising End spans.now }
@@ -96,8 +98,8 @@ fn greatest(spans: &[Span], new: Span) -> u128
     most
 }
 
-/// Two windows slid on to the hour that begins where the edge begins and to the one that ends where it ends, and the
-/// greater use of the two, with the new span too.
+/// Returns two windows, moved on to the hour that begins where the edge begins and to the one that ends where it ends, and the greater use
+/// of the two, with the new span too.
 #[tactic(auto, using(crate::proofs::Signed::signed))]
 fn slide_both(
     spans: &[Span],
@@ -120,7 +122,7 @@ fn slide_both(
     (from_start, from_end, at_start.max(at_end))
 }
 
-/// The window slid on to the hour from t, and the use of that hour, with the new span too.
+/// Returns the window moved on to the hour from t, and the use of that hour, with the new span too.
 #[tactic(auto, using(crate::proofs::Signed::signed, crate::proofs::Signed::uses))]
 fn slide_with(spans: &[Span], new: Span, from: Window, t: i64) -> (Window, u128)
     requires window { IsWindow spans.now from t }
@@ -134,7 +136,7 @@ fn slide_with(spans: &[Span], new: Span, from: Window, t: i64) -> (Window, u128)
     (window, used + u128::from(in_hour(new, t)))
 }
 
-/// The marks of an hour: of the edges up to where it begins, and up to where it ends.
+/// The marks of an hour: for the edges up to its beginning, and up to its end.
 #[derive(Clone, Copy)]
 struct Window {
     starts: Mark,
@@ -151,7 +153,7 @@ const UNMOVED: Window = Window {
     later_ends: UNPASSED,
 };
 
-/// The window slid on to the hour from t, and the use of that hour.
+/// Returns the window moved on to the hour from t, and the use of that hour.
 #[tactic(auto, using(crate::proofs::Signed::signed, crate::proofs::Heights::use_from_heights))]
 fn slide(spans: &[Span], from: Window, t: i64) -> (Window, u128)
     requires window { IsWindow spans.now from t }

@@ -1,4 +1,4 @@
--- What is found where there is no frame is the fault, and each fault is found.
+-- If no frame is found, the error that is found is right, and each error is found.
 use Rattle.std.proofs.Common.{◌≡◌, ℕ, zero, suc, ◌/◌, ◌%◌, ◌≤◌, ◌<◌, List, [], ◌∷◌, Option, Some, None, Bool, true, false, cond, not, Ok, Err, refl, subst, arith}
 use Rattle.std.specs.Prelude.{◌==◌, ◌↔◌, nat_le, ok_or}
 use Rattle.std.proofs.lemmas.Bool.{eqb-true, eqb-false, eq-eqb, ne_eqb, leb-true, leb-false, le-leb, lt-leb}
@@ -8,7 +8,7 @@ use Rattle.radio_core.specs.declared.frames.Phy.{Phy}
 use Rattle.radio_core.specs.Frames.{IsFault, IsFrame, body_of, frame_of, frame_fault, read_of, FaultIsFound}
 use Rattle.radio_core.proofs.FoundFrames.{frame_is_found}
 
--- what is read is a frame where one is found, and else a fault
+-- what is read is a frame if one is found, and else an error
 read_ok : (o : Option Phy) (fault : FrameFault) (phy : Phy) → (ok_or o fault ≡ Ok phy) ↔ (o ≡ Some phy)
 read_ok None fault phy = (λ e. absurd (let k : Err fault ≡ Ok phy = e in cc), λ e. absurd (let k : None ≡ Some phy = e in cc))
 read_ok (Some x) fault phy = (λ e. let k : Ok x ≡ Ok phy = e in cc, λ e. let k : Some x ≡ Some phy = e in cc)
@@ -28,7 +28,7 @@ frame_is_read text phy =
     let f : (frame_of text ≡ Some phy) ↔ IsFrame text phy = frame_is_found text phy in
     (λ e. f.0 (r.0 e), λ i. r.1 (f.1 i))
 
--- the first fault is one, where no frame is found
+-- the first error is right, if no frame is found
 first_is : (text : List ℕ) → ((phy : Phy) → ¬ IsFrame text phy) → IsFault text (frame_fault text)
 first_is [] none = refl
 first_is (mhdr ∷ body) none = by_major (mhdr % 4 == 0) refl

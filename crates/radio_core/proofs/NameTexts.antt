@@ -18,7 +18,7 @@ are_ascii (c ∷ text) h (suc i) = are_ascii text (and_parts _ _ h).1 i
 pub IsUtf8-name : (text : List ℕ) → is_name text ≡ true → IsUtf8 text
 IsUtf8-name text h = IsUtf8-from_ascii text (are_ascii text (and_parts _ _ h).1)
 
--- what is refused only where a fact fails is taken where it holds
+-- what is refused only if a fact is false succeeds if it is true
 pub ok_where : {T E : Type 0} (U : Type 0) (P : T → Type 0) (Q : E → Type 0) (r : Result T E) → MatchResult r P (λ e. (U → ⊥) × Q e) → U → IsOk r
 ok_where U P Q (Ok x) h u = refl
 ok_where U P Q (Err e) h u = absurd (h.0 u)

@@ -1,4 +1,4 @@
--- A text in an array has its length, and the array is the text and noughts.
+-- A text in an array has its length, and the array is the text and zeros.
 use Rattle.std.proofs.Common.{◌≡◌, ℕ, ◌-◌, List, length, take, replicate, ap}
 use Rattle.std.proofs.Math.Seq.{take-append_seam}
 use Rattle.radio_core.specs.steps.Padding.{padded, IsPadded}

@@ -1,4 +1,4 @@
--- The sub-bands of EU863-870, and which of them a transmission lies in (this project's table). Frequencies in hertz,
+-- The sub-bands of EU863-870, and the band of a transmission (this project's table). Frequencies in hertz, times in microseconds.
 -- times in microseconds.
 use Rattle.std.specs.Prelude.{◌≡◌, ℕ, ◌+◌, ◌<◌, ◌≤◌, ◌↔◌, Bool, ◌&&◌, List, [], ◌∷◌, Option, Some, nat_le, find, IsTrue}
 use Rattle.radio_core.specs.declared.bands.Band.{Band}
@@ -33,8 +33,7 @@ band_to B4 = 869200000
 band_to B5 = 869650000
 band_to B6 = 870000000
 
--- the most time on air within any hour, 0.1, 1 or 10 percent of it (that duty cycle is time on air within an hour:
--- ETSI EN 300 220-2)
+-- the greatest time on air within any hour, 0.1, 1 or 10 percent of it (that duty cycle is time on air within an hour: ETSI EN 300 220-2)
 abbrev pub limit_of : Band → ℕ
 limit_of B1 = 3600000
 limit_of B2 = 36000000
@@ -46,16 +45,16 @@ limit_of B6 = 36000000
 abbrev pub bands : List Band
 bands = B1 ∷ B2 ∷ B3 ∷ B4 ∷ B5 ∷ B6 ∷ []
 
--- a transmission on the frequency lies within the band with all of its bandwidth, both edges included
+-- the band contains the whole bandwidth of a transmission on the frequency, both edges included
 abbrev pub lies_in : ℕ → DataRate → Band → Bool
 lies_in freq dr band =
     nat_le (band_from band + half_width dr) freq && nat_le (freq + half_width dr) (band_to band)
 
--- the band that it lies in, if there is one
+-- the band that contains it, if there is one
 unfoldable pub band_at : ℕ → DataRate → Option Band
 band_at freq dr = find (lies_in freq dr) bands
 
--- a transmission lies in the band that is found, and in no other
+-- a transmission is in the band that is found, and in no other
 abbrev pub BandIsFound : Type 0
 BandIsFound = (freq : ℕ) (dr : DataRate) (band : Band) →
     (band_at freq dr ≡ Some band) ↔ IsTrue (lies_in freq dr band)

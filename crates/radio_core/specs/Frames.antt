@@ -1,16 +1,16 @@
--- Frames and their octets (LoRaWAN L2 1.0.4, sections 4 and 6.2). Each frame is a joining of its parts.
+-- Frames and their octets (LoRaWAN L2 1.0.4, sections 4 and 6.2). Each frame is the concatenation of its parts.
 use Rattle.std.specs.Prelude.{◌≡◌, ◌≢◌, ℕ, zero, suc, ◌+◌, ◌*◌, ◌/◌, ◌%◌, ◌≤◌, ◌==◌, ◌⊎◌, ◌↔◌, true, false, ◌&&◌, ◌||◌, not, if◌then◌else◌, nat_le, List, [], ◌∷◌, ◌++◌, length, take, drop, Option, Some, None, option_map, Result, Err, ok_or}
 use Rattle.radio_core.specs.declared.frames.FrameFault.{FrameFault}
 use Rattle.radio_core.specs.declared.frames.FrameFault.TheVariants.{Empty, Major, Kind, Length}
 use Rattle.radio_core.specs.declared.frames.Phy.{Phy}
 use Rattle.radio_core.specs.declared.frames.Phy.TheVariants.{Join, Accept, Up, Down}
 
--- the number that octets stand for, the lowest first
+-- the number that octets represent, the lowest first
 abbrev pub little_endian : List ℕ → ℕ
 little_endian [] = 0
 little_endian (octet ∷ octets) = octet + 256 * little_endian octets
 
--- a field of so many octets with this number in it, the lowest octet first
+-- a field of this many octets with this number in it, the lowest octet first
 pub record IsField (size : ℕ) (octets : List ℕ) (number : ℕ) : Type 0 where
   pub width : length octets ≡ size
   pub stands_for : little_endian octets ≡ number
@@ -43,8 +43,8 @@ pub record IsAccept (text : List ℕ) : Type 0 where
   pub width : (length rest ≡ 16) ⊎ (length rest ≡ 32)
   pub joined : text ≡ mhdr ∷ rest
 
--- a data frame: MHDR, DevAddr, FCtrl, FCnt, FOpts of as many octets as FCtrl's low four bits say, then
--- nothing or FPort with FRMPayload, then MIC (section 4.3); 255 octets at most (this project's)
+-- a data frame: MHDR, DevAddr, FCtrl, FCnt, FOpts of as many octets as FCtrl's low four bits give, then nothing or FPort with FRMPayload,
+-- then MIC (section 4.3); at most 255 octets (this project's)
 pub record IsData (frame_type : ℕ) (text : List ℕ) (addr fcnt : ℕ) : Type 0 where
   pub mhdr : ℕ
   pub address : List ℕ
@@ -68,12 +68,12 @@ IsFrame text Accept = IsAccept text
 IsFrame text (Up confirmed addr fcnt) = IsData (if confirmed then 4 else 2) text addr fcnt
 IsFrame text (Down confirmed addr fcnt) = IsData (if confirmed then 5 else 3) text addr fcnt
 
--- the octets begin with one of which this holds
+-- the first octet satisfies P
 abbrev pub BeginsWith : (ℕ → Type 0) → List ℕ → Type 0
 BeginsWith P [] = ⊥
 BeginsWith P (mhdr ∷ body) = P mhdr
 
--- why the octets are no frame: each fault applies where none before it does
+-- why the octets are not a frame: each error applies if none before it does
 abbrev pub IsFault : List ℕ → FrameFault → Type 0
 IsFault text Empty = text ≡ []
 IsFault text Major = BeginsWith (λ mhdr. mhdr % 4 ≢ 0) text
@@ -81,7 +81,7 @@ IsFault text Kind = BeginsWith (λ mhdr. (mhdr % 4 ≡ 0) × (6 ≤ mhdr / 32)) 
 IsFault text Length =
     BeginsWith (λ mhdr. (mhdr % 4 ≡ 0) × (mhdr / 32 ≤ 5)) text × ((phy : Phy) → ¬ IsFrame text phy)
 
--- ---- the same, to be computed: the frame that the octets are, if they are one
+-- ---- the same in forms that compute: the frame that the octets are, if they are one
 
 abbrev pub join_frame : List ℕ → Option Phy
 join_frame body =
@@ -104,7 +104,7 @@ fields_of _ = None
 abbrev pub data_of : (ℕ → ℕ → Phy) → List ℕ → Option Phy
 data_of frame body = option_map (λ fields. frame fields.0 fields.1) (fields_of body)
 
--- what stands behind the MHDR, by the frame type
+-- the frame of the octets after the MHDR, by the frame type
 abbrev pub body_of : ℕ → List ℕ → Option Phy
 body_of zero body = join_frame body
 body_of (suc zero) body = accept_of body
@@ -118,7 +118,7 @@ unfoldable pub frame_of : List ℕ → Option Phy
 frame_of [] = None
 frame_of (mhdr ∷ body) = if mhdr % 4 == 0 then body_of (mhdr / 32) body else None
 
--- the first fault that applies, where there is no frame
+-- the first error that applies, if there is no frame
 abbrev pub frame_fault : List ℕ → FrameFault
 frame_fault [] = Empty
 frame_fault (mhdr ∷ body) =
@@ -132,7 +132,7 @@ read_of text = ok_or (frame_of text) (frame_fault text)
 abbrev pub FrameIsFound : Type 0
 FrameIsFound = (text : List ℕ) (phy : Phy) → (frame_of text ≡ Some phy) ↔ IsFrame text phy
 
--- the fault that is found is the one that the octets have
+-- the error that is found is the one that the octets have
 abbrev pub FaultIsFound : Type 0
 FaultIsFound = (text : List ℕ) (fault : FrameFault) → (read_of text ≡ Err fault) ↔ IsFault text fault
 

@@ -16,25 +16,25 @@ low_rate dr = 0
 abbrev pub crc_bits : Bool → ℕ
 crc_bits crc = if crc then 16 else 0
 
--- the bits that a block of 5 symbols holds at coding rate 4/5: those of 4 symbols, each of SF - 2 DE bits
+-- the number of bits in a block of 5 symbols at coding rate 4/5: those of 4 symbols, each of SF - 2 DE bits
 abbrev pub bits_of_block : DataRate → ℕ
 bits_of_block dr = 4 * (spreading_factor dr - 2 * low_rate dr)
 
--- n octets, the header and the CRC fit so many blocks: 4 (SF - 2 DE) blocks ≥ 8 n - 4 SF + 28 + 16 CRC
+-- n octets, the header and the CRC fit in this many blocks: 4 (SF - 2 DE) blocks ≥ 8 n - 4 SF + 28 + 16 CRC
 abbrev pub FitsBlocks : DataRate → ℕ → Bool → ℕ → Type 0
 FitsBlocks dr n crc blocks = 8 * n + 28 + crc_bits crc ≤ bits_of_block dr * blocks + 4 * spreading_factor dr
 
--- the least number of blocks that they fit
+-- the least number of blocks in which they fit
 pub record IsBlockCount (dr : DataRate) (n : ℕ) (crc : Bool) (blocks : ℕ) : Type 0 where
   pub fits : FitsBlocks dr n crc blocks
   pub least : (fewer : ℕ) → FitsBlocks dr n crc fewer → blocks ≤ fewer
 
--- 12.25 + 8 + 5 blocks symbols, counted in quarters of a symbol, which are whole microseconds
+-- 12.25 + 8 + 5 blocks symbols, counted in quarters of a symbol, each an integer of microseconds
 abbrev pub time_of_blocks : DataRate → ℕ → ℕ
 time_of_blocks dr blocks = (81 + 20 * blocks) * (symbol_time dr / 4)
 
--- n octets of FSK at 50 kbit/s (this project's profile), up and down alike: 5 octets of preamble and 3 of sync word,
--- 1 of length, the n, 2 of CRC; a bit takes 20 microseconds
+-- n octets of FSK at 50 kbit/s (this project's profile), for uplinks and downlinks: 5 octets of preamble and 3 of sync word, 1 of length,
+-- the n, 2 of CRC; a bit takes 20 microseconds
 abbrev pub fsk_time : ℕ → ℕ
 fsk_time n = 20 * 8 * (5 + 3 + 1 + n + 2)
 
@@ -43,7 +43,7 @@ abbrev pub IsAirtime : DataRate → ℕ → Bool → ℕ → Type 0
 IsAirtime Dr7 n crc time = time ≡ fsk_time n
 IsAirtime dr n crc time = (blocks : ℕ) × IsBlockCount dr n crc blocks × (time ≡ time_of_blocks dr blocks)
 
--- ---- the same, to be computed
+-- ---- the same in forms that compute
 
 -- the quotient rounded up, and 0 where it would be negative
 abbrev pub block_count : DataRate → ℕ → Bool → ℕ

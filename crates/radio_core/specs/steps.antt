@@ -1,2 +1,2 @@
--- What the clauses of private functions say.
+-- Definitions for the contracts of private functions.
 pub mod Padding

@@ -1,4 +1,4 @@
-//! The sub-bands of EU863-870: which one a transmission lies in, and how long it may be used within an hour.
+//! The sub-bands of EU863-870: the band of a transmission, and how long a band may be used within an hour.
 ghost use Rattle.std.specs.Prelude.{◌≡◌, ◌↔◌, IsTrue};
 ghost use Rattle.radio_core.specs.declared.bands.Band.{Band};
 ghost use Rattle.radio_core.specs.Bands.{band_at, band_from, band_to, lies_in, limit_of};
@@ -22,7 +22,7 @@ impl Band {
     ghost use Rattle.radio_core.specs.declared.bands.Band.{Band};
     ghost use Rattle.radio_core.specs.Bands.{band_number, band_from, band_to};
 
-    /// The band of a number. `None` exactly where the number is 0 or above 6.
+    /// Returns the band with this number, `None` if and only if the number is 0 or above 6.
     pub fn new(number: u8) -> Option<Self>
         ensures some { IfSome result (λ band. band_number band ≡ number) }
         ensures none { IfNone result ((number ≡ 0) ⊎ (6 < number)) }
@@ -39,7 +39,7 @@ impl Band {
         }
     }
 
-    /// Its number, 1 to 6.
+    /// Returns the band's number, 1 to 6.
     pub fn get(self) -> u8
         ensures { result ≡ band_number self }
     {
@@ -53,7 +53,7 @@ impl Band {
         }
     }
 
-    /// Its edges, in hertz.
+    /// Returns the band's lower and upper edge, in hertz.
     fn edges(self) -> (u32, u32)
         ensures from { result.0 ≡ band_from self }
         ensures to { result.1 ≡ band_to self }
@@ -72,14 +72,14 @@ impl Band {
 /// The bands, in the order of their numbers.
 pub const BANDS: [Band; 6] = [Band::B1, Band::B2, Band::B3, Band::B4, Band::B5, Band::B6];
 
-/// Half the bandwidth, in hertz.
+/// Returns half the bandwidth, in hertz.
 fn half_width(dr: DataRate) -> u32
     ensures { result ≡ half_width dr }
 {
     if dr == DataRate::Dr6 { 125_000 } else { 62_500 }
 }
 
-/// Whether all of the transmission's bandwidth is within the band, edges included.
+/// Returns whether the whole bandwidth of the transmission is within the band, edges included.
 fn lies_in(freq: u32, dr: DataRate, band: Band) -> bool
     ensures { result ≡ lies_in freq dr band }
 {
@@ -89,8 +89,8 @@ fn lies_in(freq: u32, dr: DataRate, band: Band) -> bool
     from + half <= freq && freq <= to - half
 }
 
-/// The band that a transmission lies in with all of its bandwidth, 125 kHz or at DR6 250 kHz round its frequency in
-/// hertz, edges included. `None` exactly where there is none. No transmission lies in two.
+/// Returns the band that contains the whole bandwidth of a transmission, 125 kHz or at DR6 250 kHz around its frequency in hertz, edges
+/// included. `None` if and only if no band does. No transmission is in two bands.
 pub fn band_of(freq: u32, dr: DataRate) -> Option<Band>
     ensures found { (band : Band) → (result ≡ Some band) ↔ IsTrue (lies_in freq dr band) }
     ensures exact { result ≡ band_at freq dr }
@@ -98,7 +98,7 @@ pub fn band_of(freq: u32, dr: DataRate) -> Option<Band>
     BANDS.iter().find(|band| lies_in(freq, dr, **band)).copied()
 }
 
-/// The most time on air that transmissions in a band may have within any hour, in microseconds (this project's table).
+/// Returns the greatest time on air that a band may have within any hour, in microseconds (this project's table).
 pub fn limit(band: Band) -> u64
     ensures { result ≡ limit_of band }
 {

@@ -1,4 +1,4 @@
-//! The data rates of EU863-870 (RP002-1.0.4), and the lengths that they carry.
+//! The data rates of EU863-870 (RP002-1.0.4), and the greatest lengths at them.
 ghost use Rattle.std.specs.Prelude.{◌≡◌};
 ghost use Rattle.radio_core.specs.DataRates.{max_length};
 
@@ -16,7 +16,7 @@ pub enum DataRate {
     Dr7,
 }
 
-/// How a frame is sent: its frequency in hertz and its data rate.
+/// The frequency of a frame in hertz, and its data rate.
 #[derive(Clone, Copy, PartialEq, Eq)]
 pub struct Rate {
     pub freq: u32,
@@ -28,7 +28,7 @@ impl DataRate {
     ghost use Rattle.radio_core.specs.declared.data_rates.DataRate.{DataRate};
     ghost use Rattle.radio_core.specs.DataRates.{dr_number};
 
-    /// The data rate of a number, 0 to 7. `None` exactly where the number is above 7.
+    /// Returns the data rate with this number, 0 to 7. `None` if and only if the number is above 7.
     pub fn new(number: u8) -> Option<Self>
         ensures some { IfSome result (λ dr. dr_number dr ≡ number) }
         ensures none { IfNone result (7 < number) }
@@ -47,7 +47,7 @@ impl DataRate {
         }
     }
 
-    /// Its number, 0 to 7.
+    /// Returns the data rate's number, 0 to 7.
     pub fn get(self) -> u8
         ensures { result ≡ dr_number self }
     {
@@ -64,7 +64,7 @@ impl DataRate {
     }
 }
 
-/// The greatest PHYPayload at a data rate, in octets (this project's table).
+/// Returns the greatest length of a PHYPayload at a data rate, in octets (this project's table).
 pub fn max_phy(dr: DataRate) -> usize
     ensures { result ≡ max_length dr }
 {

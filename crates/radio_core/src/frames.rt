@@ -1,4 +1,4 @@
-//! Frames as they go over the air (LoRaWAN L2 1.0.4, sections 4 and 6.2), as far as they can be read without keys.
+//! Frames as they are sent over the air (LoRaWAN L2 1.0.4, sections 4 and 6.2), as far as they can be read without keys.
 ghost use Rattle.std.specs.Prelude.{◌≡◌, ◌<◌, ◌↔◌, Err, if◌then◌else◌, length, nat_le, ok_or};
 ghost use Rattle.radio_core.specs.declared.frames.FrameFault.{FrameFault};
 ghost use Rattle.radio_core.specs.declared.frames.FrameFault.TheVariants.{Kind, Length};
@@ -7,7 +7,7 @@ ghost use Rattle.radio_core.specs.Frames.{IsFault, IsFrame, accept_of, body_of, 
 
 use crate::identifiers::{DevAddr, Eui};
 
-/// A frame, as far as its octets are read. Fields of several octets go over the air with the lowest first.
+/// A frame, as far as its octets are read. Fields of several octets are sent with the lowest octet first.
 #[derive(Clone, Copy, PartialEq, Eq)]
 pub enum Phy {
     /// A join request.
@@ -16,9 +16,9 @@ pub enum Phy {
         dev_eui: Eui,
         nonce: u16,
     },
-    /// A join accept, which only keys could read further.
+    /// A join accept. Only keys could read more of it.
     Accept,
-    /// A data frame of a device.
+    /// A data frame from a device.
     Up {
         confirmed: bool,
         addr: DevAddr,
@@ -32,7 +32,7 @@ pub enum Phy {
     },
 }
 
-/// Why octets are no frame. The faults are looked for in this order.
+/// Why octets are not a frame. The errors are checked in this order.
 #[derive(Clone, Copy, PartialEq, Eq)]
 pub enum FrameFault {
     /// There are no octets.
@@ -45,7 +45,7 @@ pub enum FrameFault {
     Length,
 }
 
-/// What a join request has behind its MHDR: JoinEUI, DevEUI, DevNonce, MIC.
+/// Reads what follows the MHDR in a join request: JoinEUI, DevEUI, DevNonce, MIC.
 fn join_request(body: &[u8]) -> Option<Phy>
     ensures { result ≡ join_frame body.now }
 {
@@ -71,14 +71,14 @@ fn join_accept(body: &[u8]) -> Option<Phy>
     }
 }
 
-/// The DevAddr and the FCnt that a data frame has behind its MHDR.
+/// Returns the DevAddr and the FCnt of a data frame, from what follows its MHDR.
 fn data_fields(body: &[u8]) -> Option<(DevAddr, u16)>
     ensures { result ≡ fields_of body.now }
 {
     let [a, b, c, d, fctrl, m, n, rest @ ..] = body else {
         return None;
     };
-    // FOpts and the MIC at the least; with the 8 octets before it, 255 at the most
+    // FOpts and the MIC at least; with the 8 octets before it, 255 at most
     let options = usize::from(fctrl % 16);
     if rest.len() < options + 4 || rest.len() > 247 {
         return None;
@@ -109,7 +109,7 @@ fn data_down(confirmed: bool, body: &[u8]) -> Option<Phy>
     })
 }
 
-/// The frame of this type that has this behind its MHDR.
+/// Returns the frame of this type with these octets after its MHDR.
 fn read_body(frame_type: u8, body: &[u8]) -> Result<Phy, FrameFault>
     ensures { result
         ≡ ok_or (body_of frame_type body.now) (if nat_le 6 frame_type then Kind else Length) }
@@ -126,8 +126,11 @@ fn read_body(frame_type: u8, body: &[u8]) -> Result<Phy, FrameFault>
     frame.ok_or(FrameFault::Length)
 }
 
-/// The frame that the octets are, or the first fault that they have (LoRaWAN L2 1.0.4, sections 4.2, 4.3 and 6.2).
-/// That bits 4 to 2 of the MHDR are ignored is this project's.
+/// Reads the octets as a frame (LoRaWAN L2 1.0.4, sections 4.2, 4.3 and 6.2). That bits 4 to 2 of the MHDR are ignored is this project's.
+///
+/// # Errors
+///
+/// Returns the first error of the octets, in the order of `FrameFault`.
 #[tactic(auto, using(crate::proofs::FoundFaults::frame_is_read, crate::proofs::FoundFaults::fault_is_found))]
 pub fn read_phy(octets: &[u8]) -> Result<Phy, FrameFault>
     ensures frame { (phy : Phy) → (result ≡ Ok phy) ↔ IsFrame octets.now phy }
@@ -137,7 +140,7 @@ pub fn read_phy(octets: &[u8]) -> Result<Phy, FrameFault>
     frame_or_fault(octets)
 }
 
-/// The frame that the octets are, or their first fault: the MHDR says how the octets behind it are read.
+/// Returns the frame of the octets, or their first error. The MHDR determines how the octets after it are read.
 #[tactic(auto, unfolding(crate::specs::Frames::frame_of))]
 fn frame_or_fault(octets: &[u8]) -> Result<Phy, FrameFault>
     ensures { result ≡ read_of octets.now }

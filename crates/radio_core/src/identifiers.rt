@@ -1,4 +1,4 @@
-//! The numbers that devices and networks go by.
+//! The numbers that identify devices and networks.
 ghost use Rattle.std.specs.Prelude.{◌≡◌};
 
 use std::marker::Model;
@@ -20,14 +20,14 @@ impl Model for Eui {
 }
 
 impl Eui {
-    /// Every number is one.
+    /// Returns the EUI with this number. Every number is one.
     pub fn new(number: u64) -> Self
         ensures { result ≡ number }
     {
         Eui { number }
     }
 
-    /// The number that `new` took.
+    /// Returns the number.
     pub fn get(&self) -> u64
         ensures { result ≡ self.now }
     {
@@ -52,14 +52,14 @@ impl Model for DevAddr {
 }
 
 impl DevAddr {
-    /// Every number is one.
+    /// Returns the device address with this number. Every number is one.
     pub fn new(address: u32) -> Self
         ensures { result ≡ address }
     {
         DevAddr { address }
     }
 
-    /// The number that `new` took.
+    /// Returns the number.
     pub fn get(&self) -> u32
         ensures { result ≡ self.now }
     {

@@ -1,4 +1,4 @@
-//! Laws of the definitions: each is the contract of a function that does nothing.
+//! Laws of the definitions, each as the contract of a function with an empty body.
 ghost use Rattle.radio_core.specs.Bands.{BandIsFound, BandsAreApart};
 ghost use Rattle.radio_core.specs.Counters.{CandidateIsOnly};
 ghost use Rattle.radio_core.specs.Frames.{FaultIsFound, FrameIsFound, NoTextIsTwoFrames};
@@ -10,7 +10,7 @@ pub fn frame_is_found()
     ensures { FrameIsFound }
 {}
 
-/// The fault that is computed is the one that the octets have.
+/// The error that is computed is the one that the octets have.
 #[tactic(auto, using(crate::proofs::FoundFaults::fault_is_found))]
 pub fn fault_is_found()
     ensures { FaultIsFound }
@@ -22,19 +22,19 @@ pub fn no_text_is_two_frames()
     ensures { NoTextIsTwoFrames }
 {}
 
-/// The quotient rounded up is the least number of blocks that the octets fit.
+/// The quotient rounded up is the least number of blocks in which the octets fit.
 #[tactic(auto, using(crate::proofs::BlockCounts::airtime_is_computed))]
 pub fn airtime_is_computed()
     ensures { AirtimeIsComputed }
 {}
 
-/// No length that a data rate allows takes longer than 2,793,472 microseconds.
+/// No length that a data rate allows takes more than 2,793,472 microseconds.
 #[tactic(auto, using(crate::proofs::BlockCounts::airtime_is_bounded))]
 pub fn airtime_is_bounded()
     ensures { AirtimeIsBounded }
 {}
 
-/// A transmission lies in the band that is computed, and in no other.
+/// A transmission is in the band that is computed, and in no other.
 #[tactic(auto, using(crate::proofs::FoundBands::band_is_found))]
 pub fn band_is_found()
     ensures { BandIsFound }

@@ -1,5 +1,5 @@
-//! The radio rules that every layer speaks of: frames, data rates, time on air, sub-bands and frame counters, and the
-//! names of those who use them. Nothing here takes memory, and every call answers.
+//! The radio rules that all layers use: frames, data rates, time on air, sub-bands and frame counters, and the names of those who use them.
+//! Nothing here allocates, and every call returns.
 #![tactic(auto)]
 
 mod bands;

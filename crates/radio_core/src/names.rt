@@ -1,4 +1,4 @@
-//! What senders, receivers, owners and gateways are called.
+//! The names of senders, receivers, owners and gateways.
 ghost use Rattle.std.specs.Prelude.{◌≡◌, ◌↔◌, [], ◌∷◌, IsTrue, SomeIff, nat_eq};
 ghost use Rattle.std.specs.Cmp.{partial_equiv_from_equiv};
 ghost use Rattle.std.specs.Cmp.Lexicographic.{nat_list_eq_equiv, pointwise};
@@ -54,7 +54,7 @@ fn is_name(octets: &[u8]) -> bool
 }
 
 impl Name {
-    /// `None` exactly where the octets aren't a name.
+    /// Returns the name with these octets, `None` if and only if they aren't a name.
     #[tactic(auto, using(crate::proofs::PaddedTexts::padded_front))]
     pub fn new(octets: &[u8]) -> Option<Self>
         ensures { SomeIff result (IsTrue (is_name octets.now)) octets.now }
@@ -69,7 +69,7 @@ impl Name {
         }
     }
 
-    /// The octets that `new` took.
+    /// Returns the octets of the name.
     pub fn get(&self) -> &[u8]
         ensures same { result.now ≡ self.now }
         ensures name { IsTrue (is_name self.now) }
@@ -77,7 +77,7 @@ impl Name {
         &self.octets[..self.size as usize]
     }
 
-    /// The same as text: a name is ASCII.
+    /// Returns the name as text: a name is ASCII.
     pub fn as_str(&self) -> &str
         ensures { result.now ≡ self.now }
     {
@@ -85,7 +85,7 @@ impl Name {
     }
 }
 
-/// By the octets alone.
+/// Compares the octets.
 impl PartialEq for Name {
     ghost eq = { pointwise nat_eq };
 
@@ -103,7 +103,7 @@ impl Eq for Name {
     ghost laws = { nat_list_eq_equiv };
 }
 
-/// By the octets alone, in one write.
+/// Hashes the octets, in one write.
 impl Hash for Name {
     ghost hash_input = { λ name. name ∷ [] };
 

@@ -1,8 +1,8 @@
-//! Texts in arrays of a fixed size, so that what holds one is Copy and takes no memory.
+//! Texts in arrays of a fixed size, so that what contains one is Copy and allocates nothing.
 ghost use Rattle.std.specs.Prelude.{◌≡◌, ◌≤◌, length};
 ghost use Rattle.radio_core.specs.steps.Padding.{padded};
 
-/// The octets, with noughts behind them.
+/// Returns the octets, padded with zeros at the end.
 pub(crate) fn spread<const N: usize>(octets: &[u8]) -> [u8; N]
     requires { length octets.now ≤ N }
     ensures { result ≡ padded N octets.now }

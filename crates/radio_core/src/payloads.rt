@@ -1,4 +1,4 @@
-//! The octets of frames, as they are kept.
+//! The octets of frames, as they are stored.
 ghost use Rattle.std.specs.Prelude.{◌≡◌, ◌≤◌, ◌↔◌, IsTrue, SomeIff, length, nat_eq};
 ghost use Rattle.std.specs.Cmp.{partial_equiv_from_equiv};
 ghost use Rattle.std.specs.Cmp.Lexicographic.{nat_list_eq_equiv, pointwise};
@@ -29,7 +29,7 @@ impl Model for Octets {
 }
 
 impl Octets {
-    /// `None` exactly where there are more than 255 octets.
+    /// Returns the octets, `None` if and only if there are more than 255.
     #[tactic(auto, using(crate::proofs::PaddedTexts::padded_front))]
     pub fn new(octets: &[u8]) -> Option<Self>
         ensures { SomeIff result (length octets.now ≤ 255) octets.now }
@@ -43,7 +43,7 @@ impl Octets {
         })
     }
 
-    /// The octets that `new` took.
+    /// Returns the octets.
     pub fn get(&self) -> &[u8]
         ensures same { result.now ≡ self.now }
         ensures length { length self.now ≤ 255 }
@@ -52,7 +52,7 @@ impl Octets {
     }
 }
 
-/// By the octets alone.
+/// Compares the octets.
 impl PartialEq for Octets {
     ghost eq = { pointwise nat_eq };
 

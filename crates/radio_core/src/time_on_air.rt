@@ -1,4 +1,4 @@
-//! How long a transmission takes: LoRa (Semtech AN1200.13), or FSK.
+//! The time on air of a transmission: LoRa (Semtech AN1200.13), or FSK.
 ghost use Rattle.std.specs.Prelude.{◌≡◌, ◌≢◌, ◌*◌, ◌≤◌};
 ghost use Rattle.radio_core.specs.declared.data_rates.DataRate.TheVariants.{Dr7};
 ghost use Rattle.radio_core.specs.DataRates.{max_length, spreading_factor, symbol_time};
@@ -6,7 +6,7 @@ ghost use Rattle.radio_core.specs.TimeOnAir.{IsAirtime, airtime_of, block_count,
 
 use crate::data_rates::DataRate;
 
-/// The bits of a LoRa symbol, SF; none at DR7, which is FSK.
+/// Returns the number of bits in a LoRa symbol, SF; 0 at DR7, which is FSK.
 fn spreading_factor(dr: DataRate) -> u64
     ensures { result ≡ spreading_factor dr }
 {
@@ -21,7 +21,7 @@ fn spreading_factor(dr: DataRate) -> u64
     }
 }
 
-/// The time of a LoRa symbol, in microseconds; none at DR7, which is FSK.
+/// Returns the time of a LoRa symbol, in microseconds; 0 at DR7, which is FSK.
 fn symbol_time(dr: DataRate) -> u64
     ensures { result ≡ symbol_time dr }
 {
@@ -37,7 +37,7 @@ fn symbol_time(dr: DataRate) -> u64
     }
 }
 
-/// How many bits of each symbol low data rate optimization leaves unused, twice DE.
+/// Returns how many bits of each symbol low data rate optimization leaves unused: twice DE.
 fn unused_bits(dr: DataRate) -> u64
     ensures { result ≡ 2 * low_rate dr }
 {
@@ -47,7 +47,7 @@ fn unused_bits(dr: DataRate) -> u64
     }
 }
 
-/// The blocks of symbols that the octets fill behind the first 8 symbols.
+/// Returns how many blocks of symbols the octets fill after the first 8 symbols.
 fn block_count(dr: DataRate, octets: u64, crc: bool) -> u64
     requires short { octets ≤ 255 }
     requires lora { dr ≢ Dr7 }
@@ -56,12 +56,13 @@ fn block_count(dr: DataRate, octets: u64, crc: bool) -> u64
     let crc_bits = if crc { 16 } else { 0 };
     let bits = 8 * octets + 28 + crc_bits;
     let factor = spreading_factor(dr);
-    // the first 8 symbols hold 4 SF of them
+    // the first 8 symbols contain 4 SF of them
     bits.saturating_sub(4 * factor)
         .div_ceil(4 * (factor - unused_bits(dr)))
 }
 
-/// The time of LoRa: 12.25 + 8 symbols and 5 a block, counted in quarters, so that nothing is rounded.
+/// Returns the time of LoRa: 12.25 + 8 symbols and 5 for each block, in microseconds. It counts in quarters of a symbol, so that nothing is
+/// rounded.
 fn lora_time(dr: DataRate, octets: u64, crc: bool) -> u64
     requires short { octets ≤ 255 }
     requires lora { dr ≢ Dr7 }
@@ -71,7 +72,7 @@ fn lora_time(dr: DataRate, octets: u64, crc: bool) -> u64
     quarters * (symbol_time(dr) / 4)
 }
 
-/// The time of FSK: 11 octets stand round the frame's own, and each takes 8 bits of 20 microseconds.
+/// Returns the time of FSK, in microseconds: 11 octets are added to the frame's own, and each takes 8 bits of 20 microseconds.
 fn fsk_time(octets: u64) -> u64
     requires { octets ≤ 255 }
     ensures { result ≡ fsk_time octets }
@@ -79,12 +80,11 @@ fn fsk_time(octets: u64) -> u64
     160 * (octets + 11)
 }
 
-/// The time on air of a PHYPayload of so many octets, in microseconds. Up to DR6 it is LoRa (Semtech AN1200.13): 8
-/// preamble symbols, an explicit header, coding rate 4/5, low data rate optimization at DR0 and DR1; uplinks have the
-/// payload's CRC, downlinks don't. DR7 is FSK at 50 kbit/s with 5 octets of preamble, 3 of sync word, 1 of length and 2
-/// of CRC, up and down alike.
+/// Returns the time on air of a PHYPayload of this many octets, in microseconds. The caller may give at most 255 octets.
 ///
-/// The caller's condition: at most 255 octets.
+/// Up to DR6 it is LoRa (Semtech AN1200.13): 8 preamble symbols, an explicit header, coding rate 4/5, and low data rate optimization at DR0
+/// and DR1. Uplinks have the payload's CRC, downlinks don't. DR7 is FSK at 50 kbit/s with 5 octets of preamble, 3 of sync word, 1 of length
+/// and 2 of CRC, for uplinks and downlinks.
 #[tactic(auto, unfolding(crate::specs::TimeOnAir::airtime_of))]
 pub fn airtime(dr: DataRate, octets: usize, crc: bool) -> u64
     requires { octets ≤ 255 }

@@ -117,7 +117,7 @@ book_downlink computed found reads c s number gateway window octets =
 
 -- ---- it stays one
 
--- also where it is sent or dropped, in a state that keeps its uplink and the gateway's copy
+-- also if it is sent or dropped, in a state with the same uplink and the same reception at the gateway
 downlink_in : (c : Settings) (s after : State) (booking : Booking) (standing : Standing) (h : IsDownlink c s booking) → item_at after.uplinks booking.uplink ≡ Some h.uplink
     → after.copies booking.uplink booking.gateway ≡ Some h.copy → IsDownlink c after (record booking { standing = standing })
 downlink_in c s after booking standing h there heard = record {

@@ -1,4 +1,4 @@
--- No hour holds more booked time on air than its limit, and no downlink is longer than what makes one near, whatever was heard.
+-- No hour has more booked airtime than its limit, and no downlink is longer than the distance that makes one near, whatever was heard.
 use Rattle.std.proofs.Common.{◌≡◌, ℕ, zero, suc, ◌+◌, ◌≤◌, List, [], ◌∷◌, ◌++◌, map, filter, Bool, true, false, cond, Some, refl, sym, ◌∙◌, ap, subst, arith, if◌then◌else◌}
 use Rattle.std.specs.Prelude.{ℤ, ◌==◌, ◌&&◌, not, bytes_eq}
 use Rattle.std.specs.List.{AllByRecursion}
@@ -69,7 +69,7 @@ added_hours s b gateway band t false e old new = omega (arith, use_by-last (stan
 
 -- ---- one booking ended
 
--- what a booking weighs in an hour, as it stands
+-- how much a booking counts in an hour, by its state
 abbrev weight : List ℕ → Band → Booking → ℤ → Standing → ℕ
 weight gateway band b t standing = cond (bytes_eq b.gateway gateway && not (is_dropped standing) && band_number b.band == band_number band) (shared_count b.span (hour_from t)) 0
 

@@ -51,7 +51,7 @@ from_unless test None found rest none h = h
 to_unless : {X : Type 0} (test : Answer → Bool) (x : Option X) (found : X → Checked Decision) (rest : Checked Decision) → x ≡ None → AnswerPasses test rest → AnswerPasses test (unless x found rest)
 to_unless test x found rest none h = subst (λ y. AnswerPasses test (unless y found rest)) (sym none) h
 
--- ---- items of which each passes, or none
+-- ---- items that all pass, or that all don't
 
 item_later : {X : Type 0} (x : X) (xs : List X) (n : ℕ) (a : X) → item_at xs n ≡ Some a → item_at (x ∷ xs) (suc n) ≡ Some a
 item_later x xs zero a e = cc

@@ -63,7 +63,7 @@ book_books c s number gateway window octets =
     lets_needs (Books s) tt (band_at (rate_in window copy.rate).freq (rate_in window copy.rate).dr) OutOfBand _ (λ band _.
     added_books s number gateway band (copy.end + delay uplink.kind window) (on_air (copy.end + delay uplink.kind window) (rate_in window copy.rate) octets) (not-true (is_answered s.bookings number) unanswered)))))))))
 
--- ---- what every state keeps
+-- ---- the invariant of every state
 
 pub record AreApart (bs : List Booking) : Type 0 where
   pub alone : (gateway : List ℕ) (m n : ℕ) (a b : Booking) → item_at bs m ≡ Some a → item_at bs n ≡ Some b → stands_at gateway a ≡ true → stands_at gateway b ≡ true

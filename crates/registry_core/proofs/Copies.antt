@@ -30,7 +30,7 @@ put_was : (f : List ℕ → Option Reception) (gateway : List ℕ) (reception : 
 put_was f gateway reception at r true is e = inr (same_Some reception r (rw is at e))
 put_was f gateway reception at r false is e = inl (rw is at e)
 
--- what holds of the new copy, and held of all, holds of all
+-- what is true of the new reception, and was true of all, is true of all
 pub each_copy : (P : Reception → Type 0) (copies : ℕ → List ℕ → Option Reception) (number : ℕ) (gateway : List ℕ) (reception : Reception) (n : ℕ) (at : List ℕ) (r : Reception) (b : Bool)
     → ((n : ℕ) (at : List ℕ) (r : Reception) → copies n at ≡ Some r → P r) → P reception → (n == number) ≡ b → copies_with copies number gateway reception n at ≡ Some r → P r
 each_copy P copies number gateway reception n at r true all new is e = by_name (put_was (copies number) gateway reception at r (bytes_eq at gateway) refl (rw is at e))

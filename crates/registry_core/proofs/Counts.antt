@@ -1,4 +1,4 @@
--- No more is held than messages were heard: each adds one key at most to a look-up, and one uplink or booking.
+-- There is no more than messages were heard: each adds at most one key to a look-up, and one uplink or booking.
 use Rattle.std.proofs.Common.{◌≡◌, ℕ, ◌+◌, ◌≤◌, List, [], ◌∷◌, ◌++◌, length, Bool, true, false, Option, Some, None, Decides, refl, sym, ap, subst, arith, inl, inr, if◌then◌else◌}
 use Rattle.std.specs.Prelude.{◌⊎◌, ◌==◌, ◌&&◌, bytes_eq, is_some, option_map, Contains, IsTrue}
 use Rattle.std.specs.Cmp.{IsEquivalence}
@@ -24,7 +24,7 @@ use Rattle.registry_core.proofs.Items.{item_changed_length}
 
 -- ---- keys in a list
 
--- the keys that are there stand in a list, in so many places at most
+-- the keys that are there are in a list of at most this length
 record IsListed {Key : Type 0} (most : ℕ) (is_there : Key → Bool) : Type 0 where
   keys : List Key
   few : length keys ≤ most

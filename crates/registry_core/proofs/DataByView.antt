@@ -1,4 +1,4 @@
--- With the view that a state holds for a data frame, the checks by the view are those of the state.
+-- With the view that a state has for a data frame, the checks by the view are those of the state.
 use Rattle.std.proofs.Common.{◌≡◌, ℕ, ◌+◌, Bool, true, false, not, length, Option, Some, None, Ok, refl, ap, ◌∙◌, if◌then◌else◌}
 use Rattle.std.specs.Prelude.{nat_le, is_none, bytes_eq, option_and_then, option_map}
 use Rattle.radio_core.specs.declared.bands.Band.{Band}
@@ -70,7 +70,7 @@ found_same : (s : State) (report : Report) (session : ℕ × Session) (counter :
 found_same s report session counter None rest = refl
 found_same s report session counter (Some found) rest = copies_same s report session counter found (bytes_eq found.1.octets report.octets) rest
 
--- what follows where all checks before the copy hold
+-- what follows if all checks before the copy pass
 ended_same : (s : State) (v : View) (report : Report) (frame : DataFrame) (session : ℕ × Session) (counter : ℕ) (band : Band) → v.uplinks ≡ length s.uplinks
     → v.uplink ≡ option_map (view_of_uplink s report.gateway) (data_with s.uplinks session.0 counter)
     → unless (original_by v.uplink report.octets) (data_copied_by report (view_of_session s session) counter) (data_added_by v report frame (view_of_session s session) counter band)
@@ -96,7 +96,7 @@ last_same s v report frame None verdict band n up = refl
 last_same s v report frame (Some session) None band n up = refl
 last_same s v report frame (Some session) (Some counter) band n up = ended_same s v report frame session counter band n up
 
--- the session of what a frame says
+-- the session of a frame's fields
 session_of : Settings → State → Option DataFrame → Option (ℕ × Session)
 session_of c s told = option_and_then (λ (frame : DataFrame). session_with s.sessions c.base frame.addr) told
 
@@ -127,7 +127,7 @@ tail c s v report verdict (Some frame) n at up =
       band ← needs (band_at report.rate.freq report.rate.dr) OutOfBand
       last band) (λ i band. last_same s v report frame (session_with s.sessions c.base frame.addr) verdict band n up i)
 
--- where the data rate carries so many octets, the frame is the one that they are
+-- if the data rate can carry this many octets, the frame is the one that they are
 heard_same : (c : Settings) (s : State) (v : View) (report : Report) (verdict : Option ℕ) (carried : Bool) → nat_le (length report.octets) (max_length report.rate.dr) ≡ carried
     → v.uplinks ≡ length s.uplinks → v.gateway_known ≡ s.gateways report.gateway → v.session ≡ option_map (view_of_session s) (session_of c s (data_up (frame_of report.octets)))
     → v.uplink ≡ option_map (view_of_uplink s report.gateway) (data_for s (session_of c s (data_up (frame_of report.octets))) verdict)

@@ -38,7 +38,7 @@ abbrev rest_of : State → Report → DataFrame → ℕ × Session → ℕ → B
 rest_of s report frame session counter band = unless (original_data s session.0 counter report.octets) (data_copied s report session.1.device counter)
     (data_added s report frame session.0 session.1.device counter band)
 
--- what those checks find, and that they hold in a state with the same gateways and sessions too
+-- what those checks find; they pass in a state with the same gateways and sessions too
 record Passes (c : Settings) (s : State) (verdict : Option ℕ) (report : Report) (session : ℕ × Session) (counter : ℕ) : Type 0 where
   frame : DataFrame
   told : data_up (frame_at report.rate.dr report.octets) ≡ Some frame
@@ -87,7 +87,7 @@ is_copy c s base verdict report session counter found p gateways sessions is cop
     ap effect_of (p.rest t gateways sessions
     ∙ ap (λ original. unless original (data_copied t report session.1.device counter) (data_added t report p.frame session.0 session.1.device counter p.band)) is)
 
--- a report of a new frame makes the uplink of which the second report is a copy
+-- a report of a new frame makes the uplink that the second report copies
 books : (c : Settings) (s : State) (verdict : Option ℕ) (a b : Report) (session : ℕ × Session) (counter : ℕ) (pa : Passes c s verdict a session counter) → Passes c s verdict b session counter
     → IsSound c (after_report (hearing c verdict) s a) → a.octets ≡ b.octets → original_data s session.0 counter a.octets ≡ None
     → Books (hearing c verdict) s s (uplink_of a session.0 Data counter pa.band) a b

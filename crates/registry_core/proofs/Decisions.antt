@@ -273,7 +273,7 @@ frame_ended c s report frame session counter band (Some found) h gateway told at
   refusal = λ x h. cc;
 }
 
--- what is said of a frame that its data rate carries is said of its octets
+-- what is read of a frame that its data rate can carry is read of its octets
 pub carried : {X : Type 0} (says : Option Phy → Option X) (dr : DataRate) (octets : List ℕ) (x : X) → says None ≡ None → says (frame_at dr octets) ≡ Some x → says (frame_of octets) ≡ Some x
 carried says dr octets x none e = by_length (nat_le (length octets) (max_length dr)) e
   where
@@ -370,7 +370,7 @@ sound_after c s (e ∷ es) h = sound_after c (step c s e).0 es (change_sound c s
 pub sound_of : (c : Settings) (heard : List Envelope) → IsSound c (state_of c heard)
 sound_of c heard = sound_after c (opening c) heard (opening_sound c)
 
--- what holds at first, and is kept by what is allowed, holds whatever was heard
+-- what is true at first, and stays true with each allowed change, is true whatever was heard
 pub whatever_heard : (c : Settings) (P : State → Type 0) → P (opening c) → ((s : State) (e : Envelope) → IsAllowed c s (decision_of c s e).0 → P s → P (step c s e).0)
     → (heard : List Envelope) → P (state_of c heard)
 whatever_heard c P first kept heard = after (opening c) heard (opening_sound c) first

@@ -1,4 +1,4 @@
--- With the view that a state holds for a downlink, the checks by the view are those of the state.
+-- With the view that a state has for a downlink, the checks by the view are those of the state.
 use Rattle.std.proofs.Common.{◌≡◌, ℕ, ◌+◌, ◌≤◌, List, [], ◌∷◌, ◌++◌, Bool, false, not, length, map, filter, Option, Some, None, Ok, refl, ap, ◌∙◌, arith, subst}
 use Rattle.std.specs.Prelude.{pos, All, IsPermutation, option_and_then, option_map}
 use Rattle.std.specs.Option.{option_map_or}

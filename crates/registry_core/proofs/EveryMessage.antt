@@ -32,8 +32,8 @@ refusals_change_nothing c heard e r refused = ap (state_with (state_of c heard))
 
 -- ---- which message a change comes from
 
--- what is kept of senders, owners, gateways, devices and limits is changed by an operator's messages, the senders by one that adds a sender, and
--- a limit by the one that sets it
+-- only an operator's messages change senders, owners, gateways, devices and limits; only one that adds a sender changes the senders, and
+-- only one that sets a limit the limit
 abbrev pub IsFrom : Bool → Message → Effect → Type 0
 IsFrom operator m (AddsSender name role) = (operator ≡ true) × (adds_sender m ≡ true)
 IsFrom operator m (AddsOwner name) = operator ≡ true

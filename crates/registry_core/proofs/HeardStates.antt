@@ -1,4 +1,4 @@
--- What holds of the registry after every list of messages.
+-- What is true of the registry after every list of messages.
 use Rattle.std.proofs.Common.{◌≡◌, ℕ, ◌+◌, ◌%◌, ◌<◌, ◌≤◌, List, [], ◌∷◌, ◌++◌, length, true, false, Option, Some, None, refl, sym, ◌∙◌, ap, subst, arith, inl, inr}
 use Rattle.std.specs.Prelude.{◌⊎◌, ◌==◌, is_some, IsTrue}
 use Rattle.std.proofs.lemmas.Bool.{eq-eqb}
@@ -71,7 +71,7 @@ HasNonce sessions u = (a : Session) × (item_at sessions u.session ≡ Some a) �
 abbrev pub IsFrameOf : Settings → Uplink → Type 0
 IsFrameOf c u = (frame : DataFrame) × (data_up (frame_of u.octets) ≡ Some frame) × (frame.addr ≡ address_of c u.session) × (frame.fcnt % 65536 ≡ u.counter % 65536)
 
--- ---- what every state keeps
+-- ---- the invariant of every state
 
 -- what the gateway received lies in a band
 abbrev pub IsInBand : Reception → Type 0
@@ -115,8 +115,8 @@ opening_sound c = record {
   in_bands = λ n gateway reception e. cc;
 }
 
--- What a change may be: it fits; a session has an address, and a data uplink is one of its frames; copies lie in bands;
--- a booking has a downlink's time on air, and keeps every hour within the limit; and every hour is within a limit that is set.
+-- What a change may be: it fits; a session has an address, and a data uplink is one of its frames; receptions are in bands; a booking has a
+-- downlink's time on air, and every hour stays within the limit with it; and every hour is within a limit that is set.
 abbrev pub IsAllowed : Settings → State → Effect → Type 0
 IsAllowed c s (AddsSession session uplink gateway reception) = Fits (AddsSession session uplink gateway reception) s × (length s.sessions < c.addresses) × IsInBand reception
 IsAllowed c s (AddsUplink uplink gateway reception) = Fits (AddsUplink uplink gateway reception) s × IsFrameOf c uplink × IsInBand reception
@@ -146,7 +146,7 @@ new_of_uplinks uplinks copies u gateway reception all n at r e = within (copy_wa
     within (inl old) = omega (arith, length_push uplinks u, all n at r old)
     within (inr new) = omega (arith, length_push uplinks u, new)
 
--- ---- each change keeps it
+-- ---- each change leaves the invariant true
 
 session_sound : (c : Settings) (s : State) (session : Session) (u : Uplink) (gateway : List ℕ) (reception : Reception) → IsSound c s → IsAllowed c s (AddsSession session u gateway reception)
     → IsSound c (state_with s (AddsSession session u gateway reception))

@@ -39,7 +39,7 @@ hearing c verdict s report = join_heard c s report verdict
 abbrev rest_of : Settings → State → Report → JoinRequest → Band → Checked Decision
 rest_of c s report join band = unless (original_join s join report.octets) (join_copied c s report) (join_added c s report join band)
 
--- what those checks find, and that they hold in a state with the same gateways and devices too
+-- what those checks find; they pass in a state with the same gateways and devices too
 record Passes (c : Settings) (s : State) (verdict : JoinVerdict) (report : Report) (join : JoinRequest) : Type 0 where
   told : join_request (frame_at report.rate.dr report.octets) ≡ Some join
   band : Band
@@ -89,7 +89,7 @@ new_session join = record { device = join.dev_eui; nonce = join.nonce }
 abbrev new_uplink : State → Report → JoinRequest → Band → Uplink
 new_uplink s report join band = uplink_of report (length s.sessions + 1) Join join.nonce band
 
--- it makes the session and the uplink of which the second report is a copy
+-- it makes the session and the uplink that the second report copies
 books : (c : Settings) (s : State) (verdict : JoinVerdict) (a b : Report) (join : JoinRequest) (pa : Passes c s verdict a join) → Passes c s verdict b join
     → IsSound c (after_report (hearing c verdict) s a) → a.octets ≡ b.octets → original_join s join a.octets ≡ None
     → Books (hearing c verdict) s (with_session s (new_session join)) (new_uplink s a join pa.band) a b

@@ -1,4 +1,4 @@
--- With the view that a state holds for a join, the checks by the view are those of the state.
+-- With the view that a state has for a join, the checks by the view are those of the state.
 use Rattle.std.proofs.Common.{◌≡◌, ℕ, Bool, true, false, List, length, Option, Some, None, refl, ap, ◌∙◌, if◌then◌else◌}
 use Rattle.std.specs.Prelude.{◌==◌, nat_le, bytes_eq, option_and_then, option_map}
 use Rattle.radio_core.specs.declared.bands.Band.{Band}
@@ -50,7 +50,7 @@ found_same : (c : Settings) (s : State) (v : View) (report : Report) (found : Op
 found_same c s v report None rest n = refl
 found_same c s v report (Some found) rest n = copies_same c s v report found (bytes_eq found.1.octets report.octets) rest n
 
--- what follows where all checks before the copy hold
+-- what follows if all checks before the copy pass
 ended_same : (c : Settings) (s : State) (v : View) (report : Report) (join : JoinRequest) (band : Band) → Counts c s v → v.last_nonce ≡ last_nonce s.sessions join.dev_eui
     → v.uplink ≡ option_map (view_of_uplink s report.gateway) (join_with s.uplinks s.sessions join.dev_eui join.nonce)
     → unless (original_by v.uplink report.octets) (join_copied_by v report) (join_added_by v report join band)
@@ -98,7 +98,7 @@ tail c s v report verdict (Some join) n sees =
       wants (is_good verdict) MicFailed
       unless (original_join s join report.octets) (join_copied c s report) (join_added c s report join band)) sees.device
 
--- where the data rate carries so many octets, the frame is the one that they are
+-- if the data rate can carry this many octets, the frame is the one that they are
 heard_same : (c : Settings) (s : State) (v : View) (report : Report) (verdict : JoinVerdict) (carried : Bool) → nat_le (length report.octets) (max_length report.rate.dr) ≡ carried
     → Counts c s v → v.gateway_known ≡ s.gateways report.gateway → Sees s v report.gateway (join_request (frame_of report.octets))
     → join_heard_by v report verdict ≡ join_heard c s report verdict

@@ -1,4 +1,4 @@
--- A copy that is kept stays, and a report of a frame that is booked adds one copy at most.
+-- A reception that is stored stays, and a report of a frame that is booked adds at most one.
 use Rattle.std.proofs.Common.{◌≡◌, ◌≢◌, ℕ, Bool, true, false, List, Option, Some, None, refl, sym, subst, ◌∙◌, ap, rules, inl, inr}
 use Rattle.std.specs.Prelude.{◌⊎◌, ◌==◌, bytes_eq, unwrap_or}
 use Rattle.std.proofs.lemmas.Bool.{eq-eqb, eqb-true}
@@ -43,7 +43,7 @@ use Rattle.registry_core.proofs.Items.{first_is, with_octets}
 
 -- ---- a copy stays
 
--- where the gateway had no copy of the uplink, one more leaves each that is kept
+-- if the gateway had no reception of the uplink, adding one leaves each that is stored
 old_stays : (copies : ℕ → List ℕ → Option Reception) (number : ℕ) (gateway : List ℕ) (new : Reception) (n : ℕ) (at : List ℕ) (old : Reception) (same named : Bool)
     → (n == number) ≡ same → bytes_eq at gateway ≡ named → copies number gateway ≡ None → copies n at ≡ Some old → copies_with copies number gateway new n at ≡ Some old
 old_stays copies number gateway new n at old false named is by none there = rw is there

@@ -123,7 +123,7 @@ limits_are_within c heard gateway band list = within_after c [] heard _ list.eac
 
 -- ---- the last one that was set
 
--- the one that is named later, or else the one that stood
+-- the one that is named later, or else the one before
 abbrev standing_by : Option ℕ → ℕ → ℕ
 standing_by named stood = option_map_or (λ most. most) named stood
 

@@ -1,4 +1,4 @@
--- With the view that a state holds for a limit that is to be set, the checks by the view are those of the state.
+-- With the view that a state has for a limit that is to be set, the checks by the view are those of the state.
 use Rattle.std.proofs.Common.{◌≡◌, Bool, true, false, List, ℕ, refl, sym, ◌∙◌, ap, subst}
 use Rattle.std.specs.Prelude.{IsPermutation}
 use Rattle.duty_core.specs.Computed.{hours_within}

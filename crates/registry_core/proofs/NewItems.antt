@@ -25,7 +25,7 @@ use Rattle.registry_core.specs.State.{State}
 use Rattle.registry_core.specs.Step.{checked_decision}
 use Rattle.registry_core.specs.Uplinks.{copy_added}
 
--- it holds of the booking that a change adds
+-- it is true of the booking that a change adds
 abbrev pub OfBooking : (Booking → Type 0) → Effect → Type 0
 OfBooking P (AddsBooking booking) = P booking
 OfBooking P effect = Unit {0}
@@ -36,7 +36,7 @@ OfUplink P (AddsSession session uplink gateway reception) = P uplink reception
 OfUplink P (AddsUplink uplink gateway reception) = P uplink reception
 OfUplink P effect = Unit {0}
 
--- it holds of what the checks let through
+-- it is true of the decision of the checks
 abbrev pub Lets : (Effect → Type 0) → Checked Decision → Type 0
 Lets Holds checked = Holds (decision_or_refusal checked).0
 

@@ -54,7 +54,7 @@ heard_at c before (h ∷ rest) after e each =
     let later = heard_at c (before ++ h ∷ []) rest after e each.3 in
     (rw append_assoc at later.0, rw append_assoc at later.1)
 
--- what has the pair of one that stands after others without it is found there
+-- an envelope with the sender and transaction number of one that comes after others without them is found there
 found_at : (c : Settings) (s : State) (before after : List Envelope) (e other : Envelope) → same_pair other e ≡ true → has_pair before other ≡ false
     → find (λ kept. same_pair other kept.0) (answers_after c s (before ++ e ∷ after)) ≡ Some (e, (step c (state_after c s before) e).1)
 found_at c s [] after e other same none = rw same refl

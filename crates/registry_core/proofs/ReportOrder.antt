@@ -64,7 +64,7 @@ both_copies s us n a b None None apart same =
     differ_first (put (put s n None a) n None b) us (put (put s n None b) n None a).copies same (λ m at. either_order s.copies n a.gateway b.gateway
     (reception_of a) (reception_of b) m at (m == n) (bytes_eq at a.gateway) (bytes_eq at b.gateway) apart refl refl refl)
 
--- what holds of two states holds of states that are equal to them
+-- what is true of two states is true of states that are equal to them
 either : (x y a b : State) → x ≡ a → y ≡ b → SameButFirst a b → SameButFirst x y
 either x y a b is_a is_b same = subst (λ z. SameButFirst z y) (sym is_a) (subst (SameButFirst a) (sym is_b) same)
 

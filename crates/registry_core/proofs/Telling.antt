@@ -1,4 +1,4 @@
--- Checks in a row, where the answer passes a test that no refusal passes: then every check holds.
+-- Checks in a row, if the answer passes a test that no refusal passes: then every check passes.
 use Rattle.std.proofs.Common.{◌≡◌, Bool, true, false, Option, Some, None, refl, sym, subst}
 use Rattle.std.specs.Prelude.{IsTrue}
 use Rattle.std.proofs.lemmas.Bool.{both_ways}

@@ -1,4 +1,4 @@
--- The numbers of a view have room: those of a heard list are few.
+-- The numbers of a view have space for one more: those of a log are few.
 use Rattle.std.proofs.Common.{◌≡◌, ℕ, ◌+◌, ◌≤◌, List, [], ◌∷◌, length, Option, Some, None, refl, sym, ◌∙◌, ap, subst, arith}
 use Rattle.std.specs.Prelude.{IfSome, option_map, option_and_then}
 use Rattle.std.proofs.lemmas.List.{length_push}

@@ -109,7 +109,7 @@ join_and_copy : answers three_joins ≡ named ++ JoinSuccess 61696 B3 false 0x01
 unfolding sender_add owner_add gateway_add device_add join_heard join_added original_join frame_of band_at airtime_of
 join_and_copy = refl
 
--- the second tells of the uplink that the first booked
+-- the second is answered with the uplink that the first booked
 join_copied : map copied_uplink (answers three_joins) ≡ None ∷ None ∷ None ∷ None ∷ None ∷ None ∷ Some 1 ∷ None ∷ []
 unfolding sender_add owner_add gateway_add device_add join_heard join_added original_join frame_of band_at airtime_of
 join_copied = refl
@@ -229,12 +229,12 @@ four_downlinks = by_bridge 5 (down_in First 2 0) ∷ by_bridge 6 (down_in First 
 abbrev three_booked : List Answer
 three_booked = DownSuccess 991232 B4 1 start ∷ DownSuccess 991232 B4 2 (start + 10000000) ∷ DownSuccess 991232 B4 3 (start + 20000000) ∷ []
 
--- an hour that holds its limit exactly
+-- an hour that is exactly at its limit
 hour_full : answers (four_uplinks (start + 3598373696) ++ four_downlinks) ≡ four_answers ++ three_booked ++ DownSuccess 991232 B4 4 (start + 3599373696) ∷ []
 unfolding sender_add owner_add gateway_add device_add join_heard join_added original_join frame_of band_at airtime_of frame_heard data_added original_data down_book down_added is_clear hours_within peak_of
 hour_full = refl
 
--- and one that would hold a microsecond more
+-- and one that would be a microsecond above it
 hour_above : answers (four_uplinks (start + 3598373695) ++ four_downlinks) ≡ four_answers ++ three_booked ++ Refused refusals.Duty ∷ []
 unfolding sender_add owner_add gateway_add device_add join_heard join_added original_join frame_of band_at airtime_of frame_heard data_added original_data down_book down_added is_clear hours_within peak_of
 hour_above = refl
@@ -283,12 +283,12 @@ dropped_answers : answers dropped
 unfolding sender_add owner_add gateway_add device_add join_heard join_added original_join frame_of band_at airtime_of frame_heard data_added original_data down_book down_added down_done is_clear hours_within peak_of
 dropped_answers = refl
 
--- both bookings stand in the state, the first dropped
+-- both bookings are in the state, the first dropped
 dropped_leaves : map (λ b. b.standing) (state_of desk dropped).bookings ≡ Dropped ∷ Booked ∷ []
 unfolding sender_add owner_add gateway_add device_add join_heard join_added original_join frame_of band_at airtime_of frame_heard data_added original_data down_book down_added down_done is_clear hours_within peak_of
 dropped_leaves = refl
 
--- a copy with its own end and rate; what its gateway reports again changes nothing; and a downlink goes by the first of them
+-- a reception with its own end and rate; a second report of its gateway changes nothing; and a downlink follows the first of them
 abbrev heard_at_two : List Envelope
 heard_at_two = joined ++ by_bridge 1 (up_at 868100000 Dr5 start 0) ∷ by_bridge 2 (FrameHeard (report_at gw_b (start + 4) 868300000 Dr0 (up_octets 0 0 0x11)) (Some 0))
     ∷ by_bridge 3 (FrameHeard (report_at gw_b (start + 9) 868100000 Dr5 (up_octets 0 0 0x11)) (Some 0)) ∷ by_bridge 4 (DownBook 2 gw_b First (down_octets 0)) ∷ []
@@ -298,7 +298,8 @@ by_its_own_copy : answers heard_at_two ≡ joined_answers ++ FrameSuccess 41216 
 unfolding sender_add owner_add gateway_add device_add join_heard join_added original_join frame_of band_at airtime_of frame_heard data_added original_data down_book down_added is_clear hours_within peak_of
 by_its_own_copy = refl
 
--- an uplink that isn't there, or not at the gateway; the wrong kind of frame; 65 octets in the second window; a foreign address; 64 octets there; what became of it
+-- an uplink that isn't there, or not at the gateway; the wrong kind of frame; 65 octets in the second window; another address; 64 octets
+-- there; how it ended
 abbrev accept_octets : List ℕ
 accept_octets = 0x20 ∷ 0 ∷ 1 ∷ 2 ∷ 3 ∷ 4 ∷ 5 ∷ 6 ∷ 7 ∷ 8 ∷ 9 ∷ 10 ∷ 11 ∷ 12 ∷ 13 ∷ 14 ∷ 15 ∷ []
 
@@ -362,7 +363,7 @@ limited_answers : answers limited ≡ four_answers ++ three_booked ++ DownSucces
 unfolding sender_add owner_add gateway_add device_add join_heard join_added original_join frame_of band_at airtime_of frame_heard data_added original_data down_book down_added limit_set is_clear hours_within peak_of
 limited_answers = refl
 
--- where the last one is dropped, the hour of the three others is within their sum, and then there is no room to answer its uplink again
+-- if the last one is dropped, the hour of the three others is within their sum, and then there is no space to answer its uplink again
 abbrev lowered : List Envelope
 lowered = four_uplinks (start + 3598373696) ++ four_downlinks ++ by_bridge 9 (DownDone 4 false) ∷ sets 1 gw_a B4 2973695 ∷ sets 2 gw_a B4 2973696
     ∷ by_bridge 10 (down_in First 5 4) ∷ []
@@ -372,7 +373,7 @@ lowered_answers : answers lowered
 unfolding sender_add owner_add gateway_add device_add join_heard join_added original_join frame_of band_at airtime_of frame_heard data_added original_data down_book down_added down_done limit_set is_clear hours_within peak_of
 lowered_answers = refl
 
--- the last accepted LimitSet of each list for a gateway's band, and the limits that stand
+-- the last accepted LimitSet of each list for a gateway's band, and the limits
 lowered_limits : (last_limit gw_a B4 (answers_of desk lowered) ∷ last_limit gw_a B5 (answers_of desk lowered) ∷ last_limit gw_b B4 (answers_of desk lowered) ∷ [] ≡ Some 2973696 ∷ None ∷ None ∷ [])
     × (limit_standing (state_of desk lowered) gw_a B4 ∷ limit_standing (state_of desk lowered) gw_a B5 ∷ limit_standing (state_of desk lowered) gw_b B4 ∷ [] ≡ 2973696 ∷ 360000000 ∷ 3600000 ∷ [])
 unfolding sender_add owner_add gateway_add device_add join_heard join_added original_join frame_of band_at airtime_of frame_heard data_added original_data down_book down_added down_done limit_set is_clear hours_within peak_of
@@ -428,7 +429,7 @@ replies heard (e ∷ es) = reply_to desk heard e ∷ replies (heard_with desk he
 abbrev owner_of_stranger : Envelope
 owner_of_stranger = record { sender = codes "stranger"; transaction = 1; message = OwnerAdd (codes "city") }
 
--- a message again, its number for another message, and a stranger before and after being added
+-- a message again, another message with its number, and an unknown sender before and after it is added
 each_replied : replies [] (by_office 1 (OwnerAdd (codes "town")) ∷ by_office 1 (OwnerAdd (codes "town")) ∷ by_office 2 (OwnerAdd (codes "town")) ∷ by_office 2 (OwnerAdd (codes "town"))
     ∷ by_office 1 (OwnerAdd (codes "city")) ∷ owner_of_stranger ∷ by_office 3 (SenderAdd (codes "stranger") Operator) ∷ owner_of_stranger ∷ [])
     ≡ Answers Success ∷ Answers Success ∷ Answers (Refused refusals.Exists) ∷ Answers (Refused refusals.Exists)

@@ -1,4 +1,4 @@
--- The messages of an operator: what each asks, in order, and what it adds. Checks and refusals are this project's.
+-- The messages of an operator: the checks of each, in order, and what it adds. Checks and refusals are this project's.
 use Rattle.std.specs.Prelude.{ℕ, Bool, true, false, not, List, Option, Some, is_none, is_some, Ok}
 use Rattle.duty_core.specs.Computed.{hours_within}
 use Rattle.registry_core.specs.declared.answers.Answer.TheVariants.{Success}
@@ -46,7 +46,7 @@ device_add s e dev_eui join_eui owner = do
   wants (is_none (s.devices dev_eui)) Exists
   Ok (AddsDevice dev_eui (record { join_eui = join_eui; owner = owner }), Success)
 
--- an operator gives a device to an owner, which may be the one that it has
+-- an operator moves a device to an owner, which may be the owner that it has
 unfoldable pub device_move : State → Envelope → ℕ → List ℕ → Checked Decision
 device_move s e dev_eui owner = do
   wants (is_operator (s.senders e.sender)) WrongRole
@@ -54,7 +54,7 @@ device_move s e dev_eui owner = do
   wants (s.owners owner) UnknownOwner
   Ok (MovesDevice dev_eui owner, Success)
 
--- an operator sets the limit of a gateway's band, where no hour of it holds more time on air, dropped bookings aside
+-- an operator sets the limit of a gateway's band; no hour of the band may be above it, dropped bookings aside
 unfoldable pub limit_set : State → Envelope → List ℕ → Limit → Checked Decision
 limit_set s e gateway limit = do
   wants (is_operator (s.senders e.sender)) WrongRole

@@ -1,5 +1,5 @@
--- What the messages that administer the desk change, and the end of a booking: one thing each, and nothing else. Each of
--- them is answered Success exactly where its conditions are met.
+-- What the messages that administer the desk and the end of a booking change: one thing each, and nothing else. Each of them is answered
+-- Success if and only if its conditions are met.
 use Rattle.std.specs.Prelude.{◌≡◌, ◌≢◌, ◌↔◌, ℕ, Bool, true, false, List, length, Some, None, IsTrue, if◌then◌else◌}
 use Rattle.registry_core.specs.declared.answers.Answer.TheVariants.{Success}
 use Rattle.registry_core.specs.declared.facts.Booking.{Booking}
@@ -32,7 +32,7 @@ pub record IsNewSender (s : State) (e : Envelope) (name : List ℕ) : Type 0 whe
   pub operator : IsTrue (is_operator (s.senders e.sender))
   pub new : s.senders name ≡ None
 
--- The name is a sender's with the role. Each other sender is as it was, and so is all else.
+-- There is a sender with the name and the role. Each other sender is as it was, and so is everything else.
 pub record IsSenderAdded (s after : State) (name : List ℕ) (role : Role) : Type 0 where
   pub sender : after.senders name ≡ Some role
   pub others : (other : List ℕ) → other ≢ name → after.senders other ≡ s.senders other
@@ -56,7 +56,7 @@ pub record IsNewOwner (s : State) (e : Envelope) (name : List ℕ) : Type 0 wher
   pub operator : IsTrue (is_operator (s.senders e.sender))
   pub new : s.owners name ≡ false
 
--- The name is an owner's. Each other owner is as it was, and so is all else.
+-- There is an owner with the name. Each other owner is as it was, and so is everything else.
 pub record IsOwnerAdded (s after : State) (name : List ℕ) : Type 0 where
   pub owner : after.owners name ≡ true
   pub others : (other : List ℕ) → other ≢ name → after.owners other ≡ s.owners other
@@ -80,7 +80,7 @@ pub record IsNewGateway (s : State) (e : Envelope) (name : List ℕ) : Type 0 wh
   pub operator : IsTrue (is_operator (s.senders e.sender))
   pub new : s.gateways name ≡ false
 
--- The name is a gateway's. Each other gateway is as it was, and so is all else.
+-- There is a gateway with the name. Each other gateway is as it was, and so is everything else.
 pub record IsGatewayAdded (s after : State) (name : List ℕ) : Type 0 where
   pub gateway : after.gateways name ≡ true
   pub others : (other : List ℕ) → other ≢ name → after.gateways other ≡ s.gateways other
@@ -105,7 +105,7 @@ pub record IsNewDevice (s : State) (e : Envelope) (dev_eui : ℕ) (owner : List 
   pub owned : IsTrue (s.owners owner)
   pub new : s.devices dev_eui ≡ None
 
--- The device has this JoinEUI and this owner. Each other device is as it was, and so is all else.
+-- The device has this JoinEUI and this owner. Each other device is as it was, and so is everything else.
 pub record IsDeviceAdded (s after : State) (dev_eui join_eui : ℕ) (owner : List ℕ) : Type 0 where
   pub device : after.devices dev_eui ≡ Some (record { join_eui = join_eui; owner = owner })
   pub others : (other : ℕ) → other ≢ dev_eui → after.devices other ≡ s.devices other
@@ -124,15 +124,15 @@ DevicesAddedAlone = (c : Settings) (s : State) (e : Envelope) (dev_eui join_eui 
 
 -- ---- moves
 
--- An operator sends the message, and both the device and the owner are known. The owner may be the one that it has.
+-- An operator sends the message, and both the device and the owner are known. The owner may be the one that the device has.
 pub record IsMovable (s : State) (e : Envelope) (dev_eui : ℕ) (owner : List ℕ) : Type 0 where
   pub operator : IsTrue (is_operator (s.senders e.sender))
   pub device : Device
   pub there : s.devices dev_eui ≡ Some device
   pub owned : IsTrue (s.owners owner)
 
--- The device keeps its JoinEUI and has this owner. Its last nonce and the floor of its sessions are as they were. Each other
--- device is as it was, and so is all else.
+-- The device has this owner, and its JoinEUI as before. Its last nonce and the floor of its sessions are as they were. Each other device is
+-- as it was, and so is everything else.
 pub record IsDeviceMoved (s after : State) (dev_eui : ℕ) (owner : List ℕ) : Type 0 where
   pub device : (was : Device) → s.devices dev_eui ≡ Some was → after.devices dev_eui ≡ Some (record { join_eui = was.join_eui; owner = owner })
   pub nonce : last_nonce after.sessions dev_eui ≡ last_nonce s.sessions dev_eui
@@ -159,8 +159,8 @@ pub record IsOpenBooking (s : State) (number : ℕ) : Type 0 where
   pub there : item_at s.bookings number ≡ Some booking
   pub standing : booking.standing ≡ Booked
 
--- The booking is sent or dropped, and keeps its uplink, gateway, band and span. Each other booking is as it was, and so is
--- all else.
+-- The booking is sent or dropped, and its uplink, gateway, band and span are as before. Each other booking is as it was, and so is
+-- everything else.
 pub record IsBookingEnded (s after : State) (number : ℕ) (sent : Bool) : Type 0 where
   pub booking : (was : Booking) → item_at s.bookings number ≡ Some was
       → item_at after.bookings number ≡ Some (record { uplink = was.uplink; gateway = was.gateway; band = was.band; span = was.span; standing = if sent then Sent else Dropped })

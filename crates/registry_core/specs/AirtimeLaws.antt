@@ -1,4 +1,4 @@
--- What is booked of the air: when each downlink and each uplink is on it, for how long, and in which band.
+-- What is booked of the air: when each downlink and each uplink is on the air, for how long, and in which band.
 use Rattle.std.specs.Prelude.{◌≡◌, ◌⊎◌, ℕ, ◌+◌, ◌≤◌, true, false, List, length, Some, IsTrue, pos}
 use Rattle.radio_core.specs.declared.data_rates.DataRate.{DataRate}
 use Rattle.radio_core.specs.declared.data_rates.Rate.{Rate}
@@ -21,20 +21,19 @@ use Rattle.registry_core.specs.Settings.{Settings}
 use Rattle.registry_core.specs.State.{State}
 use Rattle.registry_core.specs.Windows.{delay, rate_in}
 
--- how many octets the frame has that answers an uplink of the kind: a join accept 17 or 33, and a data frame at least 12
+-- the number of octets of the frame that answers an uplink of the kind: 17 or 33 for a join accept, and at least 12 for a data frame
 abbrev pub HasDownlinkSize : Kind → ℕ → Type 0
 HasDownlinkSize Join n = (n ≡ 17) ⊎ (n ≡ 33)
 HasDownlinkSize Data n = 12 ≤ n
 
--- the frame has this number of octets, and the data rate carries them
+-- the frame has this number of octets, and the data rate can carry them
 pub record IsDownlinkSize (kind : Kind) (dr : DataRate) (n : ℕ) : Type 0 where
   pub frame : HasDownlinkSize kind n
   pub carried : n ≤ max_length dr
 
--- The booking answers an uplink of which its gateway has a copy, in one of the two windows after that. Its octets
--- are a frame that the uplink's kind asks for and that the window's data rate carries, to the session's address. It
--- begins where the window opens, is on the air as long as a downlink of so many octets is, which has no payload CRC
--- where it is of LoRa, and the window lies in its band.
+-- The booking answers an uplink that its gateway received, in one of the two windows after that. Its octets are a frame that the uplink's
+-- kind asks for and that the window's data rate can carry, to the session's address. It begins when the window opens. Its length is that of
+-- a downlink with these octets, which has no payload CRC if it is of LoRa. The window is in its band.
 pub record IsDownlink (c : Settings) (s : State) (booking : Booking) : Type 0 where
   pub uplink : Uplink
   pub there : item_at s.uplinks booking.uplink ≡ Some uplink
@@ -52,14 +51,13 @@ pub record IsDownlink (c : Settings) (s : State) (booking : Booking) : Type 0 wh
   pub airtime : IsAirtime rate.dr (length octets) false booking.span.len
   pub band : IsTrue (lies_in rate.freq rate.dr booking.band)
 
--- so it is of each booking, whatever was heard
+-- the same for each booking, whatever was heard
 abbrev pub BookingsAreDownlinks : Type 0
 BookingsAreDownlinks = (c : Settings) (heard : List Envelope) (n : ℕ) (booking : Booking)
     → item_at (state_of c heard).bookings n ≡ Some booking → IsDownlink c (state_of c heard) booking
 
--- A gateway has a copy of the uplink with this number whose data rate carries its octets. It is on the air as long as
--- an uplink of so many octets is, which has a payload CRC where it is of LoRa, up to the end of the copy, and the copy
--- lies in its band.
+-- A gateway has a reception of the uplink with this number whose data rate can carry its octets. Its length is that of an uplink with these
+-- octets, which has a payload CRC if it is of LoRa. It ends when the reception ends, and the reception is in its band.
 pub record IsReceived (s : State) (number : ℕ) (uplink : Uplink) : Type 0 where
   pub gateway : List ℕ
   pub copy : Reception
@@ -69,7 +67,7 @@ pub record IsReceived (s : State) (number : ℕ) (uplink : Uplink) : Type 0 wher
   pub ends : uplink.start + uplink.airtime ≡ copy.end
   pub band : IsTrue (lies_in copy.rate.freq copy.rate.dr uplink.band)
 
--- so it is of each uplink, whatever was heard
+-- the same for each uplink, whatever was heard
 abbrev pub UplinksAreReceived : Type 0
 UplinksAreReceived = (c : Settings) (heard : List Envelope) (n : ℕ) (uplink : Uplink)
     → item_at (state_of c heard).uplinks n ≡ Some uplink → IsReceived (state_of c heard) n uplink

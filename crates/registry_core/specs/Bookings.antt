@@ -1,4 +1,4 @@
--- What follows from the bookings: which of them stand, when a gateway is on the air, what its limits are.
+-- What follows from the bookings: which of them aren't dropped, when a gateway is on the air, and its limits.
 use Rattle.std.specs.Prelude.{ℕ, ◌==◌, Bool, true, false, not, ◌&&◌, List, map, filter, count_by, bytes_eq}
 use Rattle.std.specs.List.{list_any}
 use Rattle.std.specs.Option.{option_map_or}
@@ -38,13 +38,13 @@ next_down bookings uplinks n = count_by (is_down_of uplinks n) bookings
 abbrev pub is_answer_to : ℕ → Booking → Bool
 is_answer_to number booking = booking.uplink == number && not (is_dropped booking.standing)
 
--- a booking that isn't dropped answers it
+-- a booking that isn't dropped answers the uplink
 abbrev pub is_answered : List Booking → ℕ → Bool
 is_answered bookings number = list_any (is_answer_to number) bookings
 
 -- ---- when a gateway is on the air
 
--- the booking stands at the gateway: it isn't dropped
+-- the booking is the gateway's, and isn't dropped
 abbrev pub stands_at : List ℕ → Booking → Bool
 stands_at gateway booking = bytes_eq booking.gateway gateway && not (is_dropped booking.standing)
 
@@ -56,18 +56,17 @@ stands_in gateway band booking = stands_at gateway booking && band_number bookin
 abbrev pub downlinks : List Booking → List ℕ → List Interval
 downlinks bookings gateway = map (λ booking. booking.span) (filter (stands_at gateway) bookings)
 
--- and in one band
+-- the same in one band
 abbrev pub downlinks_in : List Booking → List ℕ → Band → List Interval
 downlinks_in bookings gateway band = map (λ booking. booking.span) (filter (stands_in gateway band) bookings)
 
 -- ---- the limit
 
--- The limit of a gateway's band, the most time on air within any hour: the one that was set for it last, and else the
--- band's own.
+-- The limit of a gateway's band, the greatest time on air within any hour: the limit that was set for it last, and else the band's own.
 abbrev pub limit_standing : State → List ℕ → Band → ℕ
 limit_standing s gateway band = option_map_or (λ most. most) (s.limits gateway (band_number band)) (limit_of band)
 
--- No hour of any gateway's band holds more than the limit: the use of every sliding hour, by downlinks that aren't dropped.
+-- No hour of any gateway's band is above the limit: the use of every sliding hour by downlinks that aren't dropped.
 abbrev pub EveryHourKept : State → Type 0
 EveryHourKept s = (gateway : List ℕ) (band : Band)
     → EveryHourWithin (downlinks_in s.bookings gateway band) (limit_standing s gateway band)

@@ -1,4 +1,4 @@
--- What holds of copies: a report of a frame that is booked adds one at most, and a copy that is kept stays.
+-- Laws of receptions: a report of a frame that is booked adds at most one, and a reception that is stored stays.
 use Rattle.std.specs.Prelude.{◌≡◌, ◌≢◌, ◌⊎◌, ℕ, List, Option, Some, None, unwrap_or, if◌then◌else◌}
 use Rattle.registry_core.specs.declared.answers.Answer.{Answer}
 use Rattle.registry_core.specs.declared.answers.Answer.TheVariants.{JoinSuccess, FrameSuccess}
@@ -15,26 +15,26 @@ use Rattle.registry_core.specs.State.{State}
 use Rattle.registry_core.specs.Step.{step}
 use Rattle.registry_core.specs.Uplinks.{reception_of}
 
--- whatever was heard, no message changes a copy that is kept
+-- whatever was heard, no message changes a reception that is stored
 abbrev pub CopiesStay : Type 0
 CopiesStay = (c : Settings) (heard : List Envelope) (e : Envelope) (number : ℕ) (gateway : List ℕ) (copy : Reception)
     → let s : State = state_of c heard in
     s.copies number gateway ≡ Some copy → (step c s e).0.copies number gateway ≡ Some copy
 
--- what a gateway reports by the message
+-- what a gateway reports in the message
 abbrev pub report_heard : Message → Option Report
 report_heard (JoinHeard report verdict) = Some report
 report_heard (FrameHeard report verdict) = Some report
 report_heard _ = None
 
--- the number of the uplink that the answer tells to be known already
+-- the number of the uplink that the answer names as known already
 abbrev pub copied_uplink : Answer → Option ℕ
 copied_uplink (JoinSuccess airtime band copy addr uplink) = if copy then Some uplink else None
 copied_uplink (FrameSuccess airtime band copy counter dev_eui uplink) = if copy then Some uplink else None
 copied_uplink _ = None
 
--- The report is a copy of the uplink with this number. The gateway keeps the copy that it has of it, or else gets this
--- one, and all else is as it was before.
+-- The report is a copy of the uplink with this number. The gateway's reception of it stays if there is one, and else becomes this one.
+-- Everything else is as it was before.
 pub record KeepsCopy (report : Report) (number : ℕ) (before after : State) : Type 0 where
   pub uplink : Uplink
   pub there : item_at before.uplinks number ≡ Some uplink
@@ -52,7 +52,7 @@ pub record KeepsCopy (report : Report) (number : ℕ) (before after : State) : T
   pub bookings : after.bookings ≡ before.bookings
   pub limits : after.limits ≡ before.limits
 
--- what is answered as a copy is a report, and adds no more than that
+-- a message that is answered as a copy is a report, and adds at most that
 abbrev pub CopiesAddOneAtMost : Type 0
 CopiesAddOneAtMost = (c : Settings) (s : State) (e : Envelope) (number : ℕ)
     → copied_uplink (step c s e).1 ≡ Some number

@@ -1,16 +1,16 @@
--- How much the registry holds: no more than it heard messages.
+-- How much the registry has: no more than it heard messages.
 use Rattle.std.specs.Prelude.{◌≢◌, ℕ, ◌+◌, ◌≤◌, Bool, List, length, is_some, IsTrue, All, AllPairs}
 use Rattle.registry_core.specs.declared.messages.Envelope.{Envelope}
 use Rattle.registry_core.specs.Heard.{state_of}
 use Rattle.registry_core.specs.Settings.{Settings}
 use Rattle.registry_core.specs.State.{State}
 
--- So many keys are there at most: no list of different ones that are there is longer, as that of a table's rows.
+-- There are at most this many keys: no list of different keys that are there, such as a table's rows, is longer.
 abbrev pub AtMost : {Key : Type 0} → ℕ → (Key → Bool) → Type 0
 AtMost {Key = Key} most is_there = (keys : List Key)
     → AllPairs (λ a b. a ≢ b) keys → All (λ key. IsTrue (is_there key)) keys → length keys ≤ most
 
--- so much there is, at most, after so many messages
+-- there is at most this much, after this many messages
 pub record HoldsAtMost (messages : ℕ) (s : State) : Type 0 where
   -- the configured operator was there before the first message
   pub senders : AtMost (messages + 1) (λ name. is_some (s.senders name))

@@ -1,5 +1,5 @@
--- A data frame that a gateway heard (LoRaWAN L2 1.0.4, section 4.3). Checks and refusals are this project's, but where a
--- line names a source.
+-- A data frame that a gateway reports (LoRaWAN L2 1.0.4, section 4.3). Checks and refusals are this project's, unless a line names a
+-- source.
 use Rattle.std.specs.Prelude.{ℕ, true, false, not, List, Option, Ok, option_and_then, is_none}
 use Rattle.radio_core.specs.declared.bands.Band.{Band}
 use Rattle.radio_core.specs.Bands.{band_at}
@@ -19,18 +19,18 @@ use Rattle.registry_core.specs.Settings.{Settings}
 use Rattle.registry_core.specs.State.{State, next_uplink}
 use Rattle.registry_core.specs.Uplinks.{is_time, reception_of, time_up, uplink_of, copy_added, same_octets}
 
--- the uplink that the frame is a copy of: the session's data uplink with the verdict's counter, where it has the same octets
+-- the uplink that the frame copies: the session's data uplink with the verdict's counter, if it has the same octets
 unfoldable pub original_data : State → ℕ → ℕ → List ℕ → Option (ℕ × Uplink)
 original_data s session counter octets = option_and_then (same_octets octets) (data_with s.uplinks session counter)
 
--- a copy tells of the uplink that is booked, and books none
+-- a copy is answered with the booked uplink, and books none
 abbrev pub data_copied : State → Report → ℕ → ℕ → ℕ × Uplink → Checked Decision
 data_copied s report dev_eui counter found = Ok (
   copy_added found.0 (s.copies found.0 report.gateway) report,
   FrameSuccess found.1.airtime found.1.band true counter dev_eui found.0,
 )
 
--- A data frame that is no copy has the counter that follows (section 4.3.1.5).
+-- A data frame that isn't a copy has the counter that follows (section 4.3.1.5).
 unfoldable pub data_added : State → Report → DataFrame → ℕ → ℕ → ℕ → Band → Checked Decision
 data_added s report frame session dev_eui counter band = do
   wants (not (is_below_floor s.uplinks s.sessions dev_eui session)) SessionEnded
@@ -42,7 +42,7 @@ data_added s report frame session dev_eui counter band = do
     FrameSuccess (time_up report) band false counter dev_eui (next_uplink s),
   )
 
--- a gateway heard a data frame
+-- a gateway reports a data frame
 unfoldable pub frame_heard : Settings → State → Report → Option ℕ → Checked Decision
 frame_heard c s report verdict = do
   wants (is_time report.time) Time

@@ -1,4 +1,4 @@
--- What a message gets: a change, and an answer.
+-- The decision on a message: a change, and an answer.
 use Rattle.std.specs.Prelude.{Ok, Err}
 use Rattle.registry_core.specs.declared.answers.Answer.{Answer}
 use Rattle.registry_core.specs.declared.answers.Answer.TheVariants.{Refused}

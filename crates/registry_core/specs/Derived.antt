@@ -36,7 +36,7 @@ is_of_device sessions dev_eui n = option_map_or (is_session_of dev_eui) (item_at
 abbrev pub last_nonce : List Session → ℕ → Option ℕ
 last_nonce sessions dev_eui = greatest (map (λ session. session.nonce) (filter (is_session_of dev_eui) sessions))
 
--- the session that has the address, with its number, in a block of addresses from base on
+-- the session that has the address, with its number; `base` is the first address of the block
 abbrev pub session_with : List Session → ℕ → ℕ → Option (ℕ × Session)
 session_with sessions base addr = let n : ℕ = addr + 1 - base in option_map (λ session. (n, session)) (item_at sessions n)
 

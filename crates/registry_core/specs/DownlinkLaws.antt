@@ -1,4 +1,4 @@
--- What holds of downlinks.
+-- Laws of downlinks.
 use Rattle.std.specs.Prelude.{◌≡◌, ◌≢◌, ◌↔◌, ℕ, ℤ, ◌+◌, ◌≤◌, Bool, true, false, List, [], ◌∷◌, ◌++◌, Some, is_some, IsTrue, All}
 use Rattle.radio_core.specs.declared.bands.Band.{Band}
 use Rattle.radio_core.specs.Bands.{band_at}
@@ -25,11 +25,11 @@ use Rattle.registry_core.specs.State.{State}
 use Rattle.registry_core.specs.Step.{step}
 use Rattle.registry_core.specs.Windows.{delay, rate_in}
 
--- no downlink is longer than what makes another one near, 3,000,000 microseconds
+-- no downlink is longer than 3,000,000 microseconds, the length that makes another one near
 abbrev pub DownlinksAreShort : Type 0
 DownlinksAreShort = (c : Settings) (heard : List Envelope) → All (λ booking. booking.span.len ≤ greatest_length) (state_of c heard).bookings
 
--- no two downlinks of a gateway that aren't dropped are on the air at once, in whatever bands
+-- no two downlinks of a gateway that aren't dropped are on the air at once, in any bands
 abbrev pub GatewaysSendOneAtATime : Type 0
 GatewaysSendOneAtATime = (c : Settings) (heard : List Envelope) (gateway : List ℕ) (m n : ℕ) (a b : Booking) → item_at (state_of c heard).bookings m ≡ Some a
     → item_at (state_of c heard).bookings n ≡ Some b → IsTrue (stands_at gateway a) → IsTrue (stands_at gateway b) → m ≢ n
@@ -42,10 +42,10 @@ UplinksAreAnsweredOnce = (c : Settings) (heard : List Envelope) (m n : ℕ) (a b
 
 -- ---- which downlinks are booked
 
--- The gateway is known and has a copy of the uplink. The octets are the frame that the uplink's kind asks for and that the
--- window's data rate carries, to the session's address. The uplink has no booking but dropped ones, and FCnt is that of the
--- next downlink counter. On the air it shares no microsecond with a downlink of the gateway that isn't dropped; and with it
--- every sliding hour of the gateway's band is within the limit.
+-- The gateway is known and has received the uplink. The octets are the frame that the uplink's kind asks for and that the window's data
+-- rate can carry, to the session's address. The uplink has no booking but dropped ones, and FCnt is that of the next downlink counter. On
+-- the air the downlink shares no microsecond with a downlink of the gateway that isn't dropped, and with it every sliding hour of the
+-- gateway's band is within the limit.
 pub record IsAccepted (c : Settings) (s : State) (number : ℕ) (gateway : List ℕ) (window : Window) (octets : List ℕ) : Type 0 where
   pub known : IsTrue (s.gateways gateway)
   pub uplink : Uplink
@@ -66,19 +66,19 @@ abbrev pub tells_booking : Answer → Bool
 tells_booking (DownSuccess airtime band booking start) = true
 tells_booking _ = false
 
--- a downlink is booked exactly where it is accepted
+-- a downlink is booked if and only if it is accepted
 abbrev pub BookedExactly : Type 0
 BookedExactly = (c : Settings) (s : State) (e : Envelope) (number : ℕ) (gateway : List ℕ) (window : Window) (octets : List ℕ) → e.message ≡ DownBook number gateway window octets
     → IsTrue (tells_booking (step c s e).1) ↔ IsAccepted c s number gateway window octets
 
 -- ---- their bands
 
--- what a gateway received of an uplink lies in a band
+-- each reception of an uplink is in a band
 abbrev pub CopiesLieInBands : Type 0
 CopiesLieInBands = (c : Settings) (heard : List Envelope) (number : ℕ) (gateway : List ℕ) (copy : Reception) → (state_of c heard).copies number gateway ≡ Some copy
     → IsTrue (is_some (band_at copy.rate.freq copy.rate.dr))
 
--- and so does the second window: no downlink is refused for its band
+-- and so is the second window: no downlink is refused for its band
 abbrev pub DownlinksHaveBands : Type 0
 DownlinksHaveBands = (c : Settings) (heard : List Envelope) (e : Envelope) (number : ℕ) (gateway : List ℕ) (window : Window) (octets : List ℕ)
     → e.message ≡ DownBook number gateway window octets → (step c (state_of c heard) e).1 ≢ Refused OutOfBand

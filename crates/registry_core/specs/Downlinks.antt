@@ -1,5 +1,5 @@
--- A downlink that a gateway is to send, and what became of it (LoRaWAN L2 1.0.4, Class A). Checks and refusals are this
--- project's, but where a line names a source.
+-- A downlink that a gateway is to send, and the end of a booking (LoRaWAN L2 1.0.4, Class A). Checks and refusals are this project's,
+-- unless a line names a source.
 use Rattle.std.specs.Prelude.{ℕ, ◌+◌, Bool, false, not, List, [], ◌∷◌, ◌++◌, length, pos, Ok}
 use Rattle.radio_core.specs.declared.bands.Band.{Band}
 use Rattle.radio_core.specs.declared.data_rates.Rate.{Rate}
@@ -22,12 +22,12 @@ use Rattle.registry_core.specs.Settings.{Settings}
 use Rattle.registry_core.specs.State.{State}
 use Rattle.registry_core.specs.Windows.{window_of}
 
--- When a downlink from start is on the air. LoRa's have no payload CRC (RP002-1.0.4).
+-- When a downlink that begins at `start` is on the air. LoRa's have no payload CRC (RP002-1.0.4).
 abbrev pub on_air : ℕ → Rate → List ℕ → Interval
 on_air start rate octets = record { start = pos start; len = airtime_of rate.dr (length octets) false }
 
--- It shares no microsecond with a downlink of the gateway that isn't dropped, in any band; and with it every hour of the
--- gateway's band is within the limit (that duty cycle is time on air within an hour: ETSI EN 300 220-2).
+-- It shares no microsecond with a downlink of the gateway that isn't dropped, in any band; and with it every hour of the gateway's band is
+-- within the limit (that duty cycle is time on air within an hour: ETSI EN 300 220-2).
 unfoldable pub down_added : State → ℕ → List ℕ → Band → ℕ → Interval → Checked Decision
 down_added s number gateway band start span = do
   wants (is_clear (downlinks s.bookings gateway) span) Collision
@@ -37,7 +37,7 @@ down_added s number gateway band start span = do
     DownSuccess span.len band (length s.bookings + 1) start,
   )
 
--- a gateway is to answer an uplink of which it has a copy, in a receive window
+-- a gateway is to answer an uplink that it received, in a receive window
 unfoldable pub down_book : Settings → State → ℕ → List ℕ → Window → List ℕ → Checked Decision
 down_book c s number gateway window octets = do
   wants (s.gateways gateway) UnknownGateway

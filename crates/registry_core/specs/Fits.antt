@@ -1,4 +1,4 @@
--- What a change asks of the facts that it is made to.
+-- What a change needs of the facts to which it is applied.
 use Rattle.std.specs.Prelude.{◌≡◌, ℕ, ◌+◌, false, List, length, Some, None, is_some, IsTrue}
 use Rattle.registry_core.specs.declared.effects.Effect.{Effect}
 use Rattle.registry_core.specs.declared.effects.Effect.TheVariants.{Nothing, AddsSender, AddsOwner, AddsGateway, AddsDevice, MovesDevice, AddsSession, AddsUplink, AddsCopy, AddsBooking, EndsBooking, SetsLimit}
@@ -33,13 +33,13 @@ pub record UplinkFits (uplink : Uplink) (at : List ℕ) (s : State) : Type 0 whe
   pub gateway : IsTrue (s.gateways at)
   pub no_copy : s.copies (next_uplink s) at ≡ None
 
--- a new copy of an uplink that is there
+-- a new reception of an uplink that is there
 pub record CopyFits (number : ℕ) (at : List ℕ) (s : State) : Type 0 where
   pub uplink : IsTrue (is_some (item_at s.uplinks number))
   pub gateway : IsTrue (s.gateways at)
   pub no_copy : s.copies number at ≡ None
 
--- a new booking, for an uplink of which the gateway has a copy
+-- a new booking, for an uplink that the gateway received
 pub record BookingFits (booking : Booking) (s : State) : Type 0 where
   pub uplink : IsTrue (is_some (item_at s.uplinks booking.uplink))
   pub gateway : IsTrue (s.gateways booking.gateway)
@@ -52,7 +52,7 @@ pub record EndFits (number : ℕ) (s : State) : Type 0 where
   pub there : item_at s.bookings number ≡ Some booking
   pub standing : booking.standing ≡ Booked
 
--- it adds only what isn't there, and names only what is
+-- the effect adds only what isn't there, and names only what is
 abbrev pub Fits : Effect → State → Type 0
 Fits Nothing s = Unit {0}
 Fits (AddsSender name role) s = s.senders name ≡ None

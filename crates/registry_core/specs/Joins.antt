@@ -1,5 +1,5 @@
--- A join request that a gateway heard (LoRaWAN L2 1.0.4, section 6.2). Checks and refusals are this project's, but where
--- a line names a source.
+-- A join request that a gateway reports (LoRaWAN L2 1.0.4, section 6.2). Checks and refusals are this project's, unless a line names a
+-- source.
 use Rattle.std.specs.Prelude.{ℕ, ◌+◌, ◌==◌, Bool, true, false, List, length, Option, Ok, option_and_then, nat_lt}
 use Rattle.radio_core.specs.declared.bands.Band.{Band}
 use Rattle.radio_core.specs.Bands.{band_at}
@@ -24,18 +24,18 @@ abbrev pub is_good : JoinVerdict → Bool
 is_good Good = true
 is_good Bad = false
 
--- the uplink that the frame is a copy of: the join uplink of the device with this nonce, where it has the same octets
+-- the uplink that the frame copies: the join uplink of the device with this nonce, if it has the same octets
 unfoldable pub original_join : State → JoinRequest → List ℕ → Option (ℕ × Uplink)
 original_join s join octets = option_and_then (same_octets octets) (join_with s.uplinks s.sessions join.dev_eui join.nonce)
 
--- a copy tells of the uplink that is booked, and books none
+-- a copy is answered with the booked uplink, and books none
 abbrev pub join_copied : Settings → State → Report → ℕ × Uplink → Checked Decision
 join_copied c s report found = Ok (
   copy_added found.0 (s.copies found.0 report.gateway) report,
   JoinSuccess found.1.airtime found.1.band true (address_of c found.1.session) found.0,
 )
 
--- A join that is no copy makes a session with the next address. DevNonce rises with each (section 6.2).
+-- A join that isn't a copy makes a session with the next address. DevNonce rises with each (section 6.2).
 unfoldable pub join_added : Settings → State → Report → JoinRequest → Band → Checked Decision
 join_added c s report join band = do
   wants (is_above join.nonce (last_nonce s.sessions join.dev_eui)) Nonce
@@ -46,7 +46,7 @@ join_added c s report join band = do
     JoinSuccess (time_up report) band false (address_of c (length s.sessions + 1)) (next_uplink s),
   )
 
--- a gateway heard a join request
+-- a gateway reports a join request
 unfoldable pub join_heard : Settings → State → Report → JoinVerdict → Checked Decision
 join_heard c s report verdict = do
   wants (is_time report.time) Time

@@ -1,4 +1,4 @@
--- What holds of the registry, whatever was heard.
+-- Laws of the registry, whatever was heard.
 use Rattle.std.specs.Prelude.{◌≡◌, ◌↔◌, ◌⊎◌, ℕ, ◌+◌, ◌%◌, ◌<◌, ◌≤◌, Bool, true, false, List, Some, IsTrue}
 use Rattle.radio_core.specs.Frames.{frame_of}
 use Rattle.registry_core.specs.declared.answers.Answer.{Answer}
@@ -27,7 +27,7 @@ use Rattle.registry_core.specs.Step.{step}
 
 -- ---- sessions
 
--- each session's address lies in the block
+-- each session's address is in the block
 abbrev pub AddressesLieInBlock : Type 0
 AddressesLieInBlock = (c : Settings) (heard : List Envelope) (n : ℕ) (a : Session) → item_at (state_of c heard).sessions n ≡ Some a
     → (c.base ≤ address_of c n) × (address_of c n < c.base + c.addresses)
@@ -69,12 +69,12 @@ abbrev pub CountersAgreeWithFrames : Type 0
 CountersAgreeWithFrames = (c : Settings) (heard : List Envelope) (n : ℕ) (u : Uplink) → item_at (state_of c heard).uplinks n ≡ Some u → u.kind ≡ Data
     → (frame : DataFrame) × (data_up (frame_of u.octets) ≡ Some frame) × (frame.addr ≡ address_of c u.session) × (frame.fcnt % 65536 ≡ u.counter % 65536)
 
--- each uplink has a copy at some gateway
+-- each uplink has a reception at some gateway
 abbrev pub UplinksHaveCopies : Type 0
 UplinksHaveCopies = (c : Settings) (heard : List Envelope) (n : ℕ) (u : Uplink) → item_at (state_of c heard).uplinks n ≡ Some u
     → (gateway : List ℕ) × (reception : Reception) × ((state_of c heard).copies n gateway ≡ Some reception)
 
--- an uplink that stands at a number stays as it is
+-- an uplink with a number stays as it is
 abbrev pub UplinksStay : Type 0
 UplinksStay = (c : Settings) (s : State) (e : Envelope) (n : ℕ) (u : Uplink) → item_at s.uplinks n ≡ Some u → item_at (step c s e).0.uplinks n ≡ Some u
 
@@ -93,7 +93,7 @@ tells_copy (JoinSuccess airtime band copy addr uplink) = copy
 tells_copy (FrameSuccess airtime band copy counter dev_eui uplink) = copy
 tells_copy _ = false
 
--- what is answered as a copy adds no session and no uplink, and changes no booking
+-- a message that is answered as a copy adds no session and no uplink, and changes no booking
 abbrev pub CopiesBookNothing : Type 0
 CopiesBookNothing = (c : Settings) (heard : List Envelope) (e : Envelope) → let s : State = state_of c heard in IsTrue (tells_copy (step c s e).1)
     → ((step c s e).0.sessions ≡ s.sessions) × ((step c s e).0.uplinks ≡ s.uplinks) × ((step c s e).0.bookings ≡ s.bookings)
@@ -109,7 +109,7 @@ RefusalsChangeNothing = (c : Settings) (heard : List Envelope) (e : Envelope) (r
 abbrev pub IsStepRefusal : Refusal → Type 0
 IsStepRefusal refusal = let n : ℕ = refusal_number refusal in (n ≡ 6) ⊎ ((9 ≤ n) × (n ≤ 31))
 
--- A step gives no other refusal: 1 to 5, 7 and 8 are told without one, and 32 to 34 of a store.
+-- A step gives no other refusal: 1 to 5, 7 and 8 come without a step, and 32 to 34 come from a store.
 abbrev pub StepsRefuseByNumber : Type 0
 StepsRefuseByNumber = (c : Settings) (s : State) (e : Envelope) (refusal : Refusal)
     → (step c s e).1 ≡ Refused refusal → IsStepRefusal refusal
@@ -122,7 +122,7 @@ adds_sender _ = false
 abbrev pub SendersStay : Type 0
 SendersStay = (c : Settings) (s : State) (e : Envelope) → adds_sender e.message ≡ false → (step c s e).0.senders ≡ s.senders
 
--- what is kept of senders, owners, gateways, devices and limits is changed by messages of operators alone
+-- only messages of operators change senders, owners, gateways, devices and limits
 abbrev pub OperatorsKeepTheRegister : Type 0
 OperatorsKeepTheRegister = (c : Settings) (s : State) (e : Envelope) → is_operator (s.senders e.sender) ≡ false → let after : State = (step c s e).0 in
     (after.senders ≡ s.senders) × (after.owners ≡ s.owners) × (after.gateways ≡ s.gateways) × (after.devices ≡ s.devices) × (after.limits ≡ s.limits)

@@ -1,4 +1,4 @@
--- What holds of the limits that operators set.
+-- Laws of the limits that operators set.
 use Rattle.std.specs.Prelude.{◌≡◌, ◌≢◌, ◌↔◌, ℕ, ◌==◌, ◌≤◌, Bool, true, false, ◌&&◌, List, [], ◌∷◌, Option, Some, None, IsTrue, bytes_eq, if◌then◌else◌}
 use Rattle.std.specs.Option.{option_map_or, option_or}
 use Rattle.radio_core.specs.declared.bands.Band.{Band}
@@ -19,13 +19,13 @@ use Rattle.registry_core.specs.Step.{step}
 
 -- ---- which are set
 
--- The sender is an operator, the gateway is known, and no sliding hour of its band holds more time on air, dropped bookings aside.
+-- The sender is an operator, the gateway is known, and no sliding hour of its band is above the limit, dropped bookings aside.
 pub record IsSet (s : State) (e : Envelope) (gateway : List ℕ) (limit : Limit) : Type 0 where
   pub operator : IsTrue (is_operator (s.senders e.sender))
   pub known : IsTrue (s.gateways gateway)
   pub hours : EveryHourWithin (downlinks_in s.bookings gateway limit.band) limit.most
 
--- a limit is set exactly where that holds
+-- a limit is set if and only if these conditions are met
 abbrev pub SetExactly : Type 0
 SetExactly = (c : Settings) (s : State) (e : Envelope) (gateway : List ℕ) (limit : Limit) → e.message ≡ LimitSet gateway limit
     → ((step c s e).1 ≡ Success) ↔ IsSet s e gateway limit
@@ -50,7 +50,7 @@ LimitsAreWithin = (c : Settings) (heard : List Envelope) (gateway : List ℕ) (b
 
 -- ---- the last one that was set
 
--- the limit that the message names for the gateway's band, where it is a LimitSet for this one
+-- the limit that the message names for the gateway's band, if it is a LimitSet for that band
 abbrev pub limit_named : List ℕ → Band → Message → Option ℕ
 limit_named gateway band (LimitSet at limit) =
     if bytes_eq gateway at && band_number band == band_number limit.band then Some limit.most else None
@@ -60,7 +60,7 @@ abbrev pub is_success : Answer → Bool
 is_success Success = true
 is_success _ = false
 
--- the limit that an envelope with its answer sets for the gateway's band: none where it is refused
+-- the limit that an envelope with its answer sets for the gateway's band: none if it is refused
 abbrev pub limit_accepted : List ℕ → Band → Envelope × Answer → Option ℕ
 limit_accepted gateway band heard = if is_success heard.1 then limit_named gateway band heard.0.message else None
 

@@ -3,7 +3,7 @@ use Rattle.std.specs.Prelude.{ℕ, ◌≤◌}
 use Rattle.radio_core.specs.declared.bands.Band.{Band}
 use Rattle.radio_core.specs.Bands.{limit_of}
 
--- a band, and the most time on air within any hour, in microseconds
+-- a band, and the greatest time on air within any hour, in microseconds
 pub record Limit : Type 0 where
   pub band : Band
   pub most : ℕ

@@ -11,7 +11,7 @@ use Rattle.registry_core.specs.Bookings.{stands_at}
 abbrev pub stands_near : List ℕ → ℤ → Booking → Bool
 stands_near gateway start booking = stands_at gateway booking && is_near start booking.span
 
--- its band, and when it is on the air
+-- its band and its time on air
 abbrev pub near_shown : Booking → NearBooking
 near_shown booking = record { band = booking.band; span = booking.span }
 
@@ -19,7 +19,7 @@ near_shown booking = record { band = booking.band; span = booking.span }
 abbrev pub bookings_near : List Booking → List ℕ → ℤ → List NearBooking
 bookings_near bookings gateway start = map near_shown (filter (stands_near gateway start) bookings)
 
--- ys are the downlinks of xs in order of start, and those that start together stand in the order that they have in xs
+-- ys are the downlinks of xs ordered by start; those that start together stay in the order that they have in xs
 pub record AreByStart (xs ys : List NearBooking) : Type 0 where
   pub same : IsPermutation xs ys
   pub ascend : StartsAscend (map (λ near. near.span) ys)

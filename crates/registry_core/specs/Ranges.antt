@@ -1,4 +1,4 @@
--- The ranges that the types of a message keep (this project's formats).
+-- The ranges of the types of a message (this project's formats).
 use Rattle.std.specs.Prelude.{ℕ, ◌^◌, ◌<◌, ◌≤◌, List, length, get_or, IfSome, IsTrue}
 use Rattle.radio_core.specs.Names.{is_name}
 use Rattle.registry_core.specs.declared.messages.Envelope.{Envelope}

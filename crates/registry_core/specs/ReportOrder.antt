@@ -1,4 +1,4 @@
--- In which order two gateways report one frame makes no difference, but to which copy came first.
+-- In which order two gateways report one frame makes no difference, except to which reception came first.
 use Rattle.std.specs.Prelude.{◌≡◌, ◌≢◌, ℕ, Bool, true, false, List, [], ◌∷◌, Option, IsTrue}
 use Rattle.registry_core.specs.declared.answers.Answer.{Answer}
 use Rattle.registry_core.specs.declared.answers.Answer.TheVariants.{Refused}
@@ -24,7 +24,7 @@ AreSameFrames [] [] = Unit {0}
 AreSameFrames (u ∷ us) (v ∷ vs) = IsSameFrame u v × AreSameFrames us vs
 AreSameFrames _ _ = ⊥
 
--- two states that differ in nothing but which copy of a frame came first
+-- two states that differ only in which reception of a frame came first
 pub record SameButFirst (a b : State) : Type 0 where
   pub senders : a.senders ≡ b.senders
   pub owners : a.owners ≡ b.owners
@@ -40,13 +40,13 @@ abbrev pub is_success : Answer → Bool
 is_success (Refused refusal) = false
 is_success _ = true
 
--- Two gateways report one data frame, and each of the reports would be accepted: then both orders leave the same.
+-- Two gateways report one data frame, and each of the reports would be accepted: then both orders lead to the same state.
 abbrev pub DataInAnyOrder : Type 0
 DataInAnyOrder = (c : Settings) (heard : List Envelope) (x y : Envelope) (a b : Report) (verdict : Option ℕ) → x.message ≡ FrameHeard a verdict → y.message ≡ FrameHeard b verdict
     → a.octets ≡ b.octets → a.gateway ≢ b.gateway → let s : State = state_of c heard in IsTrue (is_success (step c s x).1) → IsTrue (is_success (step c s y).1)
     → SameButFirst (step c (step c s x).0 y).0 (step c (step c s y).0 x).0
 
--- And so of a join request.
+-- The same for a join request.
 abbrev pub JoinsInAnyOrder : Type 0
 JoinsInAnyOrder = (c : Settings) (heard : List Envelope) (x y : Envelope) (a b : Report) (verdict : JoinVerdict) → x.message ≡ JoinHeard a verdict → y.message ≡ JoinHeard b verdict
     → a.octets ≡ b.octets → a.gateway ≢ b.gateway → let s : State = state_of c heard in IsTrue (is_success (step c s x).1) → IsTrue (is_success (step c s y).1)

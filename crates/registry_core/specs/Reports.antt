@@ -1,4 +1,4 @@
--- What reports tell of: an owner's devices, the uplinks of a device, the downlinks of a gateway, and their use of the air.
+-- What reports are about: an owner's devices, the uplinks of a device, the downlinks of a gateway, and their use of the air.
 use Rattle.std.specs.Prelude.{◌≡◌, ℕ, ◌==◌, ◌≤◌, Bool, true, false, ◌&&◌, List, length, map, filter, Option, Some, None, IsTrue, nat_lt, ℤ, pos, int_le, int_lt, sum_by, bytes_eq}
 use Rattle.std.specs.Option.{option_map_or}
 use Rattle.radio_core.specs.declared.bands.Band.{Band}
@@ -29,19 +29,19 @@ pub record IsUse (intervals : List Interval) (told : Use) : Type 0 where
 abbrev pub is_owned : State → List ℕ → ℕ → Bool
 is_owned s owner dev_eui = option_map_or (λ (device : Device). bytes_eq device.owner owner) (s.devices dev_eui) false
 
--- n is above m, where there is one
+-- n is above m, if there is an m
 abbrev pub is_after : Option ℕ → ℕ → Bool
 is_after None n = true
 is_after (Some m) n = nat_lt m n
 
--- the least DevEUI of the owner's devices above that one, if there is one
+-- the least DevEUI of the owner's devices above `after`, if there is one
 pub record IsNextDevice (s : State) (owner : List ℕ) (after next : Option ℕ) : Type 0 where
   pub owned : (dev_eui : ℕ) → next ≡ Some dev_eui → IsTrue (is_owned s owner dev_eui && is_after after dev_eui)
   pub least : (dev_eui : ℕ) → IsTrue (is_owned s owner dev_eui && is_after after dev_eui) → (n : ℕ) × (next ≡ Some n) × (n ≤ dev_eui)
 
 -- ---- a device's uplinks
 
--- the uplink is the device's, and starts from the one time on and before the other, in microseconds since 1970 UTC
+-- the uplink is the device's, and starts at `from` or later and before `to`, in microseconds since 1970 UTC
 abbrev pub is_uplink_from : List Session → ℕ → ℤ → ℤ → Uplink → Bool
 is_uplink_from sessions dev_eui from to uplink = is_of_device sessions dev_eui uplink.session && int_le from (pos uplink.start) && int_lt (pos uplink.start) to
 
@@ -49,7 +49,7 @@ is_uplink_from sessions dev_eui from to uplink = is_of_device sessions dev_eui u
 abbrev pub uplinks_from : List Uplink → List Session → ℕ → ℤ → ℤ → List Uplink
 uplinks_from uplinks sessions dev_eui from to = filter (is_uplink_from sessions dev_eui from to) uplinks
 
--- when an uplink was on the air
+-- the uplink's time on air
 abbrev pub interval_of : Uplink → Interval
 interval_of uplink = record { start = pos uplink.start; len = uplink.airtime }
 
@@ -57,6 +57,6 @@ interval_of uplink = record { start = pos uplink.start; len = uplink.airtime }
 abbrev pub is_in_band : Band → Uplink → Bool
 is_in_band band uplink = band_number uplink.band == band_number band
 
--- when those of the uplinks were on the air that are booked in the band
+-- the times on air of those uplinks that are booked in the band
 abbrev pub in_band : Band → List Uplink → List Interval
 in_band band uplinks = map interval_of (filter (is_in_band band) uplinks)

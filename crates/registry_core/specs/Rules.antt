@@ -1,4 +1,4 @@
--- The rules that the registry goes by, whatever was heard: what was heard once is booked once, and no hour holds too much.
+-- The registry's rules, whatever was heard: what was heard once is booked once, and no hour is above its limit.
 use Rattle.std.specs.Prelude.{◌≡◌, ℕ, List, Some}
 use Rattle.registry_core.specs.declared.facts.Session.{Session}
 use Rattle.registry_core.specs.declared.facts.Uplink.{Uplink}
@@ -15,7 +15,7 @@ pub record GoesByRules (s : State) : Type 0 where
   -- no two uplinks have one session, one kind and one counter
   pub frames : (m n : ℕ) (u v : Uplink) → item_at s.uplinks m ≡ Some u → item_at s.uplinks n ≡ Some v
       → u.session ≡ v.session → u.kind ≡ v.kind → u.counter ≡ v.counter → m ≡ n
-  -- no hour of any gateway's band holds more booked time on air than its limit
+  -- no hour of any gateway's band has more booked airtime than its limit
   pub hours : EveryHourKept s
 
 abbrev pub RulesAreKept : Type 0

@@ -57,6 +57,6 @@ same_message (DownDone n a) (DownDone m b) = n == m && same_sent a b
 same_message (LimitSet a l) (LimitSet b m) = bytes_eq a b && same_limit l m
 same_message _ _ = false
 
--- the test tells whether they are equal
+-- the comparison is true if and only if the messages are equal
 abbrev pub SameMessageTells : Type 0
 SameMessageTells = (a b : Message) → IsTrue (same_message a b) ↔ (a ≡ b)

@@ -1,6 +1,6 @@
--- What the registry holds, and how a message's change goes into it.
--- What has a name or an EUI is looked up by it, so that nothing depends on an order in which a store keeps it. Sessions,
--- uplinks and bookings are numbered by their place from 1, in the order in which they were accepted.
+-- The registry's state, and the changes that messages make in it. What has a name or an EUI is looked up by it, so that nothing depends on
+-- the order in which a store stores it. Sessions, uplinks and bookings are numbered by their place from 1, in the order in which they were
+-- accepted.
 use Rattle.std.specs.Prelude.{ℕ, ◌+◌, ◌==◌, Bool, true, false, List, [], ◌∷◌, ◌++◌, length, Option, Some, None, option_map, bytes_eq, if◌then◌else◌}
 use Rattle.radio_core.specs.Bands.{band_number}
 use Rattle.registry_core.specs.declared.facts.Booking.{Booking}
@@ -30,17 +30,17 @@ pub record State : Type 0 where
   pub devices : ℕ → Option Device
   pub sessions : List Session
   pub uplinks : List Uplink
-  -- the copy of an uplink, by its number, at a gateway
+  -- the reception of an uplink, by its number, at a gateway
   pub copies : ℕ → List ℕ → Option Reception
   pub bookings : List Booking
   -- the limit that was set for a gateway's band, by the band's number
   pub limits : List ℕ → ℕ → Option ℕ
 
--- what is looked up by a name, with this at the name
+-- the function f with x at the name
 abbrev pub at_name : {X : Type 0} → (List ℕ → X) → List ℕ → X → List ℕ → X
 at_name f name x = λ other. if bytes_eq other name then x else f other
 
--- what is looked up by a number, with this at the number
+-- the function f with x at the number
 abbrev pub at_number : {X : Type 0} → (ℕ → X) → ℕ → X → ℕ → X
 at_number f n x = λ other. if other == n then x else f other
 
@@ -89,7 +89,7 @@ with_session s session = record s { sessions = s.sessions ++ session ∷ [] }
 abbrev pub with_uplink : State → Uplink → State
 with_uplink s uplink = record s { uplinks = s.uplinks ++ uplink ∷ [] }
 
--- the copies with one more: of the uplink with the number, at the gateway
+-- the receptions with one more: of the uplink with the number, at the gateway
 abbrev pub copies_with : (ℕ → List ℕ → Option Reception) → ℕ → List ℕ → Reception → ℕ → List ℕ → Option Reception
 copies_with copies number gateway reception = at_number copies number (at_name (copies number) gateway (Some reception))
 
@@ -99,7 +99,7 @@ with_copy s number gateway reception = record s { copies = copies_with s.copies 
 abbrev pub with_booking : State → Booking → State
 with_booking s booking = record s { bookings = s.bookings ++ booking ∷ [] }
 
--- the booking as one whose downlink was sent, or as one that is dropped
+-- the booking as one that was sent, or as one that is dropped
 abbrev pub ended : Bool → Booking → Booking
 ended sent booking = record booking { standing = if sent then Sent else Dropped }
 

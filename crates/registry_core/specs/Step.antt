@@ -1,5 +1,5 @@
--- A step of the registry: the first check that fails is the answer, and then nothing changes; or the message adds what
--- it adds, and is answered Success with what it tells.
+-- A step of the registry: if a check fails, the first one that does decides the answer, and nothing changes. Else the message adds what it
+-- adds, and is answered Success with its members.
 use Rattle.registry_core.specs.declared.answers.Answer.{Answer}
 use Rattle.registry_core.specs.declared.messages.Envelope.{Envelope}
 use Rattle.registry_core.specs.declared.messages.Message.{Message}
@@ -13,7 +13,7 @@ use Rattle.registry_core.specs.Joins.{join_heard}
 use Rattle.registry_core.specs.Settings.{Settings}
 use Rattle.registry_core.specs.State.{State, state_with}
 
--- what the checks of the message's type let through, or the refusal of the first that fails
+-- the decision of the message's type, or the refusal of the first check that fails
 abbrev pub checked_decision : Settings → State → Envelope → Message → Checked Decision
 checked_decision c s e (SenderAdd sender role) = sender_add s e sender role
 checked_decision c s e (OwnerAdd owner) = owner_add s e owner
@@ -26,7 +26,7 @@ checked_decision c s e (DownBook uplink gateway window octets) = down_book c s u
 checked_decision c s e (DownDone booking sent) = down_done s booking sent
 checked_decision c s e (LimitSet gateway limit) = limit_set s e gateway limit
 
--- what the envelope changes, and what it is answered
+-- what the envelope changes, and its answer
 abbrev pub decision_of : Settings → State → Envelope → Decision
 decision_of c s e = decision_or_refusal (checked_decision c s e e.message)
 

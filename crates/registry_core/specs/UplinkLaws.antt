@@ -24,7 +24,7 @@ use Rattle.registry_core.specs.State.{State}
 use Rattle.registry_core.specs.Step.{step}
 use Rattle.registry_core.specs.Uplinks.{is_time}
 
--- The time is in its range, the gateway is known, and the transmission lies in a band.
+-- The time is in its range, the gateway is known, and the transmission is in a band.
 pub record IsReported (s : State) (report : Report) : Type 0 where
   pub time : IsTrue (is_time report.time)
   pub gateway : IsTrue (s.gateways report.gateway)
@@ -49,7 +49,7 @@ abbrev pub tells_join : Answer → Bool
 tells_join (JoinSuccess airtime band copy addr uplink) = not copy
 tells_join _ = false
 
--- whatever was heard, a join request makes a session exactly where it is accepted: then it is no copy
+-- whatever was heard, a join request makes a session if and only if it is accepted: then it isn't a copy
 abbrev pub JoinedExactly : Type 0
 JoinedExactly = (c : Settings) (heard : List Envelope) (e : Envelope) (report : Report) (verdict : JoinVerdict) → e.message ≡ JoinHeard report verdict
     → IsTrue (tells_join (step c (state_of c heard) e).1) ↔ IsAcceptedJoin c (state_of c heard) report verdict
@@ -76,7 +76,7 @@ abbrev pub tells_frame : Answer → Bool
 tells_frame (FrameSuccess airtime band copy counter dev_eui uplink) = not copy
 tells_frame _ = false
 
--- a data frame is booked as a new uplink exactly where it is accepted: then it is no copy
+-- a data frame is booked as a new uplink if and only if it is accepted: then it isn't a copy
 abbrev pub FramesBookedExactly : Type 0
 FramesBookedExactly = (c : Settings) (s : State) (e : Envelope) (report : Report) (verdict : Option ℕ) → e.message ≡ FrameHeard report verdict
     → IsTrue (tells_frame (step c s e).1) ↔ IsAcceptedFrame c s report verdict

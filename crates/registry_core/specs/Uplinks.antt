@@ -32,10 +32,10 @@ uplink_of report session kind counter band = record {
   band = band;
 }
 
--- an uplink, with its number, where it has these octets
+-- an uplink, with its number, if it has these octets
 abbrev pub same_octets : List ℕ → ℕ × Uplink → Option (ℕ × Uplink)
 same_octets octets found = if bytes_eq found.1.octets octets then Some found else None
 
--- a copy of the uplink with this number adds the copy of a gateway that has none of it, and nothing else
+-- a copy of the uplink with this number adds its gateway's reception if that gateway has none of it, and nothing else
 abbrev pub copy_added : ℕ → Option Reception → Report → Effect
 copy_added number at_gateway report = if is_none at_gateway then AddsCopy number report.gateway (reception_of report) else Nothing

@@ -1,4 +1,4 @@
--- What the registry holds for one message. What the message doesn't ask for is false, 0, absent or empty.
+-- The view: the part of the state that one message needs. What the message doesn't need is false, 0, absent or empty.
 use Rattle.std.specs.Prelude.{◌≡◌, ℕ, pos, Bool, false, List, [], length, Option, Some, None, is_some, option_map, option_and_then, IsPermutation}
 use Rattle.std.specs.Option.{option_map_or}
 use Rattle.radio_core.specs.declared.data_rates.Rate.{Rate}
@@ -31,19 +31,19 @@ use Rattle.registry_core.specs.Windows.{window_of}
 
 -- ---- what the message names
 
--- the sender is there
+-- there is the sender
 abbrev pub sender_known : State → Message → Bool
 sender_known s (SenderAdd sender role) = is_some (s.senders sender)
 sender_known s _ = false
 
--- the owner is there
+-- there is the owner
 abbrev pub owner_known : State → Message → Bool
 owner_known s (OwnerAdd owner) = s.owners owner
 owner_known s (DeviceAdd dev_eui join_eui owner) = s.owners owner
 owner_known s (DeviceMove dev_eui owner) = s.owners owner
 owner_known s _ = false
 
--- the gateway is there
+-- there is the gateway
 abbrev pub gateway_known : State → Message → Bool
 gateway_known s (GatewayAdd gateway) = s.gateways gateway
 gateway_known s (JoinHeard report verdict) = s.gateways report.gateway
@@ -52,7 +52,7 @@ gateway_known s (DownBook uplink gateway window octets) = s.gateways gateway
 gateway_known s (LimitSet gateway limit) = s.gateways gateway
 gateway_known s _ = false
 
--- the join request that it tells of
+-- the join request that it reports
 abbrev pub join_for : Message → Option JoinRequest
 join_for (JoinHeard report verdict) = join_request (frame_of report.octets)
 join_for _ = None
@@ -67,7 +67,7 @@ device_named s m = option_and_then (λ join. s.devices join.dev_eui) (join_for m
 abbrev pub last_nonce_for : State → Message → Option ℕ
 last_nonce_for s m = option_and_then (λ join. last_nonce s.sessions join.dev_eui) (join_for m)
 
--- ---- the session whose data frame it tells of
+-- ---- the session whose data frame it reports
 
 abbrev pub session_for : Settings → State → Message → Option (ℕ × Session)
 session_for c s (FrameHeard report verdict) = option_and_then (λ frame. session_with s.sessions c.base frame.addr) (data_up (frame_of report.octets))
@@ -81,7 +81,7 @@ view_of_session s found = record {
   below_floor = is_below_floor s.uplinks s.sessions found.1.device found.0;
 }
 
--- ---- the uplink that it names, or that may be the same as what it tells of
+-- ---- the uplink that it names or that its frame may copy
 
 -- the uplink with this number
 abbrev pub uplink_numbered : State → ℕ → Option (ℕ × Uplink)
@@ -112,12 +112,12 @@ abbrev pub next_down_for : State → Message → ℕ
 next_down_for s (DownBook uplink gateway window octets) = option_map_or (λ (found : Uplink). next_down s.bookings s.uplinks found.session) (item_at s.uplinks uplink) 0
 next_down_for s _ = 0
 
--- how the booking that it names stands
+-- the state of the booking that it names
 abbrev pub booking_for : State → Message → Option Standing
 booking_for s (DownDone booking sent) = option_map (λ found. found.standing) (item_at s.bookings booking)
 booking_for s _ = None
 
--- where its receive window opens, and how it is sent
+-- when its receive window opens, and its frequency and data rate
 abbrev pub window_for : State → Message → Option (ℕ × Rate)
 window_for s (DownBook uplink gateway window octets) =
     option_and_then (λ (found : Uplink). option_map (λ (copy : Reception). window_of found.kind copy.end copy.rate window) (s.copies uplink gateway)) (item_at s.uplinks uplink)
@@ -132,11 +132,11 @@ gateway_for _ = []
 abbrev pub near_for : State → Message → List Interval
 near_for s m = option_map_or (λ (opens : ℕ × Rate). near_ones (pos opens.0) (downlinks s.bookings (gateway_for m))) (window_for s m) []
 
--- and in its band
+-- the same in its band
 abbrev pub near_in : State → List ℕ → ℕ × Rate → List Interval
 near_in s gateway opens = option_map_or (λ band. near_ones (pos opens.0) (downlinks_in s.bookings gateway band)) (band_at opens.1.freq opens.1.dr) []
 
--- In the band of a limit that is to be set, all of the gateway's downlinks that aren't dropped.
+-- in the band of a limit that is to be set, all of the gateway's downlinks that aren't dropped
 abbrev pub in_band_for : State → Message → List Interval
 in_band_for s (LimitSet gateway limit) = downlinks_in s.bookings gateway limit.band
 in_band_for s m = option_map_or (near_in s (gateway_for m)) (window_for s m) []
@@ -150,7 +150,7 @@ limit_for s m = option_map_or (limit_in_window s (gateway_for m)) (window_for s 
 
 -- ---- the view
 
--- the view is what the state holds for the envelope
+-- the view is what the state has for the envelope
 pub record IsView (c : Settings) (s : State) (e : Envelope) (v : View) : Type 0 where
   pub role : s.senders e.sender ≡ Some v.role
   pub base : v.base ≡ c.base
@@ -173,7 +173,7 @@ pub record IsView (c : Settings) (s : State) (e : Envelope) (v : View) : Type 0 
   pub near : IsPermutation (near_for s e.message) v.near.items
   pub in_band : IsPermutation (in_band_for s e.message) v.in_band.items
 
--- And this is one step of the registry.
+-- the decision is one step of the registry, for any such view
 abbrev pub IsStep : Message → View → Decision → Type 0
 IsStep message view decision = (c : Settings) (heard : List Envelope) (e : Envelope)
     → IsBlock c.base c.addresses → IsHeard c heard → e.message ≡ message → IsView c (state_of c heard) e view

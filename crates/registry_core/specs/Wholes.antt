@@ -1,4 +1,4 @@
--- Whole numbers as messages have them (this project's range).
+-- Integers as messages have them (this project's range).
 use Rattle.std.specs.Prelude.{ℕ, ◌+◌, ◌≤◌}
 
 -- 2^53 - 1

@@ -19,6 +19,6 @@ abbrev pub rate_in : Window → Rate → Rate
 rate_in First rate = rate
 rate_in Second rate = record { freq = 869525000; dr = Dr0 }
 
--- where the downlink begins, after the end of the uplink's copy at its gateway, and how it is sent
+-- when the downlink begins, after the end of the uplink's reception at its gateway, and its frequency and data rate
 abbrev pub window_of : Kind → ℕ → Rate → Window → ℕ × Rate
 window_of kind end rate window = (end + delay kind window, rate_in window rate)

@@ -3,7 +3,7 @@ ghost use Rattle.std.specs.Prelude.{◌≡◌, ◌+◌, ◌-◌, ◌^◌, ◌<�
 
 use radio_core::DevAddr;
 
-/// The address of the session with this number, where there is one.
+/// Returns the address of the session with this number, if there is one.
 pub(crate) fn address_of(base: u32, session: u64) -> DevAddr
     ensures { 1 ≤ session → base + session - 1 < 2 ^ 32 → result ≡ base + session - 1 }
 {

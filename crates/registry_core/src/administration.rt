@@ -1,4 +1,4 @@
-//! What the messages of an operator change and how they are answered: one function for each, its checks in their order.
+//! Decides the messages of an operator: a function for each, with its checks in order.
 ghost use Rattle.registry_core.specs.declared.messages.Message.TheVariants.{SenderAdd, OwnerAdd, GatewayAdd, DeviceAdd, DeviceMove, LimitSet};
 ghost use Rattle.std.specs.Prelude.{◌≡◌};
 ghost use Rattle.registry_core.specs.steps.Checked.{IsChecked};
@@ -15,7 +15,7 @@ use crate::views::View;
 use duty_core::laws::{computed_forms_tell, order_is_ignored};
 use radio_core::{Eui, Name};
 
-/// An operator adds a sender with its role.
+/// Decides a message that adds a sender with its role.
 #[tactic(auto, unfolding(crate::specs::steps::Checked::IsChecked, crate::specs::Administration::sender_add))]
 pub(crate) fn sender_add(sender: Name, role: Role, view: &View) -> Result<(Effect, Answer), Refusal>
     ensures { IsChecked (SenderAdd sender role) view.now result }
@@ -25,7 +25,7 @@ pub(crate) fn sender_add(sender: Name, role: Role, view: &View) -> Result<(Effec
     Ok((Effect::AddsSender { name: sender, role }, Answer::Success))
 }
 
-/// An operator adds an owner.
+/// Decides a message that adds an owner.
 #[tactic(auto, unfolding(crate::specs::steps::Checked::IsChecked, crate::specs::Administration::owner_add))]
 pub(crate) fn owner_add(owner: Name, view: &View) -> Result<(Effect, Answer), Refusal>
     ensures { IsChecked (OwnerAdd owner) view.now result }
@@ -35,7 +35,7 @@ pub(crate) fn owner_add(owner: Name, view: &View) -> Result<(Effect, Answer), Re
     Ok((Effect::AddsOwner { name: owner }, Answer::Success))
 }
 
-/// An operator adds a gateway.
+/// Decides a message that adds a gateway.
 #[tactic(auto, unfolding(crate::specs::steps::Checked::IsChecked, crate::specs::Administration::gateway_add))]
 pub(crate) fn gateway_add(gateway: Name, view: &View) -> Result<(Effect, Answer), Refusal>
     ensures { IsChecked (GatewayAdd gateway) view.now result }
@@ -45,7 +45,7 @@ pub(crate) fn gateway_add(gateway: Name, view: &View) -> Result<(Effect, Answer)
     Ok((Effect::AddsGateway { name: gateway }, Answer::Success))
 }
 
-/// An operator adds a device of an owner.
+/// Decides a message that adds a device of an owner.
 #[tactic(auto, unfolding(crate::specs::steps::Checked::IsChecked, crate::specs::Administration::device_add))]
 pub(crate) fn device_add(
     dev_eui: Eui,
@@ -62,7 +62,7 @@ pub(crate) fn device_add(
     Ok((Effect::AddsDevice { dev_eui, device }, Answer::Success))
 }
 
-/// An operator gives a device to an owner, which may be the one that it has.
+/// Decides a message that moves a device to an owner, which may be the owner that it has.
 #[tactic(auto, unfolding(crate::specs::steps::Checked::IsChecked, crate::specs::Administration::device_move))]
 pub(crate) fn device_move(
     dev_eui: Eui,
@@ -77,7 +77,7 @@ pub(crate) fn device_move(
     Ok((Effect::MovesDevice { dev_eui, owner }, Answer::Success))
 }
 
-/// An operator sets the limit of a gateway's band, where every hour of the band keeps it already.
+/// Decides a message that sets the limit of a gateway's band. It is accepted only if no hour of the band is above the limit already.
 #[tactic(auto, using(crate::proofs::LimitsByView::limit_set_same), unfolding(crate::specs::steps::Checked::IsChecked))]
 pub(crate) fn limit_set(
     gateway: Name,
@@ -92,7 +92,7 @@ pub(crate) fn limit_set(
     limit_kept(gateway, limit, view)
 }
 
-/// The checks of a limit, on the view's downlinks.
+/// Checks a limit by the view's downlinks.
 #[tactic(auto, unfolding(crate::specs::steps::LimitsByView::limit_set_by))]
 fn limit_kept(gateway: Name, limit: BandLimit, view: &View) -> Result<(Effect, Answer), Refusal>
     ensures { result ≡ limit_set_by view.now gateway limit }

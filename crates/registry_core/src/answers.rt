@@ -1,11 +1,12 @@
 //! Answers and refusals.
 use radio_core::{Band, DevAddr, Eui};
 
-/// Why something isn't done. The first has number 1, and the last 34 (this project's numbers). 1 to 5, 7 and 8 are told of texts,
-/// before a message is decided; 6 and 9 to 31 are answers of a step, which are kept; 32 to 34 have no text.
+/// Why something isn't done. The first has number 1, and the last 34 (this project's numbers).
+///
+/// 1 to 5, 7 and 8 answer texts, before a message is decided. 6 and 9 to 31 are answers of a step, and are stored. 32 to 34 have no text.
 #[derive(Clone, Copy, PartialEq, Eq)]
 pub enum Refusal {
-    /// The text isn't JSON in UTF-8, isn't an object, or lacks an outer member in its form.
+    /// The text isn't a JSON object in UTF-8, or a member that every message has is missing or not in its form.
     Malformed = 1,
     /// ProtocolVersion isn't `1.0`.
     InvalidProtocolVersion = 2,
@@ -19,7 +20,7 @@ pub enum Refusal {
     WrongRole = 6,
     /// A member of the message's type is missing, or not in its form.
     BadBody = 7,
-    /// The desk knows no such MessageType.
+    /// The MessageType is unknown.
     UnknownType = 8,
     /// A sender, an owner or a gateway has the name, or a device the DevEUI.
     Exists = 9,
@@ -29,11 +30,11 @@ pub enum Refusal {
     UnknownGateway = 11,
     /// No device has the DevEUI.
     UnknownDevEui = 12,
-    /// No session has the DevAddr; or a downlink's isn't that of the uplink's session.
+    /// No session has the DevAddr; or the downlink's DevAddr isn't that of the uplink's session.
     UnknownDevAddr = 13,
-    /// The octets are no such frame, or more than the data rate carries.
+    /// The octets are no such frame, or more than the data rate can carry.
     BadFrame = 14,
-    /// The transmission lies in no sub-band with all of its bandwidth.
+    /// No sub-band contains the whole bandwidth of the transmission.
     OutOfBand = 15,
     /// The security module found the integrity code wrong.
     MicFailed = 16,
@@ -55,9 +56,9 @@ pub enum Refusal {
     NoUplink = 24,
     /// FCnt isn't that of the session's next downlink counter.
     DownCounter = 25,
-    /// The gateway is on the air at the time, in whatever band.
+    /// The gateway is on the air at the time, in this or another band.
     Collision = 26,
-    /// Some sliding hour of the band would hold more time on air than the limit.
+    /// The time on air in some sliding hour of the band would be above the limit.
     Duty = 27,
     /// A booking that isn't dropped answers the uplink.
     Answered = 28,
@@ -65,13 +66,13 @@ pub enum Refusal {
     NoBooking = 29,
     /// The booking was sent or dropped already.
     Done = 30,
-    /// The time is before 2000 or past the beginning of 2100; of a report, the text is no month.
+    /// The time is before 2000 or after the beginning of 2100; of a report, the text is not a month or not a time.
     Time = 31,
-    /// Memory or the disk failed, or there is no room: nothing is heard.
+    /// Memory ran out, the disk failed, or the store is out of space. Nothing is heard.
     Unavailable = 32,
-    /// What is stored is no desk's.
+    /// What is stored is not a desk.
     NotADesk = 33,
-    /// What is stored is a desk's of another schema.
+    /// What is stored is a desk of another schema version.
     SchemaVersion = 34,
 }
 
@@ -79,7 +80,7 @@ impl Refusal {
     ghost use Rattle.std.specs.Prelude.{◌≡◌};
     ghost use Rattle.registry_core.specs.Refusals.{refusal_number};
 
-    /// Its number, 1 to 34.
+    /// Returns the refusal's number, 1 to 34.
     pub fn number(self) -> u8
         ensures { result ≡ refusal_number self }
     {
@@ -87,13 +88,12 @@ impl Refusal {
     }
 }
 
-/// What a message that was decided is answered: success, or why not.
+/// The answer of a message that was decided: success, or why not.
 #[derive(Clone, Copy)]
 pub enum Answer {
-    /// Done, with nothing more to tell.
+    /// Done, with no further members.
     Success,
-    /// A join: the time on air in microseconds and the band, whether it is a copy, the session's address, and the number
-    /// of its uplink.
+    /// A join: its time on air in microseconds and its band, whether it is a copy, the session's address, and the number of its uplink.
     JoinSuccess {
         airtime: u32,
         band: Band,
@@ -101,8 +101,8 @@ pub enum Answer {
         addr: DevAddr,
         uplink: u64,
     },
-    /// A data frame: the time on air in microseconds and the band, whether it is a copy, its counter, its device, and the
-    /// number of its uplink.
+    /// A data frame: its time on air in microseconds and its band, whether it is a copy, its counter, its device, and the number of its
+    /// uplink.
     FrameSuccess {
         airtime: u32,
         band: Band,
@@ -111,14 +111,14 @@ pub enum Answer {
         dev_eui: Eui,
         uplink: u64,
     },
-    /// A downlink: its time on air in microseconds and its band, the number of its booking, and where it begins, in
-    /// microseconds since 1970 UTC.
+    /// A downlink: its time on air in microseconds and its band, the number of its booking, and when it begins, in microseconds since 1970
+    /// UTC.
     DownSuccess {
         airtime: u32,
         band: Band,
         booking: u64,
         start: u64,
     },
-    /// Not done, and nothing is changed.
+    /// Not done. Nothing is changed.
     Refused(Refusal),
 }

@@ -1,10 +1,10 @@
-//! Checks in a row: the first that fails is the answer.
+//! Checks in a row: the first that fails decides the answer.
 ghost use Rattle.std.specs.Prelude.{◌≡◌};
 ghost use Rattle.registry_core.specs.Checks.{wants};
 
 use crate::answers::Refusal;
 
-/// It has to be so, or else this is the refusal.
+/// Returns this refusal if the condition is false.
 pub(crate) fn wants(condition: bool, refusal: Refusal) -> Result<(), Refusal>
     ensures { result ≡ wants condition refusal }
 {

@@ -1,4 +1,4 @@
-//! What a desk is made with.
+//! The configuration with which a desk is made.
 use radio_core::Name;
 use std::marker::Model;
 
@@ -27,7 +27,7 @@ impl Config {
     ghost use Rattle.std.specs.Prelude.{◌≡◌, SomeIff};
     ghost use Rattle.registry_core.specs.Settings.{IsBlock};
 
-    /// `None` exactly where the block of addresses is empty or goes beyond the last address.
+    /// Returns a configuration, `None` if and only if the block of addresses is empty or ends after the last address.
     pub fn new(receiver: Name, operator: Name, base: u32, addresses: u32) -> Option<Self>
         ensures { SomeIff result (IsBlock base addresses)
             (record { receiver = receiver; operator = operator; base = base; addresses = addresses }) }
@@ -43,28 +43,28 @@ impl Config {
         })
     }
 
-    /// What the desk is called.
+    /// Returns the desk's own name.
     pub fn receiver(&self) -> &Name
         ensures { result.now ≡ self.now.receiver }
     {
         &self.receiver
     }
 
-    /// The first sender, an operator.
+    /// Returns the name of the first sender, an operator.
     pub fn operator(&self) -> &Name
         ensures { result.now ≡ self.now.operator }
     {
         &self.operator
     }
 
-    /// The first address of the block.
+    /// Returns the first address of the block.
     pub fn base(&self) -> u32
         ensures { result ≡ self.now.base }
     {
         self.base
     }
 
-    /// How many addresses the block has, at least 1.
+    /// Returns the number of addresses in the block, at least 1.
     pub fn addresses(&self) -> u32
         ensures same { result ≡ self.now.addresses }
         ensures block { IsBlock self.now.base self.now.addresses }

@@ -1,4 +1,4 @@
-//! What a data frame changes and how it is answered (LoRaWAN L2 1.0.4, section 4.3).
+//! Decides a data frame (LoRaWAN L2 1.0.4, section 4.3).
 ghost use Rattle.std.specs.Prelude.{◌≡◌, ◌≤◌, Ok, length};
 ghost use Rattle.radio_core.specs.Counters.{is_candidate};
 ghost use Rattle.radio_core.specs.DataRates.{max_length};
@@ -15,7 +15,7 @@ use crate::uplinks::{copy_added, is_time, original, reception_of, time_up, uplin
 use crate::views::{SessionView, UplinkView, View};
 use radio_core::{Band, band_of, rebuild};
 
-/// A gateway heard a data frame.
+/// Decides a data frame that a gateway reports.
 #[tactic(auto, unfolding(crate::specs::steps::ByView::frame_heard_by))]
 pub(crate) fn frame_heard(
     report: &Report,
@@ -36,7 +36,7 @@ pub(crate) fn frame_heard(
     }
 }
 
-/// A copy tells of the uplink that is booked, and books none.
+/// Returns the answer of a copy: that of the booked uplink. A copy books none.
 fn data_copied(
     report: &Report,
     session: &SessionView,
@@ -56,7 +56,7 @@ fn data_copied(
     (copy_added(seen, report), answer)
 }
 
-/// A data frame that is no copy has the counter that follows.
+/// Decides a data frame that isn't a copy: its counter has to be the one that follows.
 #[tactic(auto, unfolding(crate::specs::steps::ByView::data_added_by))]
 fn data_added(
     report: &Report,
@@ -90,7 +90,7 @@ fn data_added(
     Ok((effect, answer))
 }
 
-/// The counter is below the last.
+/// Returns whether the counter is below the last.
 fn is_below(counter: u32, last: Option<u32>) -> bool
     ensures { result ≡ is_below counter last }
 {
@@ -100,7 +100,7 @@ fn is_below(counter: u32, last: Option<u32>) -> bool
     }
 }
 
-/// The counter is the one that the frame has.
+/// Returns whether the counter is the one that the frame has.
 fn is_candidate(last: Option<u32>, fcnt: u16, counter: u32) -> bool
     ensures { result ≡ is_candidate last fcnt counter }
 {

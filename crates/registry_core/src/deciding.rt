@@ -1,4 +1,4 @@
-//! What a message changes and how it is answered.
+//! Decides what a message changes and how it is answered.
 ghost use Rattle.std.specs.Prelude.{◌≡◌};
 ghost use Rattle.registry_core.specs.Decision.{decision_or_refusal};
 ghost use Rattle.registry_core.specs.Viewed.{IsStep};
@@ -15,9 +15,9 @@ use crate::joins::join_heard;
 use crate::messages::Message;
 use crate::views::View;
 
-/// What the message changes, and what it is answered. It takes no memory and always answers.
+/// Returns what the message changes, and its answer. It allocates nothing and always answers.
 ///
-/// The caller's condition: the view is what the registry holds for the message after some heard list.
+/// The contract states this for a view that is the registry's for the message after some log.
 #[tactic(auto, using(crate::proofs::Decisions::checked_decides), unfolding(crate::specs::steps::Checked::IsChecked))]
 pub fn decide(message: &Message, view: &View) -> (Effect, Answer)
     ensures { IsStep message.now view.now result }
@@ -25,7 +25,7 @@ pub fn decide(message: &Message, view: &View) -> (Effect, Answer)
     decision_or_refusal(checked_decision(message, view))
 }
 
-/// A refusal changes nothing.
+/// Returns the decision. A refusal changes nothing.
 fn decision_or_refusal(checked: Result<(Effect, Answer), Refusal>) -> (Effect, Answer)
     ensures { result ≡ decision_or_refusal checked }
 {
@@ -35,7 +35,7 @@ fn decision_or_refusal(checked: Result<(Effect, Answer), Refusal>) -> (Effect, A
     }
 }
 
-/// The checks of the message's type.
+/// Runs the checks of the message's type.
 #[tactic(auto, using(crate::proofs::DownlinksByView::down_done_same), unfolding(crate::specs::steps::Checked::IsChecked))]
 fn checked_decision(message: &Message, view: &View) -> Result<(Effect, Answer), Refusal>
     ensures { IsChecked message.now view.now result }

@@ -1,4 +1,4 @@
-//! What a downlink changes and how it is answered, and what became of it (LoRaWAN L2 1.0.4, Class A).
+//! Decides a downlink, and the end of a booking (LoRaWAN L2 1.0.4, Class A).
 ghost use Rattle.std.specs.Prelude.{◌≡◌, ◌^◌, ◌<◌, ◌≤◌, length};
 ghost use Rattle.radio_core.specs.DataRates.{max_length};
 ghost use Rattle.registry_core.specs.steps.ByView.{HasRoom};
@@ -22,7 +22,7 @@ use duty_core::{Span, clear};
 use radio_core::laws::airtime_is_bounded;
 use radio_core::{Band, Name, Octets, Rate, airtime, band_of};
 
-/// A gateway is to answer an uplink of which it has a copy, in a receive window.
+/// Decides whether a gateway is to answer an uplink that it received, in a receive window.
 pub(crate) fn down_book(
     uplink: Whole,
     gateway: &Name,
@@ -32,14 +32,14 @@ pub(crate) fn down_book(
 ) -> Result<(Effect, Answer), Refusal>
     ensures { IsChecked (DownBook uplink gateway.now window octets.now) view.now result }
 {
-    // no downlink is longer than what makes one near, and every hour is kept: so the near ones stand for all
+    // No downlink is longer than the distance that makes one near, and no hour is above its limit: so the near ones suffice.
     airtime_is_bounded();
     computed_forms_tell();
     near_ones_test();
     down_booked(gateway, window, octets, view)
 }
 
-/// The checks of a downlink, on the downlinks near it.
+/// Checks a downlink by the downlinks near it.
 #[tactic(auto, unfolding(crate::specs::steps::DownlinksByView::down_book_by))]
 fn down_booked(
     gateway: &Name,
@@ -64,7 +64,7 @@ fn down_booked(
     down_added(seen.number, gateway, band, start, span, view)
 }
 
-/// The downlink is clear of the gateway's others, and every hour of its band keeps the limit with it.
+/// Checks that the downlink overlaps none of the gateway's others, and that with it no hour of its band is above the limit.
 #[tactic(auto, unfolding(crate::specs::steps::DownlinksByView::down_added_by))]
 fn down_added(
     uplink: u64,
@@ -94,7 +94,7 @@ fn down_added(
     Ok((Effect::AddsBooking { booking }, answer))
 }
 
-/// When a downlink is on the air, where the data rate carries so many octets. LoRa's have no payload CRC.
+/// Returns the time on air of a downlink, if the data rate can carry this many octets. LoRa's have no payload CRC.
 fn on_air(start: u64, rate: Rate, octets: &Octets) -> Span
     requires { start < 2 ^ 62 }
     ensures { length octets.now ≤ max_length rate.dr → result ≡ on_air start rate octets.now }
@@ -103,7 +103,7 @@ fn on_air(start: u64, rate: Rate, octets: &Octets) -> Span
     Span::new(start as i64, u32::try_from(time).unwrap_or(u32::MAX)).unwrap()
 }
 
-/// The downlink of a booking was sent, or else the booking is dropped.
+/// Decides a message that ends a booking: its downlink was sent, or else the booking is dropped.
 #[tactic(auto, unfolding(crate::specs::steps::DownlinksByView::down_done_by))]
 pub(crate) fn down_done(
     booking: Whole,

@@ -1,66 +1,66 @@
-//! What a message changes in the registry.
+//! The changes that messages make in the registry.
 use crate::facts::{Booking, Device, Reception, Session, Uplink};
 use crate::limits::BandLimit;
 use crate::messages::Role;
 use radio_core::{Eui, Name};
 
-/// The one change that a message makes. What is numbered goes to the end of its list.
+/// The one change that a message makes. What is numbered is added at the end of its list.
 #[derive(Clone, Copy)]
 pub enum Effect {
-    /// All stays as it is.
+    /// Nothing changes.
     Nothing,
-    /// A sender of this name and role.
+    /// Adds a sender with this name and role.
     AddsSender {
         name: Name,
         role: Role,
     },
-    /// An owner of this name.
+    /// Adds an owner with this name.
     AddsOwner {
         name: Name,
     },
-    /// A gateway of this name.
+    /// Adds a gateway with this name.
     AddsGateway {
         name: Name,
     },
-    /// A device with this DevEUI.
+    /// Adds a device with this DevEUI.
     AddsDevice {
         dev_eui: Eui,
         device: Device,
     },
-    /// The device has this owner, and keeps all else.
+    /// Gives the device this owner. Nothing else of it changes.
     MovesDevice {
         dev_eui: Eui,
         owner: Name,
     },
-    /// The session, its join uplink, and the copy of that at the gateway.
+    /// Adds the session, its join uplink, and the reception of that at the gateway.
     AddsSession {
         session: Session,
         uplink: Uplink,
         gateway: Name,
         reception: Reception,
     },
-    /// The data uplink, and its copy at the gateway.
+    /// Adds the data uplink, and its reception at the gateway.
     AddsUplink {
         uplink: Uplink,
         gateway: Name,
         reception: Reception,
     },
-    /// The copy at the gateway of the uplink with this number.
+    /// Adds the reception at the gateway of the uplink with this number.
     AddsCopy {
         uplink: u64,
         gateway: Name,
         reception: Reception,
     },
-    /// The downlink, to be sent.
+    /// Adds the downlink, to be sent.
     AddsBooking {
         booking: Booking,
     },
-    /// The downlink of the booking with this number was sent, or else it is dropped.
+    /// Marks the booking with this number as sent, or else as dropped.
     EndsBooking {
         booking: u64,
         sent: bool,
     },
-    /// The gateway's band has this limit, in place of the one that it had.
+    /// Sets the limit of the gateway's band, in place of the one that it had.
     SetsLimit {
         gateway: Name,
         limit: BandLimit,

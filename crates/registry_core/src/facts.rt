@@ -1,23 +1,23 @@
-//! What the registry holds of a device, a session, an uplink and its copies, and a booking.
+//! The registry's facts: a device, a session, an uplink with its receptions, and a booking.
 use crate::wholes::Whole;
 use duty_core::Span;
 use radio_core::{Band, Eui, Name, Octets, Rate};
 
-/// What is kept of a device, which is found by its DevEUI.
+/// A device, which is found by its DevEUI.
 #[derive(Clone, Copy)]
 pub struct Device {
     pub join_eui: Eui,
     pub owner: Name,
 }
 
-/// What an accepted join makes: its device, by the DevEUI, and its DevNonce.
+/// An accepted join: its device, by the DevEUI, and its DevNonce.
 #[derive(Clone, Copy)]
 pub struct Session {
     pub device: Eui,
     pub nonce: u16,
 }
 
-/// What an uplink is.
+/// The kind of an uplink.
 #[derive(Clone, Copy, PartialEq, Eq)]
 pub enum Kind {
     /// A join request.
@@ -26,8 +26,8 @@ pub enum Kind {
     Data,
 }
 
-/// A frame that a device sent, booked once: the number of its session, from 1, and its counter, which of a join is its nonce.
-/// `start` is in microseconds since 1970 UTC, `airtime` in microseconds.
+/// A frame that a device sent, booked once: the number of its session, from 1, and its counter, which for a join is its DevNonce. `start`
+/// is in microseconds since 1970 UTC, `airtime` in microseconds.
 #[derive(Clone, Copy)]
 pub struct Uplink {
     pub session: u64,
@@ -39,27 +39,25 @@ pub struct Uplink {
     pub band: Band,
 }
 
-/// A copy of an uplink as one gateway received it: when its last symbol ended, in microseconds since 1970 UTC, and how it was
-/// sent.
+/// The reception of an uplink at one gateway: when its last symbol ended, in microseconds since 1970 UTC, and its frequency and data rate.
 #[derive(Clone, Copy)]
 pub struct Reception {
     pub end: Whole,
     pub rate: Rate,
 }
 
-/// How a booking stands.
+/// The state of a booking.
 #[derive(Clone, Copy, PartialEq, Eq)]
 pub enum Standing {
     /// The downlink is to be sent.
     Booked,
     /// It was sent.
     Sent,
-    /// It wasn't: its time on air is free again, and so is its uplink.
+    /// It wasn't sent: its time on air is free again, and so is its uplink.
     Dropped,
 }
 
-/// A downlink that a gateway is to send: the number of the uplink that it answers, and when it is on the air, in microseconds
-/// since 1970 UTC.
+/// A downlink that a gateway is to send: the number of the uplink that it answers, and its time on air, in microseconds since 1970 UTC.
 #[derive(Clone, Copy)]
 pub struct Booking {
     pub uplink: u64,

@@ -1,4 +1,4 @@
-//! What frames say.
+//! The fields of frames that the registry uses.
 ghost use Rattle.std.specs.Prelude.{◌≡◌, Some};
 ghost use Rattle.radio_core.specs.Frames.{frame_of};
 ghost use Rattle.registry_core.specs.Frames.{data_up, downlink_to, join_request, frame_at};
@@ -6,7 +6,7 @@ ghost use Rattle.registry_core.specs.Frames.{data_up, downlink_to, join_request,
 use crate::facts::Kind;
 use radio_core::{DataRate, DevAddr, Eui, Octets, Phy, max_phy, read_phy};
 
-/// What a join request says (LoRaWAN L2 1.0.4, section 6.2).
+/// The fields of a join request (LoRaWAN L2 1.0.4, section 6.2).
 #[derive(Clone, Copy)]
 pub struct JoinRequest {
     pub join_eui: Eui,
@@ -14,14 +14,14 @@ pub struct JoinRequest {
     pub nonce: u16,
 }
 
-/// What a data frame says (LoRaWAN L2 1.0.4, section 4.3).
+/// The address and the counter of a data frame (LoRaWAN L2 1.0.4, section 4.3).
 #[derive(Clone, Copy)]
 pub struct DataFrame {
     pub addr: DevAddr,
     pub fcnt: u16,
 }
 
-/// A frame for a device: what answers a join request, and what answers a data frame.
+/// A frame for a device: the answer of a join request, or of a data frame.
 #[derive(Clone, Copy)]
 pub(crate) enum Downlink {
     Accept,
@@ -32,7 +32,7 @@ impl Downlink {
     ghost use Rattle.std.specs.Prelude.{◌≡◌};
     ghost use Rattle.registry_core.specs.Frames.{goes_to, counts_as};
 
-    /// It goes to the address; a join accept names none.
+    /// Returns whether the frame has this address. A join accept has none, and passes.
     pub(crate) fn goes_to(&self, addr: DevAddr) -> bool
         ensures { result ≡ goes_to addr self.now }
     {
@@ -42,7 +42,7 @@ impl Downlink {
         }
     }
 
-    /// Its FCnt has the low 16 bits of the counter, which is one of 32 bits; a join accept has none.
+    /// Returns whether FCnt has the low 16 bits of the counter, and the counter has 32 bits. A join accept has no FCnt, and passes.
     pub(crate) fn counts_as(&self, counter: u64) -> bool
         ensures { result ≡ counts_as counter self.now }
     {
@@ -55,7 +55,7 @@ impl Downlink {
     }
 }
 
-/// What the octets say, where they are a join request: `None` exactly where they aren't.
+/// Reads the octets as a join request. Returns `None` if and only if they aren't one.
 pub fn join_request(octets: &Octets) -> Option<JoinRequest>
     ensures { result ≡ join_request (frame_of octets.now) }
 {
@@ -63,7 +63,7 @@ pub fn join_request(octets: &Octets) -> Option<JoinRequest>
     join_of(&frame)
 }
 
-/// What the octets say, where they are a data frame of a device, not one to it: `None` exactly where they aren't.
+/// Reads the octets as a data frame from a device. Returns `None` if and only if they aren't one; a data frame to a device isn't.
 pub fn data_up(octets: &Octets) -> Option<DataFrame>
     ensures { result ≡ data_up (frame_of octets.now) }
 {
@@ -71,7 +71,7 @@ pub fn data_up(octets: &Octets) -> Option<DataFrame>
     data_of(&frame)
 }
 
-/// What the octets say, where they are a join request that the data rate carries.
+/// Reads the octets as a join request that the data rate can carry.
 pub(crate) fn join_at(dr: DataRate, octets: &Octets) -> Option<JoinRequest>
     ensures { result ≡ join_request (frame_at dr octets.now) }
 {
@@ -79,7 +79,7 @@ pub(crate) fn join_at(dr: DataRate, octets: &Octets) -> Option<JoinRequest>
     join_of(&frame)
 }
 
-/// What the octets say, where they are a data frame of a device that the data rate carries.
+/// Reads the octets as a data frame from a device that the data rate can carry.
 pub(crate) fn data_at(dr: DataRate, octets: &Octets) -> Option<DataFrame>
     ensures { result ≡ data_up (frame_at dr octets.now) }
 {
@@ -87,7 +87,7 @@ pub(crate) fn data_at(dr: DataRate, octets: &Octets) -> Option<DataFrame>
     data_of(&frame)
 }
 
-/// What the octets say, where they are the frame that answers an uplink of the kind and the data rate carries so many.
+/// Reads the octets as the frame that answers an uplink of the kind, if the data rate can carry them.
 pub(crate) fn downlink_at(kind: Kind, dr: DataRate, octets: &Octets) -> Option<Downlink>
     ensures { result ≡ downlink_to kind (frame_at dr octets.now) }
 {
@@ -105,7 +105,7 @@ pub(crate) fn downlink_at(kind: Kind, dr: DataRate, octets: &Octets) -> Option<D
     }
 }
 
-/// The frame that the octets are, where the data rate carries so many.
+/// Reads the octets as a frame, if the data rate can carry them.
 fn frame_at(dr: DataRate, octets: &Octets) -> Option<Phy>
     ensures { result ≡ frame_at dr octets.now }
 {

@@ -1,10 +1,10 @@
-//! Whether hours keep a limit.
+//! Whether hours are within a limit.
 ghost use Rattle.std.specs.Prelude.{◌≡◌, ◌++◌, ◌∷◌, []};
 ghost use Rattle.duty_core.specs.Computed.{hours_within};
 
 use duty_core::{Span, fits, in_order, peak, sweep_fits, sweep_peak};
 
-/// Whether every hour keeps the limit: by one sweep through the spans where they stand in order of start.
+/// Returns whether every hour is within the limit: by a sweep if the spans are ordered by start.
 #[tactic(auto, unfolding(duty_core::specs::Computed::hours_within))]
 pub(crate) fn fit(spans: &[Span], most: u64) -> bool
     ensures { result ≡ hours_within spans.now most }
@@ -17,7 +17,7 @@ pub(crate) fn fit(spans: &[Span], most: u64) -> bool
     greatest <= u128::from(most)
 }
 
-/// Whether every hour keeps the limit with the new span: by one sweep where the spans stand in order of start.
+/// Returns whether every hour is within the limit with the new span: by a sweep if the spans are ordered by start.
 pub(crate) fn fit_with(spans: &[Span], new: Span, most: u64) -> bool
     ensures { result ≡ hours_within (spans.now ++ new ∷ []) most }
 {

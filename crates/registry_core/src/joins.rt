@@ -1,4 +1,4 @@
-//! What a join request changes and how it is answered (LoRaWAN L2 1.0.4, section 6.2).
+//! Decides a join request (LoRaWAN L2 1.0.4, section 6.2).
 ghost use Rattle.std.specs.Prelude.{◌≡◌, ◌+◌, ◌-◌, ◌^◌, ◌<◌, ◌≤◌, length, Ok};
 ghost use Rattle.radio_core.specs.DataRates.{max_length};
 ghost use Rattle.registry_core.specs.steps.ByView.{HasRoom, join_copied_by, join_added_by, join_heard_by};
@@ -14,7 +14,7 @@ use crate::uplinks::{copy_added, is_time, original, reception_of, time_up, uplin
 use crate::views::{UplinkView, View};
 use radio_core::{Band, band_of};
 
-/// A gateway heard a join request.
+/// Decides a join request that a gateway reports.
 #[tactic(auto, unfolding(crate::specs::steps::ByView::join_heard_by))]
 pub(crate) fn join_heard(
     report: &Report,
@@ -36,7 +36,7 @@ pub(crate) fn join_heard(
     }
 }
 
-/// A copy tells of the uplink that is booked, and books none.
+/// Returns the answer of a copy: that of the booked uplink. A copy books none.
 fn join_copied(report: &Report, seen: &UplinkView, view: &View) -> (Effect, Answer)
     ensures { 1 ≤ seen.now.uplink.session → view.now.base + seen.now.uplink.session - 1 < 2 ^ 32
         → Ok result ≡ join_copied_by view.now report.now seen.now }
@@ -51,7 +51,7 @@ fn join_copied(report: &Report, seen: &UplinkView, view: &View) -> (Effect, Answ
     (copy_added(seen, report), answer)
 }
 
-/// A join that is no copy makes a session with the next address.
+/// Decides a join that isn't a copy: it makes a session with the next address.
 #[tactic(auto, unfolding(crate::specs::steps::ByView::join_added_by))]
 fn join_added(
     report: &Report,

@@ -1,5 +1,4 @@
-//! Laws of the definitions: each is the contract of a function that does nothing, or only reads what its
-//! arguments keep.
+//! Laws of the definitions, each as the contract of a function with an empty body, or of one that only reads the ranges of its arguments.
 ghost use Rattle.std.specs.Prelude.{ℕ, ◌<◌, ◌^◌, IfSome, get_or};
 ghost use Rattle.registry_core.specs.AdministrationLaws.{DevicesAddedAlone, DevicesAddedExactly, DevicesMovedAlone, DevicesMovedExactly, DownlinksEndedAlone, DownlinksEndedExactly, GatewaysAddedAlone, GatewaysAddedExactly, OwnersAddedAlone, OwnersAddedExactly, SendersAddedAlone, SendersAddedExactly};
 ghost use Rattle.registry_core.specs.AirtimeLaws.{BookingsAreDownlinks, UplinksAreReceived};
@@ -23,7 +22,7 @@ use duty_core::laws::computed_forms_tell;
 use radio_core::laws::{airtime_is_bounded, airtime_is_computed, band_is_found, frame_is_found};
 use radio_core::{Name, Octets};
 
-/// The test of two messages tells whether they are equal.
+/// The comparison of two messages returns whether they are equal.
 #[tactic(auto, using(crate::proofs::Sameness::same_message_tells))]
 pub fn same_message_tells()
     ensures { SameMessageTells }
@@ -35,26 +34,26 @@ pub fn decisions_fit()
     ensures { DecisionsFit }
 {}
 
-/// What the facts' definitions say of numbers and places: the greatest of some numbers, the first uplink that passes a test, and
-/// what changing one booking does to all.
+/// What the definitions of numbers and places mean: the greatest of some numbers, the first uplink that passes a test, and the bookings
+/// after one of them is changed.
 pub fn numbered_items_are_meant()
     ensures greatest { GreatestIsMost }
     ensures first { FirstIsFirst }
     ensures changed { OneIsChanged }
 {}
 
-/// No messages are a heard list: the one that a new store is in order for.
+/// The empty list is a log: the one that a new store represents.
 pub fn nothing_is_heard()
     ensures { NothingIsHeard }
 {}
 
-/// One more message leaves a heard list, while there is room.
+/// A log with one more message is a log, as long as it has fewer messages than it may have.
 pub fn heard_lists_stay()
     ensures { HeardListsStay }
 {}
 
-/// What is replied: a message that was heard gets what its step answered then, whatever was heard after it; another one of its
-/// sender with its number is refused; and one with a new number gets what its step answers now.
+/// How messages are answered. A message that was heard gets the answer of its step, whatever was heard after it. Another message of its
+/// sender with its transaction number is refused. A message with a new transaction number gets the answer of its step now.
 #[tactic(auto, using(crate::proofs::Replies::first_answers_stay, crate::proofs::Replies::new_numbers_are_decided, crate::proofs::Replies::used_numbers_are_refused))]
 pub fn first_answers_stay()
     ensures first { FirstAnswersStay }
@@ -62,7 +61,7 @@ pub fn first_answers_stay()
     ensures new { NewNumbersAreDecided }
 {}
 
-/// Whatever was heard, the address of each session lies in the block.
+/// Whatever was heard, the address of each session is in the block.
 #[tactic(auto, using(crate::proofs::SessionLaws::addresses_lie_in_block))]
 pub fn addresses_lie_in_block()
     ensures { AddressesLieInBlock }
@@ -80,10 +79,10 @@ pub fn nonces_rise()
     ensures { NoncesRise }
 {}
 
-/// Which frames are booked as new uplinks. Whatever was heard, a join request makes a session exactly where it comes of a known
-/// device with its JoinEUI, its integrity code is right, its DevNonce is above those of the device's sessions, and an address is
-/// left. A data frame is booked exactly where it has a session's address, no later session of the device has a data uplink, and
-/// the counter at which its integrity code is right is the one that FCnt gives after the session's last.
+/// Which frames are booked as new uplinks, whatever was heard. A join request makes a session if and only if it is of a known device with
+/// its JoinEUI, its integrity code is right, its DevNonce is above those of the device's sessions, and an address is left. A data frame is
+/// booked if and only if it has a session's address, no later session of the device has a data uplink, and the counter at which its
+/// integrity code is right is the one that FCnt gives after the session's last.
 pub fn frames_are_booked_exactly()
     ensures joins { JoinedExactly }
     ensures data { FramesBookedExactly }
@@ -119,15 +118,15 @@ pub fn data_copies_are_found()
     ensures { DataCopiesAreFound }
 {}
 
-/// Whatever was heard, each session has the join uplink that made it, and each uplink is one of a session that is there. A
-/// session's nonce is the counter of its join.
+/// Whatever was heard, each session has the join uplink that made it, and each uplink is one of a session that is there. A session's nonce
+/// is the counter of its join.
 #[tactic(auto, using(crate::proofs::SessionJoins::sessions_have_joins, crate::proofs::SessionJoins::uplinks_have_sessions))]
 pub fn sessions_have_joins()
     ensures sessions { SessionsHaveJoins }
     ensures uplinks { UplinksHaveSessions }
 {}
 
-/// Whatever was heard, each uplink has a copy at some gateway.
+/// Whatever was heard, each uplink has a reception at some gateway.
 #[tactic(auto, using(crate::proofs::UplinkLaws::uplinks_have_copies))]
 pub fn uplinks_have_copies()
     ensures { UplinksHaveCopies }
@@ -139,31 +138,29 @@ pub fn uplinks_stay()
     ensures { UplinksStay }
 {}
 
-/// Whatever was heard, what is answered as a copy adds no session and no uplink, and changes no booking. It is a
-/// report, and adds no more than its gateway's copy of the uplink that is told, where that gateway had none.
+/// Whatever was heard, a message that is answered as a copy adds no session and no uplink, and changes no booking. It is a report, and adds
+/// at most its gateway's reception of the uplink in the answer, if that gateway had none.
 #[tactic(auto, using(crate::proofs::CopyLaws::copies_book_nothing, crate::proofs::KeptCopies::copies_add_one_at_most))]
 pub fn copies_book_nothing()
     ensures nothing { CopiesBookNothing }
     ensures copy { CopiesAddOneAtMost }
 {}
 
-/// Whatever was heard, no message changes a copy that is kept.
+/// Whatever was heard, no message changes a reception that is stored.
 #[tactic(auto, using(crate::proofs::KeptCopies::copies_stay))]
 pub fn copies_stay()
     ensures { CopiesStay }
 {}
 
-/// Whatever was heard, two gateways may report a frame in either order: what is left differs in nothing but which copy came
-/// first.
+/// Whatever was heard, two gateways may report a frame in either order: the states after them differ only in which reception came first.
 pub fn reports_in_any_order()
     ensures joins { JoinsInAnyOrder }
     ensures data { DataInAnyOrder }
 {}
 
-/// Whatever was heard, each booking is a downlink in a receive window of the uplink that it answers. The octets of a
-/// frame that the uplink's kind asks for take its length on the air at the window's data rate, as a downlink, and the
-/// window lies in its band. Of a join accept there are 17 or 33 octets, of a data frame from 12 up to what the data rate
-/// carries.
+/// Whatever was heard, each booking is a downlink in a receive window of the uplink that it answers. Its length is the time on air, as a
+/// downlink at the window's data rate, of the octets of a frame that the uplink's kind asks for, and the window is in its band. A join
+/// accept has 17 or 33 octets, and a data frame from 12 up to what the data rate can carry.
 #[tactic(auto, using(crate::proofs::BookedDownlinks::bookings_are_downlinks))]
 pub fn bookings_are_downlinks()
     ensures { BookingsAreDownlinks }
@@ -173,8 +170,8 @@ pub fn bookings_are_downlinks()
     frame_is_found();
 }
 
-/// Whatever was heard, each uplink is as one of its gateways received it: on the air as long as its octets are at the
-/// copy's data rate, as an uplink, up to the end of the copy, and in the copy's band.
+/// Whatever was heard, each uplink is as one of its gateways received it: its time on air is that of its octets at the reception's data
+/// rate, as an uplink, up to the end of the reception, and in the reception's band.
 #[tactic(auto, using(crate::proofs::ReceivedUplinks::uplinks_are_received))]
 pub fn uplinks_are_received()
     ensures { UplinksAreReceived }
@@ -184,8 +181,8 @@ pub fn uplinks_are_received()
     band_is_found();
 }
 
-/// Whatever was heard, no two sessions have one device and one nonce, no two uplinks have one session, one kind and one
-/// counter, and no hour of any gateway's band holds more booked time on air than its limit.
+/// Whatever was heard, no two sessions have one device and one nonce, no two uplinks have one session, one kind and one counter, and no
+/// hour of any gateway's band has more booked airtime than its limit.
 pub fn rules_are_kept()
     ensures { RulesAreKept }
 {
@@ -193,7 +190,7 @@ pub fn rules_are_kept()
     computed_forms_tell();
 }
 
-/// Whatever was heard, no two downlinks of a gateway that aren't dropped are on the air at once, in whatever bands.
+/// Whatever was heard, no two downlinks of a gateway that aren't dropped are on the air at once, in any bands.
 #[tactic(auto, using(crate::proofs::BookingsApart::gateways_send_one_at_a_time))]
 pub fn gateways_send_one_at_a_time()
     ensures { GatewaysSendOneAtATime }
@@ -216,31 +213,30 @@ pub fn downlinks_are_short()
     computed_forms_tell();
 }
 
-/// A downlink is booked exactly where every check holds, no microsecond is shared with a downlink of the gateway that isn't
-/// dropped, and every sliding hour of the gateway's band stays within the limit.
+/// A downlink is booked if and only if every check passes, it shares no microsecond with a downlink of the gateway that isn't dropped, and
+/// every sliding hour of the gateway's band stays within the limit.
 pub fn booked_exactly()
     ensures { BookedExactly }
 {
     computed_forms_tell();
 }
 
-/// A limit is set exactly where an operator sends it, the gateway is known, and every sliding hour of its band keeps it
-/// already.
+/// A limit is set if and only if an operator sends it, the gateway is known, and every sliding hour of its band is within it already.
 pub fn limits_are_set_exactly()
     ensures { SetExactly }
 {
     computed_forms_tell();
 }
 
-/// A limit that is set stands for its gateway's band, in place of a lower or a higher one, and for no other gateway or band.
+/// A limit that is set is its gateway's band's limit, in place of a lower or a higher one, and no other gateway's or band's.
 #[tactic(auto, using(crate::proofs::LimitLaws::set_limits_stand, crate::proofs::LimitLaws::other_limits_stay))]
 pub fn set_limits_stand()
     ensures set { SetLimitsStand }
     ensures others { OtherLimitsStay }
 {}
 
-/// Whatever was heard, the limit of a gateway's band is the one that the last accepted LimitSet for it has set, and the band's own
-/// where there is none.
+/// Whatever was heard, the limit of a gateway's band is the one that the last accepted LimitSet for it has set, and the band's own if there
+/// is none.
 #[tactic(auto, using(crate::proofs::LimitLaws::last_limit_stands))]
 pub fn last_limit_stands()
     ensures { LastLimitStands }
@@ -252,7 +248,7 @@ pub fn limits_are_within()
     ensures { LimitsAreWithin }
 {}
 
-/// Whatever was heard, what a gateway received of an uplink lies in a band.
+/// Whatever was heard, each reception of an uplink is in a band.
 #[tactic(auto, using(crate::proofs::DownlinkLaws::copies_lie_in_bands))]
 pub fn copies_lie_in_bands()
     ensures { CopiesLieInBands }
@@ -269,62 +265,62 @@ pub fn refusals_change_nothing()
     ensures { RefusalsChangeNothing }
 {}
 
-/// There are at most as many owners, gateways, devices and copies as messages were heard, and one sender more; at most
-/// as many sessions as uplinks; and of uplinks and bookings, taken together, at most as many as messages.
+/// There are at most as many owners, gateways, devices and receptions as messages were heard, and one more sender; at most as many sessions
+/// as uplinks; and at most as many uplinks and bookings together as messages.
 #[tactic(auto, using(crate::proofs::Counts::facts_are_no_more_than_messages))]
 pub fn facts_are_no_more_than_messages()
     ensures { FactsAreNoMoreThanMessages }
 {}
 
-/// What a step refuses has the number 6 or one from 9 to 31.
+/// A refusal of a step has the number 6 or one from 9 to 31.
 #[tactic(auto, using(crate::proofs::StepRefusals::steps_refuse_by_number))]
 pub fn steps_refuse_by_number()
     ensures { StepsRefuseByNumber }
 {}
 
-/// What is kept of senders, owners, gateways, devices and limits is changed by messages of operators alone.
+/// Only messages of operators change senders, owners, gateways, devices and limits.
 #[tactic(auto, using(crate::proofs::EveryMessage::operators_keep_the_register))]
 pub fn operators_keep_the_register()
     ensures { OperatorsKeepTheRegister }
 {}
 
-/// A SenderAdd is answered Success exactly where an operator sends it and no sender has the name. Then the name is a sender's with
+/// A SenderAdd is answered Success if and only if an operator sends it and no sender has the name. Then there is a sender with the name and
 /// the role, and nothing else differs.
 pub fn senders_are_added_exactly()
     ensures accepted { SendersAddedExactly }
     ensures alone { SendersAddedAlone }
 {}
 
-/// An OwnerAdd is answered Success exactly where an operator sends it and no owner has the name. Then the name is an owner's, and
+/// An OwnerAdd is answered Success if and only if an operator sends it and no owner has the name. Then there is an owner with the name, and
 /// nothing else differs.
 pub fn owners_are_added_exactly()
     ensures accepted { OwnersAddedExactly }
     ensures alone { OwnersAddedAlone }
 {}
 
-/// A GatewayAdd is answered Success exactly where an operator sends it and no gateway has the name. Then the name is a gateway's,
+/// A GatewayAdd is answered Success if and only if an operator sends it and no gateway has the name. Then there is a gateway with the name,
 /// and nothing else differs.
 pub fn gateways_are_added_exactly()
     ensures accepted { GatewaysAddedExactly }
     ensures alone { GatewaysAddedAlone }
 {}
 
-/// A DeviceAdd is answered Success exactly where an operator sends it, the owner is known, and no device has the DevEUI. Then the
-/// device has the JoinEUI and the owner, and nothing else differs.
+/// A DeviceAdd is answered Success if and only if an operator sends it, the owner is known, and no device has the DevEUI. Then the device
+/// has the JoinEUI and the owner, and nothing else differs.
 pub fn devices_are_added_exactly()
     ensures accepted { DevicesAddedExactly }
     ensures alone { DevicesAddedAlone }
 {}
 
-/// A DeviceMove is answered Success exactly where an operator sends it, and both the device and the owner are known. Then the
-/// device has the owner and keeps its JoinEUI, its last nonce and the floor of its sessions, and nothing else differs.
+/// A DeviceMove is answered Success if and only if an operator sends it, and both the device and the owner are known. Then the device has
+/// the owner, its JoinEUI, its last nonce and the floor of its sessions are the same, and nothing else differs.
 pub fn devices_are_moved_exactly()
     ensures accepted { DevicesMovedExactly }
     ensures alone { DevicesMovedAlone }
 {}
 
-/// A DownDone is answered Success exactly where the booking is there and was neither sent nor dropped. Then the booking is sent
-/// or dropped and keeps its uplink, gateway, band and span, and nothing else differs.
+/// A DownDone is answered Success if and only if the booking is there and was neither sent nor dropped. Then the booking is sent or
+/// dropped, its uplink, gateway, band and span are the same, and nothing else differs.
 pub fn downlinks_are_ended_exactly()
     ensures accepted { DownlinksEndedExactly }
     ensures alone { DownlinksEndedAlone }
@@ -336,7 +332,7 @@ pub fn senders_stay()
     ensures { SendersStay }
 {}
 
-/// What was made of a receiver, an operator and a block keeps their forms.
+/// A configuration has a receiver, an operator and a block in their forms.
 pub fn configs_keep_ranges(config: &Config)
     ensures { IsSettings config.now }
 {
@@ -345,7 +341,7 @@ pub fn configs_keep_ranges(config: &Config)
     let _addresses = config.addresses();
 }
 
-/// An envelope keeps the ranges of its types.
+/// An envelope has its values in the ranges of their types.
 pub fn envelopes_keep_ranges(envelope: &Envelope)
     ensures { IsEnvelope envelope.now }
 {

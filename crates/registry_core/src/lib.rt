@@ -1,4 +1,4 @@
-//! The registry and its rules: what each message asks, what it changes and how it is answered.
+//! The registry and its rules: what each message asks for, what it changes and how it is answered.
 #![tactic(auto)]
 
 mod addresses;

@@ -2,8 +2,7 @@
 use radio_core::{Band, limit};
 use std::marker::Model;
 
-/// A band, and the most time on air within any hour in it, in microseconds: at most the band's own limit. Contracts see
-/// `Limit`.
+/// A band, and the greatest time on air within any hour in it, in microseconds: at most the band's own limit. Contracts see `Limit`.
 #[derive(Clone, Copy, PartialEq, Eq)]
 pub struct BandLimit {
     band: Band,
@@ -26,7 +25,7 @@ impl BandLimit {
     ghost use Rattle.std.specs.Prelude.{◌≡◌, SomeIff};
     ghost use Rattle.registry_core.specs.Limits.{IsLimit};
 
-    /// `None` exactly where `most` is above the band's own limit.
+    /// Returns a limit, `None` if and only if `most` is above the band's own limit.
     pub fn new(band: Band, most: u64) -> Option<Self>
         ensures { SomeIff result (IsLimit (record { band = band; most = most })) (record { band = band; most = most }) }
     {
@@ -36,14 +35,14 @@ impl BandLimit {
         Some(BandLimit { band, most })
     }
 
-    /// The band that it is for.
+    /// Returns the band of the limit.
     pub fn band(&self) -> Band
         ensures { result ≡ self.now.band }
     {
         self.band
     }
 
-    /// The most time on air within any hour, in microseconds.
+    /// Returns the greatest time on air within any hour, in microseconds.
     pub fn most(&self) -> u64
         ensures same { result ≡ self.now.most }
         ensures range { IsLimit self.now }

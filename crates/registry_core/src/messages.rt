@@ -1,4 +1,4 @@
-//! Messages, after reading.
+//! Messages, as values.
 use crate::limits::BandLimit;
 use crate::wholes::Whole;
 use crate::windows::Window;
@@ -13,17 +13,16 @@ pub enum Role {
     Radio,
 }
 
-/// What the security module found of a join request's integrity code.
+/// The security module's verdict on a join request's integrity code.
 #[derive(Clone, Copy, PartialEq, Eq)]
 pub enum JoinVerdict {
     /// The code is right.
     Good,
-    /// It isn't.
+    /// The code is wrong.
     Bad,
 }
 
-/// What a gateway reports of a frame: when its last symbol ended, in microseconds since 1970 UTC, how it was sent, and
-/// its octets.
+/// A gateway's report of a frame: when its last symbol ended, in microseconds since 1970 UTC, its frequency and data rate, and its octets.
 #[derive(Clone, Copy)]
 pub struct Report {
     pub gateway: Name,
@@ -32,45 +31,45 @@ pub struct Report {
     pub octets: Octets,
 }
 
-/// What a sender asks.
+/// A message.
 #[derive(Clone, Copy)]
 pub enum Message {
-    /// A sender with this name and role is added.
+    /// Adds a sender with this name and role.
     SenderAdd {
         sender: Name,
         role: Role,
     },
-    /// An owner is added.
+    /// Adds an owner.
     OwnerAdd {
         owner: Name,
     },
-    /// A gateway is added.
+    /// Adds a gateway.
     GatewayAdd {
         gateway: Name,
     },
-    /// A device of this owner is added.
+    /// Adds a device of this owner.
     DeviceAdd {
         dev_eui: Eui,
         join_eui: Eui,
         owner: Name,
     },
-    /// The device has this owner from now on.
+    /// Moves the device to this owner.
     DeviceMove {
         dev_eui: Eui,
         owner: Name,
     },
-    /// A gateway heard a join request.
+    /// A gateway received a join request.
     JoinHeard {
         report: Report,
         verdict: JoinVerdict,
     },
-    /// A gateway heard a data frame. The verdict is the counter at which the security module found the integrity code right, if
-    /// there is one.
+    /// A gateway received a data frame. The verdict is the counter at which the security module found the integrity code right, if there is
+    /// one.
     FrameHeard {
         report: Report,
         verdict: Option<u32>,
     },
-    /// The gateway is to answer the uplink with this number in the window.
+    /// Asks the gateway to answer the uplink with this number in the window.
     DownBook {
         uplink: Whole,
         gateway: Name,
@@ -82,14 +81,14 @@ pub enum Message {
         booking: Whole,
         sent: bool,
     },
-    /// The gateway's band has this limit from now on.
+    /// Sets the limit of the gateway's band.
     LimitSet {
         gateway: Name,
         limit: BandLimit,
     },
 }
 
-/// Messages that a desk hears, at most (this project's limit).
+/// The greatest number of messages that a desk hears (this project's limit).
 pub const MOST_HEARD: usize = 9_007_199_254_740_991;
 
 /// A message with its sender and the sender's transaction number.

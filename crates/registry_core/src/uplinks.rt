@@ -10,7 +10,7 @@ use crate::messages::Report;
 use crate::views::{UplinkView, View};
 use radio_core::{Band, airtime};
 
-/// From the beginning of 2000 to the beginning of 2100, UTC.
+/// Returns whether the report's time is from the beginning of 2000 to the beginning of 2100, UTC.
 pub(crate) fn is_time(report: &Report) -> bool
     ensures { result ≡ is_time report.now.time }
 {
@@ -27,7 +27,7 @@ pub(crate) fn reception_of(report: &Report) -> Reception
     }
 }
 
-/// The time on air of an uplink, which has the payload's CRC, where the data rate carries so many octets.
+/// Returns the time on air of an uplink, which has the payload's CRC, in microseconds, if the data rate can carry its octets.
 pub(crate) fn time_up(report: &Report) -> u32
     ensures { length report.now.octets ≤ max_length report.now.rate.dr → result ≡ time_up report.now }
 {
@@ -35,7 +35,7 @@ pub(crate) fn time_up(report: &Report) -> u32
     u32::try_from(time).unwrap_or(u32::MAX)
 }
 
-/// The uplink that the report tells of, where the data rate carries so many octets.
+/// Returns the uplink of the report, if the data rate can carry its octets.
 pub(crate) fn uplink_of(
     report: &Report,
     session: u64,
@@ -58,7 +58,7 @@ pub(crate) fn uplink_of(
     }
 }
 
-/// A copy adds the copy of a gateway that has none of the uplink, and nothing else.
+/// Returns what a copy adds: its gateway's reception if that gateway has none of the uplink, and nothing else.
 pub(crate) fn copy_added(seen: &UplinkView, report: &Report) -> Effect
     ensures { result ≡ copy_added seen.now.number seen.now.at_gateway report.now }
 {
@@ -72,7 +72,7 @@ pub(crate) fn copy_added(seen: &UplinkView, report: &Report) -> Effect
     }
 }
 
-/// The uplink of which the report's frame is a copy.
+/// Returns the uplink that the report's frame copies.
 pub(crate) fn original(view: &View, report: &Report) -> Option<UplinkView>
     ensures { result ≡ original_by view.now.uplink report.now.octets }
 {

@@ -1,55 +1,55 @@
-//! What the registry holds for one message.
+//! The view: the part of the registry's state that one message needs.
 use crate::facts::{Device, Reception, Standing, Uplink};
 use crate::messages::Role;
 use duty_core::Span;
 use radio_core::{Band, Eui};
 
-/// What the registry holds for one message. The sender's role, the block and the three counts are there for each message; of the
-/// rest what it doesn't ask for is false, 0, absent or empty.
+/// The part of the registry's state that one message needs. The sender's role, the block and the three counts are set for each message.
+/// What the message doesn't need of the rest is false, 0, absent or empty.
 #[derive(Drop)]
 pub struct View {
-    /// The sender's.
+    /// The sender's role.
     pub role: Role,
     /// The first address of the block.
     pub base: u32,
-    /// How many addresses the block has.
+    /// The number of addresses in the block.
     pub addresses: u32,
-    /// How many sessions there are.
+    /// The number of sessions.
     pub sessions: u64,
-    /// How many uplinks there are.
+    /// The number of uplinks.
     pub uplinks: u64,
-    /// How many bookings there are.
+    /// The number of bookings.
     pub bookings: u64,
-    /// The sender that the message names is there.
+    /// Whether there is the sender that the message names.
     pub sender_known: bool,
-    /// The owner that the message names is there.
+    /// Whether there is the owner that the message names.
     pub owner_known: bool,
-    /// The gateway that the message names is there.
+    /// Whether there is the gateway that the message names.
     pub gateway_known: bool,
-    /// The device that the message names, or whose join request it tells of.
+    /// The device that the message names or whose join request it reports.
     pub device: Option<Device>,
-    /// The greatest nonce among the sessions of the device whose join request the message tells of.
+    /// The greatest nonce among the sessions of the device whose join request the message reports.
     pub last_nonce: Option<u16>,
-    /// The session whose data frame the message tells of.
+    /// The session whose data frame the message reports.
     pub session: Option<SessionView>,
-    /// The uplink that the message names, or that may be the same as what it tells of.
+    /// The uplink that the message names or that its frame may copy.
     pub uplink: Option<UplinkView>,
-    /// A booking that isn't dropped answers the uplink that a downlink is for.
+    /// Whether a booking that isn't dropped answers the uplink of a downlink.
     pub answered: bool,
-    /// How many bookings answer data uplinks of that uplink's session, dropped ones too.
+    /// The number of bookings that answer data uplinks of that uplink's session, dropped ones too.
     pub next_down: u64,
-    /// How the booking that the message names stands.
+    /// The state of the booking that the message names.
     pub booking: Option<Standing>,
-    /// The limit of the gateway's band, for a new downlink: microseconds on the air within an hour.
+    /// The limit of the gateway's band for a new downlink, in microseconds on the air within an hour.
     pub limit: u64,
-    /// When the gateway is on the air near a new downlink, in all bands, dropped bookings aside.
+    /// When the gateway is on the air near a new downlink, in all bands, without dropped bookings.
     pub near: Vec<Span>,
-    /// When it is on the air in the band, dropped bookings aside: near a new downlink, or at any time where the message sets the
-    /// band's limit.
+    /// When it is on the air in the band, without dropped bookings: near a new downlink, or at any time if the message sets the band's
+    /// limit.
     pub in_band: Vec<Span>,
 }
 
-/// What the registry holds of a session for one message.
+/// What one message needs of a session.
 #[derive(Clone, Copy)]
 pub struct SessionView {
     /// Its number, from 1.
@@ -57,17 +57,17 @@ pub struct SessionView {
     pub device: Eui,
     /// The greatest counter among its data uplinks.
     pub last_counter: Option<u32>,
-    /// A later session of its device has a data uplink.
+    /// Whether a later session of its device has a data uplink.
     pub below_floor: bool,
 }
 
-/// What the registry holds of an uplink for one message.
+/// What one message needs of an uplink.
 #[derive(Clone, Copy)]
 pub struct UplinkView {
     /// Its number, from 1.
     pub number: u64,
     pub uplink: Uplink,
-    /// Its copy at the gateway that the message names.
+    /// Its reception at the gateway that the message names.
     pub at_gateway: Option<Reception>,
 }
 

@@ -1,10 +1,10 @@
-//! Whole numbers as messages have them.
+//! Integers as messages have them.
 use std::marker::Model;
 
-/// 2^53 - 1, the greatest whole number that a message has (this project's range).
+/// 2^53 - 1, the greatest integer in a message (this project's range).
 pub const GREATEST_WHOLE: u64 = 9_007_199_254_740_991;
 
-/// A whole number from 0 to `GREATEST_WHOLE`. Contracts see the number.
+/// An integer from 0 to `GREATEST_WHOLE`. Contracts see the number.
 #[derive(Clone, Copy, PartialEq, Eq)]
 pub struct Whole {
     number: u64,
@@ -27,7 +27,7 @@ impl Whole {
     ghost use Rattle.std.specs.Prelude.{◌≡◌, ◌-◌, SomeIff};
     ghost use Rattle.registry_core.specs.Wholes.{IsWhole};
 
-    /// `None` exactly where the number is greater.
+    /// Returns the integer, `None` if and only if the number is above `GREATEST_WHOLE`.
     pub fn new(number: u64) -> Option<Self>
         ensures { SomeIff result (IsWhole number) number }
     {
@@ -37,7 +37,7 @@ impl Whole {
         Some(Whole { number })
     }
 
-    /// The number that `new` took.
+    /// Returns the number.
     pub fn get(&self) -> u64
         ensures same { result ≡ self.now }
         ensures range { IsWhole self.now }
@@ -45,7 +45,7 @@ impl Whole {
         self.number
     }
 
-    /// The number less `less`, or 0 where it is smaller.
+    /// Returns the number minus `less`, or 0 if `less` is greater.
     pub(crate) fn minus(&self, less: u32) -> Whole
         ensures { result ≡ self.now - less }
     {

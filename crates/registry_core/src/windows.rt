@@ -15,9 +15,9 @@ pub enum Window {
     Second,
 }
 
-/// Where a downlink in the window begins, in microseconds since 1970 UTC, and how it is sent, its frequency in hertz: the
-/// receive windows of Class A (LoRaWAN L2 1.0.4, section 3.3; RP002-1.0.4, EU863-870). `end` is when the last symbol of the uplink ended
-/// at the gateway, `rate` how the gateway heard it.
+/// Returns when a downlink in the window begins, in microseconds since 1970 UTC, and its frequency in hertz and data rate: the receive
+/// windows of Class A (LoRaWAN L2 1.0.4, section 3.3; RP002-1.0.4, EU863-870). `end` is when the last symbol of the uplink ended at the
+/// gateway, and `rate` its frequency and data rate there.
 pub fn receive(kind: Kind, end: Whole, rate: Rate, window: Window) -> (u64, Rate)
     ensures window { result ≡ window_of kind end rate window }
     ensures range { result.0 < 2 ^ 62 }
@@ -25,7 +25,7 @@ pub fn receive(kind: Kind, end: Whole, rate: Rate, window: Window) -> (u64, Rate
     (end.get() + delay(kind, window), rate_in(window, rate))
 }
 
-/// How long after the uplink the window opens, in microseconds.
+/// Returns how long after the uplink the window opens, in microseconds.
 fn delay(kind: Kind, window: Window) -> u64
     ensures { result ≡ delay kind window }
 {
@@ -37,7 +37,7 @@ fn delay(kind: Kind, window: Window) -> u64
     }
 }
 
-/// How a downlink in the window is sent.
+/// Returns the frequency and the data rate of a downlink in the window.
 fn rate_in(window: Window, rate: Rate) -> Rate
     ensures { result ≡ rate_in window rate }
 {

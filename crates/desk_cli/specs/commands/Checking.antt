@@ -1,4 +1,4 @@
--- `desk check`: its words, and what it prints.
+-- `desk check`: its arguments, and what it prints.
 use Rattle.std.specs.Prelude.{◌≡◌, ◌++◌, ◌∷◌, ℕ, List, [], Result, Ok, Err, codes}
 use Rattle.std.specs.Fmt.{decimal}
 use Rattle.clap.specs.Simple.{App, new_app, with_rule}
@@ -16,7 +16,7 @@ use Rattle.desk_tables.specs.declared.totals.Totals.{Totals}
 use Rattle.desk_cli.specs.Named.{Named, check, named_as}
 use Rattle.desk_cli.specs.Options.{◌>>=◌, place_rule, placed}
 
--- its words
+-- its arguments
 abbrev pub check_app : App
 check_app = with_rule (new_app (codes "check")) (place_rule (codes "file"))
 
@@ -32,7 +32,7 @@ check_named rows = named_as do
 abbrev pub value_line : List ℕ → List ℕ → List ℕ → List ℕ
 value_line name value lines = name ++ (codes ": " ++ (value ++ line_feed ∷ lines))
 
--- what the desk was made with
+-- the desk's configuration
 abbrev pub settings_lines : Settings → List ℕ → List ℕ
 settings_lines c lines =
     value_line (codes "schema") (codes "2")
@@ -41,7 +41,7 @@ settings_lines c lines =
     (value_line (codes "base") (addr_digits c.base)
     (value_line (codes "addresses") (decimal c.addresses) lines))))
 
--- how many there are of what has a name or a DevEUI, and of the limits that were set
+-- the number of things of each kind that has a name or a DevEUI, and of limits that were set
 abbrev pub named_lines : Totals → List ℕ → List ℕ
 named_lines t lines =
     value_line (codes "senders") (decimal t.senders)
@@ -50,7 +50,7 @@ named_lines t lines =
     (value_line (codes "devices") (decimal t.devices)
     (value_line (codes "limits") (decimal t.limits) lines))))
 
--- and of what is numbered
+-- the number of things of each kind that is numbered
 abbrev pub numbered_lines : Totals → List ℕ
 numbered_lines t =
     value_line (codes "sessions") (decimal t.numbered.sessions)
@@ -61,7 +61,7 @@ numbered_lines t =
 abbrev pub check_text : Settings → Totals → List ℕ
 check_text c t = settings_lines c (named_lines t (numbered_lines t))
 
--- what is printed of a desk that has heard these, or why it isn't: memory or the disk failed
+-- what is printed of a desk that represents this log, or why it isn't: memory or the disk failed
 abbrev pub IsCheck : Settings → List Envelope → Result (List ℕ) ReportFault → Type 0
 IsCheck c heard (Ok text) = (t : Totals) × AreTotals (kept_after c heard) t × (text ≡ check_text c t)
 IsCheck c heard (Err (Unavailable fault)) = IsUnavailability fault

@@ -1,4 +1,4 @@
--- `desk hear`: its words, and what it has done, by how it ended.
+-- `desk hear`: its arguments, and what it has done, by how it ended.
 use Rattle.std.specs.Prelude.{List, Ok, codes, ℕ, Option, Result}
 use Rattle.clap.specs.Simple.{App, new_app, with_rule}
 use Rattle.clap.specs.Walk.{Row}
@@ -12,7 +12,7 @@ use Rattle.desk_cli.specs.Answering.{AnswersBy}
 use Rattle.desk_cli.specs.OnTables.{IsLeft, KeepsHeard}
 use Rattle.desk_cli.specs.declared.faults.Fault.{Fault}
 
--- its words
+-- its arguments
 abbrev pub hear_app : App
 hear_app = with_rule (new_app (codes "hear")) (place_rule (codes "file"))
 
@@ -24,7 +24,7 @@ hear_named rows = named_as do
 
 -- ---- what it does
 
--- The lines of the input were heard by the desk of this configuration that had heard these, and its file was given back.
+-- The desk of this configuration, which represented this log, heard the lines of the input, and its file was given back.
 abbrev pub HearsBy : {S : Type 0} → Ghosts S → Held S → Settings → List Envelope → (left rest before after : Option (List ℕ)) → {T : Type 0} → Result T Fault → Type 0
 HearsBy g back c heard left rest before after result =
     AnswersBy c heard (KeepsHeard g back c) (IsLeft g back c) left rest before after result

@@ -1,4 +1,4 @@
--- `desk import`: its words, and what it has done, by how it ended.
+-- `desk import`: its arguments, and what it has done, by how it ended.
 use Rattle.std.specs.Prelude.{◌⊎◌, List, Ok, codes, ℕ, Option, Result, Err, ⊤}
 use Rattle.clap.specs.Simple.{App, new_app, with_rule}
 use Rattle.clap.specs.Walk.{Row}
@@ -13,7 +13,7 @@ use Rattle.desk_engine.specs.CsvImporting.{ImportsAll, ImportsFirst, RefusesRepo
 use Rattle.desk_cli.specs.declared.faults.Fault.{Fault}
 use Rattle.desk_cli.specs.declared.faults.Fault.TheVariants.{CsvSize, CsvEnd, CsvHeader, CsvRecord, File, Unavailable}
 
--- its words
+-- its arguments
 abbrev pub import_app : App
 import_app =
     with_rule (with_rule (new_app (codes "import"))
@@ -27,8 +27,9 @@ import_named rows = named_as do
   sender ← or_bad (value_at name_of (codes "sender") rows) Sender
   Ok (import file sender)
 
--- What it has done, by how it ended. What had been heard, and by whom the report is; what says that these are kept, and that these
--- are left, or these with one more; what a reader has left before and after, and what a writer holds before and after.
+-- What it has done, by how it ended. `heard` is the log before, and `sender` the message sender of the records. `Kept` states that a log is
+-- represented, and `Left` that a crash leaves a log, or it with the in-flight message. `left` and `rest` are what the reader has left
+-- before and after, `before` and `after` what the writer has before and after.
 module _ (c : Settings) (heard : List Envelope) (sender : List ℕ) (Kept : List Envelope → Type 0) (Left : List Envelope → Option Envelope → Type 0)
     (left rest before after : Option (List ℕ)) where
   -- a read failed, and nothing was heard or written

@@ -1,4 +1,4 @@
--- `desk init`: its words, and what it has done, by how it ended.
+-- `desk init`: its arguments, and what it has done, by how it ended.
 use Rattle.std.specs.Prelude.{List, Ok, codes, ◌≡◌, ◌≢◌, ◌↔◌, [], Result, Err, OnOk, OnErr}
 use Rattle.clap.specs.Simple.{App, new_app, with_rule}
 use Rattle.clap.specs.Walk.{Row}
@@ -16,7 +16,7 @@ use Rattle.desk_cli.specs.OnTables.{KeepsHeard}
 use Rattle.desk_cli.specs.declared.faults.Fault.{Fault}
 use Rattle.desk_cli.specs.declared.faults.Fault.TheVariants.{Exists, NotADesk, Unavailable}
 
--- its words
+-- its arguments
 abbrev pub init_app : App
 init_app = with_rule (with_settings (new_app (codes "init"))) (place_rule (codes "file"))
 
@@ -29,8 +29,8 @@ init_named rows = named_as do
 
 -- ---- what it does
 
--- On a connection whose database held this schema: with status 0 that was none, and now it holds a desk of this configuration that
--- has heard nothing. Else nothing is changed, and a crash leaves what was there or the new desk.
+-- With status 0 the connection's database had no schema, and now it is a desk of this configuration with no message in its log. Otherwise
+-- nothing is changed, and a crash leaves what was there or the new desk.
 pub record InitsBy {S : Type 0} (g : Ghosts S) (conn back : Held S) (c : Settings) {T : Type 0} (result : Result T Fault) : Type 0 where
   pub made : OnOk result (HasCleanDisk (state g back) → KeepsHeard g back c [])
   pub blank : OnOk result (conn.schema ≡ no_schema)

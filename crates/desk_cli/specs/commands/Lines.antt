@@ -1,4 +1,4 @@
--- `desk lines`: its words, and what it has done, by how it ended.
+-- `desk lines`: its arguments, and what it has done, by how it ended.
 use Rattle.std.specs.Prelude.{ℕ, List, [], Option, Result, Ok, Err, codes, ⊤}
 use Rattle.clap.specs.Simple.{App, new_app}
 use Rattle.registry_core.specs.Settings.{Settings}
@@ -7,7 +7,7 @@ use Rattle.desk_cli.specs.Named.{Named, bad, lines, names}
 use Rattle.desk_cli.specs.Options.{OrBad, with_settings}
 use Rattle.desk_cli.specs.declared.faults.Fault.{Fault}
 
--- its words
+-- its arguments
 abbrev pub lines_app : App
 lines_app = with_settings (new_app (codes "lines"))
 
@@ -16,7 +16,7 @@ abbrev pub lines_named : OrBad Settings → Named
 lines_named (Ok config) = names (lines config)
 lines_named (Err value) = bad value
 
--- What a reader has left before and after, and what a writer holds before and after: which lines were answered, from the opening state on, by
--- how it ended. The desk is gone with it, so nothing is said of what is kept.
+-- Which lines were answered, from the opening state on, by how it ended. The desk in memory is gone then, so this states nothing of what is
+-- stored. `left` and `rest` are what the reader has left before and after, `before` and `after` what the writer has before and after.
 abbrev pub AnswersLines : (left rest before after : Option (List ℕ)) → Settings → {T : Type 0} → Result T Fault → Type 0
 AnswersLines left rest before after config result = AnswersBy config [] (λ _. ⊤) (λ _ _. ⊤) left rest before after result

@@ -1,4 +1,4 @@
--- `desk log`: its words, and what it has printed, by how it ended.
+-- `desk log`: its arguments, and what it has printed, by how it ended.
 use Rattle.std.specs.Prelude.{◌⊎◌, ℕ, Bool, true, false, List, [], Option, Result, Ok, Err, codes}
 use Rattle.std.specs.Io.KnownBytes.{Appends}
 use Rattle.clap.specs.Simple.{App, new_app, with_rule}
@@ -14,7 +14,7 @@ use Rattle.desk_cli.specs.declared.faults.Fault.{Fault}
 use Rattle.desk_cli.specs.declared.faults.Fault.TheVariants.{File, Unavailable}
 use Rattle.desk_cli.specs.declared.usage.BadValue.TheVariants.{FirstMessage, Messages}
 
--- its words
+-- its arguments
 abbrev pub log_app : App
 log_app =
     with_rule (with_rule (with_rule (with_rule (new_app (codes "log"))
@@ -38,11 +38,11 @@ log_named rows = named_as do
 
 -- ---- what it does
 
--- The lines that are to be printed; what says that the desk's file is kept, and that a crash leaves it; what a writer holds before and
--- after.
+-- `lines` are the lines that are to be printed. `Kept` states that the desk's file is unchanged, and `Left` that a crash leaves it.
+-- `before` and `after` are what the writer has before and after.
 module _ (lines : List (List ℕ)) (Kept Left : Type 0) (before after : Option (List ℕ)) where
-  -- By how it ended: all lines were written; with `File` they were, and handing them on failed, or a write failed at a line; with
-  -- `Unavailable` the first lines were written.
+  -- By how it ended: all lines were written; with `File` they were and the flush failed, or a write failed at a line; with `Unavailable`
+  -- the first lines were written.
   abbrev pub LogsBy : {T : Type 0} → Result T Fault → Type 0
   LogsBy (Ok x) = Appends before after (input_of lines []) × Kept
   LogsBy (Err File) = (Appends before after (input_of lines []) ⊎ WritesPart lines before after) × Kept

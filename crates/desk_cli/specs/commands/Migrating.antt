@@ -1,4 +1,4 @@
--- `desk migrate`: its words, and what it has done, by how it ended.
+-- `desk migrate`: its arguments, and what it has done, by how it ended.
 use Rattle.std.specs.Prelude.{◌≡◌, ◌≢◌, ◌⊎◌, ℤ, pos, List, Result, Ok, Err, OnOk, OnErr, IsTrue, codes}
 use Rattle.clap.specs.Simple.{App, new_app, with_rule}
 use Rattle.clap.specs.Walk.{Row}
@@ -23,7 +23,7 @@ use Rattle.desk_cli.specs.Options.{◌>>=◌, place_rule, placed}
 use Rattle.desk_cli.specs.declared.faults.Fault.{Fault}
 use Rattle.desk_cli.specs.declared.faults.Fault.TheVariants.{Exists, NotADesk, Schema, Unavailable}
 
--- its words
+-- its arguments
 abbrev pub migrate_app : App
 migrate_app = with_rule (new_app (codes "migrate")) (place_rule (codes "file"))
 
@@ -35,7 +35,7 @@ migrate_named rows = named_as do
 
 -- ---- what it does
 
--- the database holds exactly the tables of schema 1 of a desk of this configuration that has heard these, in this order
+-- the database is exactly the tables of schema 1 of a desk of this configuration that represents this log
 pub record HasHeardInFirst (c : Settings) (heard : List Envelope) (db : Database) : Type 0 where
   pub list : IsHeard c heard
   pub tables : IsOfFirstSchema c (kept_after c heard) db
@@ -44,10 +44,10 @@ pub record HasHeardInFirst (c : Settings) (heard : List Envelope) (db : Database
 abbrev pub IsOfVersion : {S : Type 0} → Ghosts S → Held S → ℤ → Type 0
 IsOfVersion g conn version = HasMeta conn.schema × ((c : Settings) × TellsMeta (state g conn).now.trees version c)
 
--- Of a file of schema 1: with status 0 it has schema 2 and keeps all that was heard, and else memory or the disk failed, and a crash
--- leaves what it left before or the tables moved. Of any file: with another status all is as it was, while the connection is open;
--- the schema is told of a desk of another version than 1 alone, and that something exists where the name of the table that is to be
--- made is taken; what is no desk's of version 1 is given back as it was.
+-- For a file of schema 1: with status 0 it has schema 2 and represents the same log, and else memory or the disk failed, and a crash leaves
+-- what it left before or the tables moved. For any file: with another status everything is as it was, if the connection is still open.
+-- `Schema` comes only if a desk has another version than 1, and `Exists` if the name of the table that is to be made is taken. A database
+-- that is not a desk of version 1 is given back as it was.
 pub record MigratesBy {S : Type 0} (g : Ghosts S) (conn back : Held S) {T : Type 0} (result : Result T Fault) : Type 0 where
   pub moved : (c : Settings) (heard : List Envelope) → HasHeardInFirst c heard (state g conn).now → OnOk result (HasCleanDisk (state g back) → KeepsHeard g back c heard)
   pub unavailable : (c : Settings) (heard : List Envelope) → HasHeardInFirst c heard (state g conn).now → OnErr result (HasCleanDisk (state g back) → result ≡ Err Unavailable)

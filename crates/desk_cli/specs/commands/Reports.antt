@@ -1,11 +1,11 @@
--- `desk report`, `desk bands` and `desk room`: their words.
+-- `desk report`, `desk bands` and `desk room`: their arguments.
 use Rattle.std.specs.Prelude.{List, Ok, codes}
 use Rattle.clap.specs.Simple.{App, new_app, with_rule}
 use Rattle.clap.specs.Walk.{Row}
 use Rattle.desk_cli.specs.Named.{Named, bands, named_as, report, room}
 use Rattle.desk_cli.specs.Options.{◌>>=◌, place_rule, placed}
 
--- the words of `desk report`
+-- the arguments of `desk report`
 abbrev pub report_app : App
 report_app =
     with_rule (with_rule (with_rule (new_app (codes "report"))
@@ -21,7 +21,7 @@ report_named rows = named_as do
   month ← placed (codes "month") rows
   Ok (report file owner month)
 
--- the words of `desk bands`
+-- the arguments of `desk bands`
 abbrev pub bands_app : App
 bands_app =
     with_rule (with_rule (new_app (codes "bands"))
@@ -35,7 +35,7 @@ bands_named rows = named_as do
   gateway ← placed (codes "gateway") rows
   Ok (bands file gateway)
 
--- the words of `desk room`
+-- the arguments of `desk room`
 abbrev pub room_app : App
 room_app =
     with_rule (with_rule (with_rule (new_app (codes "room"))

@@ -1,4 +1,4 @@
--- `desk serve`: its words, and what it has done, by how it ended.
+-- `desk serve`: its arguments, and what it has done, by how it ended.
 use Rattle.std.specs.Prelude.{◌≡◌, ◌⊎◌, ℕ, List, [], ◌∷◌, ◌++◌, false, Option, None, Result, Ok, Err, codes}
 use Rattle.std.specs.Fmt.{decimal}
 use Rattle.std.specs.Io.KnownBytes.{Appends, Keeps}
@@ -17,7 +17,7 @@ use Rattle.desk_cli.specs.declared.faults.Fault.{Fault}
 use Rattle.desk_cli.specs.declared.faults.Fault.TheVariants.{File, Network, Unavailable}
 use Rattle.desk_cli.specs.declared.usage.BadValue.TheVariants.{Connections, Port}
 
--- its words
+-- its arguments
 abbrev pub serve_app : App
 serve_app =
     with_rule (with_rule (with_rule (with_rule (new_app (codes "serve"))
@@ -40,8 +40,9 @@ serve_named rows = named_as do
 abbrev pub listening_line : ℕ → List ℕ
 listening_line port = codes "listening 127.0.0.1:" ++ (decimal port ++ line_feed ∷ [])
 
--- What had been heard; what says that these are kept, and that these are left, or these with one more; the ports, which of them, and how many
--- connections; what a writer holds before and after.
+-- `heard` is the log before. `Kept` states that a log is represented, and `Left` that a crash leaves a log, or it with the in-flight
+-- message. `ports`, `port` and `n` are the ports, which of them, and how many connections. `before` and `after` are what the writer has
+-- before and after.
 module _ (c : Settings) (heard : List Envelope) (Kept : List Envelope → Type 0) (Left : List Envelope → Option Envelope → Type 0) (ports : AtPorts) (port n : ℕ) (before after : Option (List ℕ)) where
   -- Connections were answered so, and what they delivered was heard, in this order. A disk error leaves one message in flight.
   pub record HearsServed (Answered : Delivered → Type 0) : Type 0 where
@@ -51,7 +52,8 @@ module _ (c : Settings) (heard : List Envelope) (Kept : List Envelope → Type 0
     pub kept : delivered.disk ≡ false → Kept (heard_all c heard delivered.deliveries)
     pub left_is : Left (heard_all c heard delivered.deliveries) delivered.doubt
 
-  -- By how it ended. With `Network` the port couldn't be had, or fewer connections came and were answered. With another fault none was served.
+  -- By how it ended. With `Network` the port couldn't be bound, or fewer connections came and were answered. With another error none was
+  -- served.
   abbrev pub ServesBy : {T : Type 0} → Result T Fault → Type 0
   ServesBy (Ok x) = HearsServed (ports.answered port c heard n) × Appends before after (listening_line port)
   ServesBy (Err Network) =

@@ -8,7 +8,7 @@ use Rattle.desk_cli.specs.declared.faults.Fault.TheVariants.{File}
 abbrev pub version_text : List ℕ
 version_text = codes "desk 2026-11-29\nschema 2\nRattle kit, logic dac8208d650f15bf\n"
 
--- What a writer holds before and after: exactly this text was written, or the writer failed.
+-- Exactly this text was written, or the writer failed. `before` and `after` are what the writer has before and after.
 abbrev pub PrintsVersion : (before after : Option (List ℕ)) → {T : Type 0} → Result T Fault → Type 0
 PrintsVersion before after (Ok x) = Appends before after version_text
 PrintsVersion before after (Err fault) = fault ≡ File

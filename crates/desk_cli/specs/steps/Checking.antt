@@ -1,4 +1,4 @@
--- What is printed of a desk, as a store tells it.
+-- What is printed of a desk, by the totals of its store.
 use Rattle.std.specs.Prelude.{◌≡◌, ℕ, List, Result, Ok, Err}
 use Rattle.registry_core.specs.Settings.{Settings}
 use Rattle.desk_store.specs.Calls.{ForHeld, IsUnavailability}

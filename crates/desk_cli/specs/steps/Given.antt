@@ -1,4 +1,4 @@
--- Why the program has no words.
+-- Why the program's arguments can't be read.
 use Rattle.std.specs.Prelude.{◌≡◌, ◌≢◌, Result, Ok, Err, String}
 use Rattle.std.specs.IoError.{error_kind}
 use Rattle.std.specs.declared.io.Error.{Error}
@@ -8,7 +8,7 @@ use Rattle.std.specs.declared.vec.IntoIter.{IntoIter}
 use Rattle.desk_cli.specs.declared.usage.Usage.{Usage}
 use Rattle.desk_cli.specs.declared.usage.Usage.TheVariants.{NotText, Memory}
 
--- why the words can't be had: memory ran out, or else one isn't text
+-- why the arguments can't be read: memory ran out, or else one isn't text
 abbrev pub IsUnread : ErrorKind → Usage → Type 0
 IsUnread kind Memory = kind ≡ OutOfMemory
 IsUnread kind NotText = kind ≢ OutOfMemory

@@ -1,4 +1,4 @@
--- What a command does by the desk in a file, in the words of the store that it is opened as.
+-- What a command does with the desk in a file, stated of the store that opens it.
 use Rattle.std.specs.Prelude.{◌≡◌, ◌⊎◌, ℕ, false, List, Option, None, Result, Err}
 use Rattle.sqlite_trees.specs.Tree.{Trees}
 use Rattle.sqlite_trees.specs.declared.store.Store.{Ghosts}
@@ -26,13 +26,13 @@ use Rattle.desk_cli.specs.commands.Serving.{ServesBy}
 use Rattle.desk_cli.specs.declared.faults.Fault.{Fault}
 use Rattle.desk_cli.specs.declared.faults.Fault.TheVariants.{Unavailable}
 
--- What is done of a store, by how it ended: of a desk of this configuration that had heard these, as it was and as it is; what the
--- reader had and has, and what the writer had and has.
+-- What is done with a store, by how it ended: a desk of this configuration that represented this log, before and after; what the reader had
+-- and has left, and what the writer had and has.
 abbrev pub Done : Type 1
 Done = (K : Type 0) → Meaning K → Settings → List Envelope → K → K → (left rest before after : Option (List ℕ)) → Result (Unit {0}) Fault → Type 0
 
 module _ {S : Type 0} (g : Ghosts S) (c : Settings) (heard : List Envelope) (back : Held S) where
-  -- A store was opened on the desk, this was done by it, and it was closed to the connection.
+  -- A store was opened on the desk, this was done with it, and it was closed to the connection.
   pub record ByStore (Does : Tables S → Tables S → Type 0) : Type 0 where
     pub old : Tables S
     pub new : Tables S
@@ -46,13 +46,13 @@ module _ {S : Type 0} (g : Ghosts S) (c : Settings) (heard : List Envelope) (bac
     pub left : (all : List Kept) → (meaning_of g).leaves new all → (trees : Trees) → (state g back).may_leave trees
         → (kept : Kept) × IsOneOf all kept × AreOfDesk ((meaning_of g).configuration new) kept trees
 
-  -- or it couldn't be opened, and the streams are untouched
+  -- the same, or it couldn't be opened, and the streams are untouched
   abbrev pub DoesByStore : Done → (left rest before after : Option (List ℕ)) → Result (Unit {0}) Fault → Type 0
   DoesByStore does left rest before after result =
       ByStore (λ old new. does (Tables S) (meaning_of g) c heard old new left rest before after result)
       ⊎ ((result ≡ Err Unavailable) × IsLeft g back c heard None × (rest ≡ left) × (after ≡ before))
 
--- ---- what each command does by a store
+-- ---- what each command does with a store
 
 -- lines were heard and answered
 abbrev pub answers : Done
@@ -63,12 +63,12 @@ abbrev pub imports : List ℕ → Done
 imports sender K m c heard old new left rest before after result =
     ImportsBy c heard sender (StoreKeeps m c heard old new) (StoreLeaves m c heard old new) left rest before after result
 
--- so many connections at a port were served
+-- n connections at a port were served
 abbrev pub serves : AtPorts → ℕ → ℕ → Done
 serves ports port n K m c heard old new left rest before after result =
     ServesBy c heard (StoreKeeps m c heard old new) (StoreLeaves m c heard old new) ports port n before after result
 
--- a report was printed, which tells this of the desk's state
+-- a report was printed that is this of the desk's state
 abbrev pub prints : (State → Result (List ℕ) ReportFault → Type 0) → Done
 prints IsAnswer K m c heard old new left rest before after result =
     PrintsBy (StoreKeeps m c heard old new heard) (StoreLeaves m c heard old new heard None) before after (IsAnswer (state_of c heard)) result

@@ -1,8 +1,8 @@
--- How a line is put to a log.
+-- How a line is written to a log.
 use Rattle.std.specs.Prelude.{◌≡◌, ℕ, List, Option, Some, None, Vec}
 use Rattle.desk_cli.specs.Faults.{IsBegun}
 
--- what the writer of the log holds: the line or a beginning of it was written, where there are a log and a line; else nothing was
+-- what the writer of the log has: the line or its first octets were written, if there are a log and a line; else nothing was
 abbrev pub Puts : {G Z : Type 0} → (G → Option (List ℕ)) → Option G → Option G → Option (Vec ℕ Z) → Type 0
 Puts contents None None line = Unit {0}
 Puts contents (Some before) (Some after) None = after ≡ before

@@ -1,4 +1,4 @@
--- What the word of an option is, as a text.
+-- The argument of an option, as a text.
 use Rattle.std.specs.Prelude.{Ok, Err}
 use Rattle.std.specs.Borrow.{Bor}
 use Rattle.clap.specs.Walk.{Text}

@@ -16,7 +16,7 @@ abbrev pub shown : {X : Type 0} → (X → List ℕ) → Result X ReportFault �
 shown octets (Ok text) = Ok (octets text)
 shown octets (Err why) = Err why
 
--- there was no memory to ask for it
+-- there was no memory to look it up
 abbrev pub unasked : Result (List ℕ) ReportFault
 unasked = Err (Unavailable Memory)
 

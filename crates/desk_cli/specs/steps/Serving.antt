@@ -1,4 +1,4 @@
--- How `serve` ends, by how the serving of its connections did.
+-- How `serve` ends, by how the serving of its connections ended.
 use Rattle.std.specs.Prelude.{Result, Ok, Err}
 use Rattle.desk_http.specs.declared.network_faults.NetworkFault.{NetworkFault}
 use Rattle.desk_cli.specs.declared.faults.Fault.{Fault}

@@ -1,4 +1,4 @@
-//! `desk check`: what a desk's file holds.
+//! `desk check`: the configuration of a desk's file, and how many rows it has.
 ghost use Rattle.std.specs.Prelude.{◌≡◌, false, IfOk, List, None};
 ghost use Rattle.std.specs.String.{string_bytes};
 ghost use Rattle.std.specs.Io.KnownBytes.{Keeps};
@@ -39,7 +39,7 @@ use sqlite::{Alter, Connection};
 use std::alloc::{AllocError, Global};
 use std::io::Write;
 
-/// Its words: its name and the file.
+/// Returns its command line: its name and the file.
 pub(crate) fn check_app<'a>(alloc: Global) -> Result<clap::Command<'a>, AllocError>
     ensures { IsCommand check_app result }
 {
@@ -48,7 +48,7 @@ pub(crate) fn check_app<'a>(alloc: Global) -> Result<clap::Command<'a>, AllocErr
     command_on_file(alloc, "check", about, example)
 }
 
-/// The command that its words give.
+/// Returns the command that its arguments give.
 pub(crate) fn check_of<'a>(options: &ArgMatches<'a>) -> Result<Command<'a>, Usage>
     ensures { TellsNamed (check_named (rows_of (found_of options.now))) result }
 {
@@ -56,11 +56,13 @@ pub(crate) fn check_of<'a>(options: &ArgMatches<'a>) -> Result<Command<'a>, Usag
     Ok(Command::Check { file })
 }
 
-/// Prints what the desk of the connection's database was made with, and how many senders, owners, gateways, devices, limits,
-/// sessions, uplinks, bookings and replies it holds, a line each, and gives the connection back.
+/// Prints the configuration of the desk in the connection's database, and how many senders, owners, gateways, devices, limits,
+/// sessions, uplinks, bookings and replies it has, a line each. Returns the connection. The database stays as it is.
 ///
-/// With `File` the writer failed. Nothing is changed. What is no desk's of schema 2 is refused, by `NotADesk`, `Schema` or
-/// `Unavailable`, and stays as it is.
+/// # Errors
+///
+/// Writes one line to standard error: `NotADesk`, `Schema` or `Unavailable` if the database isn't a desk of schema 2, `Unavailable` if
+/// an allocation or the disk failed, and `File` if a write to standard output failed.
 pub fn check_command<S: Alter, W: Write, F: Write>(
     alloc: Global,
     conn: Connection<S>,
@@ -78,7 +80,7 @@ pub fn check_command<S: Alter, W: Write, F: Write>(
     (end(faults, done), conn)
 }
 
-/// What the desk holds is printed, and the connection given back.
+/// Prints the configuration and the numbers of rows, and returns the connection.
 fn print_check<S: Alter, W: Write>(
     alloc: Global,
     conn: Connection<S>,
@@ -103,7 +105,7 @@ fn print_check<S: Alter, W: Write>(
     }
 }
 
-/// What is printed of the desk.
+/// Returns the text that is printed of the desk.
 #[tactic(auto, using(crate::proofs::TotalsPrinted::no_check))]
 fn text_of<S: Alter>(alloc: Global, tables: &mut Tables<S>) -> Result<Vec<u8>, ReportFault>
     ensures read { IsRead (meaning_of S.Store) tables.old tables.new (store_fault_in result) }
@@ -133,7 +135,7 @@ fn lines_of(alloc: Global, config: &Config, totals: &Totals) -> Result<String, A
     settings_lines(alloc, config, named.as_str())
 }
 
-/// The lines of the configuration, before these.
+/// Returns the lines of the configuration, followed by these lines.
 fn settings_lines(alloc: Global, config: &Config, lines: &str) -> Result<String, AllocError>
     ensures { IfOk result (λ text. string_bytes text ≡ settings_lines config.now lines.now) }
 {
@@ -146,7 +148,7 @@ fn settings_lines(alloc: Global, config: &Config, lines: &str) -> Result<String,
     )
 }
 
-/// The lines of what has a name or a DevEUI, and of the limits that were set, before these.
+/// Returns the lines of what has a name or a DevEUI, and of the limits that were set, followed by these lines.
 fn named_lines(alloc: Global, totals: &Totals, lines: &str) -> Result<String, AllocError>
     ensures { IfOk result (λ text. string_bytes text ≡ named_lines totals.now lines.now) }
 {
@@ -163,7 +165,7 @@ fn named_lines(alloc: Global, totals: &Totals, lines: &str) -> Result<String, Al
     )
 }
 
-/// The lines of what is numbered.
+/// Returns the lines of what is numbered.
 fn numbered_lines(alloc: Global, totals: &Totals) -> Result<String, AllocError>
     ensures { IfOk result (λ text. string_bytes text ≡ numbered_lines totals.now) }
 {

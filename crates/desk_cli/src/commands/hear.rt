@@ -29,7 +29,7 @@ use sqlite::{Alter, Connection};
 use std::alloc::{AllocError, Global};
 use std::io::{Read, Write};
 
-/// Its words: its name and the file.
+/// Returns its command line: its name and the file.
 pub(crate) fn hear_app<'a>(alloc: Global) -> Result<clap::Command<'a>, AllocError>
     ensures { IsCommand hear_app result }
 {
@@ -38,7 +38,7 @@ pub(crate) fn hear_app<'a>(alloc: Global) -> Result<clap::Command<'a>, AllocErro
     command_on_file(alloc, "hear", about, example)
 }
 
-/// The command that its words give.
+/// Returns the command that its arguments give.
 pub(crate) fn hear_of<'a>(options: &ArgMatches<'a>) -> Result<Command<'a>, Usage>
     ensures { TellsNamed (hear_named (rows_of (found_of options.now))) result }
 {
@@ -46,12 +46,17 @@ pub(crate) fn hear_of<'a>(options: &ArgMatches<'a>) -> Result<Command<'a>, Usage
     Ok(Command::Hear { file })
 }
 
-/// Answers the messages of the reader, one a line, by the desk of the connection's database, and gives the connection back.
+/// Answers the messages of the reader, one a line, with the desk of the connection's database. Returns the connection.
 ///
-/// Nothing is read before the desk is open. With `Ok` all lines are heard and answered. With `File` a read or a write
-/// failed: the first lines are heard, and how much of the last answer went out isn't known. With `Unavailable` exactly the
-/// lines before the one that found the desk so are answered. What is no desk's of schema 2 is refused, by `NotADesk`,
-/// `Schema` or `Unavailable`, and stays as it is.
+/// Nothing is read before the desk is open. If the command is done, all lines are heard and answered.
+///
+/// # Errors
+///
+/// Writes one line to standard error:
+///
+/// - `File` if a read or a write failed. The first lines are heard. How much of the last answer was written isn't known.
+/// - `Unavailable` if the desk failed at a line. Exactly the lines before it are answered.
+/// - `NotADesk`, `Schema` or `Unavailable` if the database isn't a desk of schema 2. It stays as it is.
 pub fn hear_command<S: Alter, R: Read, W: Write, F: Write>(
     alloc: Global,
     conn: Connection<S>,
@@ -70,7 +75,7 @@ pub fn hear_command<S: Alter, R: Read, W: Write, F: Write>(
     (end(faults, done), conn)
 }
 
-/// The messages of the reader are answered, and the connection is given back.
+/// Answers the messages of the reader, and returns the connection.
 fn hear_lines<S: Alter, R: Read, W: Write>(
     alloc: Global,
     conn: Connection<S>,
@@ -89,7 +94,7 @@ fn hear_lines<S: Alter, R: Read, W: Write>(
     by_store(alloc, conn, &Hear, reader, answers)
 }
 
-/// The messages of the reader are answered, one a line.
+/// Answers the messages of the reader, one a line.
 struct Hear;
 
 impl Job for Hear {

@@ -30,7 +30,7 @@ use sqlite::{Alter, Connection};
 use std::alloc::{AllocError, Global};
 use std::io::{Read, Write};
 
-/// Its words: its name, the file and the sender.
+/// Returns its command line: its name, the file and the sender.
 pub(crate) fn import_app<'a>(alloc: Global) -> Result<clap::Command<'a>, AllocError>
     ensures { IsCommand import_app result }
 {
@@ -40,7 +40,7 @@ pub(crate) fn import_app<'a>(alloc: Global) -> Result<clap::Command<'a>, AllocEr
     with_word(command_on_file(alloc, "import", about, example), sender)
 }
 
-/// The command that its words give.
+/// Returns the command that its arguments give.
 pub(crate) fn import_of<'a>(options: &ArgMatches<'a>) -> Result<Command<'a>, Usage>
     ensures { TellsNamed (import_named (rows_of (found_of options.now))) result }
 {
@@ -49,14 +49,20 @@ pub(crate) fn import_of<'a>(options: &ArgMatches<'a>) -> Result<Command<'a>, Usa
     Ok(Command::Import { file, sender })
 }
 
-/// Hears the records of a gateway's report in order, as messages of this sender, by the desk of the connection's database,
-/// writes an answer for each, one a line, and gives the connection back.
+/// Hears the records of a gateway's report, one after another, as messages of this sender, with the desk of the connection's database.
+/// Writes an answer for each, one a line. Returns the connection.
 ///
-/// Nothing is read before the desk is open, and nothing is heard before the report is read whole. What is no report is told
-/// by one of the `Csv` faults. With `File` either a read failed, and nothing is heard or written; or a write failed, and every
-/// record is heard, or those before the one that found the desk unavailable. With `Unavailable` exactly the answers of the
-/// records before the one that found the desk so were written. What is no desk's of schema 2 is refused, by `NotADesk`,
-/// `Schema` or `Unavailable`, and stays as it is.
+/// Nothing is read before the desk is open, and nothing is heard before the whole report is read.
+///
+/// # Errors
+///
+/// Writes one line to standard error:
+///
+/// - `CsvSize`, `CsvEnd`, `CsvHeader` or `CsvRecord` if the text isn't a report.
+/// - `File` if a read failed, and then nothing is heard or written; or if a write failed, and then all records are heard, or all before
+///   the one at which the desk failed.
+/// - `Unavailable` if the desk failed at a record. Exactly the answers of the records before it were written.
+/// - `NotADesk`, `Schema` or `Unavailable` if the database isn't a desk of schema 2. It stays as it is.
 pub fn import_command<S: Alter, R: Read, W: Write, F: Write>(
     alloc: Global,
     conn: Connection<S>,
@@ -76,7 +82,7 @@ pub fn import_command<S: Alter, R: Read, W: Write, F: Write>(
     (end(faults, done), conn)
 }
 
-/// The reader's report is heard, and the connection is given back.
+/// Hears the reader's report, and returns the connection.
 fn hear_report<S: Alter, R: Read, W: Write>(
     alloc: Global,
     conn: Connection<S>,
@@ -96,7 +102,7 @@ fn hear_report<S: Alter, R: Read, W: Write>(
     by_store(alloc, conn, &Import { sender }, reader, answers)
 }
 
-/// The reader's report is heard as this sender's.
+/// Hears the reader's report as this sender's.
 #[derive(Drop)]
 struct Import<'a> {
     sender: &'a Name,

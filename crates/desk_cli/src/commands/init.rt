@@ -1,4 +1,4 @@
-//! `desk init`: a desk is made in a file.
+//! `desk init`: makes a desk in a file.
 ghost use Rattle.std.specs.Prelude.{◌≡◌, false, None};
 ghost use Rattle.clap.specs.Matches.{found_of};
 ghost use Rattle.clap.specs.Walk.{rows_of};
@@ -20,7 +20,7 @@ use sqlite::{Alter, Connection};
 use std::alloc::{AllocError, Global};
 use std::io::Write;
 
-/// Its words: its name, the file, and the options of a desk's configuration.
+/// Returns its command line: its name, the file, and the options of a desk's configuration.
 pub(crate) fn init_app<'a>(alloc: Global) -> Result<clap::Command<'a>, AllocError>
     ensures { IsCommand init_app result }
 {
@@ -30,7 +30,7 @@ pub(crate) fn init_app<'a>(alloc: Global) -> Result<clap::Command<'a>, AllocErro
     with_word(command_with_settings(alloc, "init", about, example), file)
 }
 
-/// The command that its words give.
+/// Returns the command that its arguments give.
 pub(crate) fn init_of<'a>(options: &ArgMatches<'a>) -> Result<Command<'a>, Usage>
     ensures { TellsNamed (init_named (rows_of (found_of options.now))) result }
 {
@@ -39,10 +39,12 @@ pub(crate) fn init_of<'a>(options: &ArgMatches<'a>) -> Result<Command<'a>, Usage
     Ok(Command::Init { file, config })
 }
 
-/// Makes a desk of this configuration in the connection's database, which has to hold nothing, and gives the connection back.
+/// Makes a desk of this configuration in the connection's database, which has to be empty. Returns the connection.
 ///
-/// `Exists` where one of the desk's names is taken there, else `NotADesk` where there is anything else, else `Unavailable`:
-/// then nothing is changed, and a crash leaves what was there, or the new desk.
+/// # Errors
+///
+/// Writes one line to standard error: `Exists` if the database has one of the desk's names already, else `NotADesk` if there is anything
+/// else in it, else `Unavailable`. Nothing is changed then, and a crash leaves what was there, or the new desk.
 pub fn init_command<S: Alter, F: Write>(
     alloc: Global,
     conn: Connection<S>,
@@ -57,7 +59,7 @@ pub fn init_command<S: Alter, F: Write>(
     (end(faults, done), conn)
 }
 
-/// A desk is made, and the connection given back.
+/// Makes a desk, and returns the connection.
 fn make_desk<S: Alter>(
     alloc: Global,
     conn: Connection<S>,

@@ -23,7 +23,7 @@ use registry_core::laws::nothing_is_heard;
 use std::alloc::{AllocError, Global};
 use std::io::{Read, Write};
 
-/// Its words: its name, what it does, and the options of a desk's configuration.
+/// Returns its command line: its name, what it does, and the options of a desk's configuration.
 pub(crate) fn lines_app<'a>(alloc: Global) -> Result<clap::Command<'a>, AllocError>
     ensures { IsCommand lines_app result }
 {
@@ -32,7 +32,7 @@ pub(crate) fn lines_app<'a>(alloc: Global) -> Result<clap::Command<'a>, AllocErr
     command_with_settings(alloc, "lines", about, example)
 }
 
-/// The command that its options give.
+/// Returns the command that its options give.
 pub(crate) fn lines_of<'a>(options: &ArgMatches<'a>) -> Result<Command<'a>, Usage>
     ensures { TellsNamed (lines_named (config_of (rows_of (found_of options.now)))) result }
 {
@@ -40,10 +40,12 @@ pub(crate) fn lines_of<'a>(options: &ArgMatches<'a>) -> Result<Command<'a>, Usag
     Ok(Command::Lines { config })
 }
 
-/// Answers the messages of the reader, one a line, over lists made for it.
+/// Answers the messages of the reader, one a line, over new lists in memory.
 ///
-/// With `File` the reader or the writer failed. With `Unavailable` there was no memory, and then exactly the lines before are
-/// answered.
+/// # Errors
+///
+/// Writes one line to standard error: `File` if a read or a write failed, and `Unavailable` if an allocation failed at a line. Exactly
+/// the lines before it are answered then.
 pub fn lines_command<R: Read, W: Write, F: Write>(
     alloc: Global,
     config: &Config,
@@ -58,7 +60,7 @@ pub fn lines_command<R: Read, W: Write, F: Write>(
     end(faults, done)
 }
 
-/// The messages of the reader are answered, over lists made for it.
+/// Answers the messages of the reader, over new lists.
 fn answer_in_memory<R: Read, W: Write>(
     alloc: Global,
     config: &Config,

@@ -39,7 +39,7 @@ Example:
   desk log town.db > messages.txt
   desk log town.db --from 9 --count 1 --answers";
 
-/// Its words: its name, the file, the first message, how many, and whether their answers are printed instead.
+/// Returns its command line: its name, the file, the first message, how many, and whether their answers are printed instead.
 pub(crate) fn log_app<'a>(alloc: Global) -> Result<clap::Command<'a>, AllocError>
     ensures { IsCommand log_app result }
 {
@@ -56,7 +56,7 @@ pub(crate) fn log_app<'a>(alloc: Global) -> Result<clap::Command<'a>, AllocError
     )
 }
 
-/// The command that its words give.
+/// Returns the command that its arguments give.
 pub(crate) fn log_of<'a>(options: &ArgMatches<'a>) -> Result<Command<'a>, Usage>
     ensures { TellsNamed (log_named (rows_of (found_of options.now))) result }
 {
@@ -81,13 +81,18 @@ fn which_text(answers: bool) -> LogText
     }
 }
 
-/// Prints the log of the desk in the connection's database, and gives the connection back: the messages from number `from` on, at
-/// most `count` of them, as `write_message` writes them, or their answers, each followed by one LF. The first message has the number
-/// 1. Nothing is printed if `from` is above the number of messages heard.
+/// Prints the log of the desk in the connection's database: the messages from number `from` on, at most `count` of them, as
+/// `write_message` writes them, or their answers, each followed by one LF. The first message has the number 1. Nothing is printed if
+/// `from` is above the number of messages heard. Returns the connection. The database stays as it is.
 ///
-/// With `File` a write failed: whole lines are printed, and of the line after them its first octets or none; or all is printed and
-/// the flush failed. With `Unavailable` whole lines are printed. The database stays as it is. One that isn't a desk of schema 2 is
-/// refused, by `NotADesk`, `Schema` or `Unavailable`.
+/// # Errors
+///
+/// Writes one line to standard error:
+///
+/// - `File` if a write failed: whole lines are printed, and of the next line its first octets or none; or if the flush failed, after all
+///   was printed.
+/// - `Unavailable` if an allocation or the disk failed. Whole lines are printed.
+/// - `NotADesk`, `Schema` or `Unavailable` if the database isn't a desk of schema 2.
 pub fn log_command<S: Alter, W: Write, F: Write>(
     alloc: Global,
     conn: Connection<S>,
@@ -108,7 +113,7 @@ pub fn log_command<S: Alter, W: Write, F: Write>(
     (end(faults, done), conn)
 }
 
-/// The log is printed, and the connection is given back.
+/// Prints the log, and returns the connection.
 fn print_log<S: Alter, W: Write>(
     alloc: Global,
     conn: Connection<S>,
@@ -130,7 +135,7 @@ fn print_log<S: Alter, W: Write>(
     by_store(alloc, conn, &log, &mut io::empty(), answers)
 }
 
-/// At most `count` messages of the log are printed, from this number on, or their answers.
+/// Prints at most `count` messages of the log, from this number on, or their answers.
 #[derive(Drop)]
 struct Log {
     from: Whole,

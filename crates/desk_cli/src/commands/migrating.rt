@@ -1,4 +1,4 @@
-//! `desk migrate`: a desk's file of schema 1 becomes one of schema 2.
+//! `desk migrate`: moves a desk's file from schema 1 to schema 2.
 ghost use Rattle.std.specs.Prelude.{◌≡◌, false, None};
 ghost use Rattle.clap.specs.Matches.{found_of};
 ghost use Rattle.clap.specs.Walk.{rows_of};
@@ -24,7 +24,7 @@ Nothing is printed. All commands but this one take files of schema 2 alone.
 Example:
   desk migrate town.db";
 
-/// Its words: its name and the file.
+/// Returns its command line: its name and the file.
 pub(crate) fn migrate_app<'a>(alloc: Global) -> Result<clap::Command<'a>, AllocError>
     ensures { IsCommand migrate_app result }
 {
@@ -32,7 +32,7 @@ pub(crate) fn migrate_app<'a>(alloc: Global) -> Result<clap::Command<'a>, AllocE
     command_on_file(alloc, "migrate", about, EXAMPLE)
 }
 
-/// The command that its words give.
+/// Returns the command that its arguments give.
 pub(crate) fn migrate_of<'a>(options: &ArgMatches<'a>) -> Result<Command<'a>, Usage>
     ensures { TellsNamed (migrate_named (rows_of (found_of options.now))) result }
 {
@@ -40,12 +40,13 @@ pub(crate) fn migrate_of<'a>(options: &ArgMatches<'a>) -> Result<Command<'a>, Us
     Ok(Command::Migrate { file })
 }
 
-/// Moves the desk of the connection's database from schema 1 to schema 2, with all that it holds, and gives the connection
-/// back.
+/// Moves the desk of the connection's database from schema 1 to schema 2, with all its rows. Returns the connection.
 ///
-/// `NotADesk` where the row of meta isn't a desk's, `Schema` where it tells another version than 1, then `Exists` where the name
-/// of the table that schema 1 lacks is taken, and `NotADesk` where the rest isn't schema 1, else `Unavailable`: then nothing
-/// is changed, and a crash leaves what was there, or the desk moved.
+/// # Errors
+///
+/// Writes one line to standard error: `NotADesk` if the row of meta isn't a desk's, `Schema` if its version isn't 1, then `Exists` if the
+/// name of the table that schema 1 lacks is taken, `NotADesk` if the rest isn't schema 1, else `Unavailable`. Nothing is changed then, and
+/// a crash leaves what was there, or the moved desk.
 pub fn migrate_command<S: Alter, F: Write>(
     alloc: Global,
     conn: Connection<S>,
@@ -59,7 +60,7 @@ pub fn migrate_command<S: Alter, F: Write>(
     (end(faults, done), conn)
 }
 
-/// The desk is moved, and the connection given back.
+/// Moves the desk, and returns the connection.
 fn move_desk<S: Alter>(alloc: Global, conn: Connection<S>) -> (Result<(), Fault>, Connection<S>)
     requires idle { conn.in_transaction ≡ false }
     requires unlimited { conn.step_limit ≡ None }

@@ -28,7 +28,7 @@ use sqlite::{Alter, Connection};
 use std::alloc::{AllocError, Global};
 use std::io::Write;
 
-/// The words of `desk report`: its name, the file, the owner and the month.
+/// Returns the command line of `desk report`: its name, the file, the owner and the month.
 pub(crate) fn report_app<'a>(alloc: Global) -> Result<clap::Command<'a>, AllocError>
     ensures { IsCommand report_app result }
 {
@@ -40,7 +40,7 @@ pub(crate) fn report_app<'a>(alloc: Global) -> Result<clap::Command<'a>, AllocEr
     with_word(command, month)
 }
 
-/// The command that they give.
+/// Returns the command that its arguments give.
 pub(crate) fn report_of<'a>(options: &ArgMatches<'a>) -> Result<Command<'a>, Usage>
     ensures { TellsNamed (report_named (rows_of (found_of options.now))) result }
 {
@@ -50,7 +50,7 @@ pub(crate) fn report_of<'a>(options: &ArgMatches<'a>) -> Result<Command<'a>, Usa
     Ok(Command::Report { file, owner, month })
 }
 
-/// The words of `desk bands`: its name, the file and the gateway.
+/// Returns the command line of `desk bands`: its name, the file and the gateway.
 pub(crate) fn bands_app<'a>(alloc: Global) -> Result<clap::Command<'a>, AllocError>
     ensures { IsCommand bands_app result }
 {
@@ -60,7 +60,7 @@ pub(crate) fn bands_app<'a>(alloc: Global) -> Result<clap::Command<'a>, AllocErr
     with_word(command_on_file(alloc, "bands", about, example), gateway)
 }
 
-/// The command that they give.
+/// Returns the command that its arguments give.
 pub(crate) fn bands_of<'a>(options: &ArgMatches<'a>) -> Result<Command<'a>, Usage>
     ensures { TellsNamed (bands_named (rows_of (found_of options.now))) result }
 {
@@ -69,7 +69,7 @@ pub(crate) fn bands_of<'a>(options: &ArgMatches<'a>) -> Result<Command<'a>, Usag
     Ok(Command::Bands { file, gateway })
 }
 
-/// The words of `desk room`: its name, the file, the gateway and the time.
+/// Returns the command line of `desk room`: its name, the file, the gateway and the time.
 pub(crate) fn room_app<'a>(alloc: Global) -> Result<clap::Command<'a>, AllocError>
     ensures { IsCommand room_app result }
 {
@@ -86,7 +86,7 @@ pub(crate) fn room_app<'a>(alloc: Global) -> Result<clap::Command<'a>, AllocErro
     with_word(command, time)
 }
 
-/// The command that they give.
+/// Returns the command that its arguments give.
 pub(crate) fn room_of<'a>(options: &ArgMatches<'a>) -> Result<Command<'a>, Usage>
     ensures { TellsNamed (room_named (rows_of (found_of options.now))) result }
 {
@@ -100,11 +100,12 @@ pub(crate) fn room_of<'a>(options: &ArgMatches<'a>) -> Result<Command<'a>, Usage
     })
 }
 
-/// Prints the owner's report of a month from the desk of the connection's database, and gives the connection back.
+/// Prints the owner's report of a month from the desk of the connection's database. Returns the connection. The database stays as it is.
 ///
-/// A text that is no month's is `Month`, for any owner, and then an owner that nobody added is `Owner`. With `File` the
-/// writer failed. Nothing is changed. What is no desk's of schema 2 is refused, by `NotADesk`, `Schema` or `Unavailable`,
-/// and stays as it is.
+/// # Errors
+///
+/// Writes one line to standard error: `Month` if the text isn't a month, for any owner, then `Owner` if nobody added the owner, `File` if
+/// a write to standard output failed, and `NotADesk`, `Schema` or `Unavailable` if the database isn't a desk of schema 2.
 pub fn report_command<S: Alter, W: Write, F: Write>(
     alloc: Global,
     conn: Connection<S>,
@@ -140,7 +141,11 @@ impl Report for OwnersMonth<'_> {
     }
 }
 
-/// Prints the report of a gateway's bands, likewise. A gateway that nobody added is `Gateway`.
+/// Prints the report of a gateway's bands from the desk of the connection's database. Returns the connection. The database stays as it is.
+///
+/// # Errors
+///
+/// Those of `report_command` for the writer and the database, and `Gateway` if nobody added the gateway.
 pub fn bands_command<S: Alter, W: Write, F: Write>(
     alloc: Global,
     conn: Connection<S>,
@@ -174,8 +179,13 @@ impl Report for GatewaysBands<'_> {
     }
 }
 
-/// Prints the report of a gateway's room at a time, likewise. A text that is no time is `Time`, for any gateway, and then a gateway
-/// that nobody added is `Gateway`.
+/// Prints the report of a gateway's room at a time from the desk of the connection's database. Returns the connection. The database stays
+/// as it is.
+///
+/// # Errors
+///
+/// Those of `report_command` for the writer and the database, `Time` if the text isn't a time, for any gateway, and then `Gateway` if
+/// nobody added the gateway.
 pub fn room_command<S: Alter, W: Write, F: Write>(
     alloc: Global,
     conn: Connection<S>,

@@ -48,7 +48,7 @@ Example:
 
 const LOG: &str = "Writes a line for each connection to standard error";
 
-/// Its words: its name, the file, the port, how many connections, and whether they are logged.
+/// Returns its command line: its name, the file, the port, how many connections, and whether they are logged.
 pub(crate) fn serve_app<'a>(alloc: Global) -> Result<clap::Command<'a>, AllocError>
     ensures { IsCommand serve_app result }
 {
@@ -61,7 +61,7 @@ pub(crate) fn serve_app<'a>(alloc: Global) -> Result<clap::Command<'a>, AllocErr
     with_word(counted, flag(alloc, "log", LOG))
 }
 
-/// The command that its words give.
+/// Returns the command that its arguments give.
 pub(crate) fn serve_of<'a>(options: &ArgMatches<'a>) -> Result<Command<'a>, Usage>
     ensures { TellsNamed (serve_named (rows_of (found_of options.now))) result }
 {
@@ -76,14 +76,19 @@ pub(crate) fn serve_of<'a>(options: &ArgMatches<'a>) -> Result<Command<'a>, Usag
     })
 }
 
-/// Serves `connections` connections at a port of 127.0.0.1, one after another, by the desk of the connection's database, and gives
-/// the connection back. Before the first it writes `listening 127.0.0.1:` with the port, and an LF. With `log` the network writes
-/// a line for each connection to its log.
+/// Serves `connections` connections at a port of 127.0.0.1, one after another, with the desk of the connection's database. Returns the
+/// database's connection. Before the first one it writes `listening 127.0.0.1:` with the port, and an LF. With `log` the network writes a
+/// line for each connection to its log.
 ///
-/// The port is bound once the desk is open. Returns `Network` if it can't be bound, and `File` if the line can't be written. A
-/// connection that fails after it was accepted counts. An accept that fails doesn't; after 64 failures in a row the command
-/// returns `Network`, and what was served before stays served. A database that isn't a desk of schema 2 stays as it is:
-/// `NotADesk`, `Schema` or `Unavailable`.
+/// The port is bound once the desk is open. A connection that fails after it was accepted counts. An accept that fails doesn't.
+///
+/// # Errors
+///
+/// Writes one line to standard error:
+///
+/// - `Network` if the port can't be bound, or after 64 failed accepts in a row. What was served before stays served.
+/// - `File` if the line `listening` can't be written, and `Unavailable` if there is no memory for it.
+/// - `NotADesk`, `Schema` or `Unavailable` if the database isn't a desk of schema 2. It stays as it is.
 pub fn serve_command<S: Alter, B: Network, W: Write, F: Write>(
     alloc: Global,
     conn: Connection<S>,
@@ -106,7 +111,7 @@ pub fn serve_command<S: Alter, B: Network, W: Write, F: Write>(
     (end(faults, done), conn)
 }
 
-/// Opens the desk and serves `connections` connections by it. Gives the database's connection back.
+/// Opens the desk, serves `connections` connections with it, and returns the database's connection.
 fn serve_desk<S: Alter, B: Network, W: Write>(
     alloc: Global,
     conn: Connection<S>,
@@ -168,7 +173,7 @@ impl<B: Network> Job for Serve<'_, B> {
     }
 }
 
-/// How the command ends, by how the serving of its connections did.
+/// Returns the command's result for the way in which serving ended.
 fn ended(served: Result<(), NetworkFault>) -> Result<(), Fault>
     ensures { result ≡ ended served }
 {
@@ -178,7 +183,7 @@ fn ended(served: Result<(), NetworkFault>) -> Result<(), Fault>
     }
 }
 
-/// What is written before the first connection.
+/// Returns the line that is written before the first connection.
 fn listening_line(alloc: Global, port: u16) -> Result<String, AllocError>
     ensures { IfOk result (λ line. string_bytes line ≡ listening_line port) }
 {

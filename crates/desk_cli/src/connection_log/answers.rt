@@ -9,7 +9,7 @@ use serde_json::Value;
 use std::alloc::Global;
 use std::str;
 
-/// The head of the message that a response answers, and why the message was refused. Neither where the response has no answer, or
+/// Returns the head of the message that a response answers, and why the message was refused. Neither if the response has no answer, or
 /// there is no memory to read it.
 pub(super) fn answer_in(alloc: Global, response: &[u8]) -> (Option<Head>, Option<Refusal>) {
     match value_in(alloc, response) {
@@ -18,14 +18,14 @@ pub(super) fn answer_in(alloc: Global, response: &[u8]) -> (Option<Head>, Option
     }
 }
 
-/// The body of a response, if it is JSON.
+/// Returns the body of a response, if it is JSON.
 fn value_in(alloc: Global, response: &[u8]) -> Option<Value> {
     let text = str::from_utf8(response).ok()?;
     let (_, body) = text.split_once("\r\n\r\n")?;
     Value::from_str(alloc, body).ok()
 }
 
-/// What an answer repeats of its message.
+/// Returns what an answer repeats of its message.
 fn head_in(answer: &Value) -> Option<Head> {
     let sender = Name::new(text_at(answer, "ReceiverID")?.as_bytes())?;
     let transaction = u32::try_from(answer.get("TransactionID")?.as_u64()?).ok()?;
@@ -38,7 +38,7 @@ fn head_in(answer: &Value) -> Option<Head> {
     })
 }
 
-/// Why a message was refused.
+/// Returns why a message was refused.
 fn refusal_in(answer: &Value) -> Option<Refusal> {
     let result = answer.get("Result")?;
     refusal_of(
@@ -51,7 +51,7 @@ fn text_at<'v>(value: &'v Value, member: &str) -> Option<&'v str> {
     value.get(member)?.as_str()
 }
 
-/// The refusal that an answer reports so.
+/// Returns the refusal with this ResultCode and description.
 fn refusal_of(code: &str, description: &str) -> Option<Refusal>
     ensures code { IfSome result (λ refusal. refusal_code refusal ≡ code.now) }
     ensures description { IfSome result (λ refusal. refusal_description refusal ≡ description.now) }
@@ -75,7 +75,7 @@ fn refusal_of(code: &str, description: &str) -> Option<Refusal>
     }
 }
 
-/// The refusal with the ResultCode `JoinReqFailed` that has this description.
+/// Returns the refusal with the ResultCode `JoinReqFailed` and this description.
 fn join_failure_of(description: &str) -> Option<Refusal>
     ensures code { IfSome result (λ refusal. refusal_code refusal ≡ codes "JoinReqFailed") }
     ensures description { IfSome result (λ refusal. refusal_description refusal ≡ description.now) }
@@ -87,7 +87,7 @@ fn join_failure_of(description: &str) -> Option<Refusal>
     }
 }
 
-/// The refusal with the ResultCode `XmitFailed` that has this description.
+/// Returns the refusal with the ResultCode `XmitFailed` and this description.
 fn transmission_failure_of(description: &str) -> Option<Refusal>
     ensures code { IfSome result (λ refusal. refusal_code refusal ≡ codes "XmitFailed") }
     ensures description { IfSome result (λ refusal. refusal_description refusal ≡ description.now) }
@@ -100,7 +100,7 @@ fn transmission_failure_of(description: &str) -> Option<Refusal>
     }
 }
 
-/// The refusal with the ResultCode `Other` that has this description.
+/// Returns the refusal with the ResultCode `Other` and this description.
 fn other_of(description: &str) -> Option<Refusal>
     ensures code { IfSome result (λ refusal. refusal_code refusal ≡ codes "Other") }
     ensures description { IfSome result (λ refusal. refusal_description refusal ≡ description.now) }

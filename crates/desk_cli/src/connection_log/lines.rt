@@ -14,27 +14,27 @@ use std::alloc::{AllocError, Global};
 pub struct Served<'a> {
     /// How it ended.
     pub(super) end: ServeEnd,
-    /// Of its request line the method and the target, or as much of them as came.
+    /// The method and the target of its request line, or as much of them as came.
     pub(super) method: &'a [u8],
     pub(super) target: &'a [u8],
-    /// How many octets were read and written.
+    /// The number of octets that were read and written.
     pub(super) read: u64,
     pub(super) written: u64,
-    /// From when it came until it was let go.
+    /// The microseconds from when it came until it was finished.
     pub(super) micros: u64,
     /// What its answer repeats of the message, and why the message was refused.
     pub(super) head: Option<Head>,
     pub(super) refusal: Option<Refusal>,
 }
 
-/// Whether a word ends at the octet.
+/// Returns whether a word ends at the octet.
 fn is_gap(octet: u8) -> bool
     ensures { result ≡ is_gap octet }
 {
     octet == b' ' || octet == b'\r' || octet == b'\n'
 }
 
-/// How many octets there are before the first space or end of a line.
+/// Returns the number of octets before the first space or end of a line.
 fn word_length(text: &[u8]) -> usize
     ensures { result ≡ position_or_len is_gap text.now }
 {
@@ -44,7 +44,7 @@ fn word_length(text: &[u8]) -> usize
     }
 }
 
-/// The octets before the first space or end of a line.
+/// Returns the octets before the first space or end of a line.
 pub(super) fn first_word(text: &[u8]) -> &[u8]
     ensures { result.now ≡ first_word text.now }
 {
@@ -52,7 +52,7 @@ pub(super) fn first_word(text: &[u8]) -> &[u8]
     &text[..end]
 }
 
-/// The octets after the first space or end of a line.
+/// Returns the octets after the first space or end of a line.
 fn after_word(text: &[u8]) -> &[u8]
     ensures { result.now ≡ after_word text.now }
 {
@@ -64,21 +64,21 @@ fn after_word(text: &[u8]) -> &[u8]
     }
 }
 
-/// The target of a request line: its second word.
+/// Returns the target of a request line: its second word.
 pub(super) fn target_in(text: &[u8]) -> &[u8]
     ensures { result.now ≡ first_word (after_word text.now) }
 {
     first_word(after_word(text))
 }
 
-/// Whether an octet stands for itself in a field.
+/// Returns whether an octet is written as itself in a field.
 fn is_plain(octet: u8) -> bool
     ensures { result ≡ is_plain octet }
 {
     32 < octet && octet < 127 && octet != b'"' && octet != b'\'' && octet != b'\\'
 }
 
-/// The digit of a number below 16.
+/// Returns the digit of a number below 16.
 fn hexadecimal_digit(number: u8) -> u8
     requires { number < 16 }
     ensures { result ≡ hexadecimal_digit number }
@@ -141,7 +141,7 @@ fn put_end(alloc: Global, line: &mut Vec<u8>, end: ServeEnd) -> Result<(), Alloc
     }
 }
 
-/// The sender, the number and the type of a message.
+/// Returns the sender, the transaction number and the type of a message.
 fn head_fields(alloc: Global, head: &Option<Head>) -> Result<String, AllocError>
     ensures { IfOk result (λ text. string_bytes text ≡ head_fields head.now) }
 {
@@ -156,7 +156,7 @@ fn head_fields(alloc: Global, head: &Option<Head>) -> Result<String, AllocError>
     }
 }
 
-/// The number of a refusal.
+/// Returns the number of a refusal.
 fn refusal_field(alloc: Global, refusal: Option<Refusal>) -> Result<String, AllocError>
     ensures { IfOk result (λ text. string_bytes text ≡ refusal_field refusal) }
 {
@@ -169,7 +169,7 @@ fn refusal_field(alloc: Global, refusal: Option<Refusal>) -> Result<String, Allo
     }
 }
 
-/// The fields after the target, and the end of the line.
+/// Returns the fields after the target, and the end of the line.
 fn later_fields(alloc: Global, served: &Served<'_>) -> Result<String, AllocError>
     ensures { IfOk result (λ text. string_bytes text ≡ later_fields served.now) }
 {
@@ -184,7 +184,7 @@ fn later_fields(alloc: Global, served: &Served<'_>) -> Result<String, AllocError
     format!(in alloc; "{read} {written} {micros} {head} {refusal}\n")
 }
 
-/// The line of a connection.
+/// Returns the line of a connection.
 pub(super) fn line_of(alloc: Global, served: &Served<'_>) -> Result<Vec<u8>, AllocError>
     ensures { IfOk result (λ line. line.items ≡ connection_line served.now) }
 {

@@ -1,13 +1,13 @@
-//! What goes over a connection, counted and in part kept while it is handed on.
+//! Records what is sent over a connection: counts the octets, and stores the first of them.
 ghost use Rattle.std.specs.Prelude.{◌≡◌, ◌++◌, ◌+◌, ◌^◌, ◌-◌, length, min, take, IfSome};
 
 use std::alloc::Global;
 use std::io::{self, Read, Write};
 
-/// So many octets are kept of what was read, and as many of what was written: a head has no more, nor has an answer.
+/// The number of octets that are stored of what was read, and of what was written: a head has no more, nor has an answer.
 const MOST_KEPT: usize = 8_192;
 
-/// What went over one direction of a connection: how many octets, and the first of them.
+/// What was sent in one direction of a connection: the number of octets, and the first of them.
 #[derive(Drop)]
 pub struct Record {
     count: u64,
@@ -15,27 +15,27 @@ pub struct Record {
 }
 
 impl Record {
-    /// Nothing yet, with memory for all that is kept.
+    /// Returns an empty record, with memory for all that it may store. `None` if memory ran out.
     fn new(alloc: Global) -> Option<Self> {
         let first = Vec::with_capacity(alloc, MOST_KEPT).ok()?;
         Some(Record { count: 0, first })
     }
 
-    /// How many octets.
+    /// Returns the number of octets.
     pub(super) fn count(&self) -> u64
         ensures { result ≡ self.now.count }
     {
         self.count
     }
 
-    /// The first of them, at most 8,192.
+    /// Returns the first octets, at most 8,192.
     pub(super) fn first(&self) -> &[u8]
         ensures { result.now ≡ self.now.first.items }
     {
         self.first.as_slice()
     }
 
-    /// Notes octets that went over it.
+    /// Records octets that were sent.
     fn note(&mut self, octets: &[u8])
         ensures count { self.new.count ≡ min (self.old.count + length octets.now) (2 ^ 64 - 1) }
     {
@@ -47,7 +47,7 @@ impl Record {
     }
 }
 
-/// A stream whose octets are noted, if there is a record for them.
+/// A stream whose octets are recorded, if there is a record for them.
 #[derive(Drop)]
 pub struct Recorder<S> {
     pub(super) below: S,
@@ -55,7 +55,7 @@ pub struct Recorder<S> {
 }
 
 impl<S> Recorder<S> {
-    /// A stream of which nothing went over yet. Without memory nothing is noted.
+    /// Returns a stream over which nothing was sent yet. If there is no memory, nothing is recorded.
     pub(super) fn new(alloc: Global, below: S, is_noted: bool) -> Self
         ensures { result.below ≡ below }
     {
@@ -63,7 +63,7 @@ impl<S> Recorder<S> {
         Recorder { below, record }
     }
 
-    /// Notes octets that went over it.
+    /// Records octets that were sent.
     fn note(&mut self, octets: &[u8])
         ensures { self.new.below ≡ self.old.below }
     {
@@ -74,7 +74,7 @@ impl<S> Recorder<S> {
 }
 
 impl<S: Read> Read for Recorder<S> {
-    // What the stream below gives, octet for octet.
+    // What the stream below reads, octet for octet.
     ghost remaining = { λ recorder. S.remaining recorder.below };
 
     fn read(&mut self, buf: &mut [u8]) -> io::Result<usize> {
@@ -85,7 +85,7 @@ impl<S: Read> Read for Recorder<S> {
 }
 
 impl<S: Write> Write for Recorder<S> {
-    // What the stream below takes, octet for octet.
+    // What the stream below writes, octet for octet.
     ghost contents = { λ recorder. S.contents recorder.below };
 
     fn write(&mut self, buf: &[u8]) -> io::Result<usize> {

@@ -63,7 +63,7 @@ impl Write for Wanting {
     }
 }
 
-/// What is waited for, how many milliseconds after the connection came, and how many the wait may take: none where it is over.
+/// What is waited for, how many milliseconds after the connection came, and how many the wait may take: none if it is over.
 static WAITS: [(Awaited, u64, Option<u64>); 10] = [
     (Awaited::FirstOctet, 0, Some(1_000)),
     (Awaited::FirstOctet, 999, Some(1)),
@@ -77,7 +77,7 @@ static WAITS: [(Awaited, u64, Option<u64>); 10] = [
     (Awaited::Close, 60_000, None),
 ];
 
-/// How a call of a stream ends that waits so long, or no longer.
+/// Returns whether the call of a stream reads or writes one octet if a wait is given, and else times out.
 fn ends(call: io::Result<usize>, wait: Option<u64>) -> bool {
     match (call, wait) {
         (Ok(count), Some(_)) => count == 1,

@@ -12,14 +12,14 @@ use Rattle.desk_engine.specs.CsvImporting.{answer_envelopes}
 use Rattle.desk_engine.specs.Importing.{heard_in_order}
 use Rattle.desk_engine.specs.Lines.{line_feed}
 
--- the line of an outcome: none where the store was unavailable
+-- the line of an outcome; none if the store was unavailable
 abbrev pub line_of : Outcome → List ℕ
 line_of (Answered text) = text.items ++ line_feed ∷ []
 line_of (Refused refusal text) = text.items ++ line_feed ∷ []
 line_of (Unavailable why) = []
 
 module _ (c : Settings) (heard : List Envelope) (Kept : List Envelope → Type 0) (Left : List Envelope → Option Envelope → Type 0) (envelopes : List Envelope) (before after : Option (List ℕ)) where
-  -- the first of the envelopes were heard, and of them this was written
+  -- the first of the envelopes were heard, and this was written of their answers
   pub record HearsSome (Written : List ℕ → Type 0) : Type 0 where
     pub count : ℕ
     pub doubt : Option Envelope
@@ -27,7 +27,7 @@ module _ (c : Settings) (heard : List Envelope) (Kept : List Envelope → Type 0
     pub left_is : Left (heard_in_order c heard (take count envelopes)) doubt
     pub answers : Written (answer_envelopes c heard (take count envelopes))
 
-  -- by how it ended
+  -- what is true, by how it ended
   abbrev pub HearsEnvelopes : ImportEnd → Type 0
   HearsEnvelopes end.Done = Kept (heard_in_order c heard envelopes) × Appends before after (answer_envelopes c heard envelopes)
   HearsEnvelopes (end.Unavailable fault) = HearsSome (Appends before after) × IsUnavailability fault

@@ -1,4 +1,4 @@
--- What one message makes of the store, and what it is told.
+-- What one message makes of the store, and how it is answered.
 use Rattle.std.specs.Prelude.{◌≡◌, ◌≢◌, ℕ, false, List, [], ◌∷◌, ◌++◌, Some, None, MatchOption}
 use Rattle.registry_core.specs.declared.answers.Refusal.TheVariants.{TransactionReused, UnknownSender}
 use Rattle.registry_core.specs.declared.effects.Effect.{Effect}
@@ -28,30 +28,30 @@ use Rattle.desk_engine.specs.InOrder.{HasNoRoom, HoldsRules, IsInOrder, Survives
 abbrev pub KeepsRules : {K : Type 0} → Meaning K → Type 0
 KeepsRules {K} m = (c : Settings) (heard : List Envelope) (keeper : K) → m.sound keeper → IsInOrder m c keeper heard → HoldsRules m keeper
 
--- the outcome is what is told, or memory ran out
+-- the outcome is this answer, or memory ran out
 abbrev pub Says : Told → Outcome → Type 0
 Says told (Answered text) = told ≡ AnswerText text.items
 Says told (Refused refusal text) = told ≡ RefusalText refusal text.items
 Says told (Unavailable fault) = fault ≡ Memory
 
--- the outcome is why the text is no envelope; where memory ran out before that was known, it is Unavailable
+-- the outcome is the refusal of a text that is no envelope; if memory ran out before the refusal was known, it is Unavailable
 abbrev pub RefusesText : Settings → WireFault → Outcome → Type 0
 RefusesText c fault outcome = MatchOption (refusal_of_fault fault) (outcome ≡ Unavailable Memory) (λ refusal. Says (told_of_refusal c refusal (head_of_fault fault)) outcome)
 
--- a repeat of the message with that text gets that answer, and another message is refused
+-- a repeat of the message with the stored text gets the stored answer, and another message is refused
 abbrev pub Repeats : Settings → Envelope → List ℕ → List ℕ → Outcome → Type 0
 Repeats c e message answer (Answered text) = (message_text c.receiver e ≡ message) × (text.items ≡ answer)
 Repeats c e message answer (Refused refusal text) =
     (message_text c.receiver e ≢ message) × (told_of_refusal c TransactionReused (Some (head_of_envelope e)) ≡ RefusalText refusal text.items)
 Repeats c e message answer (Unavailable fault) = fault ≡ Memory
 
--- The effect and the texts are what is kept of a message whose pair is new, and can be kept.
+-- The effect and the texts are what is committed for a message with a new transaction number, and they can be added.
 pub record IsDecided (c : Settings) (heard : List Envelope) (e : Envelope) (effect : Effect) (message answer : List ℕ) : Type 0 where
   pub can : CanAdd (kept_after c heard) e effect
   pub kept : with_entry (kept_after c heard) e message effect answer ≡ kept_after c (heard ++ e ∷ [])
   pub told : answer ≡ answer_text c.receiver (head_of_envelope e) (step c (state_of c heard) e).1
 
--- A message whose pair is new is heard and answered, or the store is unavailable and has not heard it.
+-- A message with a new transaction number is heard and answered, or the store is unavailable and has not heard it.
 abbrev pub HearsNew : {K : Type 0} → Meaning K → Settings → List Envelope → Envelope → K → Outcome → Type 0
 HearsNew m c heard e new (Answered text) =
     (text.items ≡ answer_text c.receiver (head_of_envelope e) (step c (state_of c heard) e).1)
@@ -62,7 +62,7 @@ HearsNew m c heard e new (Unavailable fault) =
     IsUnavailability fault × IsInOrder m c new heard × Survives m c new heard (doubt_of e (Unavailable fault))
 
 module _ {K : Type 0} (m : Meaning K) (old new : K) (e : Envelope) where
-  -- a message whose pair is new was decided from this view, and kept, or the store was unavailable
+  -- a message with a new transaction number was decided from this view and committed, or the store was unavailable
   pub record HearsFresh (view : View) (o : Outcome) : Type 0 where
     pub call : IsCall m old new (is_disk (outcome_fault o)) (is_foreign (outcome_fault o))
     pub told : IsOfCalls (outcome_fault o)
@@ -71,7 +71,8 @@ module _ {K : Type 0} (m : Meaning K) (old new : K) (e : Envelope) where
     pub hears : (c : Settings) (heard : List Envelope) → WasInOrder m c heard old new → m.down old ≡ false → entry_of e (entries_of c heard) ≡ None
         → IsView c (state_of c heard) e view → HearsNew m c heard e new o
 
-  -- By what the store knew of the message. One of an unknown sender, and one whose pair was heard, leave the store as it is.
+  -- What is true, by what the store knew about the message. A message of an unknown sender and one that was heard before leave the store as
+  -- it is.
   abbrev pub HearsLoaded : Loaded → Outcome → Type 0
   HearsLoaded Stranger o = (new ≡ old) × Says (told_of_refusal (m.configuration old) UnknownSender (Some (head_of_envelope e))) o
   HearsLoaded (Heard message answer) o = (new ≡ old) × Repeats (m.configuration old) e message.items answer.items o

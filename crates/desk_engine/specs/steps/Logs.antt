@@ -12,7 +12,7 @@ abbrev pub entry_text : LogText → Entry → List ℕ
 entry_text Message entry = entry.message
 entry_text Answer entry = entry.answer
 
--- and its line
+-- an entry's line
 abbrev pub log_line : LogText → Entry → List ℕ
 log_line which entry = entry_text which entry ++ line_feed ∷ []
 

@@ -11,7 +11,7 @@ use Rattle.registry_core.specs.Near.{AreByStart, bookings_near}
 use Rattle.registry_core.specs.State.{State}
 use Rattle.desk_engine.specs.Rooms.{IsBandRoom, room_header, room_line, used_before}
 
--- what the near downlinks of a gateway say rests on: no booking is longer than 3,000,000 microseconds, and every hour is kept
+-- why the downlinks near a time suffice: no booking is longer than 3,000,000 microseconds, and no hour is above its limit
 pub record KeepsAir (s : State) : Type 0 where
   pub short : All (λ booking. booking.span.len ≤ greatest_length) s.bookings
   pub hours : EveryHourKept s
@@ -20,11 +20,11 @@ pub record KeepsAir (s : State) : Type 0 where
 abbrev pub AreNear : State → List ℕ → ℕ → List NearBooking → Type 0
 AreNear s gateway time near = AreByStart (bookings_near s.bookings gateway (pos time)) near
 
--- when the downlinks are on the air
+-- the times on air of the downlinks
 abbrev pub all_spans : List NearBooking → List Interval
 all_spans near = map (λ n. n.span) near
 
--- when those in the band are
+-- the times on air of those in the band
 abbrev pub spans_in : Band → List NearBooking → List Interval
 spans_in band near = all_spans (filter (λ n. band_number n.band == band_number band) near)
 

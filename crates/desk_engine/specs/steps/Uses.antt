@@ -1,5 +1,4 @@
--- How much the air was used, by the form of the peak that computes, and reports as far as they are written. For private
--- clauses.
+-- The use of the air, by the peak that the code computes, and reports as far as they are written. For private clauses.
 use Rattle.std.specs.Prelude.{◌≡◌, ℕ, ◌==◌, ◌&&◌, not, List, length, sum_by, ℤ, Option, ◌++◌}
 use Rattle.std.specs.List.{flat_map, list_any}
 use Rattle.std.specs.List.Sorted.{IsStrictlyIncreasing}
@@ -20,12 +19,12 @@ use_computed intervals = record { count = length intervals; airtime = sum_by (λ
 
 -- ---- a device's line
 
--- for these bands, how many of the uplinks are booked in them, and the columns of each
+-- for these bands, the number of the uplinks in them, and the columns of each
 pub record HasColumns (sent : List Uplink) (done : List Band) (uplinks : ℕ) (columns : List ℕ) : Type 0 where
   pub count : uplinks ≡ sum_by (λ band. length (in_band band sent)) done
   pub text : columns ≡ flat_map (λ band. band_columns (use_computed (in_band band sent))) done
 
--- the line of a device, by its uplinks that start from the one time on and before the other
+-- the line of a device, by its uplinks that start at `from` or later and before `to`
 unfoldable pub line_of_device : State → ℤ → ℤ → ℕ → List ℕ
 line_of_device s from to dev_eui = let sent = uplinks_from s.uplinks s.sessions dev_eui from to in
     device_line dev_eui (length sent) (λ band. use_computed (in_band band sent))

@@ -1,4 +1,4 @@
--- What the fields so far say, as they are gone through.
+-- What the fields so far state, in a loop over the fields.
 use Rattle.std.specs.Prelude.{ℕ, List, Bool, false, ◌||◌, codes, fold, if◌then◌else◌}
 use Rattle.desk_http.specs.declared.fields.BodyLength.{BodyLength}
 use Rattle.desk_http.specs.declared.fields.BodyLength.TheVariants.{Absent, Bad}

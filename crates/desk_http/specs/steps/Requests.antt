@@ -1,4 +1,4 @@
--- What the answers of the code stand for, where the request has this path.
+-- The definitions' requests for the values of the code, given a path.
 use Rattle.std.specs.Prelude.{ℕ, List}
 use Rattle.desk_http.specs.declared.asking.Asked.{Asked}
 use Rattle.desk_http.specs.declared.asking.Asked.TheVariants.{CrossOrigin, NoRoute, OtherMethod, NoLength, BadLength, TooLong, BadNumber, Deliver, OwnerReport, BandReport, Room, Log}

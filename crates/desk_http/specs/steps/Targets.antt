@@ -5,14 +5,14 @@ use Rattle.desk_http.specs.declared.targets.Route.{Route}
 use Rattle.desk_http.specs.declared.targets.Route.TheVariants.{Messages, OwnerReport, BandReport, Room, Log, Answers}
 use Rattle.desk_http.specs.Targets.{Resource, messages, reports, bands, room, log, answers, is_part, is_slash}
 
--- what stands before the first slash, and what stands after it
+-- what precedes the first slash, and what follows it
 abbrev pub before_slash : List ℕ → List ℕ
 before_slash text = before_first is_slash text
 
 abbrev pub after_slash : List ℕ → List ℕ
 after_slash text = after_first is_slash text
 
--- what stands after the third slash of a path
+-- what follows the third slash of a path
 abbrev pub names_of : List ℕ → List ℕ
 names_of path = after_slash (after_slash (after_slash path))
 
@@ -20,7 +20,7 @@ abbrev pub is_empty : List ℕ → Bool
 is_empty [] = true
 is_empty (c ∷ text) = false
 
--- what comes after the front of a path: nothing, one part, or two parts and a slash between them
+-- what comes after the front of a path: nothing, one part, or two parts with a slash between them
 pub data Tail : Type 0 where
   nothing : Tail
   one_part : Tail
@@ -37,16 +37,16 @@ follows [] kind text = kind text
 follows (x ∷ front) kind [] = false
 follows (x ∷ front) kind (c ∷ text) = (x == c) && follows front kind text
 
--- a form of paths: how they begin, and what comes then; and what such a path leads to
+-- a form of paths: their front, what comes after it, and the value for such a path
 abbrev pub Form : Type 0 → Type 0
 Form V = List ℕ × Tail × V
 
--- what the path leads to, by the first of these forms that it has
+-- the value of the path, by the first of these forms that it has
 abbrev pub led : {V : Type 0} → List (Form V) → List ℕ → Option V
 led [] path = None
 led ((front, tail, value) ∷ forms) path = if follows front (is_tail tail) path then Some value else led forms path
 
--- how the paths of a route begin, and what comes then
+-- the front of the paths of a route, and what comes after it
 abbrev pub form_of : Route → List ℕ × Tail
 form_of Messages = (codes "/v1/messages", nothing)
 form_of OwnerReport = (codes "/v1/reports/", two_parts)

@@ -1,4 +1,4 @@
--- Rows in an order tell the registry's lists: downlinks near a start, a gateway's downlinks, a device's uplinks, an owner's next device.
+-- Rows in an order are the registry's lists: downlinks near a start, a gateway's downlinks, a device's uplinks, an owner's next device.
 use Rattle.std.proofs.Common.{◌≡◌, ℕ, ◌≤◌, ◌&&◌, Bool, true, false, cond, List, [], ◌∷◌, map, filter, find, Option, Some, None, option_map, slice_get, refl, sym, ap, subst, ◌∙◌, arith, Ordering}
 use Rattle.std.specs.Prelude.{ℤ, nat_eq, bytes_eq, IsTrue, int_le, int_lt, pos}
 use Rattle.std.specs.List.{AllByRecursion, IsDistinct}
@@ -82,7 +82,7 @@ module _ (order : ℕ × DeviceRow → ℕ × DeviceRow → Ordering) (rises : R
   least_first [] each = refl
   least_first (a ∷ rows) each = least_inserted a rows (sort_by order rows) each.0 (all_sorted order HasEui rows each.1) (least_first rows each.1)
 
--- what holds of each row holds of each beside its number
+-- what is true of each row is true of each with its number
 module _ {X : Type 0} (P : X → Type 0) (test : X → Bool) (xs : List X) where
   abbrev beside : List (ℕ × X)
   beside = filter (λ a. test a.1) (zip_from 1 xs)
@@ -116,7 +116,7 @@ each_found (e ∷ ds) apart = (
 )
 
 module _ (r : Rows) (apart : IsDistinct nat_eq (map (λ (d : DeviceRow). d.dev_eui) r.devices)) (owner : List ℕ) (after : Option ℕ) where
-  -- what the facts say of a device that is found
+  -- what the facts have of a device that is found
   owned_found : (dev_eui : ℕ) (found : Option DeviceRow) → find (is_device dev_eui) r.devices ≡ found
       → is_owned (facts_in r) owner dev_eui ≡ option_map_or (λ (d : DeviceRow). bytes_eq d.device.owner owner) found false
   owned_found dev_eui None is =
@@ -142,7 +142,7 @@ module _ (r : Rows) (apart : IsDistinct nat_eq (map (λ (d : DeviceRow). d.dev_e
       let same : d.dev_eui ≡ dev_eui = eqb-true d.dev_eui dev_eui (found_passes (is_device dev_eui) r.devices d is) in
       (d, is, same, and_from _ _ (sym (owned_found dev_eui (Some d) is) ∙ parts.0) (ap (is_after after) same ∙ parts.1))
 
-  -- what holds of each that is asked for holds of it
+  -- what is true of each that is asked for is true of it
   of_wanted : (P : DeviceRow → Type 0) → AllByRecursion P (filter (is_next_of owner after) r.devices) → (dev_eui : ℕ) → IsWanted dev_eui
       → (d : DeviceRow) × (d.dev_eui ≡ dev_eui) × P d
   of_wanted P each dev_eui wanted =

@@ -1,4 +1,4 @@
--- The kept counters with each effect: floors, next downlink counters, a booking's session and kind.
+-- The stored counters with each effect: floors, next downlink counters, a booking's session and kind.
 use Rattle.std.proofs.Common.{◌≡◌, ℕ, ◌+◌, ◌==◌, ◌&&◌, Bool, true, false, cond, List, [], ◌∷◌, ◌++◌, map, Option, Some, None, option_map, refl, sym, ap, ap₂, ◌∙◌, add-zero}
 use Rattle.std.specs.Prelude.{max}
 use Rattle.std.specs.List.{AllByRecursion}

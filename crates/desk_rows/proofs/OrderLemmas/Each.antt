@@ -1,4 +1,4 @@
--- What holds of each row, and of each two, in a list with one row more, or with its rows changed.
+-- What is true of each row, and of each two, in a list with one more row, or with its rows changed.
 use Rattle.std.proofs.Common.{◌≡◌, ℕ, zero, suc, Bool, true, false, cond, List, [], ◌∷◌, ◌++◌, map, filter, find, Option, Some, None, refl, sym, ◌∙◌, ap, subst, slice_get, ◌<◌, arith}
 use Rattle.std.specs.List.{AllByRecursion, IsDistinct, list_any}
 use Rattle.std.proofs.lemmas.Bool.{both_ways, or_parts}

@@ -11,7 +11,7 @@ use Rattle.std.specs.Prelude.{nat_lt}
 use Rattle.std.specs.Cmp.{ranks}
 use Rattle.desk_rows.specs.order.Arranged.{RisesByEui, by_eui}
 
--- this is how one number stands to another
+-- this is how one number compares with another
 abbrev Ranks : ℕ → ℕ → Ordering → Type 0
 Ranks a b o = MatchOrdering o (a < b) (a ≡ b) (b < a)
 

@@ -1,4 +1,4 @@
--- What look-ups in the rows tell of the facts: counters, last ones, numbers, frames.
+-- What look-ups in the rows return, by the facts: counters, last ones, numbers, frames.
 use Rattle.std.proofs.Common.{◌≡◌, ℕ, zero, suc, ◌+◌, ◌<◌, ◌≤◌, ◌==◌, ◌&&◌, ◌||◌, Bool, true, false, cond, List, [], ◌∷◌, map, filter, find, length, Option, Some, None, option_map, slice_get, refl, ap, ap₂, ◌∙◌, arith, Ordering}
 use Rattle.std.specs.Prelude.{max, nat_lt}
 use Rattle.std.specs.List.{list_any}
@@ -125,7 +125,7 @@ last_number {X} order falls (x ∷ xs) = shown (slice_get (sort_by order (zip_fr
 
 -- ---- the row with a key or a number
 
--- the first that passes is found beside its number
+-- the first that passes is found with its number
 pub first_zipped : {X : Type 0} (test : X → Bool) (n : ℕ) (xs : List X) → find (λ (a : ℕ × X). test a.1) (zip_from n xs) ≡ first_from n test xs
 first_zipped test n [] = refl
 first_zipped test n (x ∷ xs) = ap (λ rest. cond (test x) (Some (n, x)) rest) (first_zipped test (n + 1) xs)

@@ -1,4 +1,4 @@
--- What look-ups in rows in order tell of the facts.
+-- What look-ups in the rows of facts return, by the facts.
 use Rattle.std.proofs.Common.{◌≡◌, ℕ, map, find, Option, Some, None, option_map, option_and_then, refl, sym, ap, subst, ◌∙◌}
 use Rattle.std.specs.Option.{option_map_or}
 use Rattle.std.proofs.lemmas.Bool.{eqb-true}

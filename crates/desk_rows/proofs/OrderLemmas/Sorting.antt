@@ -28,7 +28,7 @@ at_most a b ba = grind (arith, ints)
 below_apart : (a b c : ℤ) → int_lt a b ≡ true → int_eq b c ≡ true → int_eq a c ≡ false
 below_apart a b c ab bc = grind (arith, ints)
 
--- ---- what holds of each row, sorted
+-- ---- what is true of each row, sorted
 
 module _ {X : Type 0} (order : X → X → Ordering) (P : X → Type 0) where
   pub all_inserted : (x : X) (ys : List X) → P x → AllByRecursion P ys → AllByRecursion P (insert_sorted order x ys)

@@ -1,4 +1,4 @@
--- Worked rows, computed from the definitions alone: what a list of effects leaves in the kept columns.
+-- Worked rows, computed from the definitions only: what a list of effects leaves in the columns of counters.
 use Rattle.std.proofs.Common.{◌≡◌, ℕ, List, [], ◌∷◌, map, length, Option, Some, false, refl}
 use Rattle.std.specs.Prelude.{codes, pos}
 use Rattle.radio_core.specs.declared.bands.Band.{Band}
@@ -73,7 +73,7 @@ bookings_worked : ◌≡◌ {A = List (ℕ × Kind × Standing)} (map (λ (b : B
     ((1, Data, Dropped) ∷ (1, Join, Booked) ∷ (3, Data, Booked) ∷ (1, Data, Booked) ∷ [])
 bookings_worked = refl
 
--- a device that moves keeps its floor, and no other moves
+-- a device that moves has the same floor, and no other moves
 moved_worked : ◌≡◌ {A = List (List ℕ × Option ℕ)}
     (map (λ (d : DeviceRow). (d.device.owner, d.floor)) (rows_after booked (MovesDevice 1 (codes "port") ∷ [])).devices)
     ((codes "port", Some 1) ∷ (codes "town", Some 3) ∷ [])

@@ -1,4 +1,4 @@
--- Rows in an order, and what they tell of the facts: bookings and uplinks in order of start, an owner's devices by DevEUI.
+-- Rows in an order, and the registry's lists that they are: bookings and uplinks by start, an owner's devices by DevEUI.
 use Rattle.std.specs.Prelude.{◌≡◌, ℕ, ◌<◌, ◌≤◌, ◌&&◌, ℤ, pos, int_le, int_lt, Bool, true, false, List, map, Option, bytes_eq}
 use Rattle.std.specs.declared.cmp.Ordering.{Ordering}
 use Rattle.std.specs.declared.cmp.Ordering.TheVariants.{Equal}
@@ -23,20 +23,20 @@ use Rattle.desk_rows.specs.Rows.{Rows, BookingRow, DeviceRow, SessionRow}
 use Rattle.desk_rows.specs.order.LookUps.{Falls, first_by, is_row_of_device, rows_by}
 use Rattle.desk_rows.specs.order.RowsOf.{AreRowsOf}
 
--- ---- in order of start, then of number
+-- ---- by start, then by number
 
 -- in this order starts rise, and of equal starts the one with the lower number comes first
 abbrev pub PutsByStart : {X : Type 0} → (X → ℤ) → (ℕ × X → ℕ × X → Ordering) → Type 0
 PutsByStart {X} start order = (a b : ℕ × X) → a.0 < b.0 → is_gt (order a b) ≡ int_lt (start b.1) (start a.1)
 
--- when the rows that pass the test are on the air, in this order
+-- the times on air of the rows that pass the test, in this order
 abbrev pub spans_by : {X : Type 0} → (X → Interval) → (ℕ × X → ℕ × X → Ordering) → (X → Bool) → List X → List Interval
 spans_by span order test rows = map (λ row. span row.1) (rows_by order test rows)
 
 abbrev pub booking_span : BookingRow → Interval
 booking_span b = b.booking.span
 
--- the bands of the bookings that pass the test and when they are on the air, in this order
+-- the bands and times on air of the bookings that pass the test, in this order
 abbrev pub near_by : (ℕ × BookingRow → ℕ × BookingRow → Ordering) → (BookingRow → Bool) → List BookingRow → List NearBooking
 near_by order test rows = map (λ row. near_shown row.1.booking) (rows_by order test rows)
 
@@ -44,19 +44,19 @@ near_by order test rows = map (λ row. near_shown row.1.booking) (rows_by order 
 abbrev pub is_near_at : List ℕ → ℤ → BookingRow → Bool
 is_near_at gateway start b = stands_near gateway start b.booking
 
--- the uplink is one of the device's in the band, and starts from the one time on and before the other
+-- the uplink is one of the device's in the band, and starts at `from` or later and before `to`
 abbrev pub is_uplink_of : List SessionRow → ℕ → Band → ℤ → ℤ → Uplink → Bool
 is_uplink_of sessions dev_eui band from to u =
     (option_map_or (is_row_of_device dev_eui) (item_at sessions u.session) false && int_le from (pos u.start) && int_lt (pos u.start) to) && is_in_band band u
 
 -- ---- by DevEUI
 
--- in this order the DevEUIs of 64 bits rise: what comes after another has no lower one
+-- in this order the DevEUIs of 64 bits rise: a later one is not lower than an earlier one
 pub record RisesByEui (order : ℕ × DeviceRow → ℕ × DeviceRow → Ordering) : Type 0 where
   pub after : (a b : ℕ × DeviceRow) → IsEui a.1.dev_eui → IsEui b.1.dev_eui → is_gt (order a b) ≡ true → b.1.dev_eui ≤ a.1.dev_eui
   pub before : (a b : ℕ × DeviceRow) → IsEui a.1.dev_eui → IsEui b.1.dev_eui → is_gt (order a b) ≡ false → a.1.dev_eui ≤ b.1.dev_eui
 
--- the owner's, above the one that is given
+-- the device is the owner's, and above `after` if that is given
 abbrev pub is_next_of : List ℕ → Option ℕ → DeviceRow → Bool
 is_next_of owner after d = bytes_eq d.device.owner owner && is_after after d.dev_eui
 
@@ -88,7 +88,7 @@ by_start start a b = ordering_then (int_cmp (start a.1) (start b.1)) (ordering_t
 abbrev pub by_eui : ℕ × DeviceRow → ℕ × DeviceRow → Ordering
 by_eui a b = ordering_then (slice_cmp nat_cmp (to_be_bytes w64 a.1.dev_eui) (to_be_bytes w64 b.1.dev_eui)) (ordering_then (int_cmp (pos a.0) (pos b.0)) Equal)
 
--- an order by the key, falling, and then by anything, falls
+-- in an order by the falling key, and then by anything, keys fall
 abbrev pub FallsFirst : {A : Type 0} → (A → ℕ) → Type 0
 FallsFirst {A} key = (rest : A → A → Ordering) → Falls key (λ a b. ordering_then (int_cmp (pos (key b)) (pos (key a))) (rest a b))
 

@@ -37,15 +37,15 @@ device_row dev_eui device = record { dev_eui = dev_eui; device = device; floor =
 abbrev pub moved : List ℕ → DeviceRow → DeviceRow
 moved owner d = record d { device = owned_by owner d.device }
 
--- the floor is this number, or stays where it is above it
+-- the floor is this number, or stays if it is above it
 abbrev pub raised : ℕ → DeviceRow → DeviceRow
 raised number d = record d { floor = Some (option_map_or (max number) d.floor number) }
 
--- a session to which no downlink was booked yet
+-- a session for which no downlink was booked yet
 abbrev pub session_row : Session → SessionRow
 session_row session = record { session = session; next_down = 0 }
 
--- one downlink more
+-- one more downlink
 abbrev pub counted_down : SessionRow → SessionRow
 counted_down s = record s { next_down = s.next_down + 1 }
 
@@ -75,20 +75,20 @@ limited most l = record l { limit = record { band = l.limit.band; most = most } 
 
 -- ---- one table each
 
--- the devices, the one of this session with its floor raised to the session
+-- the devices, with the floor of this session's device raised to the session
 abbrev pub devices_raised : List SessionRow → ℕ → List DeviceRow → List DeviceRow
 devices_raised sessions number devices = update_where (λ d. is_of_device (sessions_in sessions) d.dev_eui number) (raised number) devices
 
--- the sessions, the one with this number with a downlink more, where it answers data
+-- the sessions, with one more downlink in the one with this number if it answers data
 abbrev pub sessions_counted : Kind → ℕ → List SessionRow → List SessionRow
 sessions_counted Join number sessions = sessions
 sessions_counted Data number sessions = item_changed counted_down sessions number
 
--- a row of the gateway's band, by the band's number
+-- there is a row of the gateway's band, by the band's number
 abbrev pub has_limit : List ℕ → ℕ → List LimitRow → Bool
 has_limit gateway band limits = list_any (is_limit gateway band) limits
 
--- the limits with this one of the gateway's band: in the band's row, where it has one, and else in a new row
+-- the limits with this one for the gateway's band: in the band's row if there is one, and else in a new row
 abbrev pub limits_set : List ℕ → Limit → List LimitRow → List LimitRow
 limits_set gateway limit limits =
     if has_limit gateway (band_number limit.band) limits then update_where (is_limit gateway (band_number limit.band)) (limited limit.most) limits
@@ -102,7 +102,7 @@ with_uplink_row uplink gateway reception r = record r {
   copies = r.copies ++ copy_row (length r.uplinks + 1) gateway reception ∷ [];
 }
 
--- the rows with an effect alone
+-- the rows after an effect, without its message
 abbrev pub rows_changed : Effect → Rows → Rows
 rows_changed Nothing r = r
 rows_changed (AddsSender name role) r = record r { senders = r.senders ++ sender_row name role ∷ [] }
@@ -110,7 +110,7 @@ rows_changed (AddsOwner name) r = record r { owners = r.owners ++ name ∷ [] }
 rows_changed (AddsGateway name) r = record r { gateways = r.gateways ++ name ∷ [] }
 rows_changed (AddsDevice dev_eui device) r = record r { devices = r.devices ++ device_row dev_eui device ∷ [] }
 rows_changed (MovesDevice dev_eui owner) r = record r { devices = update_where (is_device dev_eui) (moved owner) r.devices }
--- a join leaves the floor
+-- a join leaves the floor as it is
 rows_changed (AddsSession session uplink gateway reception) r =
     with_uplink_row uplink gateway reception (record r { sessions = r.sessions ++ session_row session ∷ [] })
 rows_changed (AddsUplink uplink gateway reception) r =
@@ -123,7 +123,7 @@ rows_changed (AddsBooking booking) r = record r {
 rows_changed (EndsBooking number sent) r = record r { bookings = item_changed (ended_row sent) r.bookings number }
 rows_changed (SetsLimit gateway limit) r = record r { limits = limits_set gateway limit r.limits }
 
--- and with the message and its answer, at the end of the replies
+-- the rows after an effect, with the message and its answer at the end
 abbrev pub rows_with : Effect → ReplyRow → Rows → Rows
 rows_with effect reply r = record (rows_changed effect r) { replies = r.replies ++ reply ∷ [] }
 
@@ -149,7 +149,7 @@ opening_rows c = record {
 abbrev pub OpeningRowsTell : Type 0
 OpeningRowsTell = (c : Settings) → AreRowsOf c (opening c) (opening_rows c)
 
--- the rows with an effect are those of the facts with it
+-- the rows after an effect are those of the facts after it
 abbrev pub RowsFollowFacts : Type 0
 RowsFollowFacts = (c : Settings) (facts : State) (r : Rows) (effect : Effect) (reply : ReplyRow)
     → AreRowsOf c facts r → Fits effect facts → AreRowsOf c (state_with facts effect) (rows_with effect reply r)

@@ -1,4 +1,4 @@
--- What the rows of the tables tell: the registry's facts.
+-- The registry's facts that the tables' rows represent.
 use Rattle.std.specs.Prelude.{ℕ, Bool, List, map, find, Option, option_map, bytes_eq}
 use Rattle.std.specs.List.{list_any}
 use Rattle.registry_core.specs.declared.facts.Booking.{Booking}
@@ -11,7 +11,7 @@ use Rattle.desk_rows.specs.Rows.{Rows, SenderRow, DeviceRow, SessionRow, CopyRow
 abbrev pub is_name_row : List ℕ → List ℕ → Bool
 is_name_row name row = bytes_eq row name
 
--- ---- what the rows tell
+-- ---- the facts that the rows represent
 
 abbrev pub sessions_in : List SessionRow → List Session
 sessions_in rows = map (λ s. s.session) rows
@@ -23,7 +23,7 @@ bookings_in rows = map (λ b. b.booking) rows
 abbrev pub limit_found : List LimitRow → List ℕ → ℕ → Option ℕ
 limit_found limits gateway band = option_map (λ (l : LimitRow). l.limit.most) (find (is_limit gateway band) limits)
 
--- the facts: what has a key is what its row tells, and nothing else is there
+-- the facts: what has a key is in the row with that key, and nothing else is there
 abbrev pub facts_in : Rows → State
 facts_in r = record {
   senders = λ name. option_map (λ (s : SenderRow). s.role) (find (is_sender_named name) r.senders);

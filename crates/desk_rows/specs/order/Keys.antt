@@ -23,7 +23,7 @@ use Rattle.desk_rows.specs.order.RowsOf.{AreRowsOf}
 
 -- ---- rows that are added
 
--- there is a rowid for one row more
+-- there is a rowid for one more row
 abbrev pub HasRowid : {X : Type 0} → List X → Type 0
 HasRowid rows = 1 + length rows < 2 ^ 63
 
@@ -32,7 +32,7 @@ pub record IsFree {X : Type 0} (has_key : X → Bool) (rows : List X) : Type 0 w
   pub key : list_any has_key rows ≡ false
   pub room : HasRowid rows
 
--- where the gateway's band has no limit, its row can be added
+-- if the gateway's band has no limit, its row can be added
 abbrev pub IsFreeForLimit : List ℕ → Limit → Rows → Type 0
 IsFreeForLimit gateway limit r = limit_found r.limits gateway (band_number limit.band) ≡ None → IsFree (is_limit gateway (band_number limit.band)) r.limits
 
@@ -55,7 +55,7 @@ IsFreeFor (SetsLimit gateway limit) r = IsFreeForLimit gateway limit r
 
 -- ---- rows that are changed
 
--- one row passes the test, and to change those that pass is to change the row with this number
+-- exactly one row passes the test, and changing those that pass is changing the row with this number
 pub record HasOnly {X : Type 0} (test : X → Bool) (rows : List X) : Type 0 where
   pub number : ℕ
   pub row : X
@@ -69,7 +69,7 @@ floor_set number d = record d { floor = Some number }
 abbrev pub next_down_set : ℕ → SessionRow → SessionRow
 next_down_set n s = record s { next_down = n }
 
--- The device whose floor an uplink raises is that of its session: the floor is set where the session is above it, and else stays.
+-- The device whose floor an uplink raises is that of its session. The floor is set if the session is above it, and else stays.
 pub record RaisesOne (uplink : Uplink) (r : Rows) : Type 0 where
   pub session : SessionRow
   pub there : item_at r.sessions uplink.session ≡ Some session
@@ -98,7 +98,7 @@ pub record EndsOne (number : ℕ) (r : Rows) : Type 0 where
   pub there : item_at r.bookings number ≡ Some row
   pub standing : row.booking.standing ≡ Booked
 
--- The limit of a gateway's band that has none is a row more, and else the one row of the band is changed.
+-- If a gateway's band has no limit, the limit is one more row; else the one row of the band is changed.
 pub record SetsOne (gateway : List ℕ) (limit : Limit) (r : Rows) : Type 0 where
   pub adds : limit_found r.limits gateway (band_number limit.band) ≡ None → limits_set gateway limit r.limits ≡ r.limits ++ limit_row gateway limit ∷ []
   pub changes : IsTrue (is_some (limit_found r.limits gateway (band_number limit.band)))
@@ -116,7 +116,7 @@ IsThereFor effect r = Unit {0}
 
 -- ---- laws
 
--- of an effect that fits, while there is room for a message more: the keys of the rows that it adds are free
+-- if an effect fits and there is space for one more message, the keys of the rows that it adds are free
 abbrev pub KeysAreFree : Type 0
 KeysAreFree = (c : Settings) (facts : State) (r : Rows) (effect : Effect) → AreRowsOf c facts r → Fits effect facts → length r.replies < most_heard
     → IsFreeFor effect r × HasRowid r.replies

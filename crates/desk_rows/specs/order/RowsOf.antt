@@ -1,5 +1,5 @@
--- Which rows are those of a configuration and of facts: they tell them, each kept counter is right, what a row names is there,
--- and no two rows have one key.
+-- The rows of a configuration and of facts: they represent them, each stored counter is right, what a row names is there, and no two rows
+-- have one key.
 use Rattle.std.specs.Prelude.{◌≡◌, ℕ, ◌+◌, ◌≤◌, ◌==◌, ◌&&◌, Bool, List, map, filter, length, Option, Some, is_some, bytes_eq, nat_eq, IsTrue}
 use Rattle.std.specs.List.{AllByRecursion, IsDistinct}
 use Rattle.radio_core.specs.Bands.{band_number}
@@ -14,7 +14,7 @@ use Rattle.registry_core.specs.State.{State}
 use Rattle.desk_rows.specs.Rows.{Rows, SenderRow, DeviceRow, SessionRow, CopyRow, BookingRow, LimitRow}
 use Rattle.desk_rows.specs.order.Facts.{bookings_in, facts_in, sessions_in}
 
--- ---- kept counters
+-- ---- stored counters
 
 -- a data uplink of a session of the device
 abbrev pub is_data_from : List Session → ℕ → Uplink → Bool
@@ -24,7 +24,7 @@ is_data_from sessions dev_eui uplink = is_data uplink.kind && is_of_device sessi
 abbrev pub floor_of : List Uplink → List Session → ℕ → Option ℕ
 floor_of uplinks sessions dev_eui = greatest (map (λ u. u.session) (filter (is_data_from sessions dev_eui) uplinks))
 
--- the uplink that a booking answers is there, and its session and kind stand in the booking's row
+-- the uplink that a booking answers is there, and the booking's row has its session and kind
 pub record AnswersUplink (uplinks : List Uplink) (b : BookingRow) : Type 0 where
   pub uplink : Uplink
   pub there : item_at uplinks b.booking.uplink ≡ Some uplink
@@ -45,11 +45,11 @@ pub record IsOfSession (sessions : List Session) (uplink : Uplink) : Type 0 wher
   pub there : item_at sessions uplink.session ≡ Some session
   pub nonce : uplink.kind ≡ Join → session.nonce ≡ uplink.counter
 
--- the uplink of a copy is there
+-- the uplink of a reception is there
 abbrev pub IsOfUplink : List Uplink → CopyRow → Type 0
 IsOfUplink uplinks copy = IsTrue (is_some (item_at uplinks copy.uplink))
 
--- the device of each session is there, the session of each uplink, and the uplink of each copy
+-- the device of each session is there, the session of each uplink, and the uplink of each reception
 pub record NamesRows (r : Rows) : Type 0 where
   pub sessions : AllByRecursion (λ (s : Session). IsTrue (is_some ((facts_in r).devices s.device))) (sessions_in r.sessions)
   pub uplinks : AllByRecursion (IsOfSession (sessions_in r.sessions)) r.uplinks
@@ -79,7 +79,7 @@ pub record IsKeyed (r : Rows) : Type 0 where
 
 -- ---- how many
 
--- each message that was heard has added one row at most to a table; the operator's was there before
+-- each message that was heard has added at most one row to a table; the operator's was there before
 pub record IsFew (r : Rows) : Type 0 where
   pub senders : length r.senders ≤ length r.replies + 1
   pub owners : length r.owners ≤ length r.replies
@@ -91,7 +91,7 @@ pub record IsFew (r : Rows) : Type 0 where
   pub bookings : length r.bookings ≤ length r.replies
   pub limits : length r.limits ≤ length r.replies
 
--- ---- in order
+-- ---- all of it
 
 -- the rows are those of this configuration and these facts
 pub record AreRowsOf (c : Settings) (facts : State) (r : Rows) : Type 0 where

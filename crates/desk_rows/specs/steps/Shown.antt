@@ -1,4 +1,4 @@
--- How rows of answers show what is read of them.
+-- How the rows of answers show what is read from them.
 use Rattle.std.specs.Prelude.{ℕ, [], ◌∷◌}
 use Rattle.radio_core.specs.Bands.{band_number}
 use Rattle.radio_core.specs.DataRates.{dr_number}

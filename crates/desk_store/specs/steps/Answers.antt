@@ -9,7 +9,7 @@ use Rattle.desk_store.specs.steps.Tally.{tallied}
 abbrev pub is_naming : ℕ → Booking → Bool
 is_naming number booking = booking.uplink == number
 
--- the counts are those of these bookings
+-- the counts are right for these bookings
 pub record AreCounted (bookings : List Booking) (answers : Answers) : Type 0 where
   pub named : (number : ℕ) → tallied answers.named number ≡ count_by (is_naming number) bookings
   pub standing : (number : ℕ) → tallied answers.standing number ≡ count_by (is_answer_to number) bookings

@@ -1,4 +1,4 @@
--- Lists in order of a whole number that each item has, its key.
+-- Lists ordered by an integer that each item has, its key.
 use Rattle.std.specs.Prelude.{◌≡◌, ℤ, int_lt, false, List, [], ◌∷◌, if◌then◌else◌}
 use Rattle.std.specs.List.{AllByRecursion}
 
@@ -22,7 +22,7 @@ module _ {X : Type 0} (key : X → ℤ) where
   put_after x [] = x ∷ []
   put_after x (y ∷ ys) = if int_lt (key x) (key y) then x ∷ y ∷ ys else y ∷ put_after x ys
 
-  -- in order of key; those with one key stand in the order that they have
+  -- ordered by key; items with the same key stay in the order that they have
   abbrev pub in_order : List X → List X
   in_order [] = []
   in_order (x ∷ xs) = put_before x (in_order xs)

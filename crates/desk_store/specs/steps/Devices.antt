@@ -1,4 +1,4 @@
--- Devices that are found by their owner, in order of DevEUI.
+-- Devices that are found by their owner, ordered by DevEUI.
 use Rattle.std.specs.Prelude.{◌≡◌, ℕ, Bool, false, List, Option, Some, None, bytes_eq}
 use Rattle.std.specs.BTreeSet.{BTreeSet, contains}
 use Rattle.std.specs.Cmp.Lexicographic.{slice_cmp}
@@ -11,11 +11,11 @@ use Rattle.registry_core.specs.declared.facts.Device.{Device}
 use Rattle.desk_store.specs.declared.devices.Owned.{Owned}
 use Rattle.desk_store.specs.Devices.{devices_of}
 
--- by owner, and those of one owner by DevEUI
+-- ordered by owner, and those of one owner by DevEUI
 abbrev pub owned_cmp : Owned → Owned → Ordering
 owned_cmp = then_cmp (on (λ o. o.owner) (slice_cmp nat_cmp)) (on (λ o. o.dev_eui) nat_cmp)
 
--- there is a device, and its owner is this one
+-- there is a device, and this is its owner
 abbrev pub is_owned_by : List ℕ → Option Device → Bool
 is_owned_by owner found = option_map_or (λ (device : Device). bytes_eq device.owner owner) found false
 
@@ -23,7 +23,7 @@ is_owned_by owner found = option_map_or (λ (device : Device). bytes_eq device.o
 pub record AreOwned (devices : List (ℕ × Device)) (owned : BTreeSet Owned) : Type 0 where
   pub has : (pair : Owned) → contains owned_cmp owned pair ≡ is_owned_by pair.owner (devices_of devices pair.dev_eui)
 
--- where the owner's devices begin that are above that one, if there is one
+-- the bound at which the owner's devices above this DevEUI begin, or all of them
 abbrev pub bound_above : List ℕ → Option ℕ → Bound Owned
 bound_above owner (Some dev_eui) = Excluded (record { owner = owner; dev_eui = dev_eui })
 bound_above owner None = Included (record { owner = owner; dev_eui = 0 })

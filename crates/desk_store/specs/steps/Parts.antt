@@ -1,4 +1,4 @@
--- The parts of a view, each with what the facts hold for the message.
+-- The parts of a view, each with what the facts have for the message.
 use Rattle.std.specs.Prelude.{◌≡◌, option_map}
 use Rattle.duty_core.specs.InOrder.{IsByStart}
 use Rattle.registry_core.specs.declared.messages.Message.{Message}
@@ -28,7 +28,7 @@ pub record IsBookedView (s : State) (m : Message) (v : BookedView) : Type 0 wher
   pub answered : v.answered ≡ answered_for s m
   pub next_down : v.next_down ≡ next_down_for s m
 
--- the downlinks in order of start
+-- the limit, and the downlinks ordered by start
 pub record IsAirView (s : State) (m : Message) (v : AirView) : Type 0 where
   pub limit : v.limit ≡ limit_for s m
   pub near : IsByStart (near_for s m) v.near.items

@@ -1,4 +1,4 @@
--- Uplinks by their session and band, in order of start, and what is told of them.
+-- Uplinks by their session and band, ordered by start, and what is looked up of them.
 use Rattle.std.specs.Prelude.{ℕ, ◌&&◌, ℤ, pos, Bool, List, Option, option_and_then, Some}
 use Rattle.radio_core.specs.declared.bands.Band.{Band}
 use Rattle.radio_core.specs.Bands.{band_number}
@@ -16,7 +16,7 @@ use Rattle.desk_store.specs.steps.Uplinks.{same_numbers}
 abbrev pub key_of : Uplink → ℕ × ℕ
 key_of uplink = (uplink.session, band_number uplink.band)
 
--- where the session's uplinks in the band stand
+-- the places of the session's uplinks in the band
 abbrev pub uplink_places : List Uplink → ℕ → Band → List Place
 uplink_places uplinks session band = places_that (λ uplink. pos uplink.start) (λ uplink. same_numbers (key_of uplink) (session, band_number band)) uplinks
 
@@ -24,14 +24,14 @@ uplink_places uplinks session band = places_that (λ uplink. pos uplink.start) (
 abbrev pub AreStarts : List Uplink → StartIndex (ℕ × ℕ) → Type 0
 AreStarts uplinks index = IsStartIndex (λ uplink. pos uplink.start) same_numbers key_of uplinks (places_in same_numbers index)
 
--- when the uplink that stands there was on the air
+-- the time on air of the uplink at this place
 abbrev pub uplink_span_at : List Uplink → Place → Option Interval
 uplink_span_at uplinks place = option_and_then (λ (uplink : Uplink). Some (interval_of uplink)) (item_at uplinks place.number)
 
--- an uplink of the device in the band that starts from the one time on and before the other
+-- an uplink of the device in the band that starts at `from` or later and before `to`
 abbrev pub is_sent_from : List Session → ℕ → Band → ℤ → ℤ → Uplink → Bool
 is_sent_from sessions dev_eui band from to uplink = is_uplink_from sessions dev_eui from to uplink && is_in_band band uplink
 
--- where those uplinks stand
+-- the places of those uplinks
 abbrev pub places_from : List Uplink → List Session → ℕ → Band → ℤ → ℤ → List Place
 places_from uplinks sessions dev_eui band from to = places_that (λ uplink. pos uplink.start) (is_sent_from sessions dev_eui band from to) uplinks

@@ -1,4 +1,4 @@
--- Uplinks with an index: what it tells of them is what looking through them tells.
+-- Uplinks with an index, which returns what a search of all uplinks would.
 use Rattle.std.specs.Prelude.{◌≡◌, ℕ, ◌==◌, ◌&&◌, Bool, List, Option, Some, None, option_map, min, nat_eq, nat_lt, if◌then◌else◌}
 use Rattle.indexmap.specs.IndexMap.{get, spare}
 use Rattle.registry_core.specs.declared.facts.Uplink.{Uplink}
@@ -18,7 +18,7 @@ join_of uplinks n counter = first_that (is_join_of n counter) uplinks
 abbrev pub number_of : {X : Type 0} → Option (ℕ × X) → Option ℕ
 number_of found = option_map (λ numbered. numbered.0) found
 
--- a session and a counter are the same as others
+-- the sessions are the same, and the counters are
 abbrev pub same_numbers : ℕ × ℕ → ℕ × ℕ → Bool
 same_numbers a b = a.0 == b.0 && a.1 == b.1
 
@@ -28,11 +28,11 @@ pub record IsIndexOf (uplinks : List Uplink) (index : UplinkIndex) : Type 0 wher
   pub frames : (n counter : ℕ) → get same_numbers index.frames (n, counter) ≡ number_of (data_with uplinks n counter)
   pub counters : (n : ℕ) → get nat_eq index.counters n ≡ last_counter uplinks n
 
--- so many uplinks at least go into the index without more memory
+-- how many uplinks can be added to the index with no allocation, at least
 abbrev pub index_room : UplinkIndex → ℕ
 index_room index = min (spare index.joins) (min (spare index.frames) (spare index.counters))
 
--- of two that were found, the one with the lower number
+-- the one with the lower number of two that were found
 abbrev pub earlier_of : {X : Type 0} → Option (ℕ × X) → Option (ℕ × X) → Option (ℕ × X)
 earlier_of None b = b
 earlier_of (Some a) None = Some a

@@ -17,7 +17,7 @@ use Rattle.desk_tables.specs.declared.tables.Tables.{Tables}
 use Rattle.desk_tables.specs.steps.Calls.{IsReady}
 
 module _ {S : Type 0} (g : Ghosts S) (conn : Held S) where
-  -- the store over it: where the tables are in order for something, it holds that
+  -- the store over the connection: if the tables represent something, it represents that
   pub record IsStoreOver (config : Settings) (t : Tables S) : Type 0 where
     pub configuration : t.config ≡ config
     pub clean : doubt (state g conn).is_clean ≤ doubt (state g t.conn).is_clean
@@ -25,7 +25,7 @@ module _ {S : Type 0} (g : Ghosts S) (conn : Held S) where
         → IsStore (meaning_of g) t config kept
     pub rests : HasCleanDisk (state g t.conn) → IsReady (state g conn) → Rests g t (state g conn).now
 
-  -- the connection again, as it was: where the tables hold rows of a desk, it was for memory, the disk or a size
+  -- the connection again, as it was: if the tables have rows of a desk, the error was `Memory`, `Disk` or `Size`
   pub record IsNotAdopted (fault : StoreFault) (back : Held S) : Type 0 where
     pub clean : doubt (state g conn).is_clean ≤ doubt (state g back).is_clean
     pub idle : (state g back).in_transaction ≡ false

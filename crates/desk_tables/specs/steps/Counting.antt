@@ -1,4 +1,4 @@
--- How many of each the tables hold.
+-- The number of rows in the tables.
 use Rattle.std.specs.Prelude.{◌≡◌, ℕ, length}
 use Rattle.desk_store.specs.declared.looks.Counts.{Counts}
 use Rattle.desk_rows.specs.Rows.{Rows}
@@ -6,6 +6,6 @@ use Rattle.desk_rows.specs.Rows.{Rows}
 abbrev pub AreCountsIn : Rows → Counts → Type 0
 AreCountsIn r v = (v.sessions ≡ length r.sessions) × (v.uplinks ≡ length r.uplinks) × (v.bookings ≡ length r.bookings)
 
--- so many messages were heard, and there are so many of what is numbered
+-- the number of messages that were heard, and the numbers of sessions, uplinks and bookings
 abbrev pub AreRowsCounted : Rows → ℕ × Counts → Type 0
 AreRowsCounted r told = (told.0 ≡ length r.replies) × AreCountsIn r told.1

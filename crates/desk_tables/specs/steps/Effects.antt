@@ -1,4 +1,4 @@
--- What an effect is written by, beside itself: what is read of the rows that stand before it.
+-- What an effect's rows need of the rows that are there before it.
 use Rattle.std.specs.Prelude.{◌≡◌, ℕ, ◌+◌, List, length, Option, Some, MatchOption, Result}
 use Rattle.radio_core.specs.Bands.{band_number}
 use Rattle.registry_core.specs.declared.effects.Effect.{Effect}
@@ -21,7 +21,7 @@ use Rattle.desk_tables.specs.declared.effects.basis.Known.{Known}
 use Rattle.desk_tables.specs.declared.effects.basis.Basis.{Basis}
 use Rattle.desk_tables.specs.declared.effects.basis.Basis.TheVariants as basis
 
--- the message that was heard, with its answer
+-- the row of a message with its answer
 abbrev pub reply_row : Envelope → List ℕ → List ℕ → ReplyRow
 reply_row e message answer = record { sender = e.sender; number = e.transaction; message = message; answer = answer }
 
@@ -37,13 +37,13 @@ IsRaised session r raises = MatchOption raises (devices_raised r.sessions sessio
 abbrev pub HasSession : ℕ → Rows → Type 0
 HasSession number r = (row : SessionRow) × (item_at r.sessions number ≡ Some row)
 
--- this is the next downlink counter of the session that the booking counts in, or it counts in none
+-- this is the next downlink counter of the session in which the booking counts, or it counts in none
 abbrev pub CountsInSession : Booking → Rows → ℕ → Option ℕ → Type 0
 CountsInSession booking r session counter =
     let counted = sessions_counted (kind_at r.uplinks booking.uplink) (session_at r.uplinks booking.uplink) r.sessions in
     MatchOption counter (counted ≡ r.sessions) (λ n. HasSession session r × (counted ≡ item_changed (next_down_set n) r.sessions session))
 
--- the next downlink counter of the session, with one downlink more
+-- the next downlink counter of the session, with one more downlink
 abbrev pub IsNextDown : ℕ → Rows → ℕ → Type 0
 IsNextDown number r counter = (row : SessionRow) × (item_at r.sessions number ≡ Some row) × (counter ≡ row.next_down + 1)
 
@@ -72,7 +72,7 @@ IsBasis (AddsBooking booking) r basis = IsBasisOfBooking booking r basis
 IsBasis (SetsLimit gateway limit) r basis = IsBasisOfLimit gateway limit r basis
 IsBasis effect r basis = Unit {0}
 
--- this many uplinks there are, and what was seen is so
+-- this is the number of uplinks, and the cache is right
 pub record IsKnown (r : Rows) (known : Known) : Type 0 where
   pub uplinks : known.uplinks ≡ length r.uplinks
   pub seen : IsSeen r known.seen
@@ -81,14 +81,14 @@ pub record IsKnown (r : Rows) (known : Known) : Type 0 where
 abbrev pub IsThereAndKnown : Effect → Known → Rows → Type 0
 IsThereAndKnown effect known r = IsThereFor effect r × IsKnown r known
 
--- ---- which rows it may be written to
+-- ---- the rows to which an effect may be written
 
--- the session of the uplink that a booking answers has a whole number, and so has its next downlink counter
+-- the session of the uplink that a booking answers has a number below 2^53, and so is its next downlink counter
 abbrev pub CountsInWholes : Booking → Rows → Type 0
 CountsInWholes booking r = (uplink : Uplink) → item_at r.uplinks booking.uplink ≡ Some uplink
     → IsWhole uplink.session × ((session : SessionRow) → item_at r.sessions uplink.session ≡ Some session → IsWhole (session.next_down + 1))
 
--- the numbers that the effect names or gives, and those of the rows that it changes, are whole numbers
+-- the numbers that the effect names or gives, and those of the rows that it changes, are integers below 2^53
 abbrev pub AreWhole : Effect → Rows → Type 0
 AreWhole (MovesDevice dev_eui owner) r = IsWhole (length r.devices)
 AreWhole (AddsSession session uplink gateway reception) r = IsWhole uplink.session × IsWhole (length r.uplinks + 1)
@@ -105,11 +105,11 @@ pub record IsOpenTo (effect : Effect) (r : Rows) : Type 0 where
   pub there : IsThereFor effect r
   pub whole : AreWhole effect r
 
--- and the key of the message that was heard is free
+-- the same, and the key of the message is free
 pub record IsOpenToBoth (effect : Effect) (e : Envelope) (r : Rows) : Type 0 where
   pub change : IsOpenTo effect r
   pub reply : IsFree (is_reply e.sender e.transaction) r.replies
 
--- the effect is written, by what was read for it
+-- the effect is written, with what was read for it
 abbrev pub WritesEffect : State → State → Result (Unit {0}) RowFault → Effect → Basis → Type 0
 WritesEffect old new result effect basis = Makes old new result (λ r. IsBasis effect r basis) (IsOpenTo effect) (rows_changed effect)

@@ -1,10 +1,10 @@
--- How a fault of a row call is told.
+-- The store's error for each error of a row call.
 use Rattle.desk_rows.specs.declared.faults.RowFault.{RowFault}
 use Rattle.desk_rows.specs.declared.faults.RowFault.TheVariants.{Memory, Disk, Size, Row, Refused}
 use Rattle.desk_store.specs.declared.faults.StoreFault.{StoreFault}
 use Rattle.desk_store.specs.declared.faults.StoreFault.TheVariants.{Memory as NoMemory, Disk as NoDisk, Size as NoRoom, NotADesk}
 
--- a row out of its range is no desk's, nor is what refuses a desk's statement
+-- a row out of its range is not a desk's, and neither is a schema that refuses a desk's statement
 abbrev pub store_fault : RowFault → StoreFault
 store_fault Memory = NoMemory
 store_fault Disk = NoDisk

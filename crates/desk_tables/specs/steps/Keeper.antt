@@ -1,4 +1,4 @@
--- What a commit does, whatever it answers, and what the store keeps of a transaction.
+-- What a commit does, whatever it returns, and what the store notes of a transaction.
 use Rattle.std.specs.Prelude.{◌≡◌, ◌⊎◌, ◌≤◌, ◌+◌, ◌||◌, ℕ, true, false, List, [], ◌∷◌, length, Result, Ok, Err, Some, IfErr, OnOk, OnErr, IsErrOf, is_ok}
 use Rattle.registry_core.specs.declared.effects.Effect.{Effect}
 use Rattle.registry_core.specs.declared.messages.Envelope.{Envelope}
@@ -20,26 +20,27 @@ use Rattle.desk_tables.specs.steps.Settling.{Settles, is_size}
 
 -- ---- counts
 
--- of what is numbered there is no more than messages that may be heard
+-- there are no more sessions, uplinks or bookings than messages that may be heard
 pub record AreFew (s : State) : Type 0 where
   pub sessions : length s.sessions ≤ most_heard
   pub uplinks : length s.uplinks ≤ most_heard
   pub bookings : length s.bookings ≤ most_heard
 
--- the counts of any facts become those of the facts with the effect
+-- counts that are right for some facts become right for the facts with the effect
 abbrev pub CountsWith : Effect → Counts → Counts → Type 0
 CountsWith effect old new = (s : State) → AreFew s → AreCounts s old → AreCounts (state_with s effect) new
 
 -- ---- a transaction
 
 module _ {S : Type 0} (g : Ghosts S) where
-  -- its fault is settled, and the store keeps what is told
+  -- the error is settled, and the store notes the error that it returns
   pub record KeepsFault (old new : Tables S) (fault : RowFault) (told : StoreFault) : Type 0 where
     pub settles : Settles (state g old.conn) (state g new.conn) fault told
     pub same : new
         ≡ record old { conn = new.conn; down = is_disk (Some told) || old.down; foreign = is_foreign (Some told) || old.foreign; sized = is_size told }
 
-  -- the store counts one message more and what the effect adds, and keeps of what was seen what is still so; or it keeps why there is none
+  -- the store counts one more message and what the effect adds, and its cache has what is still so; or it notes the error for which there
+  -- is none
   abbrev pub IsNoted : Effect → Tables S → Tables S → Result (Unit {0}) RowFault → Result (Unit {0}) StoreFault → Type 0
   IsNoted effect old new (Ok done) result = (result ≡ Ok done)
       × (new ≡ record old { sized = false; heard = old.heard + 1; counts = new.counts; seen = seen_after old.seen }) × CountsWith effect old.counts new.counts

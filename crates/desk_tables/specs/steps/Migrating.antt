@@ -12,23 +12,23 @@ use Rattle.desk_rows.specs.declared.faults.RowFault.{RowFault}
 use Rattle.desk_tables.specs.Opening.{TreesHold}
 use Rattle.desk_tables.specs.steps.Calls.{IsInside}
 
--- the rows that the trees hold are those of the tables before
+-- the trees have the rows of the tables before
 abbrev pub AreRowsBefore : State → Trees → Type 0
 AreRowsBefore old trees = (r : Rows) → HoldsFirst old.now r → TreesHold trees r
 
--- and the error isn't that they aren't a desk
+-- the same, and the error isn't that they aren't a desk
 abbrev pub AreMoved : State → Result (Unit {0}) RowFault → Trees → Type 0
 AreMoved old result trees = AreRowsBefore old trees × IfErr result IsEven
 
--- Inside a transaction the two statements make schema 2 of the rows of schema 1. With no limit on steps, they fail only for memory, the
--- disk or a size.
+-- Inside a transaction the two statements make schema 2 of the rows of schema 1. With no limit on steps they fail only with `Memory`,
+-- `Disk` or `Size`.
 pub record MakesSecond (old new : State) (result : Result (Unit {0}) RowFault) : Type 0 where
   pub write : IsWritingCall old new (is_ok result)
   pub made : HasCleanDisk new → IsInside old → (r : Rows) → HoldsFirst old.now r → OnOk result (Holds new.now r)
   pub in_order : HasCleanDisk new → IsInside old → old.step_limit ≡ None → (r : Rows) → HoldsFirst old.now r → IfErr result IsEven
 
--- On a connection that is open, it ends with the rows of the tables before in schema 2, all of it committed, or it leaves what was
--- committed. A crash leaves what it left before, or these rows; not these if the error is that they aren't a desk.
+-- On a connection that is open, the transaction ends with the rows of the tables before in schema 2, everything committed, or it leaves
+-- what was committed. A crash leaves what it left before, or these rows; not these rows if the error is that they aren't a desk.
 pub record Moves (old new : State) (result : Result (Unit {0}) RowFault) : Type 0 where
   pub clean : doubt old.is_clean ≤ doubt new.is_clean
   pub mode : new.in_transaction ≡ false

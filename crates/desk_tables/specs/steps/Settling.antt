@@ -1,4 +1,4 @@
--- What a fault of the connection is told as, and what then stands.
+-- What an error of the connection is to the store, and the state after it.
 use Rattle.std.specs.Prelude.{◌≡◌, ◌||◌, Bool, true, false, Result, Ok, Err, Some, IsTrue}
 use Rattle.sqlite_trees.specs.declared.store.Store.{Ghosts}
 use Rattle.sqlite.specs.Held.{state}
@@ -11,18 +11,18 @@ use Rattle.desk_rows.specs.declared.faults.RowFault.TheVariants.{Memory, Size}
 use Rattle.desk_tables.specs.declared.tables.Tables.{Tables}
 use Rattle.desk_tables.specs.steps.Faults.{store_fault}
 
--- A look-up writes nothing: a size is that of what it would show, for which there was no memory.
+-- A look-up writes nothing, so `Size` is that of a value for which there was no memory.
 abbrev pub reading_fault : RowFault → RowFault
 reading_fault Size = Memory
 reading_fault fault = fault
 
--- the connection was open and is, and what was committed stands
+-- the connection was open and is, and what was committed is still there
 pub record StaysOpen (old new : State) : Type 0 where
   pub was_open : IsTrue old.is_open
   pub open_still : IsTrue new.is_open
   pub kept : old.now ≡ old.committed → (new.now ≡ old.now) × (new.committed ≡ old.committed)
 
--- The fault is told as it is, where the connection stands, or else as one of the disk.
+-- The store's error is that of the connection if the connection is still open, and else `Disk`.
 pub record Settles (old new : State) (fault : RowFault) (told : StoreFault) : Type 0 where
   pub survives : Survives old new (λ _. ⊥)
   pub mode : old.in_transaction ≡ false → new.in_transaction ≡ false
@@ -35,12 +35,12 @@ is_size NoRoom = true
 is_size _ = false
 
 module _ {S : Type 0} (g : Ghosts S) where
-  -- and the store keeps of it whether it is one of the disk, or tells that what is stored is no desk's
+  -- and the store notes whether it is `Disk` or `NotADesk`
   pub record Fails (old new : Tables S) (fault : RowFault) (told : StoreFault) : Type 0 where
     pub settles : Settles (state g old.conn) (state g new.conn) fault told
     pub same : new ≡ record old { conn = new.conn; down = is_disk (Some told) || old.down; foreign = is_foreign (Some told) || old.foreign }
 
-  -- what a look-up tells of an answer of the connection
+  -- the result of a look-up for a result of the connection
   abbrev pub IsTold : {T : Type 0} → Tables S → Tables S → Result T RowFault → Result T StoreFault → Type 0
   IsTold old new (Ok x) result = (result ≡ Ok x) × (new ≡ old)
   IsTold old new (Err fault) result = (told : StoreFault) × (result ≡ Err told) × Fails old new (reading_fault fault) told

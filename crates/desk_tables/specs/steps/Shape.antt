@@ -35,6 +35,6 @@ keyed Rowid t = record t { key = Some 0; primary = 0 ∷ []; uniques = []; order
 keyed (RowidAnd places) t = record t { key = Some 0; primary = 0 ∷ []; uniques = places.now ∷ []; orders = plain ∷ [] }
 keyed (Places places) t = record t { key = None; primary = places.now; uniques = places.now ∷ []; orders = plain ∷ [] }
 
--- the table with no CHECK, reference or default that is computed, and with no AUTOINCREMENT
+-- the table with no CHECK, no reference, no computed default and no AUTOINCREMENT
 abbrev pub bare : Table → Table
 bare t = record t { checks = []; references = []; computed = []; stamps = record { places = []; terms = []; formats = [] }; is_counted = false }

@@ -1,4 +1,4 @@
-//! What an effect is written by, read of the rows that stand before it.
+//! What an effect's rows need of the rows that are there before it.
 ghost use Rattle.std.specs.Prelude.{◌≡◌, ◌+◌, find, length, option_map, MatchOption, MatchResult};
 ghost use Rattle.registry_core.specs.declared.facts.Uplink.{Uplink};
 ghost use Rattle.registry_core.specs.Derived.{is_above};
@@ -18,14 +18,14 @@ use radio_core::{Eui, Name};
 use registry_core::{BandLimit, Booking, Effect, Kind, Session, Uplink, Whole};
 use sqlite::{Alter, Connection};
 
-/// What a store knows of its rows without asking: how many uplinks there are, and what look-ups have found.
+/// What a store knows of its rows without a look-up: the number of uplinks, and what is cached.
 #[derive(Clone, Copy)]
 pub(crate) struct Known {
     pub(crate) uplinks: u64,
     pub(crate) seen: Seen,
 }
 
-/// What an effect is written by, beside itself.
+/// What an effect's rows need besides the effect.
 #[derive(Clone, Copy)]
 pub(crate) enum Basis {
     Nothing,
@@ -38,7 +38,7 @@ pub(crate) enum Basis {
         number: Whole,
         raises: Option<Eui>,
     },
-    /// The session and the kind of the uplink that is answered, and the session's next downlink counter, where it counts one more.
+    /// The session and the kind of the uplink that is answered, and the session's next downlink counter, if it counts one more.
     Booking {
         session: Whole,
         kind: Kind,
@@ -50,7 +50,7 @@ pub(crate) enum Basis {
     },
 }
 
-/// The number as messages have it.
+/// Returns the number as an integer below 2^53.
 pub(crate) fn whole(number: u64) -> Result<Whole, RowFault>
     ensures { MatchResult result (λ n. (n ≡ number) × IsWhole number) (λ fault. ¬ IsWhole number) }
 {
@@ -60,7 +60,7 @@ pub(crate) fn whole(number: u64) -> Result<Whole, RowFault>
     }
 }
 
-/// The number of the next uplink, where there are that many.
+/// Returns the number of the next uplink, if it is below 2^53.
 fn next_uplink(uplinks: u64) -> Result<Whole, RowFault>
     ensures { MatchResult result (λ number. number ≡ uplinks + 1) (λ fault. ¬ IsWhole (uplinks + 1)) }
 {
@@ -90,7 +90,7 @@ fn floor_at<S: Alter>(conn: &mut Connection<S>, dev_eui: Eui) -> Result<Option<u
     }
 }
 
-/// The session with this number, which is asked for where it wasn't seen.
+/// Returns the session with this number, from the cache or by a look-up.
 fn session_known<S: Alter>(
     conn: &mut Connection<S>,
     seen: &Seen,
@@ -105,7 +105,7 @@ fn session_known<S: Alter>(
     }
 }
 
-/// The floor of the device, which is asked for where it wasn't seen.
+/// Returns the floor of the device, from the cache or by a look-up.
 fn floor_known<S: Alter>(
     conn: &mut Connection<S>,
     seen: &Seen,
@@ -129,7 +129,7 @@ fn is_above(number: u64, floor: Option<u64>) -> bool
     }
 }
 
-/// The device whose floor rises to the uplink's session, if one does.
+/// Returns the device whose floor rises to the uplink's session, if one does.
 fn raised_by<S: Alter>(
     conn: &mut Connection<S>,
     seen: &Seen,
@@ -161,7 +161,7 @@ fn uplink_at<S: Alter>(conn: &mut Connection<S>, number: u64) -> Result<Uplink, 
     }
 }
 
-/// The next downlink counter of a session, with one downlink more.
+/// Returns the next downlink counter of a session, with one more downlink.
 fn next_counter<S: Alter>(conn: &mut Connection<S>, number: Whole) -> Result<Whole, RowFault>
     ensures { Asks (state S.Store conn.old) (state S.Store conn.new) result (λ r. Unit {0})
         (λ r. HasSession number r × ((row : SessionRow) → item_at r.sessions number ≡ Some row → IsWhole (row.next_down + 1)))
@@ -173,7 +173,7 @@ fn next_counter<S: Alter>(conn: &mut Connection<S>, number: Whole) -> Result<Who
     }
 }
 
-/// The same where an uplink of this kind counts its answers.
+/// Returns the same if an uplink of this kind counts its answers.
 fn counter_for<S: Alter>(
     conn: &mut Connection<S>,
     number: Whole,
@@ -206,7 +206,7 @@ fn basis_of_booking<S: Alter>(
     })
 }
 
-/// The number of the new session's join uplink.
+/// Returns the number of the new session's join uplink.
 fn basis_of_session(known: &Known) -> Result<Basis, RowFault>
     ensures { MatchResult result (λ made. made ≡ basis.Session (known.now.uplinks + 1)) (λ fault. ¬ IsWhole (known.now.uplinks + 1)) }
 {
@@ -215,7 +215,7 @@ fn basis_of_session(known: &Known) -> Result<Basis, RowFault>
     })
 }
 
-/// The number of the new uplink, beside the device whose floor rises.
+/// Returns the number of the new uplink, with the device whose floor rises.
 fn numbered(uplinks: u64, raises: Option<Eui>) -> Result<Basis, RowFault>
     ensures { MatchResult result (λ made. made ≡ basis.Uplink (uplinks + 1) raises) (λ fault. ¬ IsWhole (uplinks + 1)) }
 {
@@ -251,7 +251,7 @@ fn basis_of_limit<S: Alter>(
     })
 }
 
-/// What the effect is written by.
+/// Returns what the effect's rows need.
 pub(crate) fn basis_of<S: Alter>(
     conn: &mut Connection<S>,
     known: &Known,

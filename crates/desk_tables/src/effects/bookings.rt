@@ -1,4 +1,4 @@
-//! A new booking, with its session's downlink counter, and a booking that ends.
+//! Writes a new booking, with its session's downlink counter, and a booking that ends.
 ghost use Rattle.std.specs.Prelude.{◌≡◌};
 ghost use Rattle.sqlite.specs.Held.{state};
 ghost use Rattle.desk_rows.specs.order.Changes.{kind_at, session_at, sessions_counted};
@@ -10,7 +10,7 @@ use desk_rows::{RowFault, end_booking, insert_booking, set_next_down};
 use registry_core::{Booking, Effect, Whole};
 use sqlite::{Alter, Transaction};
 
-/// Sets the next downlink counter that was found for it, if one was.
+/// Sets the session's next downlink counter, if there is one to set.
 fn count_down<S: Alter>(
     tx: &mut Transaction<'_, S>,
     booking: &Booking,
@@ -28,7 +28,7 @@ fn count_down<S: Alter>(
     }
 }
 
-/// Writes the booking, and the counter that it raises.
+/// Writes the booking, and the downlink counter that it raises.
 pub(crate) fn add_booking<S: Alter>(
     tx: &mut Transaction<'_, S>,
     booking: &Booking,

@@ -1,4 +1,4 @@
-//! A copy more of an uplink.
+//! Writes one more reception of an uplink.
 ghost use Rattle.std.specs.Prelude.{◌≡◌};
 ghost use Rattle.sqlite.specs.Held.{state};
 ghost use Rattle.desk_tables.specs.steps.Effects.{WritesEffect};
@@ -9,7 +9,7 @@ use radio_core::Name;
 use registry_core::{Effect, Reception};
 use sqlite::{Alter, Transaction};
 
-/// Writes the copy of the uplink with this number.
+/// Writes the reception of the uplink with this number.
 pub(crate) fn add_copy<S: Alter>(
     tx: &mut Transaction<'_, S>,
     uplink: u64,

@@ -1,4 +1,4 @@
-//! A limit of a gateway's band.
+//! Writes a limit of a gateway's band.
 ghost use Rattle.std.specs.Prelude.{◌≡◌};
 ghost use Rattle.sqlite.specs.Held.{state};
 ghost use Rattle.desk_tables.specs.steps.Effects.{WritesEffect};
@@ -9,7 +9,7 @@ use radio_core::Name;
 use registry_core::{BandLimit, Effect};
 use sqlite::{Alter, Transaction};
 
-/// Writes the limit into the band's row, where there is one, or adds that row.
+/// Writes the limit into the band's row if there is one, and else adds that row.
 pub(crate) fn set_limit<S: Alter>(
     tx: &mut Transaction<'_, S>,
     gateway: &Name,

@@ -1,4 +1,4 @@
-//! A new session, with its join uplink.
+//! Writes a new session, with its join uplink.
 ghost use Rattle.std.specs.Prelude.{◌≡◌};
 ghost use Rattle.sqlite.specs.Held.{state};
 ghost use Rattle.desk_tables.specs.steps.Effects.{WritesEffect};
@@ -10,7 +10,7 @@ use radio_core::Name;
 use registry_core::{Effect, Reception, Session, Uplink};
 use sqlite::{Alter, Transaction};
 
-/// Writes the session, its join uplink and the copy of that.
+/// Writes the session, its join uplink and that uplink's reception.
 pub(crate) fn add_session<S: Alter>(
     tx: &mut Transaction<'_, S>,
     session: Session,

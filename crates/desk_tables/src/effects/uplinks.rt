@@ -1,4 +1,4 @@
-//! A new uplink, with its copy and its device's floor.
+//! Writes a new uplink, with its reception and its device's floor.
 ghost use Rattle.std.specs.Prelude.{◌≡◌, ◌+◌, length};
 ghost use Rattle.registry_core.specs.Wholes.{IsWhole};
 ghost use Rattle.sqlite.specs.Held.{state};
@@ -14,7 +14,7 @@ use radio_core::{Eui, Name};
 use registry_core::{Effect, Reception, Uplink, Whole};
 use sqlite::{Alter, Transaction};
 
-/// Writes the uplink, and the copy of it, which has its number.
+/// Writes the uplink with this number, and its reception.
 pub(crate) fn add_with_copy<S: Alter>(
     tx: &mut Transaction<'_, S>,
     uplink: &Uplink,
@@ -32,7 +32,7 @@ pub(crate) fn add_with_copy<S: Alter>(
     insert_copy(tx, number.get(), gateway, reception)
 }
 
-/// Sets the floor of the device that was found for it, if one was.
+/// Sets the floor of the device, if there is one to set.
 fn raise_floor<S: Alter>(
     tx: &mut Transaction<'_, S>,
     raises: Option<Eui>,
@@ -48,7 +48,7 @@ fn raise_floor<S: Alter>(
     }
 }
 
-/// Writes the data uplink and the copy of it, and the floor that it raises.
+/// Writes the data uplink and its reception, and the floor that it raises.
 pub(crate) fn add_uplink<S: Alter>(
     tx: &mut Transaction<'_, S>,
     uplink: &Uplink,

@@ -1,4 +1,4 @@
-//! The rows of any effect.
+//! Writes the rows of any effect.
 ghost use Rattle.std.specs.Prelude.{◌≡◌};
 ghost use Rattle.sqlite.specs.Held.{state};
 ghost use Rattle.desk_tables.specs.steps.Effects.{WritesEffect};
@@ -15,7 +15,7 @@ use desk_rows::{
 use registry_core::Effect;
 use sqlite::{Alter, Transaction};
 
-/// Writes the rows of the effect, by what was read for it.
+/// Writes the rows of the effect, with what was read for it.
 pub(crate) fn write_effect<S: Alter>(
     tx: &mut Transaction<'_, S>,
     effect: &Effect,

@@ -1,4 +1,4 @@
-//! What is asked of a gateway's limits.
+//! Look-ups of a gateway's limits.
 ghost use Rattle.std.specs.Prelude.{◌≡◌};
 ghost use Rattle.sqlite.specs.Held.{state};
 ghost use Rattle.registry_core.specs.Bookings.{limit_standing};
@@ -10,7 +10,7 @@ use desk_rows::{RowFault, limit_at};
 use radio_core::{Band, Name, limit};
 use sqlite::{Alter, Connection};
 
-/// The limit that was set for the gateway's band, and else the band's own.
+/// Returns the limit that was set for the gateway's band, and else the band's own.
 pub(crate) fn limit_of<S: Alter>(
     conn: &mut Connection<S>,
     gateway: &Name,

@@ -1,4 +1,4 @@
-//! What is asked of a session. A number above the greatest whole one is no session's.
+//! Look-ups of a session. No session has a number of 2^53 or more.
 ghost use Rattle.std.specs.Prelude.{◌≡◌, IfSome, option_and_then};
 ghost use Rattle.sqlite.specs.Held.{state};
 ghost use Rattle.registry_core.specs.Bookings.{next_down};
@@ -66,7 +66,7 @@ pub(crate) fn next_down<S: Alter>(conn: &mut Connection<S>, session: u64) -> Res
     }
 }
 
-/// Whether the number is below the floor, of a device that has one.
+/// Returns whether the number is below the floor, if the device has one.
 fn is_below(number: u64, floor: Option<Option<u64>>) -> bool
     ensures { result ≡ is_below number (option_and_then (λ floor. floor) floor) }
 {
@@ -76,7 +76,7 @@ fn is_below(number: u64, floor: Option<Option<u64>>) -> bool
     }
 }
 
-/// Whether the session is below the device's floor, and the floor, of a device that is there.
+/// Returns whether the session is below the device's floor, and the floor, if there is such a device.
 pub(crate) fn is_below_floor<S: Alter>(
     conn: &mut Connection<S>,
     device: Eui,

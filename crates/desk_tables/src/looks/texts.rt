@@ -1,4 +1,4 @@
-//! The texts of a message that was heard, and of its answer. A number that isn't below 2^53 is no message's.
+//! Look-ups of the texts of a message and of its answer. No message has a number of 2^53 or more.
 ghost use Rattle.std.specs.Prelude.{◌≡◌, find, option_map};
 ghost use Rattle.sqlite.specs.Held.{state};
 ghost use Rattle.registry_core.specs.Numbered.{item_at};
@@ -24,7 +24,7 @@ fn shown(found: Option<desk_rows::Texts>) -> Option<Texts>
     })
 }
 
-/// The texts that the row with the envelope's pair has.
+/// Returns the texts of the row with the envelope's sender and transaction number.
 fn row_texts<S: Alter>(
     conn: &mut Connection<S>,
     envelope: &Envelope,
@@ -46,7 +46,7 @@ pub(crate) fn texts_of<S: Alter>(
     Ok(shown(found))
 }
 
-/// The texts that the row with the number has.
+/// Returns the texts of the row with the number.
 fn numbered_row_texts<S: Alter>(
     conn: &mut Connection<S>,
     number: u64,

@@ -1,4 +1,4 @@
-//! What is asked of an uplink. A number above the greatest whole one is no uplink's.
+//! Look-ups of an uplink. No uplink has a number of 2^53 or more.
 ghost use Rattle.std.specs.Prelude.{◌≡◌, option_and_then, option_map};
 ghost use Rattle.sqlite.specs.Held.{state};
 ghost use Rattle.registry_core.specs.declared.facts.Kind.TheVariants.{Join};
@@ -16,7 +16,7 @@ use radio_core::{Eui, Name};
 use registry_core::{Booking, Kind, Reception, Uplink, Whole};
 use sqlite::{Alter, Connection};
 
-/// The number of the session that has the join uplink of the device with this nonce.
+/// Returns the number of the session that has the join uplink of the device with this nonce.
 fn session_joined<S: Alter>(
     conn: &mut Connection<S>,
     device: Eui,
@@ -30,7 +30,7 @@ fn session_joined<S: Alter>(
     session_with(conn, device, nonce)
 }
 
-/// The join uplink of the session with this nonce.
+/// Returns the join uplink of the session with this nonce.
 fn join_of<S: Alter>(
     conn: &mut Connection<S>,
     session: u64,

@@ -1,4 +1,4 @@
--- How a record's fields are read, and how far the records of a report are.
+-- How the fields of a record are read, and how far the records of a report are read.
 use Rattle.std.specs.Prelude.{◌≡◌, ℕ, ◌^◌, List, [], Option, Some, None}
 use Rattle.std.proofs.Common.{Bor}
 use Rattle.csv.specs.Reading.{Ready, default_config, reader_config, reader_state, reader_trim, records_from, source_of}

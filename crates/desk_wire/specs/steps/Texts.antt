@@ -1,4 +1,4 @@
--- The tokens of an object that is being written: a member after others.
+-- The tokens of an object that is being written: one more member.
 use Rattle.std.specs.Prelude.{ℕ, List, [], ◌∷◌, ◌++◌, Bool, Option, codes, decimal}
 use Rattle.json.specs.Token.{Token, begin_object, end_object, key, string, number, boolean}
 use Rattle.json.specs.Tree.{json_tokens}

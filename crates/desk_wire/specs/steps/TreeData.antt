@@ -1,4 +1,4 @@
--- The data that serde_json reads, made of the tree that json reads.
+-- The data that serde_json reads, given the tree that json reads.
 use Rattle.std.specs.Prelude.{Bool, true, ◌&&◌, unwrap_or, option_map}
 use Rattle.std.specs.Option.{is_some}
 use Rattle.json.specs.Json as json
@@ -7,8 +7,8 @@ use Rattle.json.specs.declared.value.Value.{Value}
 use Rattle.serde_json.specs.Data.{Data, null, boolean, number, string, array, object, Items, no_items, item, Members, no_members, put}
 use Rattle.serde_json.specs.Read.{number_of}
 
--- The members are put in one after another, so the last value of a name counts. A number that is too large for a float
--- becomes an empty array, which is neither a text nor a number nor a boolean: a text that has one is refused anyway.
+-- The members are inserted one after another, so the last value of a name counts. A number that is too large for a float becomes an empty
+-- array, which is neither a text nor a number nor a boolean: a text with such a number is refused anyway.
 abbrev mutual
   pub data_of : json.Json → Data
   data_of json.null = null
@@ -26,7 +26,7 @@ abbrev mutual
   data_of_members json.no_members found = found
   data_of_members (json.member k j ms) found = data_of_members ms (put k (data_of j) found)
 
--- whether no number is too large for a float
+-- no number is too large for a float
 abbrev mutual
   pub in_range : json.Json → Bool
   in_range json.null = true

@@ -1,4 +1,4 @@
--- The same checks, as a view answers them.
+-- The same checks, by a view.
 use Rattle.std.specs.Prelude.{ℕ, ◌+◌, ◌-◌, ◌^◌, ◌<◌, ◌≤◌, ◌==◌, true, false, not, List, Option, Some, None, option_and_then, is_none, IfSome, nat_lt, bytes_eq, Ok, if◌then◌else◌}
 use Rattle.radio_core.specs.declared.bands.Band.{Band}
 use Rattle.radio_core.specs.Bands.{band_at}
@@ -21,7 +21,7 @@ use Rattle.registry_core.specs.Frames.{data_up, frame_at, join_request}
 use Rattle.registry_core.specs.Joins.{is_good}
 use Rattle.registry_core.specs.Uplinks.{is_time, reception_of, time_up, uplink_of, copy_added}
 
--- the view's numbers have room for one more, and its uplink has an address
+-- the view's numbers have space for one more, and its uplink has an address
 pub record HasRoom (v : View) : Type 0 where
   pub block : v.base + v.addresses ≤ 2 ^ 32
   pub uplinks : v.uplinks + 1 < 2 ^ 64
@@ -34,7 +34,7 @@ pub record HasRoom (v : View) : Type 0 where
 abbrev pub address_by : View → ℕ → ℕ
 address_by v n = v.base + n - 1
 
--- the uplink of which the octets are a copy
+-- the uplink that the octets copy
 abbrev pub original_by : Option UplinkView → List ℕ → Option UplinkView
 original_by seen octets = option_and_then (λ (u : UplinkView). if bytes_eq u.uplink.octets octets then Some u else None) seen
 

@@ -1,4 +1,4 @@
--- The checks of downlinks, as a view answers them.
+-- The checks of downlinks, by a view.
 use Rattle.std.specs.Prelude.{ℕ, ◌+◌, Bool, not, List, [], ◌∷◌, ◌++◌, Ok}
 use Rattle.radio_core.specs.declared.bands.Band.{Band}
 use Rattle.radio_core.specs.declared.data_rates.Rate.{Rate}

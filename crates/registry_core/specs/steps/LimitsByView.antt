@@ -1,4 +1,4 @@
--- The checks of a limit that is to be set, as a view answers them.
+-- The checks of a limit that is to be set, by a view.
 use Rattle.std.specs.Prelude.{List, ℕ, Some, Ok}
 use Rattle.duty_core.specs.Computed.{hours_within}
 use Rattle.registry_core.specs.declared.answers.Answer.TheVariants.{Success}

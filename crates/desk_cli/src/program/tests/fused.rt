@@ -60,7 +60,7 @@ const LOG: &str = "\
 {\"DevEUI\":\"0004a30b001a2b3c\",\"JoinEUI\":\"70b3d57ed0000001\",\"MessageType\":\"DeviceAdd\",\"Owner\":\"town\",\"ProtocolVersion\":\"1.0\",\"ReceiverID\":\"desk\",\"SenderID\":\"office\",\"TransactionID\":5}
 ";
 
-/// Arguments, the standard input, and what is answered where nothing fails.
+/// Arguments, standard input, and standard output if nothing fails.
 pub(super) type Row = (&'static [&'static [u8]], &'static str, &'static str);
 
 pub(super) static ROWS: [Row; 7] = [
@@ -85,7 +85,7 @@ pub(super) static ROWS: [Row; 7] = [
     (&[b"desk", b"check", b"f.db"], "", HOLDS),
 ];
 
-/// A desk is made, and hears the messages.
+/// Makes a desk, which hears the messages.
 #[derive(Drop)]
 struct Hears<'a> {
     deliveries: &'a [Delivery],
@@ -103,7 +103,7 @@ impl Step for Hears<'_> {
     }
 }
 
-/// The command does what is asked of it, or ends because the disk failed: the lines before are answered then, and nothing more.
+/// Runs the command. It does what is asked of it, or ends because the disk failed: then the lines before are answered, and nothing more.
 #[derive(Drop)]
 struct Runs<'a> {
     row: &'a Row,
@@ -139,8 +139,8 @@ impl Step for Runs<'_> {
 /// More calls than a command makes.
 const MANY: u64 = 10_000;
 
-/// One of the files fails after each seventh number of calls, until the command does what is asked of it. How often it failed.
-/// `checks/refused_commands.py` has it fail after each.
+/// Makes one of the files fail after each seventh number of calls, until the command does what is asked of it. Returns how often it failed.
+/// `checks/refused_commands.py` makes it fail after each number.
 fn failures<R: Abort + AllocGlobal>(
     rt: &R,
     files: &Files<Memory>,
@@ -173,7 +173,7 @@ fn commands_fail_where_the_disk_does(rt: HostRuntime) -> Result<(), Fail> {
     for (place, row) in ROWS.iter().enumerate() {
         let of_log = failures(&rt, &files, row, true)?;
         let of_db = failures(&rt, &files, row, false)?;
-        // A file is read whole when it is opened: what only reads need not meet a failure after that.
+        // A file is read to its end when it is opened: a command that only reads need not meet a failure after that.
         let writes = !row.1.is_empty();
         holds_at(&rt, !writes || of_log.saturating_add(of_db) > 0, place);
     }

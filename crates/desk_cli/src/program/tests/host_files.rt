@@ -1,4 +1,4 @@
-//! Files of this machine, in a folder of this test's: which of them a command opens or makes, and which aren't opened.
+//! Files of this machine, in a folder of this test: which of them a command opens or makes, and which aren't opened.
 use super::ran;
 use crate::endings::Ending;
 use crate::files::HostFiles;
@@ -11,12 +11,12 @@ use std::{fs, io};
 
 static FOLDER: &str = "host-files-of-a-test";
 
-/// A text that is no database.
+/// A text that is not a database.
 static TEXT: &str = "host-files-of-a-test/text.db";
 
 static MISSING: &str = "host-files-of-a-test/c.db";
 
-/// Arguments, how the program ends, how its answers begin, and what is on standard error.
+/// Arguments, how the program ends, the first octets of its standard output, and its standard error.
 type Row = (&'static [&'static [u8]], Ending, &'static str, &'static str);
 
 static ROWS: [Row; 12] = [
@@ -106,8 +106,8 @@ static ROWS: [Row; 12] = [
     ),
 ];
 
-/// The program runs on files of this machine with no input: how it ends, its answers, and what is on standard error. What it opened
-/// is closed.
+/// Runs the program on files of this machine with no input, and closes what it opened. Returns how it ends, its standard output, and its
+/// standard error.
 fn ran_here<T: Start>(
     rt: &HostRuntime,
     start: T,

@@ -83,7 +83,7 @@ static PARTS: [Row; 11] = [
     ),
 ];
 
-/// The command ends so on the connection, and standard error has this. The connection.
+/// Checks that the command ends so on the connection, with this standard error. Returns the connection.
 fn ends<R: Abort + AllocGlobal, S: Alter + Drop, W: Write>(
     rt: &R,
     (place, words): (usize, &[&[u8]]),
@@ -122,7 +122,7 @@ const FROM: &str =
 const COUNT: &str =
     "error: --count takes a number from 1 to 9007199254740991, in digits\n\nFor more information, try '--help'.\n";
 
-/// Arguments with a number out of its form or its range, and what is on standard error.
+/// Arguments with a number out of its form or its range, and the standard error.
 static BAD: [(&[&[u8]], &str); 8] = [
     (&[b"desk", b"log", b"f.db", b"--from", b"0"], FROM),
     (&[b"desk", b"log", b"f.db", b"--from", b"x"], FROM),
@@ -158,7 +158,7 @@ fn bad_numbers_of_the_log_are_refused(rt: HostRuntime) -> Result<(), Fail> {
     Ok(())
 }
 
-/// The command is done on the connection, with this input: what it prints, and the connection.
+/// Runs a command that succeeds on the connection, with this input. Returns what it prints, and the connection.
 fn done<R: Abort + AllocGlobal, S: Alter + Drop>(
     rt: &R,
     words: &[&[u8]],

@@ -2,7 +2,7 @@ use Rattle.desk_http.specs.Serving.{ServesRequest}
 use Rattle.desk_http.specs.Served.{ServesEach}
 use Rattle.desk_http.proofs.connections.serve_each.Given as goal
 
--- so many were served so far
+-- this many were served so far
 abbrev pub invariant-loop : goal.invariant-loop
 invariant-loop g l =
     ServesEach g.L.Listening.meaning g.L.Reader.Read.remaining g.L.Writer.Write.contents (ServesRequest g.K.Looks.meaning) l.counter
