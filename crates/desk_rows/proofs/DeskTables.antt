@@ -2,8 +2,8 @@
 pub use Rattle.std.proofs.Common.{refl}
 unfoldable pub use Rattle.sqlite.specs.Listing.{understood}
 unfoldable pub use Rattle.sqlite_tied.specs.Compute.{everything}
-pub use Rattle.desk_rows.proofs.Stored.{adds, adds_free, adds_given, finds_asked, finds_asked_key, finds_first, finds_key, finds_number, finds_plain, knows_key, reads_first, reads_number}
-pub use Rattle.desk_rows.proofs.StatementTexts.{insert_is, update_is}
+pub use Rattle.desk_rows.proofs.Stored.{adds, adds_free, adds_given, finds_asked, finds_asked_key, finds_asked_plain, finds_first, finds_key, finds_number, finds_plain, knows_key, reads_first, reads_number}
+pub use Rattle.desk_rows.proofs.StatementTexts.{insert_is, inserts, update_is, updates}
 pub use Rattle.desk_rows.proofs.StoredUpdates.{changes_at, changes_key}
 use Rattle.std.proofs.Common.{◌≡◌, ℕ, List, [], ◌∷◌, ◌&&◌, true, codes, Option, Some, None, bytes_eq, ap₂, ◌∙◌}
 use Rattle.sqlite_value.specs.declared.value.Value.TheVariants.{Text}

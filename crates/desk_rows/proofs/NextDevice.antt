@@ -38,7 +38,8 @@ use Rattle.desk_rows.proofs.OrderLemmas.Euis.{octets_above}
 use Rattle.desk_rows.proofs.Ordered.{Asked, rising, head, first_sorted, map_same, map_twice}
 use Rattle.desk_rows.proofs.Ranges.{rows_all, rows_alike}
 use Rattle.desk_rows.proofs.ReadLemmas.{truth_again}
-use Rattle.desk_rows.specs.steps.Texts.{above}
+use Rattle.desk_rows.proofs.StatementTexts.{lookup_is}
+use Rattle.desk_rows.specs.steps.Texts.{AsksFor, device_after_asked}
 use Rattle.desk_rows.proofs.Terms.{is, and_true, text_equal}
 
 abbrev first_text : List ℕ
@@ -50,16 +51,6 @@ first_asked = latest 9 (is 3 0 ∷ []) (col 1 1 ∷ []) ((col 1 1, rising) ∷ (
 first_lookup : IsLookup first_text 1 first_asked
 unfolding understood everything
 first_lookup = record { names = _; compiled = _; means = refl; command = refl; plain = (refl, refl); whole = omega arith; given = refl; unlisted = refl }
-
-abbrev after_text : List ℕ
-after_text = codes "SELECT eui FROM device WHERE owner = ?1 AND eui > ?2 ORDER BY eui, rowid LIMIT 1"
-
-abbrev after_asked : Asked (9 ∷ [])
-after_asked = latest 9 (is 3 0 ∷ above 1 1 ∷ []) (col 1 1 ∷ []) ((col 1 1, rising) ∷ (col 1 0, rising) ∷ [])
-
-after_lookup : IsLookup after_text 2 after_asked
-unfolding understood everything
-after_lookup = record { names = _; compiled = _; means = refl; command = refl; plain = (refl, refl); whole = omega arith; given = refl; unlisted = refl }
 
 -- one DevEUI above another, to SQL
 abbrev is_above : ℕ → ℕ → Bool
@@ -129,14 +120,15 @@ module _ {old new : State} (owner : List ℕ) where
       )))
       (λ r has next is. sym (map_same next) ∙ is)
 
-  module _ (after : ℕ) (low : IsEui after) where
-    pub reads_after : {result : Result (Option ℕ) RowFault} → Finds after_text (Text owner ∷ eui after ∷ []) old new (λ n. n) (λ n. eui n ∷ []) IsEui result
+  module _ (after : ℕ) (low : IsEui after) {sql : List ℕ} {names : List (List ℕ)} (means : AsksFor sql 2 device_after_asked names) where
+    pub reads_after : {result : Result (Option ℕ) RowFault} → Finds sql (Text owner ∷ eui after ∷ []) old new (λ n. n) (λ n. eui n ∷ []) IsEui result
         → Reads old new result (λ r next. next ≡ first_by (λ d. d.dev_eui) by_eui (is_next_of owner (Some after)) r.devices)
-    reads_after {result} found = says_so (finds after_lookup (Text owner ∷ eui after ∷ []) old new found.answer found.run refl refl result found.is_read
+    reads_after {result} found = let lookup : IsLookup sql 2 device_after_asked = lookup_is means in
+        says_so (finds lookup (Text owner ∷ eui after ∷ []) old new found.answer found.run refl refl result found.is_read
         (first_of (passes owner after))
         (λ r has. (
           in_range (passes owner after) r has.ten.in_range.devices,
-          λ rows answer. first_sorted after_asked _ device_cells r.devices has.ten.device (Text owner ∷ eui after ∷ []) (λ b. passes owner after b.1)
+          λ rows answer. first_sorted device_after_asked _ device_cells r.devices has.ten.device (Text owner ∷ eui after ∷ []) (λ b. passes owner after b.1)
               (λ b. ap₂ (λ s t. s && t) (text_equal b.1.device.owner owner) (and_true (is_above b.1.dev_eui after))) (λ b. eui b.1.dev_eui ∷ [])
               (λ b. refl) by_eui untied
               (λ b c. ap₂ (λ u v. ordering_then u (ordering_then v Equal)) (value_cmp-Blob (to_be_bytes w64 b.1.dev_eui) (to_be_bytes w64 c.1.dev_eui))

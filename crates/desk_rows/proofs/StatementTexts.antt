@@ -10,7 +10,7 @@ use Rattle.sqlite.specs.Command.TheVariants.{Insert}
 use Rattle.sqlite.specs.Source.TheVariants.{Values}
 use Rattle.sqlite.specs.Listing.{understood}
 use Rattle.desk_rows.specs.Schema.{desk_schema}
-use Rattle.desk_rows.specs.steps.Texts.{AsksOf, finding, param, params_from}
+use Rattle.desk_rows.specs.steps.Texts.{AsksOf, InsertsRow, UpdatesRows, changing, finding, param, params_from}
 use Rattle.desk_rows.proofs.Insertions.{IsInsert}
 use Rattle.desk_rows.proofs.Latest.{last_of}
 use Rattle.desk_rows.proofs.Lookups.{IsLookupOf}
@@ -69,6 +69,10 @@ inserting at t = record {
 
 pub insert_is : (at : ℕ) (t : Table) → understood desk_schema (insert_text t) ≡ Ok (inserting at t) → IsInsert (insert_text t) (length (given t)) at (insert_terms t) (1 + length t.columns)
 insert_is at t means = record { compiled = inserting at t; means = means; command = refl; plain = (refl, refl); whole = omega arith; given = so_many 1 (length (given t)) }
+
+pub inserts : {sql : List ℕ} {many at : ℕ} {terms : List Term} {width : ℕ} → InsertsRow sql many at terms width → IsInsert sql many at terms width
+inserts {sql} {many} {at} {terms} {width} means =
+    record { compiled = changing sql many (Insert at (Values terms width)); means = means; command = refl; plain = (refl, refl); whole = omega arith; given = so_many 1 many }
 
 -- ---- look-ups
 
@@ -149,3 +153,7 @@ updating at t places place = record {
 pub update_is : (at : ℕ) (t : Table) (places : List ℕ) (place : ℕ) → understood desk_schema (update_text t places place) ≡ Ok (updating at t places place)
     → IsUpdate (update_text t places place) (1 + length places) at t (key_terms 0 places) (update_terms t places place)
 update_is at t places place means = record { compiled = updating at t places place; means = means; command = refl; plain = (refl, refl); whole = omega arith; given = so_many 1 (1 + length places) }
+
+pub updates : {sql : List ℕ} {many at : ℕ} {terms project : List Term} (t : Table) → UpdatesRows sql many at t.tree terms project → IsUpdate sql many at t terms project
+updates {sql} {many} {at} {terms} {project} t means =
+    record { compiled = changing sql many (update_of at t terms project); means = means; command = refl; plain = (refl, refl); whole = omega arith; given = so_many 1 many }

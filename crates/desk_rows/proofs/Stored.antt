@@ -236,6 +236,12 @@ module _ {X : Type 0} {Fits : X → Type 0} (t : Stored X Fits) where
             (λ r has x is. is ∙ sym (map_twice view (λ (b : ℕ × X). b.1) (find (λ b. asked b.1) (zip_from 1 (t.rows r))))
             ∙ ap (option_map view) (found_row asked 1 (t.rows r) ∙ found_same Fits asked (key.has k) alike (t.rows r) (t.ranges r has.ten.in_range)))
 
+        -- where what is read is what contracts see of it
+        pub finds_asked_plain : {Seen : Type 0} {shows : Seen → Row} {In : Seen → Type 0} (view : X → Seen) → ((b : ℕ × X) → eval_all (map (col 1) shown) (key.values k ∷ encode t.cells b ∷ []) ≡ shows (view b.1))
+            → ((x : X) → Fits x → In (view x)) → {old new : State} {result : Result (Option Seen) RowFault} → Finds sql (key.values k) old new (λ x. x) shows In result
+            → Reads old new result (λ r x. x ≡ option_map view (find (key.has k) (t.rows r)))
+        finds_asked_plain view viewed fits found = says_so (finds_asked_key view viewed fits found) (λ r has x is. sym (map_same x) ∙ is)
+
       module _ (shown : List ℕ) (means : ReadsKey t.table key.places shown) (many_is : length key.places ≡ length (key.values k))
           (typed : accepts_program desk_schema [] (query_of (by_rowid t.table.tree (key_terms 0 key.places) (map (col 1) shown))) (key.values k) ≡ true) where
         -- with its number

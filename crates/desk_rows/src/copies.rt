@@ -1,4 +1,4 @@
-//! Copies of uplinks.
+//! The table of receptions of uplinks.
 ghost use Rattle.std.specs.Prelude.{◌≡◌, ◌+◌, ◌<◌, ◌^◌, ◌++◌, [], ◌∷◌, length, false, find, option_map};
 ghost use Rattle.std.specs.List.{list_any};
 ghost use Rattle.sqlite.specs.Held.{state};
@@ -7,6 +7,9 @@ ghost use Rattle.registry_core.specs.declared.facts.Reception.{Reception};
 ghost use Rattle.registry_core.specs.Wholes.{IsWhole};
 ghost use Rattle.desk_rows.specs.Rows.{is_copy};
 ghost use Rattle.desk_rows.specs.steps.Shown.{copy_shown};
+ghost use Rattle.desk_rows.specs.steps.Texts.{InsertsRow};
+ghost use Rattle.sqlite_sql.specs.Term.{lit, col};
+ghost use Rattle.sqlite_value.specs.declared.value.Value.TheVariants.{Null};
 
 use crate::columns::{data_rate_at, whole_at, word_at};
 use crate::faults::RowFault;
@@ -37,7 +40,7 @@ impl FromRow for Reception {
     }
 }
 
-/// The copy of an uplink at a gateway, if there is one.
+/// Returns the reception of an uplink at a gateway, `None` if there is none.
 pub fn copy_at<S: Alter>(
     conn: &mut Connection<S>,
     uplink: Whole,
@@ -52,7 +55,15 @@ pub fn copy_at<S: Alter>(
     )
 }
 
-/// Adds the copy of an uplink at a gateway.
+/// The text of the statement that adds a copy.
+#[tactic(auto, unfolding(sqlite::specs::Listing::understood, sqlite_tied::specs::Compute::everything))]
+fn copy_text() -> &'static str
+    ensures { InsertsRow result.now 5 8 (lit Null ∷ col 0 0 ∷ col 0 1 ∷ col 0 2 ∷ col 0 3 ∷ col 0 4 ∷ []) 6 }
+{
+    "INSERT INTO copy (uplink, gateway, ended, freq, dr) VALUES (?1, ?2, ?3, ?4, ?5)"
+}
+
+/// Adds the reception of an uplink at a gateway.
 pub fn insert_copy<S: Alter>(
     tx: &mut Transaction<'_, S>,
     uplink: u64,
@@ -66,7 +77,7 @@ pub fn insert_copy<S: Alter>(
 {
     write(
         tx,
-        "INSERT INTO copy (uplink, gateway, ended, freq, dr) VALUES (?1, ?2, ?3, ?4, ?5)",
+        copy_text(),
         &[
             number(uplink),
             text(gateway),

@@ -1,5 +1,5 @@
-//! Devices.
-ghost use Rattle.std.specs.Prelude.{◌≡◌, ◌+◌, ◌<◌, ◌^◌, ◌++◌, [], ◌∷◌, ℕ, Option, length, false, None, Some, IfOk, IfSome, IsTrue, find, option_map};
+//! The table of devices.
+ghost use Rattle.std.specs.Prelude.{◌≡◌, ◌+◌, ◌<◌, ◌^◌, ◌++◌, [], ◌∷◌, ℕ, Option, codes, length, false, None, Some, IfOk, IfSome, IsTrue, find, option_map};
 ghost use Rattle.std.specs.List.{list_any};
 ghost use Rattle.sqlite.specs.Held.{state};
 ghost use Rattle.sqlite_keyed.specs.Lists.{update_where};
@@ -11,6 +11,7 @@ ghost use Rattle.registry_core.specs.Reports.{is_after};
 ghost use Rattle.desk_rows.specs.order.Arranged.{by_eui, is_next_of};
 ghost use Rattle.desk_rows.specs.order.LookUps.{first_by};
 ghost use Rattle.desk_rows.specs.steps.Queries.{above_only};
+ghost use Rattle.desk_rows.specs.steps.Texts.{AsksFor, device_after_asked};
 ghost use Rattle.desk_rows.specs.Rows.{eui, is_device, last_number, number, or_null};
 ghost use Rattle.desk_rows.specs.order.Changes.{moved};
 ghost use Rattle.desk_rows.specs.order.Keys.{HasOnly, floor_set};
@@ -41,7 +42,7 @@ impl FromRow for Device {
     }
 }
 
-/// The device with this DevEUI, if there is one.
+/// Returns the device with this DevEUI, `None` if there is none.
 pub fn device<S: Alter>(conn: &mut Connection<S>, dev_eui: Eui) -> Result<Option<Device>, RowFault>
     ensures { Reads (state S.Store conn.old) (state S.Store conn.new) result (λ r device. device ≡ option_map (λ row. row.device) (find (is_device dev_eui) r.devices)) }
 {
@@ -53,7 +54,7 @@ pub fn device<S: Alter>(conn: &mut Connection<S>, dev_eui: Eui) -> Result<Option
     )
 }
 
-/// The number of the last device, if there is one: how many there are.
+/// Returns the number of the last device, `None` if there is none. It is the number of devices.
 pub fn last_device<S: Alter>(conn: &mut Connection<S>) -> Result<Option<u64>, RowFault>
     ensures { Reads (state S.Store conn.old) (state S.Store conn.new) result (λ r number. number ≡ last_number r.devices) }
 {
@@ -64,7 +65,7 @@ pub fn last_device<S: Alter>(conn: &mut Connection<S>) -> Result<Option<u64>, Ro
     )
 }
 
-/// A session's number where there is one.
+/// A session's number, if there is one.
 impl FromRow for Option<u64> {
     ghost Seen = { Option ℕ };
 
@@ -82,7 +83,8 @@ impl FromRow for Option<u64> {
     }
 }
 
-/// Of the device with this DevEUI, if there is one, the greatest number of a session that has a data uplink.
+/// Returns the floor of the device with this DevEUI: the greatest number of a session of it that has a data uplink. `None` if there is no
+/// such device, and `Some(None)` if it has no such session.
 pub fn floor_of<S: Alter>(
     conn: &mut Connection<S>,
     dev_eui: Eui,
@@ -112,7 +114,7 @@ impl FromRow for Eui {
     }
 }
 
-/// The first of the owner's devices by DevEUI.
+/// Returns the least DevEUI of the owner's devices.
 fn first_device<S: Alter>(conn: &mut Connection<S>, owner: &Name) -> Result<Option<Eui>, RowFault>
     ensures { Reads (state S.Store conn.old) (state S.Store conn.new) result (λ r next. next ≡ first_by (λ d. d.dev_eui) by_eui (is_next_of owner.now None) r.devices) }
 {
@@ -123,7 +125,15 @@ fn first_device<S: Alter>(conn: &mut Connection<S>, owner: &Name) -> Result<Opti
     )
 }
 
-/// The first of them above that one.
+/// The text of the look-up of an owner's next device.
+#[tactic(auto, unfolding(sqlite::specs::Listing::understood, sqlite_tied::specs::Compute::everything))]
+fn device_after_text() -> &'static str
+    ensures { AsksFor result.now 2 device_after_asked (codes "eui" ∷ []) }
+{
+    "SELECT eui FROM device WHERE owner = ?1 AND eui > ?2 ORDER BY eui, rowid LIMIT 1"
+}
+
+/// Returns the least of them above `after`.
 fn device_after<S: Alter>(
     conn: &mut Connection<S>,
     owner: &Name,
@@ -132,11 +142,7 @@ fn device_after<S: Alter>(
     ensures { Reads (state S.Store conn.old) (state S.Store conn.new) result (λ r next. next ≡ first_by (λ d. d.dev_eui) by_eui (is_next_of owner.now (Some after)) r.devices) }
 {
     let octets = octets_of(after);
-    find(
-        conn,
-        "SELECT eui FROM device WHERE owner = ?1 AND eui > ?2 ORDER BY eui, rowid LIMIT 1",
-        &[text(owner), blob(&octets)],
-    )
+    find(conn, device_after_text(), &[text(owner), blob(&octets)])
 }
 
 fn is_after(next: Eui, after: Option<Eui>) -> bool
@@ -148,7 +154,7 @@ fn is_after(next: Eui, after: Option<Eui>) -> bool
     }
 }
 
-/// What was found, if it is above the one that is given.
+/// Returns what was found, if it is above `after`.
 fn above(found: Result<Option<Eui>, RowFault>, after: Option<Eui>) -> Result<Option<Eui>, RowFault>
     ensures { result ≡ above_only after found }
 {
@@ -165,7 +171,8 @@ fn above(found: Result<Option<Eui>, RowFault>, after: Option<Eui>) -> Result<Opt
     }
 }
 
-/// The first of the owner's devices by DevEUI above that one, if one is given. It is above it whatever the database shows.
+/// Returns the least DevEUI of the owner's devices, of those above `after` if that is given; `None` if there is none. What it returns is
+/// above `after` whatever the database has.
 pub fn next_device<S: Alter>(
     conn: &mut Connection<S>,
     owner: &Name,
@@ -180,7 +187,7 @@ pub fn next_device<S: Alter>(
     }
 }
 
-/// Adds a device, none of whose sessions has a data uplink.
+/// Adds a device none of whose sessions has a data uplink.
 pub fn insert_device<S: Alter>(
     tx: &mut Transaction<'_, S>,
     dev_eui: Eui,
@@ -200,7 +207,7 @@ pub fn insert_device<S: Alter>(
     )
 }
 
-/// Gives the device with this DevEUI to another owner.
+/// Moves the device with this DevEUI to another owner.
 pub fn move_device<S: Alter>(
     tx: &mut Transaction<'_, S>,
     dev_eui: Eui,
@@ -219,7 +226,7 @@ pub fn move_device<S: Alter>(
     )
 }
 
-/// Sets the greatest number of a session of the device that has a data uplink.
+/// Sets the device's floor: the greatest number of a session of it that has a data uplink.
 pub fn set_floor<S: Alter>(
     tx: &mut Transaction<'_, S>,
     dev_eui: Eui,

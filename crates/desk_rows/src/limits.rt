@@ -1,4 +1,4 @@
-//! The limits that operators set for gateways' bands.
+//! The table of the limits that operators set for gateways' bands.
 ghost use Rattle.std.specs.Prelude.{◌≡◌, ◌+◌, ◌<◌, ◌^◌, ◌++◌, [], ◌∷◌, length, false};
 ghost use Rattle.sqlite.specs.Held.{state};
 ghost use Rattle.sqlite_keyed.specs.Lists.{update_where};
@@ -8,6 +8,8 @@ ghost use Rattle.desk_rows.specs.Rows.{is_limit, last_number};
 ghost use Rattle.desk_rows.specs.order.Changes.{has_limit, limit_row, limited};
 ghost use Rattle.desk_rows.specs.order.Facts.{limit_found};
 ghost use Rattle.desk_rows.specs.order.Keys.{HasOnly};
+ghost use Rattle.desk_rows.specs.steps.Texts.{UpdatesRows, is};
+ghost use Rattle.sqlite_sql.specs.Term.{col};
 
 use crate::faults::RowFault;
 use crate::queries::find;
@@ -17,7 +19,7 @@ use radio_core::{Band, Name};
 use registry_core::BandLimit;
 use sqlite::{Alter, Connection, Transaction};
 
-/// The limit that was set for the gateway's band, if one was, in microseconds within any hour: the one that was set last.
+/// Returns the limit that was set last for the gateway's band, in microseconds within any hour; `None` if none was set.
 pub fn limit_at<S: Alter>(
     conn: &mut Connection<S>,
     gateway: &Name,
@@ -32,7 +34,7 @@ pub fn limit_at<S: Alter>(
     )
 }
 
-/// The number of the last limit, if there is one: how many there are.
+/// Returns the number of the last limit, `None` if there is none. It is the number of limits.
 pub fn last_limit<S: Alter>(conn: &mut Connection<S>) -> Result<Option<u64>, RowFault>
     ensures { Reads (state S.Store conn.old) (state S.Store conn.new) result (λ r number. number ≡ last_number r.limits) }
 {
@@ -61,6 +63,14 @@ pub fn insert_limit<S: Alter>(
     )
 }
 
+/// The text of the statement that changes a limit.
+#[tactic(auto, unfolding(sqlite::specs::Listing::understood, sqlite_tied::specs::Compute::everything))]
+fn limit_text() -> &'static str
+    ensures { UpdatesRows result.now 3 10 22 (is 1 0 ∷ is 2 1 ∷ []) (col 1 0 ∷ col 1 1 ∷ col 1 2 ∷ col 0 2 ∷ []) }
+{
+    "UPDATE band_limit SET value = ?3 WHERE gateway = ?1 AND band = ?2"
+}
+
 /// Changes the limit of a gateway's band that has one.
 pub fn change_limit<S: Alter>(
     tx: &mut Transaction<'_, S>,
@@ -74,7 +84,7 @@ pub fn change_limit<S: Alter>(
 {
     write(
         tx,
-        "UPDATE band_limit SET value = ?3 WHERE gateway = ?1 AND band = ?2",
+        limit_text(),
         &[text(gateway), band(limit.band()), number(limit.most())],
     )
 }

@@ -1,9 +1,10 @@
-//! Senders.
-ghost use Rattle.std.specs.Prelude.{◌≡◌, ◌+◌, ◌<◌, ◌^◌, ◌++◌, [], ◌∷◌, length, false, find, option_map};
+//! The table of senders.
+ghost use Rattle.std.specs.Prelude.{◌≡◌, ◌+◌, ◌<◌, ◌^◌, ◌++◌, [], ◌∷◌, codes, length, false, find, option_map};
 ghost use Rattle.std.specs.List.{list_any};
 ghost use Rattle.sqlite.specs.Held.{state};
 ghost use Rattle.desk_rows.specs.Calls.{Changes, Reads};
 ghost use Rattle.desk_rows.specs.Rows.{is_sender_named, last_number, number, role_number};
+ghost use Rattle.desk_rows.specs.steps.Texts.{AsksFor, role_asked};
 ghost use Rattle.registry_core.specs.declared.messages.Role.{Role};
 
 use crate::columns::role_at;
@@ -29,18 +30,22 @@ impl FromRow for Role {
     }
 }
 
-/// The role of the sender of this name, if there is one.
+/// The text of the look-up of a sender's role.
+#[tactic(auto, unfolding(sqlite::specs::Listing::understood, sqlite_tied::specs::Compute::everything))]
+fn role_text() -> &'static str
+    ensures { AsksFor result.now 1 role_asked (codes "role" ∷ []) }
+{
+    "SELECT role FROM sender WHERE name = ?1 ORDER BY rowid"
+}
+
+/// Returns the role of the sender of this name, `None` if there is none.
 pub fn role_of<S: Alter>(conn: &mut Connection<S>, name: &Name) -> Result<Option<Role>, RowFault>
     ensures { Reads (state S.Store conn.old) (state S.Store conn.new) result (λ r role. role ≡ option_map (λ sender. sender.role) (find (is_sender_named name.now) r.senders)) }
 {
-    find(
-        conn,
-        "SELECT role FROM sender WHERE name = ?1 ORDER BY rowid",
-        &[text(name)],
-    )
+    find(conn, role_text(), &[text(name)])
 }
 
-/// The number of the last sender, if there is one: how many there are.
+/// Returns the number of the last sender, `None` if there is none. It is the number of senders.
 pub fn last_sender<S: Alter>(conn: &mut Connection<S>) -> Result<Option<u64>, RowFault>
     ensures { Reads (state S.Store conn.old) (state S.Store conn.new) result (λ r number. number ≡ last_number r.senders) }
 {
@@ -51,7 +56,7 @@ pub fn last_sender<S: Alter>(conn: &mut Connection<S>) -> Result<Option<u64>, Ro
     )
 }
 
-/// Adds a sender.
+/// Adds a sender with this role.
 pub fn insert_sender<S: Alter>(
     tx: &mut Transaction<'_, S>,
     name: &Name,

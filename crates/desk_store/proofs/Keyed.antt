@@ -1,5 +1,5 @@
 -- A map with one more key is the look-up with one more fact, and a value that is written is its fact changed.
-use Rattle.std.proofs.Common.{◌≡◌, ℕ, Bool, true, false, List, Option, Some, cond, refl, ◌∙◌, ap}
+use Rattle.std.proofs.Common.{◌≡◌, ℕ, Bool, true, false, List, Option, None, Some, cond, refl, ◌∙◌, ap}
 use Rattle.std.specs.Prelude.{◌==◌, ◌&&◌, bytes_eq, nat_eq}
 use Rattle.std.specs.Cmp.{nat_eq_equiv}
 use Rattle.std.specs.Cmp.Lexicographic.{nat_list_eq_equiv}
@@ -33,6 +33,11 @@ module _ {S : Type 0} where
   pub at_name-updated : {X : Type 0} (old new : IndexMap (List ℕ) X S) (name : List ℕ) (x : X) → Updates bytes_eq old new name (Some x)
       → get bytes_eq new ≡ at_name (get bytes_eq old) name (Some x)
   at_name-updated old new name x updates = at_each (λ other. updates.0 other ∙ ap (λ b. cond b (Some x) (get bytes_eq old other)) (nat_list_eq_equiv.symm name other))
+
+  -- a map with its first key
+  pub one_name : {X : Type 0} (old new : IndexMap (List ℕ) X S) (name : List ℕ) (x : X) → ((other : List ℕ) → get bytes_eq old other ≡ None) → Updates bytes_eq old new name (Some x)
+      → get bytes_eq new ≡ at_name (λ _. None) name (Some x)
+  one_name old new name x empty updates = at_name-updated old new name x updates ∙ (λ i. at_name (λ other. empty other i) name (Some x))
 
   pub at_number-updated : {X : Type 0} (old new : IndexMap ℕ X S) (number : ℕ) (x : X) → Updates nat_eq old new number (Some x)
       → get nat_eq new ≡ at_number (get nat_eq old) number (Some x)

@@ -1,6 +1,8 @@
-//! The registry's facts in the plain form: what has a key in maps and sets, and what is numbered in lists.
-ghost use Rattle.std.specs.Prelude.{◌≡◌, ◌+◌, [], ◌∷◌, ◌++◌, length, IfOk, OnOk, OnErr};
-ghost use Rattle.registry_core.specs.State.{copies_with, opening, state_with};
+//! The registry's facts in memory: what has a key in maps and sets, and what is numbered in lists.
+ghost use Rattle.std.specs.Prelude.{◌≡◌, ◌+◌, [], ◌∷◌, ◌++◌, bytes_eq, length, None, Some, IfOk, OnOk, OnErr};
+ghost use Rattle.indexmap.specs.IndexMap.{get};
+ghost use Rattle.registry_core.specs.State.{at_name, copies_with, opening, state_with};
+ghost use Rattle.registry_core.specs.declared.messages.Role.TheVariants.{Operator};
 ghost use Rattle.registry_core.specs.declared.effects.Effect.TheVariants.{AddsCopy, AddsSession, AddsUplink, SetsLimit};
 ghost use Rattle.desk_store.specs.Facts.{copies_of, facts_of};
 
@@ -12,7 +14,7 @@ use radio_core::Name;
 use registry_core::{BandLimit, Config, Effect, Reception, Role, Session, Uplink};
 use std::alloc::{AllocError, Global};
 
-/// The registry's facts. Contracts see what they are by `facts_of`.
+/// The registry's facts. Contracts see them as the state `facts_of`.
 #[derive(Drop)]
 pub(crate) struct Facts {
     pub(crate) senders: IndexMap<Name, Role>,
@@ -23,19 +25,27 @@ pub(crate) struct Facts {
     pub(crate) traffic: Traffic,
     /// By the uplink's number and the gateway.
     pub(crate) copies: IndexMap<(u64, Name), Reception>,
-    /// By the band's number and the gateway: only those that were set.
+    /// By the band's number and the gateway. Only limits that were set.
     pub(crate) limits: IndexMap<(u8, Name), u64>,
 }
 
+/// Returns the senders of the opening state: the configured operator alone.
+#[tactic(auto, using(crate::proofs::Keyed::one_name))]
+fn operator_alone(alloc: Global, config: &Config) -> Result<IndexMap<Name, Role>, AllocError>
+    ensures { IfOk result (λ senders. get bytes_eq senders ≡ at_name (λ _. None) config.now.operator (Some Operator)) }
+{
+    let mut senders = IndexMap::new(alloc);
+    senders.insert(*config.operator(), Role::Operator)?;
+    Ok(senders)
+}
+
 impl Facts {
-    /// The opening state: the configured operator is the only sender, and there is nothing else.
+    /// Returns the opening state: the configured operator is the only sender, and there is nothing else.
     pub(crate) fn opening(alloc: Global, config: &Config) -> Result<Facts, AllocError>
         ensures { IfOk result (λ facts. facts_of facts ≡ opening config.now) }
     {
-        let mut senders = IndexMap::new(alloc);
-        senders.insert(*config.operator(), Role::Operator)?;
         Ok(Facts {
-            senders,
+            senders: operator_alone(alloc, config)?,
             owners: IndexSet::new(alloc),
             gateways: IndexSet::new(alloc),
             devices: Devices::new(alloc),
@@ -46,7 +56,7 @@ impl Facts {
         })
     }
 
-    /// Makes the change, or none.
+    /// Applies the effect, or changes nothing.
     pub(crate) fn add(&mut self, effect: &Effect) -> Result<(), AllocError>
         ensures ok { OnOk result (facts_of self.new ≡ state_with (facts_of self.old) effect.now) }
         ensures err { OnErr result (facts_of self.new ≡ facts_of self.old) }
@@ -89,7 +99,7 @@ impl Facts {
         }
     }
 
-    /// Adds the session, its join uplink and that one's copy, or nothing.
+    /// Adds the session, its join uplink and that uplink's reception, or nothing.
     fn add_session(
         &mut self,
         session: Session,
@@ -105,7 +115,7 @@ impl Facts {
         self.sessions.push(session)
     }
 
-    /// Adds the uplink and its copy, or nothing.
+    /// Adds the uplink and its reception, or nothing.
     fn add_uplink(
         &mut self,
         uplink: Uplink,
@@ -125,7 +135,7 @@ impl Facts {
         )
     }
 
-    /// Adds the copy, or nothing.
+    /// Adds the reception, or nothing.
     fn add_copy(
         &mut self,
         uplink: u64,
@@ -139,7 +149,7 @@ impl Facts {
         Ok(())
     }
 
-    /// The gateway's band has this limit, or all stays.
+    /// Sets the limit of the gateway's band, or changes nothing.
     fn set_limit(&mut self, gateway: Name, limit: BandLimit) -> Result<(), AllocError>
         ensures ok { OnOk result (facts_of self.new ≡ state_with (facts_of self.old) (SetsLimit gateway limit)) }
         ensures err { OnErr result (facts_of self.new ≡ facts_of self.old) }
@@ -150,7 +160,7 @@ impl Facts {
     }
 }
 
-/// The uplink goes to the end with the next number, and so does its copy; or neither.
+/// Adds the uplink at the end, and its reception under the uplink's number; or adds neither.
 fn put_uplink(
     traffic: &mut Traffic,
     copies: &mut IndexMap<(u64, Name), Reception>,

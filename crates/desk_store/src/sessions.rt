@@ -1,4 +1,4 @@
-//! The sessions in order, those of one device found without looking at the others.
+//! The sessions by number. Those of one device are found without a search of the others.
 ghost use Rattle.std.specs.Prelude.{◌≡◌, ◌≤◌, [], ◌∷◌, ◌++◌, length, max, IsOk, OnOk, OnErr};
 ghost use Rattle.std.specs.Option.{option_map_or};
 ghost use Rattle.registry_core.specs.Derived.{last_nonce};
@@ -11,15 +11,15 @@ use registry_core::Session;
 use std::alloc::{AllocError, Global};
 use std::marker::Model;
 
-/// A session, and the number of its device's session before it: 0 where there is none.
+/// A session, and the number of the session before it of the same device, 0 if there is none.
 #[derive(Clone, Copy)]
 pub(crate) struct Link {
     pub(crate) session: Session,
     pub(crate) before: u64,
 }
 
-/// The sessions in order, and of each device, by its DevEUI's number, its latest session and its last nonce. Contracts see
-/// the list, and how many more go in without more memory.
+/// The sessions by number, and each device's latest session and last nonce, by the DevEUI. Contracts see the list, and how many more
+/// sessions need no allocation.
 #[derive(Drop)]
 pub(crate) struct Sessions {
     links: Vec<Link>,
@@ -63,14 +63,14 @@ impl Sessions {
         self.links.len()
     }
 
-    /// The session with this number, from 1.
+    /// Returns the session with this number, from 1.
     pub(crate) fn at(&self, number: u64) -> Option<Session>
         ensures { result ≡ item_at self.now.items number }
     {
         Some(item_at(&self.links, number)?.session)
     }
 
-    /// Makes room for one session more.
+    /// Reserves memory for one more session.
     pub(crate) fn make_room(&mut self) -> Result<(), AllocError>
         ensures same { self.new.items ≡ self.old.items }
         ensures room { OnOk result (1 ≤ self.new.room) }
@@ -81,7 +81,7 @@ impl Sessions {
         self.nonces.reserve(1)
     }
 
-    /// The session goes to the end, or nowhere.
+    /// Adds the session at the end, or changes nothing.
     pub(crate) fn push(&mut self, session: Session) -> Result<(), AllocError>
         ensures ok { OnOk result (self.new.items ≡ self.old.items ++ session ∷ []) }
         ensures err { OnErr result (self.new.items ≡ self.old.items) }
@@ -89,7 +89,7 @@ impl Sessions {
     {
         self.make_room()?;
         let before = self.latest(session.device);
-        let nonce = greater_of(session.nonce, self.last_nonce(session.device));
+        let nonce = self.nonce_with(&session);
         let device = session.device.get();
         self.latest.insert(device, self.links.len() as u64 + 1)?;
         self.nonces.insert(device, nonce)?;
@@ -97,21 +97,28 @@ impl Sessions {
         Ok(())
     }
 
-    /// The device's last nonce.
+    /// Returns the last nonce of the session's device once the session is added.
+    fn nonce_with(&self, session: &Session) -> u16
+        ensures { result ≡ option_map_or (max session.now.nonce) (last_nonce self.now.items session.now.device) session.now.nonce }
+    {
+        greater_of(session.nonce, self.last_nonce(session.device))
+    }
+
+    /// Returns the device's last nonce.
     pub(crate) fn last_nonce(&self, device: Eui) -> Option<u16>
         ensures { result ≡ last_nonce self.now.items device }
     {
         self.nonces.get(&device.get()).copied()
     }
 
-    /// The number of the device's latest session: 0 where there is none.
+    /// Returns the number of the device's latest session, 0 if there is none.
     pub(crate) fn latest(&self, device: Eui) -> u64
         ensures { result ≡ latest_of self.now.items device }
     {
         self.latest.get(&device.get()).copied().unwrap_or(0)
     }
 
-    /// The number of the session of the same device before the one with this number: 0 where there is none.
+    /// Returns the number of the session before the one with this number, of the same device, 0 if there is none.
     pub(crate) fn before(&self, number: u64) -> u64
         ensures { result ≡ same_before self.now.items number }
     {
@@ -119,7 +126,7 @@ impl Sessions {
     }
 }
 
-/// The nonce, or the last one if that is greater.
+/// Returns the greater of the nonce and the last one.
 fn greater_of(nonce: u16, last: Option<u16>) -> u16
     ensures { result ≡ option_map_or (max nonce) last nonce }
 {

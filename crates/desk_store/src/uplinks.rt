@@ -1,10 +1,11 @@
-//! The uplinks in order, found by session and counter, and by session and band in order of start, without looking
-//! through the others.
+//! The uplinks by number. Indexes find them by session and counter, and by session and band ordered by start, without a search of the
+//! others.
 ghost use Rattle.std.specs.Prelude.{◌≡◌, ◌^◌, ◌<◌, [], ◌∷◌, ◌++◌, length, filter, option_and_then, option_map, pos, IfOk, OnOk, OnErr};
 ghost use Rattle.std.specs.List.{filter_map};
 ghost use Rattle.registry_core.specs.Derived.{data_with, last_counter};
 ghost use Rattle.registry_core.specs.Numbered.{item_at};
 ghost use Rattle.registry_core.specs.Reports.{interval_of};
+ghost use Rattle.desk_store.specs.steps.ByKey.{Rises};
 ghost use Rattle.desk_store.specs.steps.StartIndex.{is_place_in};
 ghost use Rattle.desk_store.specs.steps.UplinkPlaces.{uplink_places, uplink_span_at};
 
@@ -18,7 +19,7 @@ use registry_core::Uplink;
 use std::alloc::{AllocError, Global};
 use std::marker::Model;
 
-/// The uplinks in order, with their indexes. Contracts see the list.
+/// The uplinks by number, with their indexes. Contracts see the list.
 #[derive(Drop)]
 pub(crate) struct Uplinks {
     items: Vec<Uplink>,
@@ -62,14 +63,14 @@ impl Uplinks {
         self.items.len()
     }
 
-    /// The uplink with this number, from 1.
+    /// Returns the uplink with this number, from 1.
     pub(crate) fn at(&self, number: u64) -> Option<Uplink>
         ensures { result ≡ item_at self.now number }
     {
         item_at(&self.items, number)
     }
 
-    /// The uplink goes to the end, or nowhere.
+    /// Adds the uplink at the end, or changes nothing.
     pub(crate) fn push(&mut self, uplink: Uplink) -> Result<(), AllocError>
         ensures ok { OnOk result (self.new ≡ self.old ++ uplink ∷ []) }
         ensures err { OnErr result (self.new ≡ self.old) }
@@ -86,21 +87,21 @@ impl Uplinks {
         Ok(())
     }
 
-    /// The last counter of the session's data uplinks.
+    /// Returns the last counter of the session's data uplinks.
     pub(crate) fn last_counter(&self, session: u64) -> Option<u32>
         ensures { result ≡ last_counter self.now session }
     {
         self.index.counters.get(&session).copied()
     }
 
-    /// The session's first data uplink with this counter, with its number from 1.
+    /// Returns the session's first data uplink with this counter, with its number from 1.
     pub(crate) fn data_with(&self, session: u64, counter: u32) -> Option<(u64, Uplink)>
         ensures { result ≡ data_with self.now session counter }
     {
         self.numbered(self.index.frames.get(&(session, counter)).copied())
     }
 
-    /// The session's first join uplink with this counter, with its number from 1.
+    /// Returns the session's first join uplink with this counter, with its number from 1.
     pub(crate) fn join_of(&self, session: u64, counter: u32) -> Option<(u64, Uplink)>
         ensures { result ≡ join_of self.now session counter }
     {
@@ -115,18 +116,14 @@ impl Uplinks {
         Some((number, self.at(number)?))
     }
 
-    /// Where the session's uplinks in the band stand that start in the period.
+    /// Returns the places of the session's uplinks in the band that start in the period.
     pub(crate) fn places(&self, session: u64, band: Band, period: &Period) -> &[Place]
         ensures { result.now ≡ filter (is_place_in period.now.from period.now.to) (uplink_places self.now session band) }
     {
-        places_between(
-            self.starts.places(&(session, band.get())),
-            i128::from(period.from),
-            i128::from(period.to),
-        )
+        places_of_period(self.starts.places(&(session, band.get())), period)
     }
 
-    /// When the uplinks that stand there were on the air, in the places' order.
+    /// Returns the times on air of the uplinks at these places, in the places' order.
     pub(crate) fn spans_at(&self, alloc: Global, places: &[Place]) -> Result<Vec<Span>, AllocError>
         ensures { IfOk result (λ spans. spans.items ≡ filter_map (uplink_span_at self.now) places.now) }
     {
@@ -140,7 +137,14 @@ impl Uplinks {
     }
 }
 
-/// Where an uplink with this number stands.
+/// Returns the places that begin in the period.
+fn places_of_period<'a>(places: &'a [Place], period: &Period) -> &'a [Place]
+    ensures { Rises (λ place. place.start) places.now → result.now ≡ filter (is_place_in period.now.from period.now.to) places.now }
+{
+    places_between(places, i128::from(period.from), i128::from(period.to))
+}
+
+/// Returns the place of an uplink with this number.
 fn place_of(uplink: &Uplink, number: u64) -> Place
     ensures { result ≡ record { start = pos uplink.now.start; number = number } }
 {
@@ -150,7 +154,7 @@ fn place_of(uplink: &Uplink, number: u64) -> Place
     }
 }
 
-/// When the uplink was on the air.
+/// Returns the uplink's time on air.
 fn span_of(uplink: &Uplink) -> Span
     ensures { result ≡ interval_of uplink.now }
 {

@@ -1,14 +1,16 @@
-//! Making a desk in a database that has nothing.
-ghost use Rattle.std.specs.Prelude.{◌≡◌, ◌≢◌, ◌↔◌, false, None, Err, IsTrue, IfErr, OnOk, OnErr, is_ok};
+//! Makes a desk in an empty database.
+ghost use Rattle.std.specs.Prelude.{◌≡◌, ◌≢◌, ◌↔◌, ◌+◌, ◌<◌, ◌^◌, ◌++◌, [], ◌∷◌, false, length, None, Err, IsTrue, IfErr, OnOk, OnErr, is_ok};
+ghost use Rattle.std.specs.List.{list_any};
 ghost use Rattle.sqlite_trees.specs.Tree.{Trees};
 ghost use Rattle.sqlite.specs.Held.{state};
 ghost use Rattle.sqlite.specs.State.{HasCleanDisk, KeepsCommit, Survives};
 ghost use Rattle.desk_store.specs.Calls.{IsUnavailability};
 ghost use Rattle.desk_store.specs.declared.faults.StoreFault.TheVariants.{Exists, NotADesk};
-ghost use Rattle.desk_rows.specs.Calls.{IsWritingCall};
+ghost use Rattle.registry_core.specs.declared.messages.Role.TheVariants.{Operator};
+ghost use Rattle.desk_rows.specs.Calls.{Changes, IsWritingCall};
 ghost use Rattle.desk_rows.specs.Faults.{IsEven};
 ghost use Rattle.desk_rows.specs.Making.{IsBare};
-ghost use Rattle.desk_rows.specs.Rows.{Holds};
+ghost use Rattle.desk_rows.specs.Rows.{Holds, is_sender_named};
 ghost use Rattle.desk_rows.specs.Schema.{no_schema};
 ghost use Rattle.desk_rows.specs.order.Changes.{opening_rows};
 ghost use Rattle.desk_tables.specs.Opening.{IsTaken, TreesHold};
@@ -20,7 +22,17 @@ use desk_store::StoreFault;
 use registry_core::{Config, Role};
 use sqlite::{Alter, Connection, Error, Transaction};
 
-/// What the desk is made with, and its operator.
+/// Adds the configured operator, as a sender.
+fn insert_operator<S: Alter>(tx: &mut Transaction<'_, S>, config: &Config) -> Result<(), RowFault>
+    ensures same_reference { tx.new.conn.ghost_name ≡ tx.old.conn.ghost_name }
+    ensures changes { Changes (state S.Store tx.old.conn.now) (state S.Store tx.new.conn.now) result (Unit {0})
+        (λ r. (list_any (is_sender_named config.now.operator) r.senders ≡ false) × (1 + length r.senders < 2 ^ 63))
+        (λ r. record r { senders = r.senders ++ record { name = config.now.operator; role = Operator } ∷ [] }) }
+{
+    insert_sender(tx, config.operator(), Role::Operator)
+}
+
+/// Writes the configuration of the desk, and its operator.
 fn insert_first_rows<S: Alter>(tx: &mut Transaction<'_, S>, config: &Config) -> Result<(), RowFault>
     ensures same_reference { tx.new.conn.ghost_name ≡ tx.old.conn.ghost_name }
     ensures write { IsWritingCall (state S.Store tx.old.conn.now) (state S.Store tx.new.conn.now) (is_ok result) }
@@ -32,10 +44,10 @@ fn insert_first_rows<S: Alter>(tx: &mut Transaction<'_, S>, config: &Config) -> 
         → (state S.Store tx.old.conn.now).step_limit ≡ None → IsBare (state S.Store tx.old.conn.now).now → IfErr result IsEven }
 {
     insert_settings(tx, config)?;
-    insert_sender(tx, config.operator(), Role::Operator)
+    insert_operator(tx, config)
 }
 
-/// Why tables aren't made or moved that could be written: whatever is neither memory nor size is the disk.
+/// Returns why tables couldn't be made or moved: whatever is neither `Memory` nor `Size` is `Disk`.
 pub(crate) fn commit_fault(error: Error) -> RowFault
     ensures { IsEven result }
 {
@@ -45,7 +57,7 @@ pub(crate) fn commit_fault(error: Error) -> RowFault
     }
 }
 
-/// The tables and the first rows, or nothing.
+/// Makes the tables and the first rows, or nothing.
 fn make_all<S: Alter>(conn: &mut Connection<S>, config: &Config) -> Result<(), RowFault>
     requires idle { conn.old.in_transaction ≡ false }
     requires blank { conn.old.schema ≡ no_schema }
@@ -68,8 +80,8 @@ fn make_all<S: Alter>(conn: &mut Connection<S>, config: &Config) -> Result<(), R
     }
 }
 
-/// Makes a desk in a database that has no table, index or view: `Exists` where one of the desk's names is taken, else
-/// `NotADesk` where there are others, which may refer to a desk's tables.
+/// Makes a desk in a database that has no table, index or view. Returns `Exists` if one of the desk's names is taken, and else `NotADesk`
+/// if there is another table, index or view, which may refer to a desk's tables.
 pub(crate) fn make_desk<S: Alter>(
     conn: &mut Connection<S>,
     config: &Config,
@@ -89,7 +101,7 @@ pub(crate) fn make_desk<S: Alter>(
     ensures crash { Survives (state S.Store conn.old) (state S.Store conn.new) (λ trees. TreesHold trees (opening_rows config.now)) }
     ensures unavailable { HasCleanDisk (state S.Store conn.new) → conn.old.schema ≡ no_schema → IfErr result IsUnavailability }
 {
-    // tells that all is committed
+    // shows that everything is committed
     prove!(conn.is_autocommit());
     if !is_blank(conn.schema()) {
         return Err(if is_taken(conn.schema()) {

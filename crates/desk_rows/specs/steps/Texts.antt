@@ -9,8 +9,10 @@ use Rattle.sqlite_sql.specs.Term.{Term, lit, col, op2}
 use Rattle.sqlite_sql.specs.Query.{Query, Join, inner, end}
 use Rattle.sqlite_schema.specs.declared.schema.Schema.{Schema}
 use Rattle.sqlite_resolve.specs.declared.compiled.Compiled.{Compiled}
-use Rattle.sqlite.specs.Command.TheVariants.{Select}
+use Rattle.sqlite.specs.Command.{Command}
+use Rattle.sqlite.specs.Command.TheVariants.{Insert, Select, Update}
 use Rattle.sqlite.specs.Listing.{understood, reads_listing}
+use Rattle.sqlite.specs.Source.TheVariants.{Values}
 use Rattle.desk_rows.specs.Schema.{desk_schema}
 
 -- ---- queries
@@ -96,7 +98,7 @@ AsksFor = AsksOf desk_schema
 
 -- ---- what some of them ask for
 
--- whether a booking that isn't dropped answers the uplink
+-- a booking that isn't dropped answers the uplink or not
 abbrev pub answer_asked : Asked (17 ∷ [])
 answer_asked = by_rowid 17 (is 2 0 ∷ undropped ∷ []) (lit (Int (pos 1)) ∷ [])
 
@@ -115,10 +117,42 @@ below place param = op2 (Compare Lt Binary) (col 1 place) (col 0 param)
 abbrev pub near_asked : Asked (17 ∷ [])
 near_asked = all_by (17 ∷ []) (is 3 0 ∷ above 7 1 ∷ below 7 2 ∷ undropped ∷ []) (col 1 7 ∷ col 1 8 ∷ col 1 6 ∷ []) ((col 1 7, rising) ∷ (col 1 0, rising) ∷ [])
 
--- both texts of the reply to a sender's number
+-- both texts of the message with a sender and a transaction number
 abbrev pub reply_asked : Asked (3 ∷ [])
 reply_asked = by_rowid 3 (is 2 0 ∷ is 3 1 ∷ []) (col 1 4 ∷ col 1 5 ∷ [])
 
--- the counter of the next downlink of the session with the number
+-- the next downlink counter of the session with the number
 abbrev pub next_down_asked : Asked (11 ∷ [])
 next_down_asked = by_rowid 11 (is 0 0 ∷ []) (col 1 4 ∷ [])
+
+-- the role of the sender with the name
+abbrev pub role_asked : Asked (1 ∷ [])
+role_asked = by_rowid 1 (is 1 0 ∷ []) (col 1 2 ∷ [])
+
+-- the DevEUI of an owner's first device above another
+abbrev pub device_after_asked : Asked (9 ∷ [])
+device_after_asked = record { terms = is 3 0 ∷ above 1 1 ∷ []; project = col 1 1 ∷ []; order = (col 1 1, rising) ∷ (col 1 0, rising) ∷ []; one = true }
+
+-- ---- texts of INSERT and UPDATE
+
+-- what the resolver makes of a text that is one such statement, with this number of parameters
+abbrev pub changing : List ℕ → ℕ → Command → Compiled
+changing sql many command = record {
+  command = command;
+  returning = None;
+  names = params_from 1 many;
+  formats = [];
+  start = 0;
+  end = length sql;
+  tail = length sql;
+}
+
+-- Over tables of schema 2 SQLite reads the text as an INSERT of one row into the table at a place. The row has this width and these values.
+abbrev pub InsertsRow : List ℕ → ℕ → ℕ → List Term → ℕ → Type 0
+InsertsRow sql many at terms width = understood desk_schema sql ≡ Ok (changing sql many (Insert at (Values terms width)))
+
+-- It reads the text as an UPDATE of the rows that pass in the table at a place, which has this tree. The new values of a row are the
+-- projected ones.
+abbrev pub UpdatesRows : List ℕ → ℕ → ℕ → ℕ → List Term → List Term → Type 0
+UpdatesRows sql many at tree terms project =
+    understood desk_schema sql ≡ Ok (changing sql many (Update at (record { lets = []; body = query_of (all_by (tree ∷ []) terms (col 1 0 ∷ project) []) })))

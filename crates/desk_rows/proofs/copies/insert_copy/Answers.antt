@@ -1,14 +1,12 @@
 use Rattle.std.proofs.Common.{ap, ◌<◌, ◌^◌, ◌∷◌, drop}
 use Rattle.sqlite_value.specs.Order.{Row}
 use Rattle.sqlite.specs.Values.{bound_value}
-use Rattle.desk_rows.specs.Schema.{copy_table}
 use Rattle.desk_rows.specs.Rows.{CopyRow, copy_cells, number}
-use Rattle.desk_rows.proofs.DeskTables.{adds_given, copies, copy_key, everything, insert_is, refl, understood}
+use Rattle.desk_rows.proofs.DeskTables.{adds_given, copies, copy_key, inserts, refl}
 use Rattle.desk_rows.proofs.copies.insert_copy.Goals as goal
 
 pub returns-clause-changes : goal.returns-clause-changes
-unfolding understood everything
 returns-clause-changes g c =
     let x : CopyRow = record { uplink = c.args.uplink; gateway = c.args.gateway.now; reception = c.args.copy.now } in
     let rest : Row = drop 1 (copy_cells x) in
-    adds_given copies copy_key (insert_is 8 copy_table refl) x (record { end = c.whole.ensures.range; freq = c.word.ensures.range }) (number c.args.uplink ∷ rest) refl refl refl _ (_, refl) (c.args.uplink < 2 ^ 63) (λ small. ap (λ v. v ∷ rest) (ap bound_value (c.number.ensures small))) (rw (c.text.ensures.same, c.whole.ensures.same, c.word.ensures.same, c.data_rate.ensures) at c.write.ensures.written)
+    adds_given copies copy_key (inserts c.copy_text.ensures) x (record { end = c.whole.ensures.range; freq = c.word.ensures.range }) (number c.args.uplink ∷ rest) refl refl refl _ (_, refl) (c.args.uplink < 2 ^ 63) (λ small. ap (λ v. v ∷ rest) (ap bound_value (c.number.ensures small))) (rw (c.text.ensures.same, c.whole.ensures.same, c.word.ensures.same, c.data_rate.ensures) at c.write.ensures.written)

@@ -6,15 +6,15 @@ use Rattle.desk_tables.proofs.making.insert_first_rows.Goals as goal
 
 pub returns-clause-made : goal.returns-clause-made
 returns-clause-made g c clean inside up bare =
-    let early : HasCleanDisk (state g.S.Store c.insert_settings.new.tx.conn.now) = omega (arith, c.insert_sender.ensures.changes.write.survives.clean, clean) in
+    let early : HasCleanDisk (state g.S.Store c.insert_settings.new.tx.conn.now) = omega (arith, c.insert_operator.ensures.changes.write.survives.clean, clean) in
     let one = c.in_ok-insert_settings.ensures.made early inside bare in
     let on = c.in_ok-insert_settings.ensures.write.goes_on early inside up in
-    rw c.operator.ensures at (c.insert_sender.ensures.changes.made clean on.mode tt (settings_rows c.args.config.now) one)
+    c.insert_operator.ensures.changes.made clean on.mode tt (settings_rows c.args.config.now) one
 
 pub returns-clause-in_order : goal.returns-clause-in_order
 returns-clause-in_order g c clean inside up unlimited bare =
-    let early : HasCleanDisk (state g.S.Store c.insert_settings.new.tx.conn.now) = omega (arith, c.insert_sender.ensures.changes.write.survives.clean, clean) in
+    let early : HasCleanDisk (state g.S.Store c.insert_settings.new.tx.conn.now) = omega (arith, c.insert_operator.ensures.changes.write.survives.clean, clean) in
     let one = c.in_ok-insert_settings.ensures.made early inside bare in
     let on = c.in_ok-insert_settings.ensures.write.goes_on early inside up in
-    c.insert_sender.ensures.changes.in_order clean on.mode (c.in_ok-insert_settings.ensures.write.survives.limit ∙ unlimited)
+    c.insert_operator.ensures.changes.in_order clean on.mode (c.in_ok-insert_settings.ensures.write.survives.limit ∙ unlimited)
     tt (settings_rows c.args.config.now) one (refl, omega arith)

@@ -1,4 +1,4 @@
-use Rattle.std.proofs.Common.{◌≡◌, ◌-◌, ◌^◌, ◌&&◌, Bool, true, false, ℤ, pos, ◌+ℤ◌, ◌-ℤ◌, ◌<ℤ◌, int_lt, refl, arith, ap₂}
+use Rattle.std.proofs.Common.{◌≡◌, ◌-◌, ◌^◌, ◌&&◌, Bool, true, false, ℤ, pos, ◌+ℤ◌, ◌-ℤ◌, ◌<ℤ◌, int_lt, refl, arith, ap₂, rules, FitsSigned, w64}
 use Rattle.std.specs.Int.{int_min, int_max}
 use Rattle.std.proofs.lemmas.Int.{ints, clamps, to_z-of_z}
 use Rattle.duty_core.specs.Use.{Interval}
@@ -28,5 +28,6 @@ same_near s within after before a range is after_is before_is =
 pub returns-clause-near : goal.returns-clause-near
 returns-clause-near c = λ a range.
     let fits = c.ranges.start in
-    let is = (simp to_z-of_z at c.within_reach-start.ensures) in
-    same_near c.args.start c.within_reach-start.result _ _ a range is (omega (arith, ints, clamps, is)) (omega (arith, ints, clamps, is))
+    let is = (simp to_z-of_z at c.within_reach.ensures) in
+    let within : FitsSigned w64 c.within_reach.result = search rules in
+    same_near c.args.start c.within_reach.result _ _ a range is (simp to_z-of_z at c.range_around.ensures.after) (simp to_z-of_z at c.range_around.ensures.before)

@@ -1,20 +1,14 @@
-use Rattle.std.proofs.Common.{◌∙◌, Some}
 use Rattle.std.specs.Prelude.{bytes_eq}
 use Rattle.std.specs.List.{list_any}
 use Rattle.std.specs.Map.{lookup}
-use Rattle.registry_core.specs.declared.messages.Role.TheVariants.{Operator}
-use Rattle.registry_core.specs.State.{at_name}
 use Rattle.desk_store.specs.Devices.{devices_of}
 use Rattle.desk_store.specs.Facts.{same_key}
-use Rattle.desk_store.proofs.Keyed.{at_name-updated}
 use Rattle.desk_store.proofs.facts.Facts.opening.Goals as goal
 
 pub returns : goal.returns
 returns c =
-    let senders = at_name-updated c.new-senders.result c.insert.new.self c.operator.result.now Operator c.in_ok-insert.ensures.updates
-    ∙ (λ i. at_name (λ name. lookup (bytes_eq name) (c.new-senders.ensures.empty i)) (c.operator.ensures i) (Some Operator)) in
     λ i. record {
-      senders = senders i;
+      senders = c.in_ok-operator_alone.ensures i;
       owners = λ name. list_any (bytes_eq name) (c.new.ensures.empty i);
       gateways = λ name. list_any (bytes_eq name) (c.new-2.ensures.empty i);
       devices = λ dev_eui. devices_of (c.new-3.ensures i) dev_eui;

@@ -17,10 +17,10 @@ invariant_of-self-2 c =
     let sessions : c.make_room.new.self.items ≡ sessions_of c.self.inside.links.items = sym (ap (λ s. s.items) c.self.view_is) in
     let before : c.latest-before.result ≡ unwrap_or (get nat_eq c.self.inside.latest c.args.session.device) 0 =
     c.latest-before.ensures ∙ ap (λ items. latest_of items c.args.session.device) sessions ∙ sym (c.self.invariant.last c.args.session.device) in
-    let nonce : c.greater_of-nonce.result ≡ option_map_or (max c.args.session.nonce) (get nat_eq c.self.inside.nonces c.args.session.device) c.args.session.nonce =
-    c.greater_of-nonce.ensures
+    let nonce : c.nonce_with-nonce.result ≡ option_map_or (max c.args.session.nonce) (get nat_eq c.self.inside.nonces c.args.session.device) c.args.session.nonce =
+    c.nonce_with-nonce.ensures
     ∙ ap (λ found. option_map_or (max c.args.session.nonce) found c.args.session.nonce)
-    (c.last_nonce.ensures ∙ ap (λ items. last_nonce items c.args.session.device) sessions ∙ sym (c.self.invariant.nonce c.args.session.device)) in
+    (ap (λ items. last_nonce items c.args.session.device) sessions ∙ sym (c.self.invariant.nonce c.args.session.device)) in
     rw c.in_ok-push.ensures.items
     (linked_more c.self.inside.links.items link (get nat_eq c.self.inside.latest) (get nat_eq c.self.inside.nonces) c.self.invariant before _ _
     (λ dev_eui. c.in_ok-insert.ensures.updates.0 dev_eui ∙ (λ i. cond (nat_eq (device i) dev_eui) (Some (number i)) (get nat_eq c.self.inside.latest dev_eui)))
