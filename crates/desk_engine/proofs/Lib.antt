@@ -13,6 +13,7 @@ pub mod LineCuts
 pub mod LineParts
 pub mod LineRuns
 pub mod LogEnds
+pub mod LogInputs
 pub mod LogLines
 pub mod NearRooms
 pub mod NewLists

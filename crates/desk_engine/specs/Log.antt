@@ -1,4 +1,4 @@
--- The log of a desk: the messages that it has heard and their answers, as texts.
+-- The log of a desk as texts: the messages that it has heard, and their answers.
 use Rattle.std.specs.Prelude.{◌≡◌, ◌<◌, ◌≤◌, ◌+◌, ◌-◌, ◌&&◌, ℕ, zero, suc, List, [], ◌∷◌, ◌++◌, Option, Some, None, length, map, max, min, nat_le, take, drop}
 use Rattle.std.specs.Io.KnownBytes.{Appends}
 use Rattle.registry_core.specs.declared.messages.Envelope.{Envelope}
@@ -18,12 +18,12 @@ use Rattle.desk_engine.specs.declared.log.LogText.{LogText}
 use Rattle.desk_engine.specs.declared.log.LogText.TheVariants.{Message, Answer}
 use Rattle.desk_engine.specs.Deliveries.{heard_all}
 use Rattle.desk_engine.specs.Laws.{delivered, told_each}
-use Rattle.desk_engine.specs.Lines.{input_of, line_feed}
+use Rattle.desk_engine.specs.Lines.{all_lines, answer_lines, heard_lines, input_of, line_feed}
 use Rattle.desk_engine.specs.Told.{AnswerText}
 
 -- ---- what a log is
 
--- the number of a message that a text writes: one to sixteen digits, from 1 to the greatest whole number
+-- the message number that a text writes: one to sixteen digits, from 1 to 2^53 - 1
 abbrev pub message_number : List ℕ → Option ℕ
 message_number text = decimal_in text >>= only_if (λ n. nat_le 1 n && nat_le n greatest_whole)
 
@@ -54,9 +54,17 @@ LogIsTheDesk = (c : Settings) (heard : List Envelope) (from most k : ℕ) → Is
     → (told_each c (take k heard) (log_messages c heard from most) ≡ map AnswerText (log_answers c heard from most))
     × (heard_all c (take k heard) (map delivered (log_messages c heard from most)) ≡ take (max k (min (from + most - 1) (length heard))) heard)
 
+-- The same by lines. The messages of the part, each with an LF, are an input of lines. The desk writes for it the answers of the part, each
+-- with an LF, and has then heard what it would have heard message by message.
+abbrev pub LogLinesAreTheDesk : Type 0
+LogLinesAreTheDesk = (c : Settings) (heard : List Envelope) (from most k : ℕ) → IsSettings c → IsHeard c heard → 0 < from → from ≤ k + 1 → k ≤ length heard
+    → let lines : List (List ℕ) = all_lines (input_of (log_messages c heard from most) []) in
+    (answer_lines c (take k heard) lines ≡ input_of (log_answers c heard from most) [])
+    × (heard_lines c (take k heard) lines ≡ take (max k (min (from + most - 1) (length heard))) heard)
+
 -- ---- how the writing of a log ends
 
--- the store's fault, if that is why it ended
+-- the store's error, if that is why it ended
 abbrev pub fault_of_log : LogEnd → Option StoreFault
 fault_of_log (Unavailable fault) = Some fault
 fault_of_log _ = None
@@ -78,7 +86,7 @@ module _ (lines : List (List ℕ)) (before after : Option (List ℕ)) where
     pub lines_are : lines ≡ done ++ line ∷ more
     pub written : Appends before after (input_of done (take octets (line ++ line_feed ∷ [])))
 
-  -- by how it ended; with `Done` all lines were written, and they are as many as it says
+  -- what is true of the writing of a log, by how it ended; `Done` has the number of lines, and all were written
   abbrev pub LogEndBy : LogEnd → Type 0
   LogEndBy (Done count) = Appends before after (input_of lines []) × (count ≡ length lines)
   LogEndBy Write = WritesPart

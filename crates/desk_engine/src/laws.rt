@@ -1,20 +1,20 @@
-//! Laws of the definitions: each is the contract of a function that does nothing.
+//! Laws of the definitions, each as the contract of a function with an empty body.
 ghost use Rattle.desk_engine.specs.Laws.{CallsHearInOrder, DeliveriesAddAtTheEnd, DeliveriesLeaveHeardLists, HeardAgain, KeptAnswersStay, MessagesAreDelivered, NoCallHearsNothing, ReadsHearNothing};
 ghost use Rattle.desk_engine.specs.Lines.{InputsAreCut};
-ghost use Rattle.desk_engine.specs.Log.{LogIsTheDesk};
+ghost use Rattle.desk_engine.specs.Log.{LogIsTheDesk, LogLinesAreTheDesk};
 ghost use Rattle.desk_engine.specs.Reports.{OwnerReportsAgree};
 ghost use Rattle.desk_engine.specs.Rooms.{RoomAgrees, RoomPassesChecks};
 ghost use Rattle.desk_engine.specs.steps.Hearing.{KeepsRules};
 
 use desk_store::Keeper;
-use desk_wire::laws::{message_reads_back, messages_fit, reads_in_range};
+use desk_wire::laws::{message_reads_back, messages_are_lines, messages_fit, reads_in_range};
 use duty_core::laws::{computed_forms_tell, peak_has_an_edge};
 use registry_core::laws::{
     downlinks_are_short, first_answers_stay, heard_lists_stay, rules_are_kept, same_message_tells,
     senders_stay,
 };
 
-/// One more delivery leaves a heard list, while there is room.
+/// A log with one more delivery is a log, as long as it has fewer messages than it may have.
 #[tactic(auto, using(crate::proofs::HeardTexts::deliveries_leave_heard_lists))]
 pub fn deliveries_leave_heard_lists()
     ensures { DeliveriesLeaveHeardLists }
@@ -23,13 +23,13 @@ pub fn deliveries_leave_heard_lists()
     reads_in_range();
 }
 
-/// Deliveries add to what is heard at its end alone.
+/// Deliveries add to a log at its end only.
 #[tactic(auto, using(crate::proofs::HeardTexts::deliveries_add_at_the_end))]
 pub fn deliveries_add_at_the_end()
     ensures { DeliveriesAddAtTheEnd }
 {}
 
-/// Calls of a store one after another hear what each of them hears, in order; those that only read hear nothing.
+/// Calls of a store one after another hear what each of them hears, in order. Calls that only read hear nothing.
 pub fn calls_hear_in_order<K: Keeper>()
     ensures order { CallsHearInOrder K.meaning }
     ensures reads { ReadsHearNothing K.meaning }
@@ -45,14 +45,14 @@ pub(crate) fn stores_keep_rules<K: Keeper>()
     rules_are_kept();
 }
 
-/// Whatever is delivered, the answer that was given to an envelope stays at its place.
+/// Whatever is delivered, the answer that was given to an envelope stays at its place in the log.
 #[tactic(auto, using(crate::proofs::HearingAgain::kept_answers_stay))]
 pub fn kept_answers_stay()
     ensures { KeptAnswersStay }
 {}
 
-/// The text that `write_message` writes for an envelope is answered as `hear` answers the envelope, and hearing the text hears
-/// the envelope.
+/// The text that `write_message` writes for an envelope is answered as `hear` answers the envelope, and the log after the text is the log
+/// after the envelope.
 pub fn messages_are_delivered()
     ensures { MessagesAreDelivered }
 {
@@ -60,8 +60,8 @@ pub fn messages_are_delivered()
     messages_fit();
 }
 
-/// Texts of which none adds a sender, delivered again at once, are told the same again and leave what is heard as it was, as
-/// long as none of them is answered Unavailable.
+/// If no text adds a sender and the texts are delivered again at once, each gets the answer that it got and the log stays the same, unless
+/// one of them is answered Unavailable.
 pub fn heard_again()
     ensures { HeardAgain }
 {
@@ -69,8 +69,8 @@ pub fn heard_again()
     senders_stay();
 }
 
-/// The log is the desk: another desk that hears a part of the log, and has heard what was heard before the part, answers each
-/// message as the first desk did, and has then heard the messages of the part too. It may have heard more of the log already.
+/// The log is the desk. Take a part of a desk's log, and another desk that has heard what comes before the part, and maybe more of the log.
+/// If the other desk hears the part, it answers each message as the first desk did, and has then heard the part too.
 pub fn log_is_the_desk()
     ensures { LogIsTheDesk }
 {
@@ -79,8 +79,18 @@ pub fn log_is_the_desk()
     messages_fit();
 }
 
-/// An input of lines is cut in the one way that there is: the lines, each with an LF, and what stands after the last LF, make
-/// the input, and no LF stands in any of them.
+/// The log is the desk, by lines. The lines that `write_log` writes of a part's messages are an input for `run_lines`. The other desk writes
+/// for it the lines that `write_log` writes of the answers, and has then heard the messages of the part too.
+pub fn log_lines_are_the_desk()
+    ensures { LogLinesAreTheDesk }
+{
+    inputs_are_cut();
+    messages_are_lines();
+    log_is_the_desk();
+}
+
+/// An input of lines is split in the only way that there is: the lines, each with an LF, and what follows the last LF make the input, and
+/// none of them has an LF.
 pub fn inputs_are_cut()
     ensures { InputsAreCut }
 {}
@@ -92,9 +102,9 @@ pub fn owner_reports_agree()
     peak_has_an_edge();
 }
 
-/// The room of a gateway's band at a time agrees with what a DownBook is answered. Of the lengths from 1 to 3,000,000 microseconds just
-/// those up to the room pass its last two checks, for a downlink that begins at the time. So if each other check of a DownBook holds, it
-/// is booked exactly if its airtime is at most the room where it begins, and else refused as `Collision` or `Duty`.
+/// The room of a gateway's band at a time agrees with the answer of a DownBook. Of the lengths from 1 to 3,000,000 microseconds, exactly
+/// those up to the room pass the last two checks for a downlink that begins at the time. So if each other check of a DownBook passes, it is
+/// booked if and only if its airtime is at most the room at its start; otherwise it is refused as `Collision` or `Duty`.
 pub fn room_agrees()
     ensures checks { RoomPassesChecks }
     ensures answers { RoomAgrees }

@@ -1,0 +1,5 @@
+use Rattle.desk_engine.proofs.LogInputs.{log_lines_are_the_desk}
+use Rattle.desk_engine.proofs.laws.log_lines_are_the_desk.Goals as goal
+
+pub returns : goal.returns
+returns c = log_lines_are_the_desk c.inputs_are_cut.ensures c.messages_are_lines.ensures c.log_is_the_desk.ensures
