@@ -18,7 +18,7 @@ use Rattle.desk_cli.specs.steps.Usages.{TellsUsage}
 use Rattle.desk_cli.specs.declared.endings.Ending.{Ending}
 use Rattle.desk_cli.specs.declared.endings.Ending.TheVariants.{Done, Refused, Misused, Failed}
 use Rattle.desk_cli.specs.declared.faults.Fault.{Fault}
-use Rattle.desk_cli.specs.declared.faults.Fault.TheVariants.{Exists, NotADesk, Schema, Owner, Gateway, Month, Time, CsvSize, CsvEnd, CsvHeader, CsvRecord, Unavailable, File, Network}
+use Rattle.desk_cli.specs.declared.faults.Fault.TheVariants.{Exists, NotADesk, Schema, Owner, Gateway, Month, Time, CsvSize, CsvEnd, CsvHeader, CsvRecord, Differs, Unavailable, File, Network}
 use Rattle.desk_cli.specs.declared.usage.Usage.{Usage}
 use Rattle.desk_cli.specs.declared.usage.Usage.TheVariants.{Words, Value, NotText, Memory}
 
@@ -47,6 +47,7 @@ fault_is_not_done CsvSize = tt
 fault_is_not_done CsvEnd = tt
 fault_is_not_done CsvHeader = tt
 fault_is_not_done (CsvRecord n) = tt
+fault_is_not_done (Differs place) = tt
 fault_is_not_done Unavailable = tt
 fault_is_not_done File = tt
 fault_is_not_done Network = tt
@@ -67,13 +68,14 @@ fault_is_not_misused CsvSize is = cc
 fault_is_not_misused CsvEnd is = cc
 fault_is_not_misused CsvHeader is = cc
 fault_is_not_misused (CsvRecord n) is = cc
+fault_is_not_misused (Differs place) is = cc
 fault_is_not_misused Unavailable is = cc
 fault_is_not_misused File is = cc
 fault_is_not_misused Network is = cc
 
 -- ---- runs
 
--- What the writer of standard error holds, and that writer before and after.
+-- `contents` is what the writer of standard error has, and `untold` and `told` are that writer before and after.
 module _ {F : Type 0} (contents : F → Option (List ℕ)) (untold told : F) where
   -- a command never ends as misused
   pub never_misused : (ending : Ending) (result : Result (Unit {0}) Fault) → EndsBy contents untold told ending result → ¬ (ending ≡ Misused)
@@ -122,7 +124,7 @@ module _ {F : Type 0} (contents : F → Option (List ℕ)) (untold told : F) whe
         ]
       ]
 
-      -- and unless the arguments name no command, standard error says how it ended
+      -- and unless the arguments name no command, standard error reports how it ended
       pub tells_ending : ¬ (ending ≡ Misused) → (result : Result (Unit {0}) Fault) × EndsBy contents untold told ending result
       tells_ending named = elim runs [
         | inl asked ↦ (asked.2.result, asked.2.ended)

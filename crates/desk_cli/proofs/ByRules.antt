@@ -1,25 +1,30 @@
--- However a command on a desk ends, what a crash leaves of its file goes by the registry's rules.
-use Rattle.std.proofs.Common.{List, Option, None, Result, Ok, Err, ℕ, inl, inr}
+-- However a command on a desk ends, what a crash leaves of its file satisfies the registry's rules.
+use Rattle.std.proofs.Common.{List, Option, Some, None, Result, Ok, Err, ℕ, inl, inr}
 use Rattle.clap.specs.Walk.{Text}
-use Rattle.sqlite.specs.Held.{Held}
+use Rattle.std.specs.Prelude.{IfSome}
+use Rattle.sqlite.specs.Held.{Held, state}
+use Rattle.sqlite.specs.State.{HasCleanDisk}
 use Rattle.sqlite_trees.specs.declared.store.Store.{Ghosts}
 use Rattle.registry_core.specs.declared.messages.Envelope.{Envelope}
 use Rattle.registry_core.specs.Rules.{RulesAreKept}
 use Rattle.registry_core.specs.Settings.{Settings}
 use Rattle.desk_engine.specs.declared.report_faults.ReportFault.{ReportFault}
+use Rattle.desk_tables.specs.Adopting.{IsGivenBack}
 use Rattle.desk_cli.specs.Ports.{AtPorts}
 use Rattle.desk_cli.specs.Answering.{AnswersBy}
-use Rattle.desk_cli.specs.Doing.{AtPaths, OnDeskByRules, OnDeskFile}
+use Rattle.desk_cli.specs.Doing.{AtPaths, OnAuditedByRules, OnAuditedFile, OnDeskByRules, OnDeskFile}
 use Rattle.desk_cli.specs.OnTables.{IsLeft, KeepsHeard, LeavesRules}
 use Rattle.desk_cli.specs.Printing.{PrintsAnswer, PrintsBy}
+use Rattle.desk_cli.specs.commands.Auditing.{AuditsBy}
 use Rattle.desk_cli.specs.commands.Importing.{ImportsBy}
 use Rattle.desk_cli.specs.commands.Log.{LogsBy}
 use Rattle.desk_cli.specs.commands.Serving.{ServesBy}
 use Rattle.desk_cli.specs.declared.faults.Fault.{Fault}
-use Rattle.desk_cli.specs.declared.faults.Fault.TheVariants.{Exists, NotADesk, Schema, Owner, Gateway, Month, Time, CsvSize, CsvEnd, CsvHeader, CsvRecord, Unavailable, File, Network}
+use Rattle.desk_cli.specs.declared.faults.Fault.TheVariants.{Exists, NotADesk, Schema, Owner, Gateway, Month, Time, CsvSize, CsvEnd, CsvHeader, CsvRecord, Differs, Unavailable, File, Network}
 use Rattle.desk_cli.proofs.OnTables.{leaves_rules}
+use Rattle.desk_cli.proofs.Opened.{left_as_it_was}
 
--- what is said of a desk's file, with what follows of the rules
+-- what is stated of a desk's file, with what follows of the rules
 pub by_rules : {S T : Type 0} (g : Ghosts S) (paths : AtPaths S) (given_back : Option (Held S)) (result : Result T Fault) (file : Text) (Untouched : Type 0)
     (Does : Held S → Settings → List Envelope → Type 0) → ((back : Held S) (c : Settings) (heard : List Envelope) → Does back c heard → LeavesRules g back c)
     → OnDeskFile g paths given_back result file Untouched Does → OnDeskByRules g paths given_back result file Untouched Does
@@ -61,6 +66,7 @@ module _ {S : Type 0} (law : RulesAreKept) (g : Ghosts S) (back : Held S) (c : S
     answers_by_rules (Err CsvEnd) by = absurd by
     answers_by_rules (Err CsvHeader) by = absurd by
     answers_by_rules (Err (CsvRecord n)) by = absurd by
+    answers_by_rules (Err (Differs place)) by = absurd by
     answers_by_rules (Err Network) by = absurd by
 
     pub imports_by_rules : (sender : List ℕ) (result : Result T Fault) → ImportsBy c heard sender (KeepsHeard g back c) (IsLeft g back c) left rest before after result
@@ -75,6 +81,7 @@ module _ {S : Type 0} (law : RulesAreKept) (g : Ghosts S) (back : Held S) (c : S
     imports_by_rules sender (Err CsvEnd) by = kept_by_rules _ by.kept
     imports_by_rules sender (Err CsvHeader) by = kept_by_rules _ by.kept
     imports_by_rules sender (Err (CsvRecord n)) by = kept_by_rules _ by.kept
+    imports_by_rules sender (Err (Differs place)) by = absurd by
     imports_by_rules sender (Err Exists) by = absurd by
     imports_by_rules sender (Err NotADesk) by = absurd by
     imports_by_rules sender (Err Schema) by = absurd by
@@ -103,6 +110,7 @@ module _ {S : Type 0} (law : RulesAreKept) (g : Ghosts S) (back : Held S) (c : S
     serves_by_rules ports port n (Err CsvEnd) by = absurd by
     serves_by_rules ports port n (Err CsvHeader) by = absurd by
     serves_by_rules ports port n (Err (CsvRecord number)) by = absurd by
+    serves_by_rules ports port n (Err (Differs place)) by = absurd by
 
     pub logs_by_rules : (lines : List (List ℕ)) (result : Result T Fault) → LogsBy lines (KeepsHeard g back c heard) (IsLeft g back c heard None) before after result
         → LeavesRules g back c
@@ -120,6 +128,7 @@ module _ {S : Type 0} (law : RulesAreKept) (g : Ghosts S) (back : Held S) (c : S
     logs_by_rules lines (Err CsvEnd) by = absurd by
     logs_by_rules lines (Err CsvHeader) by = absurd by
     logs_by_rules lines (Err (CsvRecord n)) by = absurd by
+    logs_by_rules lines (Err (Differs place)) by = absurd by
     logs_by_rules lines (Err Network) by = absurd by
 
     answer_by_rules : (answer : Result (List ℕ) ReportFault) (result : Result T Fault)
@@ -132,3 +141,18 @@ module _ {S : Type 0} (law : RulesAreKept) (g : Ghosts S) (back : Held S) (c : S
     pub prints_by_rules : (IsAnswer : Result (List ℕ) ReportFault → Type 0) (result : Result T Fault)
         → PrintsBy (KeepsHeard g back c heard) (IsLeft g back c heard None) before after IsAnswer result → LeavesRules g back c
     prints_by_rules IsAnswer result by = answer_by_rules by.answer result by.prints
+
+module _ {S : Type 0} (law : RulesAreKept) (g : Ghosts S) where
+  audited_by_rules : (conn : Held S) (given_back : Option (Held S)) → IfSome given_back (λ back. IsGivenBack (state g conn) (state g back) (λ trees. ⊥))
+      → IfSome given_back (λ back. HasCleanDisk (state g back) → (c : Settings) (heard : List Envelope) → KeepsHeard g conn c heard → LeavesRules g back c)
+  audited_by_rules conn (Some back) kept = λ clean c heard keeps. left_by_rules law g back c heard None (left_as_it_was g conn back c heard kept clean keeps)
+  audited_by_rules conn None kept = tt
+
+  -- what is said of an audited file, with what follows of the rules
+  pub audits_by_rules : {T : Type 0} (paths : AtPaths S) (given_back : Option (Held S)) (before after : Option (List ℕ)) (result : Result T Fault) (file : Text) (Untouched : Type 0)
+      → OnAuditedFile paths given_back result file Untouched (λ conn. AuditsBy g conn given_back before after result)
+      → OnAuditedByRules g paths given_back result file Untouched (λ conn. AuditsBy g conn given_back before after result)
+  audits_by_rules paths given_back before after result file Untouched on = elim on [
+    | inl done ↦ inl (done.0, done.1, (done.2, audited_by_rules done.0 given_back done.2.kept))
+    | inr unopened ↦ inr unopened
+  ]

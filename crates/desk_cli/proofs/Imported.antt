@@ -1,4 +1,4 @@
--- What came of an import, and what is said of the file that the store is in.
+-- What an import did, stated of the file that the store is in.
 use Rattle.std.proofs.Common.{◌≡◌, ◌∷◌, ◌++◌, ℕ, Bool, false, List, [], Option, Some, None, Result, Ok, Err, refl, sym, ◌∙◌, inl, inr, take, subst}
 use Rattle.std.proofs.KnownBytes.{Appends-nil, Consumes-nil}
 use Rattle.std.proofs.lemmas.Bool.{true≢false}
@@ -19,7 +19,7 @@ use Rattle.desk_cli.proofs.Opened.{err, is_unavailable}
 use Rattle.desk_cli.specs.Faults.{fault_of_csv, fault_of_store}
 use Rattle.desk_cli.specs.commands.Importing.{ImportsBy}
 use Rattle.desk_cli.specs.declared.faults.Fault.{Fault}
-use Rattle.desk_cli.specs.declared.faults.Fault.TheVariants.{Exists, NotADesk, Schema, Owner, Gateway, Month, Time, CsvSize, CsvEnd, CsvHeader, CsvRecord, Unavailable, File, Network}
+use Rattle.desk_cli.specs.declared.faults.Fault.TheVariants.{Exists, NotADesk, Schema, Owner, Gateway, Month, Time, CsvSize, CsvEnd, CsvHeader, CsvRecord, Differs, Unavailable, File, Network}
 
 -- each answer has an octet, its LF
 some_octets : (xs : List ℕ) (x : ℕ) (ys : List ℕ) → xs ++ x ∷ ys ≡ [] → ⊥
@@ -44,7 +44,7 @@ undoubted m c heard old new was call all doubt leaves = record {
   still = unshut_by m old new call refl;
 }
 
--- ---- the end of an import, as the command tells it
+-- ---- the end of an import, as the command returns it
 
 module _ (c : Settings) (heard : List Envelope) (sender : List ℕ) (Kept : List Envelope → Type 0) (Left : List Envelope → Option Envelope → Type 0) (rest_before rest before after : Option (List ℕ)) (T : Type 0) where
   -- A read failed: there is no answer, so no record was heard.
@@ -103,7 +103,7 @@ module _ (c : Settings) (heard : List Envelope) (sender : List ℕ) (Kept Stands
     answers = by.answers;
   }
 
-  -- what is said of a store is said of the file that it is in
+  -- a statement about a store is true of the file that it is in
   pub carried : {T : Type 0} (r : Result T Fault) → ImportsBy c heard sender Kept Left rest_before rest before after r → ImportsBy c heard sender Stands Stays rest_before rest before after r
   carried (Ok x) by = every _ by
   carried (Err Unavailable) by = first _ by
@@ -115,6 +115,7 @@ module _ (c : Settings) (heard : List Envelope) (sender : List ℕ) (Kept Stands
   carried (Err CsvEnd) by = refuses _ by
   carried (Err CsvHeader) by = refuses _ by
   carried (Err (CsvRecord n)) by = refuses _ by
+  carried (Err (Differs place)) by = absurd by
   carried (Err Exists) by = absurd by
   carried (Err NotADesk) by = absurd by
   carried (Err Schema) by = absurd by

@@ -1,9 +1,13 @@
 pub mod Asked
+pub mod Audited
+pub mod AuditPrinted
 pub mod ByRules
 pub mod ByStore
+pub mod Compared
 pub mod Ended
 pub mod FaultLines
 pub mod FoundAgain
+pub mod HeardAnew
 pub mod Imported
 pub mod InFiles
 pub mod Inited
@@ -16,6 +20,8 @@ pub mod Opened
 pub mod Printed
 pub mod Reported
 pub mod Serving
+pub mod Standbys
 pub mod Tellings
 pub mod TotalsPrinted
 pub mod Unsound
+pub mod Walked

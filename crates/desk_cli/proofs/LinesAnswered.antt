@@ -1,4 +1,4 @@
--- Lines that a store answered, and what is said of them where the store is in a file.
+-- Lines that a store answered, and the same stated of the file that the store is in.
 use Rattle.std.proofs.Common.{◌≡◌, ◌++◌, ◌∷◌, ℕ, List, [], Bool, false, Option, None, Result, Ok, Err, inl, inr, refl, sym, subst, ◌∙◌, append_assoc}
 use Rattle.std.proofs.lemmas.List.{append-nil}
 use Rattle.std.proofs.KnownBytes.{Appends-nil, Consumes-nil}
@@ -15,10 +15,10 @@ use Rattle.desk_cli.specs.Faults.{fault_of_store}
 use Rattle.desk_engine.specs.Hearing.{StoreKeeps, StoreLeaves}
 use Rattle.desk_cli.specs.Answering.{AnswersBy, AnswersFirst, HearsFirst}
 use Rattle.desk_cli.specs.declared.faults.Fault.{Fault}
-use Rattle.desk_cli.specs.declared.faults.Fault.TheVariants.{Exists, NotADesk, Schema, Owner, Gateway, Month, Time, CsvSize, CsvEnd, CsvHeader, CsvRecord, Unavailable, File, Network}
+use Rattle.desk_cli.specs.declared.faults.Fault.TheVariants.{Exists, NotADesk, Schema, Owner, Gateway, Month, Time, CsvSize, CsvEnd, CsvHeader, CsvRecord, Differs, Unavailable, File, Network}
 
 module _ {K : Type 0} (m : Meaning K) (c : Settings) (heard : List Envelope) (old new : K) where
-  -- what was heard is kept, unless a fault of the disk was told
+  -- the store represents what was heard, unless a call returned `Disk`
   pub keeps_lines : {disk foreign : Bool} → IsCall m old new disk foreign → disk ≡ false → (lines : List (List ℕ)) → HasHeardLines m c heard old new lines None
       → StoreKeeps m c heard old new (heard_lines c heard lines)
   keeps_lines call is lines hears = record { leaves = hears; still = unshut_by m old new call is }
@@ -53,7 +53,7 @@ module _ {K : Type 0} (m : Meaning K) (c : Settings) (heard : List Envelope) (ol
       answers = cut.answered.answers;
     }
 
-    -- and that is told
+    -- and that is returned
     pub cut_short : (why : StoreFault) → IsCutShort m c heard old new before after input why → (fault : Fault) → fault ≡ fault_of_store why
         → AnswersBy c heard (StoreKeeps m c heard old new) (StoreLeaves m c heard old new) left rest before after (err {T = Unit {0}} fault)
     cut_short why cut fault is =
@@ -79,6 +79,7 @@ module _ (c : Settings) (heard : List Envelope) (Kept Stands : List Envelope →
   carried (Err CsvEnd) by = absurd by
   carried (Err CsvHeader) by = absurd by
   carried (Err (CsvRecord n)) by = absurd by
+  carried (Err (Differs place)) by = absurd by
   carried (Err Network) by = absurd by
 
 -- where nothing was opened, no line was heard or answered

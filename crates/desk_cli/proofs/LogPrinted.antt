@@ -8,7 +8,7 @@ use Rattle.desk_cli.proofs.Opened.{err, is_unavailable}
 use Rattle.desk_cli.specs.Faults.{fault_of_store}
 use Rattle.desk_cli.specs.commands.Log.{LogsBy}
 use Rattle.desk_cli.specs.declared.faults.Fault.{Fault}
-use Rattle.desk_cli.specs.declared.faults.Fault.TheVariants.{Exists, NotADesk, Schema, Owner, Gateway, Month, Time, CsvSize, CsvEnd, CsvHeader, CsvRecord, Unavailable, File, Network}
+use Rattle.desk_cli.specs.declared.faults.Fault.TheVariants.{Exists, NotADesk, Schema, Owner, Gateway, Month, Time, CsvSize, CsvEnd, CsvHeader, CsvRecord, Differs, Unavailable, File, Network}
 
 module _ (lines : List (List ℕ)) where
   -- the store was unavailable, and that is returned
@@ -17,7 +17,7 @@ module _ (lines : List (List ℕ)) where
   ended_unavailable Kept Left before after why end fault is left =
       subst (λ f. LogsBy lines Kept Left before after (err {T = Unit {0}} f)) (sym (is ∙ is_unavailable why end.1)) (end.0, left)
 
-  -- what is said of a store is said of the file that it is in
+  -- a statement about a store is true of the file that it is in
   pub carried : {Kept Stands Left Stays : Type 0} → (Kept → Stands) → (Left → Stays) → (before after : Option (List ℕ)) → {T : Type 0} → (r : Result T Fault)
       → LogsBy lines Kept Left before after r → LogsBy lines Stands Stays before after r
   carried kept left before after (Ok x) by = (by.0, kept by.1)
@@ -34,6 +34,7 @@ module _ (lines : List (List ℕ)) where
   carried kept left before after (Err CsvEnd) by = absurd by
   carried kept left before after (Err CsvHeader) by = absurd by
   carried kept left before after (Err (CsvRecord n)) by = absurd by
+  carried kept left before after (Err (Differs place)) by = absurd by
   carried kept left before after (Err Network) by = absurd by
 
   -- where the desk couldn't be opened, nothing is printed

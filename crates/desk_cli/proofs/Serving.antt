@@ -1,4 +1,4 @@
--- What connections leave of a store, and what is said of it where the store is in a file.
+-- What connections leave of a store, and the same stated of the file that the store is in.
 use Rattle.std.proofs.Common.{◌≡◌, ℕ, Bool, List, Option, None, Result, Ok, Err, inl, inr, sym, subst}
 use Rattle.std.proofs.KnownBytes.{Keeps-refl}
 use Rattle.std.specs.Io.KnownBytes.{Appends}
@@ -16,7 +16,7 @@ use Rattle.desk_cli.specs.Ports.{AtPorts, Ports, at_ports}
 use Rattle.desk_cli.specs.commands.Serving.{HearsServed, ServesBy, listening_line}
 use Rattle.desk_cli.specs.steps.Serving.{ended}
 use Rattle.desk_cli.specs.declared.faults.Fault.{Fault}
-use Rattle.desk_cli.specs.declared.faults.Fault.TheVariants.{Exists, NotADesk, Schema, Owner, Gateway, Month, Time, CsvSize, CsvEnd, CsvHeader, CsvRecord, Unavailable, File, Network}
+use Rattle.desk_cli.specs.declared.faults.Fault.TheVariants.{Exists, NotADesk, Schema, Owner, Gateway, Month, Time, CsvSize, CsvEnd, CsvHeader, CsvRecord, Differs, Unavailable, File, Network}
 
 hears_served : {L R W K T : Type 0} (m : Meaning K) (ports : AtPorts) (l : Connections L R W) (remaining : R → Option (List ℕ)) (contents : W → Option (List ℕ)) (n : ℕ)
     (c : Settings) (heard : List Envelope) (old new : K) (first last : L) (port : ℕ) (before after : Option (List ℕ)) (end : Result T NetworkFault) (Answered : Delivered → Type 0)
@@ -69,6 +69,7 @@ module _ (c : Settings) (heard : List Envelope) (Kept Stands : List Envelope →
   carried (Err CsvEnd) by = absurd by
   carried (Err CsvHeader) by = absurd by
   carried (Err (CsvRecord n)) by = absurd by
+  carried (Err (Differs place)) by = absurd by
 
 -- where nothing was opened no connection was served
 pub serves_unopened : (c : Settings) (heard : List Envelope) (Kept : List Envelope → Type 0) (Left : List Envelope → Option Envelope → Type 0) (ports : AtPorts)

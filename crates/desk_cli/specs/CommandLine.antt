@@ -5,6 +5,7 @@ use Rattle.clap.specs.Kinds.{Kinds}
 use Rattle.clap.specs.Simple.{App, matches_of, new_app, with_rule, with_subcommand, subcommand_of}
 use Rattle.clap.specs.Walk.{Row, Text}
 use Rattle.clap.specs.declared.error.kind.ErrorKind.TheVariants.{MissingSubcommand}
+use Rattle.desk_cli.specs.commands.Auditing.{audit_app, audit_named}
 use Rattle.desk_cli.specs.commands.Checking.{check_app, check_named}
 use Rattle.desk_cli.specs.commands.Hear.{hear_app, hear_named}
 use Rattle.desk_cli.specs.commands.Importing.{import_app, import_named}
@@ -34,13 +35,14 @@ with_readers app =
 -- the command line
 abbrev pub desk_app : App
 desk_app =
-    with_subcommand (with_subcommand (with_subcommand (with_subcommand (with_subcommand (with_subcommand (with_readers top_app)
+    with_subcommand (with_subcommand (with_subcommand (with_subcommand (with_subcommand (with_subcommand (with_subcommand (with_readers top_app)
     serve_app.top)
     report_app.top)
     bands_app.top)
     room_app.top)
     log_app.top)
-    check_app.top
+    check_app.top)
+    audit_app.top
 
 -- the command of this name, with its options
 unfoldable pub named_with : Text → List Row → Named
@@ -56,6 +58,7 @@ named_with name rows =
     else if bytes_eq name (codes "room") then room_named rows
     else if bytes_eq name (codes "log") then log_named rows
     else if bytes_eq name (codes "check") then check_named rows
+    else if bytes_eq name (codes "audit") then audit_named rows
     else refused (MissingSubcommand ∷ [])
 
 -- the subcommand that clap enters, with its options

@@ -1,5 +1,5 @@
 -- What a command does, by how it ended: on a file, and on the desk that is in it.
-use Rattle.std.specs.Prelude.{◌≡◌, ◌⊎◌, ℕ, Bool, List, Option, Some, None, Result, Err}
+use Rattle.std.specs.Prelude.{◌≡◌, ◌⊎◌, ℕ, Bool, List, Option, Some, None, IfSome, Result, Err}
 use Rattle.std.specs.Io.KnownBytes.{Keeps}
 use Rattle.clap.specs.Walk.{Text}
 use Rattle.sqlite.specs.Held.{Held, state}
@@ -11,10 +11,11 @@ use Rattle.registry_core.specs.Settings.{Settings}
 use Rattle.desk_engine.specs.Log.{log_of}
 use Rattle.desk_http.specs.Reports.{IsBandAnswer}
 use Rattle.desk_cli.specs.Ports.{AtPorts}
-use Rattle.desk_cli.specs.Named.{Asked, version, lines, init, migrate, hear, import, serve, report, bands, room, log, check}
+use Rattle.desk_cli.specs.Named.{Asked, version, lines, init, migrate, hear, import, serve, report, bands, room, log, check, audit}
 use Rattle.desk_cli.specs.NoDesk.{HoldsNoDesk, RefusesFile}
 use Rattle.desk_cli.specs.OnTables.{IsLeft, KeepsHeard, LeavesRules}
 use Rattle.desk_cli.specs.Printing.{IsGatewaysRoom, IsOwnersMonth, PrintsBy}
+use Rattle.desk_cli.specs.commands.Auditing.{AuditsBy}
 use Rattle.desk_cli.specs.commands.Checking.{IsCheck}
 use Rattle.desk_cli.specs.commands.Hear.{HearsBy}
 use Rattle.desk_cli.specs.commands.Importing.{ImportsBy}
@@ -27,46 +28,58 @@ use Rattle.desk_cli.specs.commands.Version.{PrintsVersion}
 use Rattle.desk_cli.specs.declared.faults.Fault.{Fault}
 use Rattle.desk_cli.specs.declared.faults.Fault.TheVariants.{File}
 
--- Of whatever the desk of this connection had heard, and of a connection that holds no desk; where the disk has given back what was
--- written to it, before too.
+-- What a command does over a connection, if the disk has returned what was written to it. If the database is a desk's, `Does` is true of
+-- its configuration and log. If it isn't a desk, the command refuses it. The disk then was clean before the command too.
 pub record OnDesk {S T : Type 0} (g : Ghosts S) (conn back : Held S) (result : Result T Fault) (Untouched : Type 0) (Does : Settings → List Envelope → Type 0) : Type 0 where
   pub desk : HasCleanDisk (state g back) → (c : Settings) (heard : List Envelope) → KeepsHeard g conn c heard → Does c heard
   pub no_desk : HasCleanDisk (state g back) → HoldsNoDesk g conn → RefusesFile g conn back Untouched result
   pub clean : HasCleanDisk (state g back) → HasCleanDisk (state g conn)
 
--- What is known of files by their paths: of a connection to one that was opened, and to one that was made; which can't be opened, and
--- which can't be made.
+-- What is known of files by their paths: of a connection to a file that was opened or made, and of files that can't be opened or made.
 pub record AtPaths (S : Type 0) : Type 1 where
   pub opens : Text → Held S → Type 0
   pub makes : Text → Held S → Type 0
   pub unopened : Text → Type 0
   pub unmade : Text → Type 0
 
--- Of each connection this is known, whichever file it is to; and nothing of why there is none.
+-- The same is known of each connection, whatever its file. Nothing is known of files that can't be opened or made.
 abbrev pub known_alike : {S : Type 0} → (Held S → Type 0) → AtPaths S
 known_alike Known = record { opens = λ path conn. Known conn; makes = λ path conn. Known conn; unopened = λ path. Unit {0}; unmade = λ path. Unit {0} }
 
--- What is known of a connection to a file, and which file gives none; and the connection that a run gives back: the file gave one, and this was
--- done with it; or it gives none, and the streams are untouched.
+-- A command on a file. Either the file gave a connection, and the command did this with it and returned it. Or the file can't be opened or
+-- made, the error is `File`, no connection is returned, and the streams are untouched.
 abbrev pub OnFile : {S T : Type 0} → (Text → Held S → Type 0) → (Text → Type 0) → Option (Held S) → Result T Fault → Text → Type 0 → (Held S → Held S → Type 0) → Type 0
 OnFile {S} Gives GivesNone given_back result file Untouched Does =
     ((conn back : Held S) × Gives file conn × (given_back ≡ Some back) × Does conn back)
     ⊎ (GivesNone file × (result ≡ Err File) × (given_back ≡ None) × Untouched)
 
--- The same of a file that is opened, and is to hold a desk: what is done with it is said of whatever the desk had heard, and of the connection that comes back.
+-- A command on a file that is opened and should be a desk's. `Does` takes the returned connection, and the desk's configuration and log.
 abbrev pub OnDeskFile : {S T : Type 0} → Ghosts S → AtPaths S → Option (Held S) → Result T Fault → Text → Type 0 → (Held S → Settings → List Envelope → Type 0) → Type 0
 OnDeskFile g paths given_back result file Untouched Does =
     OnFile paths.opens paths.unopened given_back result file Untouched (λ conn back. OnDesk g conn back result Untouched (Does back))
 
--- The same, and however it ended, whatever a crash leaves of the desk goes by the registry's rules.
+-- Also, however the command ended, each desk that a crash may leave follows the registry's rules.
 abbrev pub OnDeskByRules : {S T : Type 0} → Ghosts S → AtPaths S → Option (Held S) → Result T Fault → Text → Type 0 → (Held S → Settings → List Envelope → Type 0) → Type 0
 OnDeskByRules g paths given_back result file Untouched Does =
     OnDeskFile g paths given_back result file Untouched (λ back c heard. Does back c heard × LeavesRules g back c)
 
--- What is known of files; what is answered at the ports, with a log of their connections or without; the connection that a run gives
--- back; what a reader has left before and after, and what a writer holds before and after.
+-- The audit of a file. Either the file gave a connection, and the command did this with it. Or the file can't be opened, the error is
+-- `File`, no connection is returned, and the streams are untouched.
+abbrev pub OnAuditedFile : {S T : Type 0} → AtPaths S → Option (Held S) → Result T Fault → Text → Type 0 → (Held S → Type 0) → Type 0
+OnAuditedFile {S} paths given_back result file Untouched Does =
+    ((conn : Held S) × paths.opens file conn × Does conn)
+    ⊎ (paths.unopened file × (result ≡ Err File) × (given_back ≡ None) × Untouched)
+
+-- Also, however the audit ended, each desk that a crash may leave follows the registry's rules.
+abbrev pub OnAuditedByRules : {S T : Type 0} → Ghosts S → AtPaths S → Option (Held S) → Result T Fault → Text → Type 0 → (Held S → Type 0) → Type 0
+OnAuditedByRules g paths given_back result file Untouched Does =
+    OnAuditedFile paths given_back result file Untouched
+    (λ conn. Does conn × IfSome given_back (λ back. HasCleanDisk (state g back) → (c : Settings) (heard : List Envelope) → KeepsHeard g conn c heard → LeavesRules g back c))
+
+-- `paths` is what is known of files, `ports` what is answered at the ports, with a log of their connections or without. `given_back` is the
+-- connection that a run returns, `left` and `rest` what is left to read before and after, `before` and `after` what was written by then.
 module _ {S T : Type 0} (g : Ghosts S) (paths : AtPaths S) (ports : Bool → AtPorts) (given_back : Option (Held S)) (left rest before after : Option (List ℕ)) (result : Result T Fault) where
-  -- what was asked was done, by how it ended; what isn't asked of a stream leaves it as it was
+  -- The command did what was asked, according to its result. A stream that the command doesn't use stays as it was.
   abbrev pub DoesAsked : Asked → Type 0
   DoesAsked version = PrintsVersion before after result × Keeps left rest × (given_back ≡ None)
   DoesAsked (lines c) = AnswersLines left rest before after c result × (given_back ≡ None)
@@ -104,4 +117,7 @@ module _ {S T : Type 0} (g : Ghosts S) (paths : AtPaths S) (ports : Bool → AtP
   DoesAsked (check file) =
       OnDeskByRules g paths given_back result file (Keeps before after)
       (λ back c heard. PrintsBy (KeepsHeard g back c heard) (IsLeft g back c heard None) before after (IsCheck c heard) result)
+      × Keeps left rest
+  DoesAsked (audit file) =
+      OnAuditedByRules g paths given_back result file (Keeps before after) (λ conn. AuditsBy g conn given_back before after result)
       × Keeps left rest

@@ -1,4 +1,4 @@
--- Why a command isn't done: its line on standard error, its exit status, and the error that stands for each error of a store.
+-- The errors of commands: their lines on standard error, their exit statuses, and the command's error for each error of a store.
 use Rattle.std.specs.Prelude.{◌≡◌, ◌++◌, ◌∷◌, ℕ, List, [], Option, Result, Ok, Err, codes}
 use Rattle.std.specs.Fmt.{decimal}
 use Rattle.std.specs.Io.KnownBytes.{Appends}
@@ -9,12 +9,15 @@ use Rattle.desk_engine.specs.declared.report_faults.ReportFault.TheVariants as r
 use Rattle.desk_wire.specs.declared.csv_faults.CsvFault.{CsvFault}
 use Rattle.desk_wire.specs.declared.csv_faults.CsvFault.TheVariants as csv
 use Rattle.desk_engine.specs.Lines.{line_feed}
+use Rattle.desk_cli.specs.declared.audit.Place.{Place}
+use Rattle.desk_cli.specs.declared.audit.Table.{Table}
+use Rattle.desk_cli.specs.declared.audit.Table.TheVariants as table
 use Rattle.desk_cli.specs.declared.endings.Ending.{Ending}
 use Rattle.desk_cli.specs.declared.endings.Ending.TheVariants as ending
 use Rattle.desk_cli.specs.declared.faults.Fault.{Fault}
-use Rattle.desk_cli.specs.declared.faults.Fault.TheVariants.{Exists, NotADesk, Schema, Owner, Gateway, Month, Time, CsvSize, CsvEnd, CsvHeader, CsvRecord, Unavailable, File, Network}
+use Rattle.desk_cli.specs.declared.faults.Fault.TheVariants.{Exists, NotADesk, Schema, Owner, Gateway, Month, Time, CsvSize, CsvEnd, CsvHeader, CsvRecord, Differs, Unavailable, File, Network}
 
--- memory, the file, the streams or the network failed; else what was asked is refused
+-- the exit status: memory, the file, the streams or the network failed; for any other error the command is refused
 abbrev pub ending_of_fault : Fault → Ending
 ending_of_fault Unavailable = ending.Failed
 ending_of_fault File = ending.Failed
@@ -23,7 +26,25 @@ ending_of_fault _ = ending.Refused
 
 -- ---- the line on standard error
 
--- what is said of it
+-- the name of a table
+abbrev pub table_name : Table → List ℕ
+table_name table.Meta = codes "meta"
+table_name table.Sender = codes "sender"
+table_name table.Reply = codes "reply"
+table_name table.Owner = codes "owner"
+table_name table.Gateway = codes "gateway"
+table_name table.Device = codes "device"
+table_name table.Session = codes "session"
+table_name table.Uplink = codes "uplink"
+table_name table.Copy = codes "copy"
+table_name table.Booking = codes "booking"
+table_name table.BandLimit = codes "band_limit"
+
+-- a row of a file: its table, and its number there
+abbrev pub place_text : Place → List ℕ
+place_text place = table_name place.table ++ (codes " " ++ decimal place.row)
+
+-- the text of an error
 abbrev pub fault_word : Fault → List ℕ
 fault_word Exists = codes "exists"
 fault_word NotADesk = codes "not a desk"
@@ -36,15 +57,16 @@ fault_word CsvSize = codes "csv size"
 fault_word CsvEnd = codes "csv end"
 fault_word CsvHeader = codes "csv header"
 fault_word (CsvRecord n) = codes "csv record " ++ decimal n
+fault_word (Differs place) = codes "differs at " ++ place_text place
 fault_word Unavailable = codes "unavailable"
 fault_word File = codes "file"
 fault_word Network = codes "network"
 
--- the line that says so
+-- the line of an error on standard error
 abbrev pub fault_line : Fault → List ℕ
 fault_line fault = codes "desk: " ++ (fault_word fault ++ line_feed ∷ [])
 
--- A text was written, or its first octets, where a write failed. What a writer holds before and after.
+-- Between `before` and `after` a text was written, or its first octets if a write failed.
 pub record IsBegun (before after : Option (List ℕ)) (text : List ℕ) : Type 0 where
   pub written : List ℕ
   pub rest : List ℕ
@@ -53,14 +75,14 @@ pub record IsBegun (before after : Option (List ℕ)) (text : List ℕ) : Type 0
 
 -- ---- how a command ends
 
--- What the writer of standard error holds, and the writer before and after.
+-- `contents` is what was written to standard error, `before` and `after` its writer.
 module _ {F : Type 0} (contents : F → Option (List ℕ)) (before after : F) where
-  -- By its result: it is done, and nothing is written; or it isn't, and the line that says why is written.
+  -- By the command's result: with `Ok` nothing is written, with an error its line.
   abbrev pub EndsBy : Ending → Result (Unit {0}) Fault → Type 0
   EndsBy ends (Ok x) = (ends ≡ ending.Done) × (after ≡ before)
   EndsBy ends (Err fault) = (ends ≡ ending_of_fault fault) × IsBegun (contents before) (contents after) (fault_line fault)
 
-  -- It ended by a result that satisfies this.
+  -- The command ended with a result that satisfies this.
   pub record Ends (ends : Ending) (Says : Result (Unit {0}) Fault → Type 0) : Type 0 where
     pub result : Result (Unit {0}) Fault
     pub ended : EndsBy ends result
@@ -68,7 +90,7 @@ module _ {F : Type 0} (contents : F → Option (List ℕ)) (before after : F) wh
 
 -- ---- the errors of the crates below
 
--- refusals 32 to 34, and that there is something already
+-- refusals 32 to 34, and `Exists`
 abbrev pub fault_of_store : StoreFault → Fault
 fault_of_store store.Memory = Unavailable
 fault_of_store store.Disk = Unavailable
@@ -85,7 +107,7 @@ fault_of_report report.Owner = Owner
 fault_of_report report.Gateway = Gateway
 fault_of_report (report.Unavailable fault) = fault_of_store fault
 
--- why a text is no gateway report
+-- why a text isn't a gateway report
 abbrev pub fault_of_csv : CsvFault → Fault
 fault_of_csv csv.Size = CsvSize
 fault_of_csv csv.Unended = CsvEnd

@@ -1,4 +1,5 @@
 pub mod Answering
+pub mod Audit
 pub mod CommandLine
 pub mod ConnectionLog
 pub mod Doing
@@ -13,5 +14,6 @@ pub mod Options
 pub mod Ports
 pub mod Printing
 pub mod Runs
+pub mod Standby
 pub mod commands
 pub mod steps

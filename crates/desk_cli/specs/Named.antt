@@ -1,4 +1,4 @@
--- What words name, and which answers tell it.
+-- Which command arguments name, and what the reader of arguments returns for it.
 use Rattle.std.specs.Prelude.{◌≡◌, ℕ, Bool, Result, Ok, Err}
 use Rattle.clap.specs.Kinds.{Kinds, IsAmong}
 use Rattle.clap.specs.Values.{kind_of}
@@ -7,7 +7,7 @@ use Rattle.clap.specs.declared.error.kind.ErrorKind.{ErrorKind}
 use Rattle.registry_core.specs.Settings.{Settings}
 use Rattle.desk_engine.specs.declared.log.LogText.{LogText}
 use Rattle.desk_cli.specs.declared.commands.Command.{Command}
-use Rattle.desk_cli.specs.declared.commands.Command.TheVariants.{Version, Lines, Init, Migrate, Hear, Import, Serve, Report, Bands, Room, Log, Check}
+use Rattle.desk_cli.specs.declared.commands.Command.TheVariants.{Version, Lines, Init, Migrate, Hear, Import, Serve, Report, Bands, Room, Log, Check, Audit}
 use Rattle.desk_cli.specs.declared.usage.BadValue.{BadValue}
 use Rattle.desk_cli.specs.declared.usage.Usage.{Usage}
 use Rattle.desk_cli.specs.declared.usage.Usage.TheVariants.{Words, Value, NotText, Memory}
@@ -32,6 +32,7 @@ pub data Asked : Type 0 where
   -- the file, the number of the first message, how many messages at most, and which text of each
   log : Text → ℕ → ℕ → LogText → Asked
   check : Text → Asked
+  audit : Text → Asked
 
 abbrev pub asked_by : Command → Asked
 asked_by Version = version
@@ -46,6 +47,7 @@ asked_by (Bands file gateway) = bands file.now gateway.now
 asked_by (Room file gateway time) = room file.now gateway.now time.now
 asked_by (Log file from count which) = log file.now from count which
 asked_by (Check file) = check file.now
+asked_by (Audit file) = audit file.now
 
 -- a command, or a value that is bad, or nothing that clap takes: one of these kinds of error
 pub data Named : Type 0 where
@@ -62,7 +64,7 @@ abbrev pub IsRefusal : ErrorKind → Named → Type 0
 IsRefusal kind (refused kinds) = IsAmong kind kinds
 IsRefusal kind _ = ⊥
 
--- the answer is what the words name, unless memory ran out
+-- the result is what the arguments name, unless memory ran out
 abbrev pub TellsNamed : Named → Result Command Usage → Type 0
 TellsNamed named (Ok command) = named ≡ names (asked_by command)
 TellsNamed named (Err (Words error)) = IsRefusal (kind_of error) named

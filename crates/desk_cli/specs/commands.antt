@@ -1,4 +1,5 @@
 -- A file for each command.
+pub mod Auditing
 pub mod Checking
 pub mod Hear
 pub mod Importing

@@ -1,4 +1,6 @@
--- What private functions promise one another.
+-- Definitions for the contracts of private functions.
+pub mod Audit
+pub mod Auditing
 pub mod Checking
 pub mod CommandLine
 pub mod Given

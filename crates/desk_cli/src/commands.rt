@@ -1,5 +1,5 @@
-//! The commands of the program. Each has a module with its words and what it does, `report` and `bands` one for both; here they are
-//! listed. What they do on one file is tested in `program/tests/one_file.rt`, and by rows over each kind of store.
+//! The list of the program's commands. Each has a module with its arguments and what it does. `report`, `bands` and `room` share one.
+//! What commands do on one file is tested in `program/tests/one_file.rt`, and by rows over each kind of store.
 ghost use Rattle.std.specs.Prelude.{◌≡◌, IfOk};
 ghost use Rattle.clap.specs.Matches.{found_of};
 ghost use Rattle.clap.specs.Simple.{App, app_of, subcommand_rows_of};
@@ -8,6 +8,7 @@ ghost use Rattle.desk_cli.specs.CommandLine.{command_named, desk_app, named_with
 ghost use Rattle.desk_cli.specs.Named.{TellsNamed};
 ghost use Rattle.desk_cli.specs.steps.CommandLine.{AddsCommand, IsCommand};
 
+mod auditing;
 mod checking;
 mod hear;
 mod importing;
@@ -21,6 +22,8 @@ mod version;
 
 use crate::options::{command, flag, is_set, with_word};
 use crate::usage::{Usage, no_command};
+pub use auditing::audit_command;
+use auditing::{audit_app, audit_of};
 pub use checking::check_command;
 use checking::{check_app, check_of};
 use clap::ArgMatches;
@@ -51,7 +54,7 @@ pub use version::version_command;
 pub enum Command<'a> {
     /// Prints which desk this is.
     Version,
-    /// Answers the messages of standard input, one a line, for a new desk that is kept in memory.
+    /// Answers the messages of standard input, one a line, for a new desk in memory.
     Lines {
         config: Config,
     },
@@ -104,8 +107,12 @@ pub enum Command<'a> {
         count: Whole,
         which: LogText,
     },
-    /// Prints what a desk's file was made with, and how much it holds.
+    /// Prints the configuration of a desk's file, and how many rows of each kind it has.
     Check {
+        file: &'a str,
+    },
+    /// Reports whether the file is what a desk wrote.
+    Audit {
         file: &'a str,
     },
 }
@@ -115,7 +122,11 @@ Example:
   desk init town.db --base 01a00000
   desk serve town.db --port 8080 --count 100";
 
-/// The command line: each command with its words.
+/// Returns the command line: each command with its arguments.
+///
+/// # Errors
+///
+/// Returns `AllocError` if an allocation failed.
 pub(crate) fn desk_app<'a>(alloc: Global) -> Result<clap::Command<'a>, AllocError>
     ensures { IfOk result (λ c. app_of c ≡ desk_app) }
 {
@@ -125,10 +136,11 @@ pub(crate) fn desk_app<'a>(alloc: Global) -> Result<clap::Command<'a>, AllocErro
     let desk = added(desk, bands_app(alloc));
     let desk = added(desk, room_app(alloc));
     let desk = added(desk, log_app(alloc));
-    added(desk, check_app(alloc))
+    let desk = added(desk, check_app(alloc));
+    added(desk, audit_app(alloc))
 }
 
-/// The command line without commands.
+/// Returns the command line without commands.
 fn top_app<'a>(alloc: Global) -> Result<clap::Command<'a>, AllocError>
     ensures { IsCommand top_app result }
 {
@@ -137,7 +149,7 @@ fn top_app<'a>(alloc: Global) -> Result<clap::Command<'a>, AllocError>
     with_word(Ok(command(alloc, "desk", about, EXAMPLE)), version)
 }
 
-/// A command line with the commands that read messages or records, and those that make a file for them and move it.
+/// Adds the commands that read messages or records, and those that make and migrate a file.
 fn with_readers<'a>(alloc: Global, desk: clap::Command<'a>) -> Result<clap::Command<'a>, AllocError>
     ensures { (app : App) → app_of desk.entry ≡ app → IfOk result (λ c. app_of c ≡ with_readers app) }
 {
@@ -148,7 +160,7 @@ fn with_readers<'a>(alloc: Global, desk: clap::Command<'a>) -> Result<clap::Comm
     added(desk, import_app(alloc))
 }
 
-/// A command line with one command more, if there was memory for both.
+/// Adds a command to the command line, or returns the first `AllocError` of the two.
 fn added<'a>(
     desk: Result<clap::Command<'a>, AllocError>,
     command: Result<clap::Command<'a>, AllocError>,
@@ -158,7 +170,11 @@ fn added<'a>(
     desk?.subcommand(command?)
 }
 
-/// The command that words were matched with, by its name and options.
+/// Returns the command that clap matched, with its values.
+///
+/// # Errors
+///
+/// Returns clap's error if there is no command, and the first value that is bad.
 pub(crate) fn command_of<'a>(
     matches: &ArgMatches<'a>,
     desk: &mut clap::Command<'a>,
@@ -174,7 +190,7 @@ pub(crate) fn command_of<'a>(
     command_with(name, options, desk)
 }
 
-/// The command of this name, with its options.
+/// Returns the command of this name, with the values of its options.
 #[tactic(auto, unfolding(crate::specs::CommandLine::named_with))]
 fn command_with<'a>(
     name: &str,
@@ -195,6 +211,7 @@ fn command_with<'a>(
         "room" => room_of(options),
         "log" => log_of(options),
         "check" => check_of(options),
+        "audit" => audit_of(options),
         _ => Err(no_command(desk)),
     }
 }

@@ -1,8 +1,9 @@
-//! Why a command isn't done, and the line that says so.
+//! The errors of commands, and their lines on standard error.
 ghost use Rattle.std.specs.Prelude.{◌≡◌, Some, IfOk};
 ghost use Rattle.std.specs.Fmt.InlineText.{inline_text};
-ghost use Rattle.desk_cli.specs.Faults.{EndsBy, IsBegun, ending_of_fault, fault_line, fault_of_csv, fault_of_report, fault_of_store, fault_word};
+ghost use Rattle.desk_cli.specs.Faults.{EndsBy, IsBegun, ending_of_fault, fault_line, fault_of_csv, fault_of_report, fault_of_store, fault_word, place_text, table_name};
 
+use crate::audit::{Place, Table};
 use crate::endings::Ending;
 use desk_engine::{ReportFault, write_octets};
 use desk_store::StoreFault;
@@ -10,41 +11,43 @@ use desk_wire::CsvFault;
 use std::fmt::{self, Display, Formatter, InlineText};
 use std::io::Write;
 
-/// Why a command isn't done. Its `Display` is what the fault line says after `desk: `.
+/// The error of a command. Its `Display` is the text after `desk: ` in the line on standard error.
 #[derive(Clone, Copy, PartialEq, Eq)]
 pub enum Fault {
-    /// The file holds a table, index or view with a name of the desk's already.
+    /// The file already has a table, index or view with a name that the desk uses.
     Exists,
-    /// What the file holds is no desk's.
+    /// The file isn't a desk.
     NotADesk,
-    /// It is a desk's in a schema of another version.
+    /// The file is a desk's, with a schema of another version.
     Schema,
     /// No owner has the name.
     Owner,
     /// No gateway has the name.
     Gateway,
-    /// The text is no month's.
+    /// The text isn't a month.
     Month,
-    /// The text is no time's.
+    /// The text isn't a time.
     Time,
     /// The gateway report is longer than one may be, or has too many records.
     CsvSize,
-    /// It doesn't end in LF.
+    /// The gateway report doesn't end in LF.
     CsvEnd,
-    /// Its first record isn't the header.
+    /// The first record of the gateway report isn't the header.
     CsvHeader,
     /// The record with this number, where the header has number 1, isn't in its form.
     CsvRecord(u32),
-    /// The store, or memory, isn't available.
+    /// The file isn't what a desk wrote. This is the first row that differs.
+    Differs(Place),
+    /// The store isn't available, or an allocation failed.
     Unavailable,
     /// FILE can't be opened, or a read or write of the standard streams failed.
     File,
-    /// The port can't be had, or no connection can be accepted at it.
+    /// The port can't be bound, or no connection can be accepted at it.
     Network,
 }
 
 impl Fault {
-    /// How the program ends for it.
+    /// Returns how the program ends with this error.
     pub fn ending(self) -> Ending
         ensures { result ≡ ending_of_fault self }
     {
@@ -71,10 +74,39 @@ impl Display for Fault {
             Fault::CsvEnd => f.write_str("csv end"),
             Fault::CsvHeader => f.write_str("csv header"),
             Fault::CsvRecord(number) => write!(f, "csv record {number}"),
+            Fault::Differs(place) => write!(f, "differs at {place}"),
             Fault::Unavailable => f.write_str("unavailable"),
             Fault::File => f.write_str("file"),
             Fault::Network => f.write_str("network"),
         }
+    }
+}
+
+impl Display for Table {
+    ghost output = { λ table. Some (table_name table) };
+
+    fn fmt<W: fmt::Write>(&self, f: &mut Formatter<W>) -> fmt::Result {
+        match self {
+            Table::Meta => f.write_str("meta"),
+            Table::Sender => f.write_str("sender"),
+            Table::Reply => f.write_str("reply"),
+            Table::Owner => f.write_str("owner"),
+            Table::Gateway => f.write_str("gateway"),
+            Table::Device => f.write_str("device"),
+            Table::Session => f.write_str("session"),
+            Table::Uplink => f.write_str("uplink"),
+            Table::Copy => f.write_str("copy"),
+            Table::Booking => f.write_str("booking"),
+            Table::BandLimit => f.write_str("band_limit"),
+        }
+    }
+}
+
+impl Display for Place {
+    ghost output = { λ place. Some (place_text place) };
+
+    fn fmt<W: fmt::Write>(&self, f: &mut Formatter<W>) -> fmt::Result {
+        write!(f, "{} {}", self.table, self.row)
     }
 }
 
@@ -119,8 +151,8 @@ impl From<CsvFault> for Fault {
     }
 }
 
-/// The exit status of a command with this result. If it failed, the line on standard error says why; if that can't be written, the
-/// exit status is all there is.
+/// Returns how the program ends after a command with this result. An error's line is written to standard error. If that write fails, only
+/// the exit status reports the error.
 pub(crate) fn end<F: Write>(faults: &mut F, done: Result<(), Fault>) -> Ending
     ensures { EndsBy F.contents faults.old faults.new result done }
 {
@@ -146,8 +178,8 @@ fn tell<F: Write>(faults: &mut F, fault: Fault)
     }
 }
 
-/// The error's line. Takes no memory.
-fn line_of(fault: Fault) -> Result<InlineText<32>, fmt::Error>
+/// Returns the error's line. Allocates nothing.
+fn line_of(fault: Fault) -> Result<InlineText<64>, fmt::Error>
     ensures { IfOk result (λ line. inline_text line ≡ fault_line fault) }
 {
     let mut line = InlineText::new();

@@ -2,6 +2,7 @@
 #![tactic(auto)]
 
 mod answering;
+mod audit;
 mod causes;
 mod commands;
 mod connection_log;
@@ -36,7 +37,7 @@ fn main(rt: HostRuntime) -> ExitCode {
     run_on(&rt, Unknown)
 }
 
-/// Runs the program on this machine. `start` stands for what a file holds when it is opened.
+/// Runs the program on this machine. `start` represents what a file contains when it is opened.
 fn run_on<T: Start>(rt: &HostRuntime, start: T) -> ExitCode {
     let why = Cell::new(None);
     let files = HostFiles {
@@ -53,11 +54,11 @@ fn run_on<T: Start>(rt: &HostRuntime, start: T) -> ExitCode {
         &mut rt.stderr(),
     );
     if let Some(line) = why.take() {
-        // The line before says that it is the file; this one is for a user at a terminal.
+        // The line before reports that it is the file; this one is for a user at a terminal.
         let _ = writeln!(&mut rt.stderr(), "{line}");
     }
     if let Some(conn) = conn {
-        // All is committed: where the log can't be moved into the file now, the next start does it.
+        // Everything is committed: if the write-ahead log can't be moved into the file now, the next start does it.
         let _ = conn.close();
     }
     ending.status()

@@ -3,12 +3,13 @@ ghost use Rattle.registry_core.specs.Heard.{state_of};
 ghost use Rattle.std.specs.Io.KnownBytes.{Keeps};
 ghost use Rattle.desk_engine.specs.Log.{log_of};
 ghost use Rattle.desk_http.specs.Reports.{IsBandAnswer};
-ghost use Rattle.desk_cli.specs.Doing.{DoesAsked, OnDeskFile, OnFile};
+ghost use Rattle.desk_cli.specs.Doing.{DoesAsked, OnAuditedFile, OnDeskFile, OnFile};
 ghost use Rattle.desk_cli.specs.Faults.{Ends};
 ghost use Rattle.desk_cli.specs.Named.{asked_by};
 ghost use Rattle.desk_cli.specs.OnTables.{IsLeft, KeepsHeard};
 ghost use Rattle.desk_cli.specs.Printing.{IsGatewaysRoom, IsOwnersMonth, PrintsBy};
 ghost use Rattle.desk_cli.specs.Ports.{at_ports};
+ghost use Rattle.desk_cli.specs.commands.Auditing.{AuditsBy};
 ghost use Rattle.desk_cli.specs.commands.Checking.{IsCheck};
 ghost use Rattle.desk_cli.specs.commands.Hear.{HearsBy};
 ghost use Rattle.desk_cli.specs.commands.Importing.{ImportsBy};
@@ -19,9 +20,9 @@ ghost use Rattle.desk_cli.specs.commands.Serving.{ServesBy};
 ghost use Rattle.std.specs.Prelude.{None};
 
 use crate::commands::{
-    Command, bands_command, check_command, hear_command, import_command, init_command,
-    lines_command, log_command, migrate_command, report_command, room_command, serve_command,
-    version_command,
+    Command, audit_command, bands_command, check_command, hear_command, import_command,
+    init_command, lines_command, log_command, migrate_command, report_command, room_command,
+    serve_command, version_command,
 };
 use crate::endings::Ending;
 use crate::faults::end;
@@ -35,7 +36,8 @@ use sqlite::{Alter, Connection};
 use std::alloc::Global;
 use std::io::{Read, Write};
 
-/// How a command ended, and the connection to its file, where it has one that could be opened.
+/// How a command ended, and the connection to its file. There is none if the command has no file, if the file can't be opened, or if
+/// `audit` couldn't be completed.
 pub type Performed<S> = (Ending, Option<Connection<S>>);
 
 /// Runs a command on the connection to its file, which it gives back; or reports why the file can't be opened.
@@ -52,7 +54,7 @@ macro_rules! on_file {
 }
 
 /// Does what the command asks.
-pub(crate) fn perform<S: Alter, N: Files<S>, B: Network, R: Read, W: Write, F: Write>(
+pub(crate) fn perform<S: Alter + Drop, N: Files<S>, B: Network, R: Read, W: Write, F: Write>(
     alloc: Global,
     command: &Command<'_>,
     files: N,
@@ -113,6 +115,7 @@ pub(crate) fn perform<S: Alter, N: Files<S>, B: Network, R: Read, W: Write, F: W
             which,
         } => { log_file(alloc, files, file, *from, *count, *which, answers, faults) }
         Command::Check { file } => check_file(alloc, files, file, answers, faults),
+        Command::Audit { file } => audit_file(alloc, files, file, answers, faults),
     }
 }
 
@@ -323,4 +326,22 @@ fn check_file<S: Alter, N: Files<S>, W: Write, F: Write>(
         faults,
         |conn| check_command(alloc, conn, answers, faults)
     )
+}
+
+/// Audits the file. Returns its connection, unless the file can't be opened or the audit couldn't be completed.
+fn audit_file<S: Alter + Drop, N: Files<S>, W: Write, F: Write>(
+    alloc: Global,
+    files: N,
+    file: &str,
+    answers: &mut W,
+    faults: &mut F,
+) -> Performed<S>
+    ensures { Ends F.contents faults.old faults.new result.0 (λ done. OnAuditedFile (N.paths files) result.1 done file.now
+        (Keeps (W.contents answers.old) (W.contents answers.new))
+        (λ conn. AuditsBy S.Store conn result.1 (W.contents answers.old) (W.contents answers.new) done)) }
+{
+    match files.open(file) {
+        Ok(conn) => audit_command(alloc, conn, answers, faults),
+        Err(fault) => (end(faults, Err(fault)), None),
+    }
 }

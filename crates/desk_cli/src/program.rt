@@ -24,9 +24,17 @@ use std::env::{self, Args};
 use std::io::{self, ErrorKind, Read, Write};
 use std::rt::Env;
 
-/// Does what the program's arguments ask, and gives the connection to its file back, if it has one that could be opened. What is
-/// wrong with the arguments, or why what they ask isn't done, goes to `faults`.
-pub fn run<E: Env + AllocGlobal, S: Alter, N: Files<S>, B: Network, R: Read, W: Write, F: Write>(
+/// Does what the program's arguments ask, and gives the connection to its file back, if it has one that could be opened. What is wrong with
+/// the arguments, or why what they ask isn't done, is written to `faults`.
+pub fn run<
+    E: Env + AllocGlobal,
+    S: Alter + Drop,
+    N: Files<S>,
+    B: Network,
+    R: Read,
+    W: Write,
+    F: Write,
+>(
     rt: &E,
     files: N,
     network: &B,
@@ -34,17 +42,17 @@ pub fn run<E: Env + AllocGlobal, S: Alter, N: Files<S>, B: Network, R: Read, W: 
     answers: &mut W,
     faults: &mut F,
 ) -> (Ending, Option<Connection<S>>)
-    // Some words name a command, and what it asks was done, by how it ended; or they name none, or can't be had.
+    // Some arguments name a command, and what it asks was done, by how it ended; or they name none, or can't be read.
     ensures runs { (words : Given) × Runs S.Store (N.paths files) (at_ports B.ports network.now B.Port.meaning B.Port.Reader.remaining B.Port.Writer.contents) result.1
         (R.remaining reader.old) (R.remaining reader.new) (W.contents answers.old) (W.contents answers.new) F.contents faults.old faults.new words result.0 }
-    // So with status 0 what a command that words name asks was done.
+    // So with status 0 what a command that arguments name asks was done.
     ensures done { result.0 ≡ Ending.Done → (asked : Asked) × IsNamed asked
         × DoesAsked {T = Unit {0}} S.Store (N.paths files) (at_ports B.ports network.now B.Port.meaning B.Port.Reader.remaining B.Port.Writer.contents) result.1
         (R.remaining reader.old) (R.remaining reader.new) (W.contents answers.old) (W.contents answers.new) (Ok tt) asked }
-    // Then nothing is written to standard error. Otherwise it says why the command failed, unless the arguments name none.
+    // Then nothing is written to standard error. Otherwise it reports why the command failed, unless the arguments name none.
     ensures quiet { result.0 ≡ Ending.Done → faults.new ≡ faults.old }
     ensures told { result.0 ≢ Ending.Misused → (done : Result (Unit {0}) Fault) × EndsBy F.contents faults.old faults.new result.0 done }
-    // Where the words name no command no file was opened, nothing was read, and nothing was answered.
+    // If the arguments name no command, no file was opened, nothing was read, and nothing was answered.
     ensures misused { result.0 ≡ Ending.Misused
         → (reader.new ≡ reader.old) × (answers.new ≡ answers.old) × (result.1 ≡ None) }
 {
@@ -59,8 +67,8 @@ pub fn run<E: Env + AllocGlobal, S: Alter, N: Files<S>, B: Network, R: Read, W: 
     )
 }
 
-/// Does what the arguments ask, as std read them. What is wrong with them, or why std has none, goes to `faults`.
-pub fn run_given<S: Alter, N: Files<S>, B: Network, R: Read, W: Write, F: Write>(
+/// Does what the arguments ask, as std read them. What is wrong with them, or why std has none, is written to `faults`.
+pub fn run_given<S: Alter + Drop, N: Files<S>, B: Network, R: Read, W: Write, F: Write>(
     alloc: Global,
     arguments: io::Result<Args>,
     files: N,
@@ -69,7 +77,7 @@ pub fn run_given<S: Alter, N: Files<S>, B: Network, R: Read, W: Write, F: Write>
     answers: &mut W,
     faults: &mut F,
 ) -> (Ending, Option<Connection<S>>)
-    // The words name a command, and what it asks was done, by how it ended; or they name none, or can't be had.
+    // The arguments name a command, and what it asks was done, by how it ended; or they name none, or can't be read.
     ensures runs { Runs S.Store (N.paths files) (at_ports B.ports network.now B.Port.meaning B.Port.Reader.remaining B.Port.Writer.contents) result.1
         (R.remaining reader.old) (R.remaining reader.new) (W.contents answers.old) (W.contents answers.new) F.contents faults.old faults.new (given arguments) result.0 }
     ensures quiet { result.0 ≡ Ending.Done → faults.new ≡ faults.old }
@@ -84,8 +92,8 @@ pub fn run_given<S: Alter, N: Files<S>, B: Network, R: Read, W: Write, F: Write>
     }
 }
 
-/// The same of their texts, the program's own name first.
-fn run_strings<S: Alter, N: Files<S>, B: Network, R: Read, W: Write, F: Write>(
+/// Does the same for the texts of the arguments, with the program's own name first.
+fn run_strings<S: Alter + Drop, N: Files<S>, B: Network, R: Read, W: Write, F: Write>(
     alloc: Global,
     strings: &[String],
     files: N,
@@ -108,7 +116,7 @@ fn run_strings<S: Alter, N: Files<S>, B: Network, R: Read, W: Write, F: Write>(
     }
 }
 
-/// Says what is wrong with the words.
+/// Writes what is wrong with the arguments.
 fn tell<F: Write>(usage: &Usage, faults: &mut F) -> Ending
     ensures { TellsUsage F.contents faults.old faults.new result usage.now }
 {
@@ -122,7 +130,7 @@ fn tell<F: Write>(usage: &Usage, faults: &mut F) -> Ending
     }
 }
 
-/// Why the arguments can't be had.
+/// Returns why the arguments can't be read.
 fn unread(error: &io::Error) -> Usage
     ensures { IsUnread (error_kind error.now) result }
 {
@@ -133,7 +141,7 @@ fn unread(error: &io::Error) -> Usage
     }
 }
 
-/// The texts of the arguments, or why they can't be had.
+/// Returns the texts of the arguments, or why they can't be read.
 fn given_strings(alloc: Global, arguments: io::Result<Args>) -> Result<Vec<String>, Usage>
     ensures texts { IfOk result (λ strings. given arguments ≡ Ok (map string_bytes strings.items)) }
     ensures none { IfErr result (λ usage. IsNotGiven arguments usage) }

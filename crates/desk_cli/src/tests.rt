@@ -1,6 +1,7 @@
-//! Worked rows: what is delivered to a new desk, and what goes back. They hold over each kind of store that tests can make.
+//! Worked rows: what is delivered to a new desk, and how it is answered. They are checked for each kind of store that tests can make.
 ghost use Rattle.std.specs.Prelude.{◌≡◌, false, None, IfOk};
 
+mod audits;
 mod csv_reports;
 mod data_frames;
 mod downlinks;
@@ -48,7 +49,7 @@ use stops::rows_in;
 
 /// A store that tests can make.
 pub(crate) trait Opened: Keeper + Drop + Sized {
-    /// One that has heard nothing.
+    /// Returns one that has heard nothing.
     fn opened(alloc: Global, config: Config) -> Result<Box<Self>, Fail>;
 }
 
@@ -66,7 +67,7 @@ impl Opened for Tables<MemStore> {
 
 /// A store that can be closed and opened again.
 pub(crate) trait Reopened: Opened {
-    /// The rows of the store, as a text, once it is closed; and the store, opened again.
+    /// Closes the store. Returns its rows as a text, and the store opened again.
     fn reopened(alloc: Global, store: Box<Self>) -> Result<(String, Box<Self>), Fail>;
 }
 
@@ -78,7 +79,7 @@ impl Reopened for Tables<MemStore> {
     }
 }
 
-/// The connection, with no limit of steps and in no transaction.
+/// Returns the connection, with no limit of steps and in no transaction.
 pub(crate) fn ready<S: Alter + Drop>(conn: Connection<S>) -> Result<Connection<S>, &'static str>
     ensures idle { IfOk result (λ conn. conn.in_transaction ≡ false) }
     ensures unlimited { IfOk result (λ conn. conn.step_limit ≡ None) }
@@ -92,7 +93,7 @@ pub(crate) fn ready<S: Alter + Drop>(conn: Connection<S>) -> Result<Connection<S
     }
 }
 
-/// A desk on tables, in a database that has nothing.
+/// Makes a desk on tables, in a database that has nothing.
 pub(crate) fn made<S: Alter + Drop>(
     alloc: Global,
     conn: Connection<S>,
@@ -102,7 +103,7 @@ pub(crate) fn made<S: Alter + Drop>(
     Ok(Box::new(alloc, tables)?)
 }
 
-/// The desk on tables that the database has.
+/// Opens the desk on tables that the database has.
 pub(crate) fn found<S: Alter + Drop>(
     alloc: Global,
     conn: Connection<S>,
@@ -120,12 +121,12 @@ pub(crate) fn config(addresses: u32) -> Option<Config> {
     )
 }
 
-/// A desk with so many addresses that has heard nothing.
+/// Makes a desk with this many addresses that has heard nothing.
 pub(crate) fn opening<K: Opened>(alloc: Global, addresses: u32) -> Result<Box<K>, Fail> {
     K::opened(alloc, config(addresses).ok_or("no configuration")?)
 }
 
-/// A desk with a sender, an owner, two gateways and a device.
+/// Makes a desk with a sender, an owner, two gateways and a device.
 fn with_device<R: Abort + AllocGlobal, K: Opened>(rt: &R) -> Result<Box<K>, Fail> {
     let mut keeper = opening::<K>(rt.alloc(), 65_536)?;
     deliver_each(rt, &mut *keeper, &SETUP)?;
@@ -133,7 +134,7 @@ fn with_device<R: Abort + AllocGlobal, K: Opened>(rt: &R) -> Result<Box<K>, Fail
     Ok(keeper)
 }
 
-/// The outcome has this number and this text.
+/// Checks that the outcome has this number and this text.
 fn expect(rt: &impl Abort, outcome: &Outcome, number: u8, wanted: &str) {
     let is_so = match outcome {
         Outcome::Answered(text) => number == 0 && text.as_slice() == wanted.as_bytes(),
@@ -145,12 +146,12 @@ fn expect(rt: &impl Abort, outcome: &Outcome, number: u8, wanted: &str) {
     holds(rt, is_so, wanted);
 }
 
-/// The outcome is what the delivery is told.
+/// Checks that the outcome is the delivery's.
 fn expect_told(rt: &impl Abort, outcome: &Outcome, delivery: &Delivery) {
     expect(rt, outcome, delivery.number, delivery.wanted.as_str());
 }
 
-/// Each delivery is told what it is to be told.
+/// Delivers each, and checks its outcome.
 fn hear_each<R: Abort + AllocGlobal, K: Keeper>(rt: &R, keeper: &mut K, deliveries: &[Delivery]) {
     for delivery in deliveries {
         let outcome = deliver(rt.alloc(), keeper, delivery.text.as_bytes());
@@ -158,7 +159,7 @@ fn hear_each<R: Abort + AllocGlobal, K: Keeper>(rt: &R, keeper: &mut K, deliveri
     }
 }
 
-/// The same by a desk on tables. The connection to what it then holds.
+/// Does the same with a desk on tables. Returns the connection to what it then stores.
 pub(crate) fn told_each<R: Abort + AllocGlobal, S: Alter + Drop>(
     rt: &R,
     tables: Box<Tables<S>>,
@@ -178,7 +179,7 @@ fn deliver_each<R: Abort + AllocGlobal, K: Keeper>(
     Ok(())
 }
 
-/// All rows hold over stores of this kind.
+/// Checks all rows with stores of this kind.
 fn rows_hold<R: Abort + AllocGlobal, K: Opened>(rt: &R) -> Result<(), Fail> {
     runs::have_their_outcomes::<R, K>(rt)?;
     runs::hours_have_their_outcomes::<R, K>(rt)?;

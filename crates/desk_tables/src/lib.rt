@@ -1,4 +1,4 @@
-//! A store over the eleven tables.
+//! A store over the eleven tables of a desk in SQLite.
 #![tactic(auto)]
 
 mod adopting;
@@ -18,5 +18,6 @@ mod shape;
 mod tables;
 mod totals;
 
+pub use opening::open_desk;
 pub use tables::Tables;
 pub use totals::Totals;

@@ -1,4 +1,4 @@
-//! Adopting the tables that a database has.
+//! Checks that the tables of a database are a desk's.
 ghost use Rattle.std.specs.Prelude.{◌≡◌, ◌≢◌, ℤ, pos, false, None, Err, IsTrue, IfOk, IfErr, OnOk, OnErr};
 ghost use Rattle.registry_core.specs.Settings.{Settings};
 ghost use Rattle.sqlite.specs.Held.{state};
@@ -16,8 +16,8 @@ use desk_store::StoreFault;
 use registry_core::Config;
 use sqlite::{Alter, Connection};
 
-/// The configuration that the row of meta tells beside this version, whatever tables there are beside it: `NotADesk` where there
-/// is no such table, or no row of it in shape, `SchemaVersion` where that row tells another version.
+/// Returns the configuration in the row of meta, if its version is this one, whatever other tables there are. Returns `NotADesk` if there
+/// is no such table or its row isn't in form, and `SchemaVersion` if the row has another version.
 pub(crate) fn config_at<S: Alter>(
     conn: &mut Connection<S>,
     version: i64,
@@ -39,7 +39,7 @@ pub(crate) fn config_at<S: Alter>(
     ensures idle { conn.new.in_transaction ≡ false }
     ensures crash { Survives (state S.Store conn.old) (state S.Store conn.new) (λ _. ⊥) }
 {
-    // tells that all is committed
+    // shows that everything is committed
     prove!(conn.is_autocommit());
     if !has_meta(conn.schema()) {
         return Err(StoreFault::NotADesk);
@@ -54,9 +54,9 @@ pub(crate) fn config_at<S: Alter>(
     Ok(config)
 }
 
-/// The configuration of the desk that the database holds: `NotADesk` where the schema or the row of meta isn't a desk's,
-/// `SchemaVersion` where that row tells another version, whatever tables there are beside it.
-pub(crate) fn open_desk<S: Alter>(conn: &mut Connection<S>) -> Result<Config, StoreFault>
+/// Returns the configuration of the desk that the database has. Returns `NotADesk` if the schema or the row of meta isn't a desk's, and
+/// `SchemaVersion` if that row has another version, whatever other tables there are.
+pub fn open_desk<S: Alter>(conn: &mut Connection<S>) -> Result<Config, StoreFault>
     requires idle { conn.old.in_transaction ≡ false }
     requires unlimited { conn.old.step_limit ≡ None }
     ensures desk { HasCleanDisk (state S.Store conn.new) → IfOk result (λ c. (conn.old.schema ≡ desk_schema) × TellsMeta (state S.Store conn.old).now.trees (pos 2) c) }

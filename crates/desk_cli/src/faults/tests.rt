@@ -1,6 +1,7 @@
-//! The lines of faults are written whole, also where a writer takes an octet at a time: a contract says no more than that a
-//! beginning is.
+//! The lines of errors are written to their ends, also if a writer takes an octet at a time: a contract states only that their first octets
+//! are.
 use super::{Fault, end};
+use crate::audit::{Place, Table};
 use crate::tests::holding::{holds, holds_at};
 use std::alloc::Global;
 use std::io::{self, ErrorKind, Write};
@@ -44,7 +45,7 @@ impl Write for Slow {
     }
 }
 
-static LINES: [(Fault, &str); 14] = [
+static LINES: [(Fault, &str); 15] = [
     (Fault::Exists, "desk: exists\n"),
     (Fault::NotADesk, "desk: not a desk\n"),
     (Fault::Schema, "desk: schema\n"),
@@ -58,6 +59,13 @@ static LINES: [(Fault, &str); 14] = [
     (
         Fault::CsvRecord(4_294_967_295),
         "desk: csv record 4294967295\n",
+    ),
+    (
+        Fault::Differs(Place {
+            table: Table::BandLimit,
+            row: 18_446_744_073_709_551_615,
+        }),
+        "desk: differs at band_limit 18446744073709551615\n",
     ),
     (Fault::Unavailable, "desk: unavailable\n"),
     (Fault::File, "desk: file\n"),

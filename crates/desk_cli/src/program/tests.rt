@@ -1,8 +1,9 @@
-//! Whole runs of the program, over words, a file and a network of the tests.
+//! Whole runs of the program, with arguments, a file and a network of the tests.
 ghost use Rattle.std.specs.Prelude.{◌≡◌, ◌≢◌, false, None, IfOk};
 ghost use Rattle.desk_cli.specs.Doing.{known_alike};
 ghost use Rattle.desk_http.specs.Served.{unknown};
 
+mod audits;
 mod fused;
 mod held;
 mod host_files;
@@ -25,7 +26,7 @@ use std::io::{self, ErrorKind, Read, Write};
 use std::rt::Env;
 use std::test::Fail;
 
-/// A process that was started with these words. It has no variables.
+/// A process that was started with these arguments. It has no variables.
 #[derive(Clone, Copy)]
 struct Started<'a> {
     words: &'a [&'a [u8]],
@@ -128,7 +129,7 @@ impl Network for OnePort {
 
 const NETWORK: OnePort = OnePort { free: 8080 };
 
-/// The program runs with these arguments: how it ends, what is on standard error, and the connection to its file.
+/// Runs the program with these arguments. Returns how it ends, what is on standard error, and the connection to its file.
 pub(super) fn ran<R: AllocGlobal, S: Alter + Drop, N: Files<S>, I: Read, W: Write>(
     rt: &R,
     words: &[&[u8]],
@@ -156,14 +157,14 @@ const VERSION: &str = "desk 2026-11-29\nschema 2\nRattle kit, logic dac8208d650f
 const NO_COMMAND: &str =
     "error: a command is needed\n\nUsage: desk [COMMAND]\n\nFor more information, try '--help'.\n";
 
-/// The first word is the name that the program was called by, whatever it is.
+/// The first argument is the name by which the program was called, whatever it is.
 const NO_COMMAND_OF_LINES: &str =
     "error: a command is needed\n\nUsage: lines [COMMAND]\n\nFor more information, try '--help'.\n";
 
 const EMPTY_WORD: &str =
     "error: unexpected argument '' found\n\nUsage: desk lines [OPTIONS]\n\nFor more information, try '--help'.\n";
 
-/// None, or more than there are from the base on.
+/// No addresses, or more than there are from the base on.
 const ADDRESSES: &str =
     "error: --addresses is at least 1, and ends at address ffffffff or before\n\nFor more information, try '--help'.\n";
 
@@ -173,7 +174,7 @@ const RECEIVER: &str =
 const OPERATOR: &str =
     "error: --operator takes 1 to 32 ASCII letters, digits, '-', '_' and '.'\n\nFor more information, try '--help'.\n";
 
-/// The other helps stand in `checks/words.py`, with what is printed of other words.
+/// `checks/words.py` has the other helps, and what is printed for other arguments.
 const LINES_HELP: &str = "\
 Answers the messages of standard input, one a line, for a new desk in memory
 
@@ -192,7 +193,7 @@ Example:
 
 const NO_TEXT: &str = "error: a word isn't UTF-8\n";
 
-/// Words, how the program ends, its answers, and what is on its fault line.
+/// Arguments, how the program ends, its standard output, and its standard error.
 type Row = (&'static [&'static [u8]], Ending, &'static str, &'static str);
 
 static ROWS: [Row; 17] = [
@@ -287,7 +288,7 @@ fn runs_of_words(rt: HostRuntime) -> Result<(), Fail> {
     Ok(())
 }
 
-/// No test refuses memory, so what is printed then is asked here.
+/// No test makes an allocation fail, so what is printed then is checked here.
 #[test]
 fn want_of_memory_is_printed(rt: HostRuntime) -> Result<(), Fail> {
     let printed = Usage::Memory.to_string(rt.alloc())?;

@@ -2,8 +2,10 @@
 use super::holding::holds;
 use super::opening;
 use super::rows::{ADDED, MALFORMED, OTHER_OWNER, REQUEST};
+use super::streams::Slow;
 use desk_engine::{LinesEnd, run_lines};
 use desk_store::{Keeper, Lists};
+use std::io::Read;
 use std::process::Abort;
 use std::test::Fail;
 
@@ -17,8 +19,18 @@ pub(super) fn expect_written<R: Abort + AllocGlobal, K: Keeper>(
     input: &str,
     wanted: &str,
 ) {
+    expect_read(rt, keeper, &mut input.as_bytes(), wanted);
+}
+
+/// The desk writes this for what the reader gives.
+fn expect_read<R: Abort + AllocGlobal, K: Keeper, I: Read>(
+    rt: &R,
+    keeper: &mut K,
+    reader: &mut I,
+    wanted: &str,
+) {
     let mut written = Vec::new(rt.alloc());
-    let end = run_lines(rt.alloc(), keeper, &mut input.as_bytes(), &mut written);
+    let end = run_lines(rt.alloc(), keeper, reader, &mut written);
     holds(rt, end == LinesEnd::Done, "the end of the lines");
     holds(rt, written.as_slice() == wanted.as_bytes(), wanted);
 }
@@ -52,4 +64,13 @@ fn a_line_has_a_limit(rt: HostRuntime) -> Result<(), Fail> {
     let input = format!(in alloc; "{REQUEST}{spaces}\n{REQUEST}{spaces} \n{OTHER_OWNER}\n")?;
     let wanted = format!(in alloc; "{ADDED}\n{MALFORMED}\n{REUSED}\n")?;
     expect_answers(&rt, input.as_str(), wanted.as_str())
+}
+
+#[test]
+fn a_line_after_a_million_reads(rt: HostRuntime) -> Result<(), Fail> {
+    let mut lists = opening::<Lists>(rt.alloc(), 65_536)?;
+    let wanted = format!(in rt.alloc(); "{ADDED}\n")?;
+    let mut reader = Slow::new(REQUEST.as_bytes());
+    expect_read(&rt, &mut *lists, &mut reader, wanted.as_str());
+    Ok(())
 }

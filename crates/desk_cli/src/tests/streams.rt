@@ -94,6 +94,38 @@ impl Read for Interrupted<'_> {
     }
 }
 
+/// Is interrupted a million times, then gives an LF in each of a million reads, and then its octets.
+#[derive(Drop)]
+pub(crate) struct Slow<'a> {
+    left: &'a [u8],
+    interruptions: u32,
+    line_feeds: u32,
+}
+
+impl<'a> Slow<'a> {
+    pub(crate) fn new(left: &'a [u8]) -> Self {
+        Slow {
+            left,
+            interruptions: 1_000_001,
+            line_feeds: 1_000_001,
+        }
+    }
+}
+
+impl Read for Slow<'_> {
+    fn read(&mut self, buf: &mut [u8]) -> io::Result<usize> {
+        if self.interruptions > 0 {
+            self.interruptions -= 1;
+            return Err(ErrorKind::Interrupted.into());
+        }
+        if self.line_feeds > 0 {
+            self.line_feeds -= 1;
+            return (&b"\n"[..]).read(buf);
+        }
+        self.left.read(buf)
+    }
+}
+
 /// Holds back what it takes until it is flushed. A flush may fail.
 #[derive(Drop)]
 pub(crate) struct Holding {

@@ -8,4 +8,5 @@ returns c =
     let three = c.added-desk-3.ensures _ _ two c.bands_app.ensures in
     let four = c.added-desk-4.ensures _ _ three c.room_app.ensures in
     let five = c.added-desk-5.ensures _ _ four c.log_app.ensures in
-    c.added.ensures _ _ five c.check_app.ensures
+    let six = c.added-desk-6.ensures _ _ five c.check_app.ensures in
+    c.added.ensures _ _ six c.audit_app.ensures

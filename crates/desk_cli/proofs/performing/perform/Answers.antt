@@ -1,6 +1,6 @@
 use Rattle.std.proofs.Common.{refl}
 use Rattle.std.proofs.KnownBytes.{Keeps-refl}
-use Rattle.desk_cli.proofs.ByRules.{answers_by_rules, by_rules, imports_by_rules, logs_by_rules, prints_by_rules, serves_by_rules}
+use Rattle.desk_cli.proofs.ByRules.{answers_by_rules, audits_by_rules, by_rules, imports_by_rules, logs_by_rules, prints_by_rules, serves_by_rules}
 use Rattle.desk_cli.proofs.Ended.{ends_so}
 use Rattle.desk_cli.proofs.performing.perform.Goals as goal
 
@@ -57,5 +57,11 @@ returns-in-Log g c = rw c.in-Log.is (ends_so c.log_file.ensures (λ r done. (
 pub returns-in-Check : goal.returns-in-Check
 returns-in-Check g c = rw c.in-Check.is (ends_so c.check_file.ensures (λ r done. (
   by_rules _ (g.N.Files.paths c.args.files) _ _ _ _ _ (λ back config heard. prints_by_rules c.rules_are_kept.ensures _ back config heard _ _ _ _) done,
+  Keeps-refl _,
+)))
+
+pub returns-in-Audit : goal.returns-in-Audit
+returns-in-Audit g c = rw c.in-Audit.is (ends_so c.audit_file.ensures (λ r done. (
+  audits_by_rules c.rules_are_kept.ensures _ (g.N.Files.paths c.args.files) _ _ _ r _ _ done,
   Keeps-refl _,
 )))

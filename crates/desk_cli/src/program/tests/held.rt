@@ -1,4 +1,4 @@
-//! Commands whose output is held back until it is flushed, whose input is interrupted, and whose disk is full.
+//! Commands whose output is buffered until it is flushed, whose input is interrupted, and whose disk is full.
 use super::fused::{ROWS, Row};
 use super::{OneFile, ran};
 use crate::endings::Ending;
@@ -10,8 +10,8 @@ use sqlite::{Alter, Connection};
 use std::process::Abort;
 use std::test::Fail;
 
-/// The command reads between interruptions, and its output is held back; a flush fails, or none does: how it ends, what came out, and
-/// what is on standard error.
+/// Runs the command with interruptions between reads and with buffered output; a flush fails, or none does. Returns how it ends, what was
+/// written, and what is on standard error.
 fn ended<R: Abort + AllocGlobal, S: Alter + Drop>(
     rt: &R,
     row: &Row,
@@ -26,12 +26,15 @@ fn ended<R: Abort + AllocGlobal, S: Alter + Drop>(
     (ending, answers.given, faults)
 }
 
-/// What is flushed comes out; where a flush fails nothing does, and the command ends by its output.
+/// Without it in `ROWS`: it has no connection to give back if its file can't be read to the end.
+static AUDIT: [Row; 1] = [(&[b"desk", b"audit", b"f.db"], "", "heard: 5\nin order\n")];
+
+/// What is flushed is written; if a flush fails nothing is, and the command ends because its output failed.
 #[test]
 fn commands_flush_what_they_answer(rt: HostRuntime) -> Result<(), Fail> {
     let all = deliveries(rt.alloc())?;
     let before = all.get(..5).ok_or("no messages")?;
-    for (place, row) in ROWS.iter().enumerate() {
+    for (place, row) in ROWS.iter().chain(AUDIT.iter()).enumerate() {
         let (ending, given, faults) = ended(&rt, row, heard(&rt, before)?, false);
         holds_at(&rt, ending == Ending::Done && faults.is_empty(), place);
         holds_at(&rt, given.as_slice() == row.2.as_bytes(), place);
@@ -42,7 +45,7 @@ fn commands_flush_what_they_answer(rt: HostRuntime) -> Result<(), Fail> {
     Ok(())
 }
 
-/// One message more than may be heard.
+/// One more message than may be heard.
 #[test]
 fn a_message_has_no_room(rt: HostRuntime) -> Result<(), Fail> {
     let all = all_deliveries(rt.alloc())?;

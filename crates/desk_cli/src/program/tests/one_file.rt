@@ -8,7 +8,7 @@ use sqlite::{Alter, Connection};
 use std::process::Abort;
 use std::test::Fail;
 
-/// The worked report's, of whose gateways nobody has added any.
+/// The answers of the worked report if nobody has added its gateways.
 const REPORT_ANSWERS: &str = "\
 {\"MessageType\":\"JoinHeardAns\",\"ProtocolVersion\":\"1.0\",\"ReceiverID\":\"office\",\"Result\":{\"Description\":\"gateway\",\"ResultCode\":\"Other\"},\"SenderID\":\"desk\",\"TransactionID\":10}
 {\"MessageType\":\"FrameHeardAns\",\"ProtocolVersion\":\"1.0\",\"ReceiverID\":\"office\",\"Result\":{\"Description\":\"gateway\",\"ResultCode\":\"Other\"},\"SenderID\":\"desk\",\"TransactionID\":11}
@@ -42,7 +42,7 @@ bookings: 0
 replies: 4
 ";
 
-/// Words behind the program's name, the standard input, how the program ends, its answers, and what is on its fault line.
+/// Arguments after the program's name, standard input, how the program ends, its standard output, and its standard error.
 type Row = (
     &'static [&'static [u8]],
     &'static str,
@@ -51,10 +51,17 @@ type Row = (
     &'static str,
 );
 
-static ROWS: [Row; 20] = [
+static ROWS: [Row; 22] = [
     (
         &[b"desk", b"import", b"f.db", b"--sender", b"office"],
         WORKED,
+        Ending::Refused,
+        "",
+        "desk: not a desk\n",
+    ),
+    (
+        &[b"desk", b"audit", b"f.db"],
+        "",
         Ending::Refused,
         "",
         "desk: not a desk\n",
@@ -161,6 +168,13 @@ static ROWS: [Row; 20] = [
     ),
     (&[b"desk", b"check", b"f.db"], "", Ending::Done, HOLDS, ""),
     (
+        &[b"desk", b"audit", b"f.db"],
+        "",
+        Ending::Done,
+        "heard: 4\nin order\n",
+        "",
+    ),
+    (
         &[b"desk", b"import", b"f.db", b"--sender", b"office"],
         "transaction\n",
         Ending::Refused,
@@ -187,7 +201,7 @@ static ROWS: [Row; 20] = [
     ),
 ];
 
-/// The row in this place, on the connection that the row before gave back.
+/// Runs the row in this place, on the connection that the row before gave back.
 fn ends<R: Abort + AllocGlobal, S: Alter + Drop>(
     rt: &R,
     place: usize,
@@ -214,7 +228,7 @@ fn ends<R: Abort + AllocGlobal, S: Alter + Drop>(
     Ok(conn.ok_or("no connection")?)
 }
 
-/// The rows in order.
+/// Runs the rows in order.
 fn all_end<R: Abort + AllocGlobal, S: Alter + Drop>(
     rt: &R,
     conn: Connection<S>,

@@ -1,0 +1,5 @@
+use Rattle.desk_cli.proofs.Standbys.{logs_make_desks}
+use Rattle.desk_cli.proofs.laws.logs_make_desks.Goals as goal
+
+pub returns : goal.returns
+returns g c = logs_make_desks g.S.Store g.T.Store c.log_lines_are_the_desk.ensures

@@ -1,0 +1,104 @@
+//! `desk audit`: whether a file is what a desk wrote.
+ghost use Rattle.std.specs.Prelude.{◌≡◌, false, None, IfOk};
+ghost use Rattle.std.specs.String.{string_bytes};
+ghost use Rattle.clap.specs.Matches.{found_of};
+ghost use Rattle.clap.specs.Walk.{rows_of};
+ghost use Rattle.desk_cli.specs.Faults.{Ends};
+ghost use Rattle.desk_cli.specs.Named.{TellsNamed};
+ghost use Rattle.desk_cli.specs.commands.Auditing.{AuditsBy, audit_app, audit_named, audit_text};
+ghost use Rattle.desk_cli.specs.steps.Auditing.{PrintsFinding};
+ghost use Rattle.desk_cli.specs.steps.CommandLine.{IsCommand};
+
+use super::Command;
+use crate::audit::{Finding, audited};
+use crate::endings::Ending;
+use crate::faults::{Fault, end};
+use crate::options::{command_on_file, placed};
+use crate::usage::Usage;
+use clap::ArgMatches;
+use desk_engine::write_whole;
+use sqlite::{Alter, Connection};
+use std::alloc::{AllocError, Global};
+use std::io::Write;
+
+/// Returns its command line: its name and the file.
+pub(crate) fn audit_app<'a>(alloc: Global) -> Result<clap::Command<'a>, AllocError>
+    ensures { IsCommand audit_app result }
+{
+    let about = "Checks that a desk's file has exactly the rows that its messages make";
+    let example = "Example:\n  desk audit town.db";
+    command_on_file(alloc, "audit", about, example)
+}
+
+/// Returns the command that its arguments give.
+pub(crate) fn audit_of<'a>(options: &ArgMatches<'a>) -> Result<Command<'a>, Usage>
+    ensures { TellsNamed (audit_named (rows_of (found_of options.now))) result }
+{
+    let file = placed(options, "file")?;
+    Ok(Command::Audit { file })
+}
+
+/// Reports whether the connection's database is what a desk wrote. A new desk in memory hears the messages of the database anew, and
+/// all rows of both are compared, the answers too. If they are the same, prints the number of messages, and that all is in order.
+///
+/// The database stays as it is. Returns the connection, unless the audit couldn't be completed. Then the error is `Unavailable`.
+///
+/// # Errors
+///
+/// Writes one line to standard error. Nothing is printed then, or with `File` perhaps a part of the text.
+///
+/// - `Differs` if the database isn't what a desk wrote. It names the first row that differs, a reply before rows of other tables.
+/// - `NotADesk`, `Schema` or `Unavailable` if the database isn't a desk of schema 2.
+/// - `Unavailable` if an allocation or the disk failed.
+/// - `File` if a write to standard output failed.
+pub fn audit_command<S: Alter + Drop, W: Write, F: Write>(
+    alloc: Global,
+    conn: Connection<S>,
+    answers: &mut W,
+    faults: &mut F,
+) -> (Ending, Option<Connection<S>>)
+    requires idle { conn.in_transaction ≡ false }
+    requires unlimited { conn.step_limit ≡ None }
+    ensures { Ends F.contents faults.old faults.new result.0 (λ done. AuditsBy S.Store conn result.1 (W.contents answers.old) (W.contents answers.new) done) }
+{
+    let (done, conn) = print_audit(alloc, conn, answers);
+    (end(faults, done), conn)
+}
+
+/// Audits the database, prints what was found, and returns the connection.
+fn print_audit<S: Alter + Drop, W: Write>(
+    alloc: Global,
+    conn: Connection<S>,
+    answers: &mut W,
+) -> (Result<(), Fault>, Option<Connection<S>>)
+    requires idle { conn.in_transaction ≡ false }
+    requires unlimited { conn.step_limit ≡ None }
+    ensures { AuditsBy S.Store conn result.1 (W.contents answers.old) (W.contents answers.new) result.0 }
+{
+    let (found, conn) = audited(alloc, conn);
+    (print_finding(alloc, answers, found), conn)
+}
+
+/// Prints the number of messages, and that all is in order. Returns `Differs` for a difference, and the audit's error.
+fn print_finding<W: Write>(
+    alloc: Global,
+    answers: &mut W,
+    found: Result<Finding, Fault>,
+) -> Result<(), Fault>
+    ensures { PrintsFinding found (W.contents answers.old) (W.contents answers.new) result }
+{
+    match found {
+        Ok(Finding::InOrder(count)) => match audit_text(alloc, count) {
+            Ok(text) => write_whole(answers, text.as_bytes()).map_err(|_| Fault::File),
+            Err(_) => Err(Fault::Unavailable),
+        },
+        Ok(Finding::Differs(place)) => Err(Fault::Differs(place)),
+        Err(fault) => Err(fault),
+    }
+}
+
+fn audit_text(alloc: Global, count: u64) -> Result<String, AllocError>
+    ensures { IfOk result (λ text. string_bytes text ≡ audit_text count) }
+{
+    format!(in alloc; "heard: {count}\nin order\n")
+}
