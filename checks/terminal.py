@@ -1,7 +1,9 @@
 #!/usr/bin/env python3
-"""Checks that a terminal shows which file can't be opened, and why; and that standard error has the one line elsewhere.
+"""Checks what a terminal shows: which file can't be opened, and why; and how many lines a command has read.
 
     checks/terminal.py [--program FILE]
+
+Elsewhere standard error has the one line of an error, or nothing, and standard output is the same.
 
 The program is `./desk`, which is proved and built first if it isn't current, or with --program the built one in FILE.
 """
@@ -11,12 +13,18 @@ import os
 import pty
 import subprocess
 import tempfile
+import time
 from pathlib import Path
 
-from common import add_program, ready, wants
+from common import ROOT, add_program, ready, wants
 
 NOBODY = 65_534
 TOLD = "desk: file\n"
+LINES = b"".join(path.read_bytes() for path in sorted((ROOT / "examples").glob("[1-4]-*.jsonl"))).splitlines(keepends=True)
+FIRST = 5  # how many of them come before the pause
+# above the second after which a number is shown
+PAUSE_SECONDS = 1.2
+CLEARED = "\r\x1b[K"
 
 
 def as_nobody():
@@ -30,6 +38,13 @@ def at_terminal(program, *words, **more):
     ours, theirs = pty.openpty()
     ran = subprocess.run([program, *words], stdin=subprocess.DEVNULL, stdout=subprocess.PIPE, stderr=theirs, **more)
     os.close(theirs)
+    told = shown_at(ours)
+    wants(not ran.stdout, f"{words} prints {ran.stdout}")
+    return ran.returncode, told
+
+
+def shown_at(ours):
+    """What a terminal has shown that no program has open any more. It is closed."""
     told = b""
     try:
         while octets := os.read(ours, 4096):
@@ -37,8 +52,7 @@ def at_terminal(program, *words, **more):
     except OSError:
         pass  # the end of a terminal that nobody has open
     os.close(ours)
-    wants(not ran.stdout, f"{words} prints {ran.stdout}")
-    return ran.returncode, told.decode().replace("\r\n", "\n")
+    return told.decode().replace("\r\n", "\n")
 
 
 def cases(program):
@@ -64,6 +78,65 @@ def cases(program):
         holding.stdin.close()
 
 
+# ---- how many lines were read
+
+
+def lines_from(stream, count):
+    """Reads `count` lines from a file descriptor, which has no more now."""
+    text = b""
+    while text.count(b"\n") < count:
+        octets = os.read(stream, 65_536)
+        wants(octets, f"{count} lines don't come: {text}")
+        text += octets
+    return text
+
+
+def hears(program, file, stdout=None, stderr=subprocess.PIPE, is_cut=False):
+    """Runs `hear`, and writes the first lines to it, then, more than a second later, the others. `stdout` is a terminal's two ends, if
+    it isn't a pipe. With `is_cut` nobody reads the answers after that to the first of the later lines. Returns its status, its
+    answers, and what came to a pipe of standard error."""
+    subprocess.run([program, "init", file], check=True)
+    ours, theirs = stdout or os.pipe()
+    # a write to a pipe without a reader fails then, in place of a signal
+    ran = subprocess.Popen([program, "hear", file], stdin=subprocess.PIPE, stdout=theirs, stderr=stderr, restore_signals=False)
+    os.close(theirs)
+    ran.stdin.write(b"".join(LINES[:FIRST]))
+    ran.stdin.flush()
+    answers = lines_from(ours, FIRST)
+    time.sleep(PAUSE_SECONDS)
+    rest = LINES[FIRST:]
+    if is_cut:
+        ran.stdin.write(rest.pop(0))
+        ran.stdin.flush()
+        answers += lines_from(ours, 1)
+        os.close(ours)
+    told = ran.communicate(b"".join(rest))[1]
+    if not is_cut:
+        answers += shown_at(ours).encode()
+    return ran.returncode, answers.replace(b"\r\n", b"\n"), told
+
+
+def hears_at_terminal(program, file, **more):
+    """The same with a terminal as standard error, and what that shows."""
+    ours, theirs = pty.openpty()
+    status, answers, _ = hears(program, file, stderr=theirs, **more)
+    os.close(theirs)
+    return status, answers, shown_at(ours)
+
+
+def shows_progress(program):
+    """A terminal shows how many lines were read, but not if the answers come to a terminal too."""
+    status, answers, told = hears(program, "piped.db")
+    wants((status, answers.count(b"\n"), told) == (0, len(LINES), b""), f"hear ends with {status} {answers} {told}")
+    found = hears_at_terminal(program, "shown.db")
+    wants(found == (0, answers, f"\rdesk: {len(LINES)} lines{CLEARED}"), f"hear at a terminal ends with {found}")
+    found = hears_at_terminal(program, "both.db", stdout=pty.openpty())
+    wants(found == (0, answers, ""), f"hear with its answers at a terminal ends with {found}")
+    found = hears_at_terminal(program, "cut.db", is_cut=True)
+    first = b"".join(answers.splitlines(keepends=True)[: FIRST + 1])
+    wants(found == (3, first, f"\rdesk: {FIRST + 1} lines{CLEARED}{TOLD}"), f"hear whose answers are cut ends with {found}")
+
+
 def main():
     words = argparse.ArgumentParser(description=__doc__, formatter_class=argparse.RawDescriptionHelpFormatter)
     add_program(words)
@@ -78,7 +151,8 @@ def main():
             ran = subprocess.run([program, *command], stdin=subprocess.DEVNULL, capture_output=True, text=True, preexec_fn=before)
             wants((ran.returncode, ran.stderr, ran.stdout) == (3, TOLD, ""), f"{command} ends with {ran}")
             tried += 1
-    print(f"{tried} files can't be opened: a terminal shows why, and standard error has one line elsewhere")
+        shows_progress(program)
+    print(f"{tried} files can't be opened: a terminal shows why, and standard error has one line elsewhere; it shows how many lines were read")
 
 
 if __name__ == "__main__":

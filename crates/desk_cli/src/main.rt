@@ -19,6 +19,7 @@ mod options;
 mod performing;
 mod printing;
 mod program;
+mod progress;
 mod sockets;
 mod stopping;
 #[cfg(test)]
@@ -27,6 +28,7 @@ mod usage;
 mod words;
 
 use files::HostFiles;
+use progress::{Cleared, Counted};
 use sockets::Sockets;
 use sqlite::{Start, Unknown};
 use std::cell::Cell;
@@ -45,13 +47,14 @@ fn run_on<T: Start>(rt: &HostRuntime, start: T) -> ExitCode {
         start,
         why: &why,
     };
+    let is_shown = Cell::new(false);
     let (ending, conn) = program::run(
         rt,
         files,
         &Sockets::new(rt, rt.stderr()),
-        &mut rt.stdin(),
+        &mut Counted::new(rt.stdin(), rt, progress::terminal(rt), &is_shown),
         &mut rt.stdout(),
-        &mut rt.stderr(),
+        &mut Cleared::new(rt.stderr(), rt.stderr(), &is_shown),
     );
     if let Some(line) = why.take() {
         // The line before reports that it is the file; this one is for a user at a terminal.
