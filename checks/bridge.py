@@ -11,7 +11,7 @@ At the end sqlite3 reads the desk's file, at rest. Each frame is booked once, wi
 was acknowledged is a reception, and what was replayed or has a wrong MIC is booked never. Each accepted join has one accept. Each
 transmission of a gateway has a booking of its own that isn't dropped: begin, frequency, data rate and time on air are those of the
 booking. The journal's answers are the desk's, no hour of a sub-band is above its limit, and the room that is left after a gateway's
-last downlink is the one that a plain computation finds.
+last downlink is the one that a plain computation finds. `desk audit` finds the file in order, with as many messages as it has replies.
 
 It prints what it saw, and each thing that isn't as it should be; then it fails. The program is `./desk`, which is proved and built
 first if it isn't current, or with --program the built one in FILE.
@@ -386,6 +386,15 @@ def rooms_agree(program, file):
                 yield f"{gateway} at {end}: the room is {line} and not {wanted}"
 
 
+def audit_passes(program, file):
+    with reading(file) as desk:
+        (count,) = desk.execute("SELECT COUNT(*) FROM reply").fetchone()
+    ran = subprocess.run([program, "audit", file], capture_output=True, text=True)
+    wanted = f"heard: {count}\nin order\n"
+    if (ran.returncode, ran.stdout, ran.stderr) != (0, wanted, ""):
+        yield f"the audit ends with {ran.returncode}: {ran.stdout!r}, {ran.stderr!r}"
+
+
 def use(spans, begin):
     """How much of the hour that begins then the spans take."""
     return sum(max(0, min(begin + HOUR_US, start + airtime) - max(begin, start)) for start, airtime in spans)
@@ -444,7 +453,7 @@ def run_seed(program, seed, given):
         file, *kills = run_town(program, folder, town, given, seed)
         books = read_books(file, folder)
         wrong = town.errors + [what for check in CHECKS for what in check(books, town)]
-        wrong += [*hours_are_within(program, file, town), *rooms_agree(program, file)]
+        wrong += [*hours_are_within(program, file, town), *rooms_agree(program, file), *audit_passes(program, file)]
     print(f"seed {seed}, {time.monotonic() - begun:.0f} s")
     for what, figure in table(books, town, kills):
         print(f"    {what:<38} {figure}")

@@ -113,6 +113,7 @@ def changed_sources(copy):
         "docs/GLOSSARY.md": "[nowhere](nowhere.md)\n",
         "checks/common.py": "def (\n",
         "crates/radio_core/src/data_rates.rt": "\n",
+        "crates/duty_core/src/lib.rt": (ROOT / "crates/duty_core/src/lib.rt").read_text() + "/// A stranger.\n",
         "crates/radio_core/src/lib.rt": (ROOT / "crates/radio_core/src/lib.rt").read_text().replace("#![tactic(auto)]", ""),
     }
     for name, wrong in broken.items():

@@ -9,7 +9,9 @@ and built first if it isn't current, or with --program the built one in FILE.
 """
 
 import argparse
+import json
 import os
+import re
 import resource
 import shutil
 import signal
@@ -19,10 +21,12 @@ import subprocess
 import sys
 import tempfile
 import time
+from collections import Counter
 from pathlib import Path
 
-from common import ROOT, add_program, ready
+from common import ROOT, TABLES, add_program, ready, text_of
 from http_client import asked, body, free_port, get, post, posted, received
+from mixed_operation import mixed_operation
 
 EXAMPLES = ROOT / "examples"
 REGISTRY = (EXAMPLES / "1-registry.jsonl").read_text()
@@ -134,7 +138,7 @@ def options(desk):
 
 def missing(desk):
     """A file that isn't there is refused, and not made."""
-    for words in (["hear"], ["import", "--sender", "bridge"], ["report", "town", "2024-02"], ["bands", "gw-a"], ["check"], ["migrate"]):
+    for words in (["hear"], ["import", "--sender", "bridge"], ["report", "town", "2024-02"], ["bands", "gw-a"], ["check"], ["audit"], ["migrate"]):
         desk.ends(3, "desk: file\n", words[0], "nothing.db", *words[1:], given=HEADER)
     desk.ends(3, "desk: file\n", "serve", "nothing.db", "--port", str(free_port()), "--count", "1")
     desk.wants(not list(Path().iterdir()), f"no file is made: {list(Path().iterdir())}")
@@ -184,7 +188,7 @@ def earlier(desk):
     """A file of schema 1 is refused by every command but `migrate`, by that one where the disk is full, and left as it is."""
     file = schema_1(desk, "town.db")
     before = file.read_bytes()
-    for words in (["hear"], ["import", "--sender", "bridge"], ["report", "town", "2024-02"], ["bands", "gw-a"], ["check"]):
+    for words in (["hear"], ["import", "--sender", "bridge"], ["report", "town", "2024-02"], ["bands", "gw-a"], ["check"], ["audit"]):
         desk.ends(1, "desk: schema\n", words[0], file, *words[1:], given=HEADER)
     desk.ends(1, "desk: schema\n", "serve", file, "--port", str(free_port()), "--count", "1")
     desk.ends(1, "desk: exists\n", "init", file)
@@ -209,6 +213,7 @@ def migrating(desk):
     desk.ends(0, "", "bands", file, "gw-a", written=(EXAMPLES / "band-report.csv").read_text().replace("B1,3600000", "B1,0"))
     counted = {line.partition(": ")[0]: line.partition(": ")[2] for line in desk.run("check", file)[1].splitlines()}
     desk.wants((counted.get("schema"), counted.get("limits")) == ("2", "1"), f"check counts {counted}")
+    desk.ends(0, "", "audit", file, written=f"heard: {counted.get('replies')}\nin order\n")
     before = file.read_bytes()
     desk.ends(1, "desk: schema\n", "migrate", file)
     desk.wants(file.read_bytes() == before, "a file that was moved is left as it is")
@@ -287,7 +292,7 @@ def held(desk):
     """A file is one program's: others are refused, and reports are asked of the one that serves."""
     file = desk.made()
     program, port = desk.serving(file, 3)
-    for words in (["hear", file], ["report", file, "town", "2024-02"], ["bands", file, "gw-a"], ["check", file], ["migrate", file], ["import", file, "--sender", "bridge"]):
+    for words in (["hear", file], ["report", file, "town", "2024-02"], ["bands", file, "gw-a"], ["check", file], ["audit", file], ["migrate", file], ["import", file, "--sender", "bridge"]):
         desk.ends(3, "desk: file\n", *words, given=HEADER)
     desk.ends(3, "desk: file\n", "init", file)
     try:
@@ -396,6 +401,7 @@ def smaller_pages(desk):
         (["report", "town", "2024-02"], ""),
         (["bands", "gw-a"], ""),
         (["check"], ""),
+        (["audit"], ""),
         (["log"], ""),
         (["log", "--answers"], ""),
         (["hear"], more_messages(500)),
@@ -418,6 +424,45 @@ def smaller_pages(desk):
     desk.ends(0, "", "hear", file, given=MESSAGES, written=ANSWERS)
     sizes = [page_size(Path(name)) for name in (file, "backup.db", usual)]
     desk.wants(sizes == [2_048, 2_048, 4_096], f"the files have pages of {sizes} octets")
+
+
+def town_of_its_own():
+    """The four options of a town's desk, and lines for it: messages of all types, refused, repeated and copied ones among them."""
+    options = ["--receiver", "town-desk", "--operator", "clerk", "--base", "01b00000", "--addresses", "150"]
+    lines = []
+    for line in mixed_operation(3_200, seed=7, devices=100):
+        line = line.replace('"ReceiverID":"desk"', '"ReceiverID":"town-desk"').replace('"SenderID":"office"', '"SenderID":"clerk"')
+        # the address of a data frame, its last octet first
+        lines.append(re.sub(r'("PHYPayload":"[46]0....)a001', r"\1b001", line))
+    return options, text_of(lines)
+
+
+def copied_by_log(desk):
+    """What `log` prints makes the same desk in a new file, as a whole and in three parts that overlap."""
+    options, lines = town_of_its_own()
+    file = Path("town.db")
+    desk.ends(0, "", "init", file, *options)
+    desk.run("hear", file, given=lines)
+    wanted = rows_of(file)
+    desk.wants(sorted(wanted) == sorted(TABLES), f"the file has the tables {sorted(wanted)}")
+    _, messages, _ = desk.run("log", file)
+    _, answers, _ = desk.run("log", file, "--answers")
+    results = Counter((answer["MessageType"], answer["Result"]["Description"]) for answer in map(json.loads, answers.splitlines()))
+    heard, types = results.total(), {name for name, refusal in results if not refusal}
+    refusals = {refusal for _, refusal in results if refusal}
+    desk.wants(heard >= 3_000 and len(types) == 10 and len(refusals) >= 15, f"of {heard} messages {types} succeed, refused by {refusals}")
+    parts = {"whole": [(1, heard)], "parts": [(1, 1_200), (1_000, 1_200), (2_000, heard)]}
+    for name, ranges in parts.items():
+        other = Path(f"{name}.db")
+        desk.ends(0, "", "init", other, *options)
+        for first, count in ranges:
+            given, written = ("".join(text.splitlines(keepends=True)[first - 1 :][:count]) for text in (messages, answers))
+            desk.ends(0, "", "log", file, "--from", str(first), "--count", str(count), written=given)
+            desk.ends(0, "", "hear", other, given=given, written=written)
+        for table, rows in rows_of(other).items():
+            desk.wants(rows == wanted[table], f"{other} has other rows in {table}")
+        for log, options_of_log in ((messages, []), (answers, ["--answers"])):
+            desk.ends(0, "", "log", other, *options_of_log, written=log)
 
 
 def moved_logs(desk):
@@ -527,6 +572,7 @@ PARTS = [
     killed,
     backups,
     smaller_pages,
+    copied_by_log,
     moved_logs,
     full_disk,
     full_output,

@@ -10,8 +10,9 @@ program (bench/dictionaries.py).
 
 At the end the follower runs once more, until it has all messages. Then both files have to have the same rows in each of the eleven
 tables, and in the same order. `desk log` has to print the messages and the answers that are in the rows, for both files alike. The
-second file and a new one hear that log: each answer has to be the first desk's, and then both have its rows. The program is `./desk`,
-which is proved and built first if it isn't current, or with --program the built one in FILE.
+second file and a new one hear that log: each answer has to be the first desk's, and then both have its rows. `desk audit` has to find
+all three files in order. The program is `./desk`, which is proved and built first if it isn't current, or with --program the built one
+in FILE.
 
 For the whole run `--messages 20000 --kills 200`.
 """
@@ -262,6 +263,9 @@ def compare(program, town, folder):
     for file in (town.standby, moved):
         wants(printed(program, "hear", file, given=messages) == answers, f"{file.name} answers the log otherwise than the desk did")
         has_rows(file, wanted)
+    in_order = f"heard: {len(wanted['reply'])}\nin order\n".encode()
+    for file in (town.file, town.standby, moved):
+        wants(printed(program, "audit", file) == in_order, f"an audit of {file.name} prints something else than {in_order}")
     return wanted
 
 

@@ -16,7 +16,7 @@ that wasn't synced.
 
 The cases are `init`, `hear` of no message, which is an opening, and then, of the requests or calls after it, `hear` of each request of
 docs/PROTOCOL.md on a file that has heard those before it, which are of all ten messages and answered in all ways, `import`, `report`,
-`bands`, `check`, `migrate` of a file of schema 1, and `serve`: a message and both reports, each by two connections. A request by HTTP
+`bands`, `check`, `audit`, `migrate` of a file of schema 1, and `serve`: a message and both reports, each by two connections. A request by HTTP
 is answered, by 503 too, or its connection ends; if memory was refused the second connection is then answered, and after a call that is
 refused it gets 503 too. If memory is refused there is one case more, `lines` of all of the page's requests, where no file is left to
 be read; after calls that are refused it is `hear` of a stream of mixed operation (mixed_operation.py: repeats, copies, changed and
@@ -314,6 +314,7 @@ def cases_in(program, folder, seed):
     yield Case("bands", day, "bands", "gw-a", written=(EXAMPLES / "band-report.csv").read_text())
     _, counted, _, _ = program.run(["check", day], "")
     yield Case("check", day, "check", written=counted)
+    yield Case("audit", day, "audit", written=f"heard: {lines.count(chr(10))}\nin order\n")
     first = folder / "first.db"
     copy_to(day, first)
     execute(first, TO_SCHEMA_1)

@@ -43,6 +43,7 @@ Commands:
   room     Prints how long a downlink of a gateway may be that begins at a time
   log      Prints the messages that the desk has heard, or their answers, one a line
   check    Prints what a desk's file was made with, and how much it holds
+  audit    Checks that a desk's file has exactly the rows that its messages make
   help     Print this message or the help of the given subcommand(s)
 
 Options:
@@ -231,6 +232,20 @@ Options:
 Example:
   desk check town.db
 """,
+    "audit --help": """\
+Checks that a desk's file has exactly the rows that its messages make
+
+Usage: desk audit <FILE>
+
+Arguments:
+  <FILE>  The desk's file
+
+Options:
+  -h, --help  Print help
+
+Example:
+  desk audit town.db
+""",
 }
 
 # Other names for the first of them.
@@ -275,6 +290,8 @@ TAKEN = [
     "log log --count 1 --answers",
     "check town.db",
     "check -- --help",
+    "audit town.db",
+    "audit audit",
 ]
 
 # Words behind `init FILE`, and the names and numbers that the desk is made with.
@@ -311,6 +328,7 @@ REFUSED = {
         "room town.db gw-a",
         "log --from 1",
         "check",
+        "audit",
     ],
     "error: unexpected argument": [
         "init a b",
@@ -327,6 +345,7 @@ REFUSED = {
         "room town.db gw-a 1 x",
         "log town.db 9",
         "check town.db x",
+        "audit a b",
         "--port 1 serve town.db --count 1",
         "lines --port 1",
         "lines lines",
