@@ -4,9 +4,7 @@ use Rattle.std.specs.Prelude.{IfOk, IfSome}
 use Rattle.registry_core.specs.declared.messages.Envelope.{Envelope}
 use Rattle.registry_core.specs.Settings.{Settings}
 use Rattle.sqlite_trees.specs.Tree.{Trees}
-use Rattle.sqlite_trees.specs.Memory.{memory_view}
 use Rattle.sqlite_trees.specs.View.{IsClean, doubt}
-use Rattle.sqlite_trees.specs.declared.memory.MemStore.{MemStore}
 use Rattle.sqlite_trees.specs.declared.store.Store.{Ghosts}
 use Rattle.sqlite.specs.Effect.{Database, IsDatabase}
 use Rattle.sqlite.specs.Held.{Held, state}
@@ -101,11 +99,7 @@ module _ {S : Type 0} (g : Ghosts S) (first conn back : Held S) (store : S)
     crash = λ sure db may. inl ((same_again g first back store (became_first sure) (desk (sure_conn sure)).0 (opens sure) (rows sure) settled stays).2 db may);
   }
 
--- ---- a scratch in memory
-
-memory_stays_clean : (s : MemStore) → IsClean (memory_view s)
-unfolding doubt
-memory_stays_clean s = refl
+-- ---- a scratch whose disk always returns what was written
 
 if_some : {X : Type 0} {P Q : X → Type 0} (o : Option X) → ((x : X) → P x → Q x) → IfSome o P → IfSome o Q
 if_some (Some x) f h = f x h
@@ -116,24 +110,24 @@ if_some_all (Some x) f = f x
 if_some_all None f = tt
 
 -- of a connection that came back, what is so of a finding is so without its scratch
-module _ {S : Type 0} (g : Ghosts S) (back : Option (Held S)) (found : Result (Finding × MemStore) Fault) (result : Result Finding Fault × Option (Held S)) where
+module _ {S R : Type 0} (g : Ghosts S) (back : Option (Held S)) (found : Result (Finding × R) Fault) (result : Result Finding Fault × Option (Held S)) where
   abbrev Passes : Result Finding Fault × Option (Held S) → Type 0
   Passes r = IfSome r.1 (λ b. HasCleanDisk (state g b) → IfOk r.0 (IsFinding g b))
 
-  pub passes_alone : (finding : Finding) (scratch : MemStore) → found ≡ Ok (finding, scratch) → result ≡ (Ok finding, back)
-      → IfSome back (λ b. HasCleanDisk (state g b) → IfOk found (λ f. IsClean (memory_view f.1) → IsFinding g b f.0)) → Passes result
-  passes_alone finding scratch is e h =
+  pub passes_alone : (IsSure : R → Type 0) → ((scratch : R) → IsSure scratch) → (finding : Finding) (scratch : R) → found ≡ Ok (finding, scratch) → result ≡ (Ok finding, back)
+      → IfSome back (λ b. HasCleanDisk (state g b) → IfOk found (λ f. IsSure f.1 → IsFinding g b f.0)) → Passes result
+  passes_alone IsSure always finding scratch is e h =
       subst Passes (sym e)
-      (if_some back (λ b all sure. at_ok (λ f. IsClean (memory_view f.1) → IsFinding g b f.0) found (finding, scratch) is (all sure) (memory_stays_clean scratch)) h)
+      (if_some back (λ b all sure. at_ok (λ f. IsSure f.1 → IsFinding g b f.0) found (finding, scratch) is (all sure) (always scratch)) h)
 
   pub passes_none : (fault : Fault) → result ≡ (Err fault, back) → Passes result
   passes_none fault e = subst Passes (sym e) (if_some_all back (λ b sure. tt))
 
-module _ {S : Type 0} (g : Ghosts S) (conn : Held S) (back : Option (Held S)) (found : Result (Finding × MemStore) Fault) (result : Result Finding Fault × Option (Held S)) where
+module _ {S R : Type 0} (g : Ghosts S) (conn : Held S) (back : Option (Held S)) (found : Result (Finding × R) Fault) (result : Result Finding Fault × Option (Held S)) where
   abbrev Never : Result Finding Fault × Option (Held S) → Type 0
   Never r = IfSome r.1 (λ b. HasCleanDisk (state g b) → IfOk r.0 (λ _. ¬ HoldsNoDesk g conn))
 
-  pub never_alone : (finding : Finding) (scratch : MemStore) → found ≡ Ok (finding, scratch) → result ≡ (Ok finding, back)
+  pub never_alone : (finding : Finding) (scratch : R) → found ≡ Ok (finding, scratch) → result ≡ (Ok finding, back)
       → IfSome back (λ b. HasCleanDisk (state g b) → IfOk found (λ _. ¬ HoldsNoDesk g conn)) → Never result
   never_alone finding scratch is e h =
       subst Never (sym e) (if_some back (λ b all sure. at_ok (λ _. ¬ HoldsNoDesk g conn) found (finding, scratch) is (all sure)) h)

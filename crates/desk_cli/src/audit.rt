@@ -16,6 +16,7 @@ ghost use Rattle.desk_cli.specs.steps.Audit.{BecameStore, IsDeskIf};
 
 mod comparing;
 mod hearing;
+mod scratch;
 mod walking;
 
 use crate::faults::Fault;
@@ -25,6 +26,7 @@ use desk_tables::{Tables, open_desk};
 use hearing::hear_log;
 use registry_core::Config;
 use registry_core::laws::nothing_is_heard;
+use scratch::scratch_in_memory;
 use sqlite::{Alter, Connection};
 use std::alloc::Global;
 
@@ -145,9 +147,31 @@ pub(crate) fn audited<S: Alter + Drop>(
     ensures kept { IfSome result.1 (λ back. IsGivenBack (state S.Store conn) (state S.Store back) (λ _. ⊥)) }
     ensures gone { result.1 ≡ None → result.0 ≡ Err Fault.Unavailable }
 {
-    let Ok(scratch) = Connection::open_in_memory(alloc) else {
-        return (Err(Fault::Unavailable), None);
-    };
+    match scratch_in_memory(alloc) {
+        Ok(scratch) => audited_over(alloc, conn, scratch),
+        Err(_) => (Err(Fault::Unavailable), None),
+    }
+}
+
+/// Reports the same, with a scratch database of a kind whose disk always returns what was written to it.
+fn audited_over<S: Alter + Drop, R: Alter + Drop>(
+    alloc: Global,
+    conn: Connection<S>,
+    scratch: Connection<R>,
+) -> (Result<Finding, Fault>, Option<Connection<S>>)
+    requires idle { conn.in_transaction ≡ false }
+    requires unlimited { conn.step_limit ≡ None }
+    requires scratch_idle { scratch.in_transaction ≡ false }
+    requires scratch_unlimited { scratch.step_limit ≡ None }
+    requires sure { (store : R) → IsClean (R.Store.view store) }
+    ensures passes { IfSome result.1 (λ back. HasCleanDisk (state S.Store back) → IfOk result.0 (IsFinding S.Store back)) }
+    ensures refused { IfSome result.1 (λ back. HasCleanDisk (state S.Store back) → IfErr result.0 (IsRefused S.Store conn back)) }
+    ensures never { IfSome result.1 (λ back. HasCleanDisk (state S.Store back) → IfOk result.0 (λ _. ¬ HoldsNoDesk S.Store conn)) }
+    ensures unavailable { IfSome result.1 (λ back. HasCleanDisk (state S.Store back) → (c : Settings) (heard : List Envelope)
+        → KeepsHeard S.Store conn c heard → IfErr result.0 (λ fault. fault ≡ Fault.Unavailable)) }
+    ensures kept { IfSome result.1 (λ back. IsGivenBack (state S.Store conn) (state S.Store back) (λ _. ⊥)) }
+    ensures gone { result.1 ≡ None → result.0 ≡ Err Fault.Unavailable }
+{
     let (found, conn) = audited_beside(alloc, conn, scratch);
     match found {
         Ok((finding, _)) => (Ok(finding), conn),

@@ -1,15 +1,6 @@
-use Rattle.desk_cli.proofs.Audited.{never_alone, never_none, passes_alone, passes_none}
+use Rattle.std.proofs.Common.{refl}
+use Rattle.desk_cli.proofs.FoundAgain.{is_clean}
 use Rattle.desk_cli.proofs.audit.audited.Goals as goal
-use Rattle.desk_cli.proofs.audit.audited.Goals.{in-Err, in-Ok-found}
 
-pub returns-clause-passes : goal.returns-clause-passes
-returns-clause-passes g c = elim c.match-found.branch [
-  | in-Ok-found w ↦ passes_alone g.S.Store c.audited_beside-found.result.1 c.audited_beside-found.result.0 _ _ _ w.in-Ok-found.is w.result-is c.audited_beside-found.ensures.passes
-  | in-Err w ↦ passes_none g.S.Store c.audited_beside-found.result.1 c.audited_beside-found.result.0 _ _ w.result-is
-]
-
-pub returns-clause-never : goal.returns-clause-never
-returns-clause-never g c = elim c.match-found.branch [
-  | in-Ok-found w ↦ never_alone g.S.Store c.args.conn c.audited_beside-found.result.1 c.audited_beside-found.result.0 _ _ _ w.in-Ok-found.is w.result-is c.audited_beside-found.ensures.never
-  | in-Err w ↦ never_none g.S.Store c.args.conn c.audited_beside-found.result.1 c.audited_beside-found.result.0 _ _ w.result-is
-]
+pub audited_over-requires-clause-sure : goal.audited_over-requires-clause-sure
+audited_over-requires-clause-sure g c = is_clean (λ disk. refl)
