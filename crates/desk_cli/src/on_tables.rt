@@ -1,15 +1,19 @@
 //! The headline over tables: a desk is made, answers texts, and its database represents the log.
-ghost use Rattle.std.specs.Prelude.{◌≡◌, [], map, false, None, IfOk};
+ghost use Rattle.std.specs.Prelude.{◌≡◌, List, [], map, false, None, IfOk};
 ghost use Rattle.sqlite_trees.specs.Tree.{Trees};
 ghost use Rattle.sqlite.specs.Held.{state};
 ghost use Rattle.sqlite.specs.State.{HasCleanDisk};
 ghost use Rattle.sqlite.specs.Steps.{over_memory};
+ghost use Rattle.registry_core.specs.declared.messages.Envelope.{Envelope};
+ghost use Rattle.registry_core.specs.Settings.{Settings};
 ghost use Rattle.desk_engine.specs.Deliveries.{heard_all};
-ghost use Rattle.desk_engine.specs.Outcomes.{AreOutcomes, deliveries_of, first_doubt, has_disk};
+ghost use Rattle.desk_engine.specs.Hearing.{Hears};
+ghost use Rattle.desk_engine.specs.InOrder.{WasInOrder};
+ghost use Rattle.desk_engine.specs.Outcomes.{AreOutcomes, deliveries_of, first_doubt, has_disk, has_foreign};
 ghost use Rattle.desk_cli.specs.OnTables.{HasHeard, KeepsRules, LeavesRules, LeftHeard};
 
 use desk_engine::{Outcome, run};
-use desk_store::StoreFault;
+use desk_store::{Keeper, StoreFault};
 use desk_tables::Tables;
 use registry_core::Config;
 use registry_core::laws::{nothing_is_heard, rules_are_kept};
@@ -55,9 +59,9 @@ pub fn run_on_tables<S: Alter>(
     match Tables::create(alloc, conn, config) {
         Ok(tables) => {
             let mut tables = tables;
-            match run(alloc, &mut tables, texts) {
+            match deliver_all(alloc, &mut tables, texts) {
                 Ok(outcomes) => (Ok(outcomes), tables.close()),
-                Err(_) => (Err(StoreFault::Memory), tables.close()),
+                Err(fault) => (Err(fault), tables.close()),
             }
         }
         Err((fault, conn)) => (Err(fault), conn),
@@ -90,5 +94,28 @@ pub fn run_in_memory(
     match outcomes {
         Ok(outcomes) => Ok((outcomes, conn)),
         Err(fault) => Err(fault),
+    }
+}
+
+/// Delivers texts in order, and returns an outcome for each.
+///
+/// # Errors
+///
+/// Returns `Memory` if memory for the outcomes ran out. Nothing was delivered then.
+fn deliver_all<K: Keeper>(
+    alloc: Global,
+    keeper: &mut K,
+    texts: &[&[u8]],
+) -> Result<Vec<Outcome>, StoreFault>
+    ensures store { IfOk result (λ outcomes. Hears K.meaning keeper.old keeper.new
+        (has_disk outcomes.items) (has_foreign outcomes.items)
+        (λ c heard. heard_all c heard (deliveries_of (map (λ t. t.now) texts.now) outcomes.items))
+        (λ c. first_doubt c (map (λ t. t.now) texts.now) outcomes.items)) }
+    ensures outcomes { (c : Settings) (heard : List Envelope) → WasInOrder K.meaning c heard keeper.old keeper.new
+        → IfOk result (λ outcomes. AreOutcomes c heard (map (λ t. t.now) texts.now) outcomes.items) }
+{
+    match run(alloc, keeper, texts) {
+        Ok(outcomes) => Ok(outcomes),
+        Err(_) => Err(StoreFault::Memory),
     }
 }
