@@ -7,6 +7,7 @@ mod data_frames;
 mod downlinks;
 mod ends;
 pub(crate) mod failing;
+pub(crate) mod filling;
 mod fsk;
 pub(crate) mod fuses;
 pub(crate) mod holding;

@@ -62,7 +62,7 @@ pub(crate) fn in_files<R: Abort + AllocGlobal, D: Disk + Drop, T: Step>(
 }
 
 /// The octets in a file that isn't fused.
-fn file_of(alloc: Global, octets: &[u8]) -> Result<Memory, Fail> {
+pub(super) fn file_of(alloc: Global, octets: &[u8]) -> Result<Memory, Fail> {
     let mut file = Memory::new(alloc);
     file.write_at(0, octets)?;
     file.sync()?;
@@ -126,7 +126,7 @@ fn expect_left<R: Abort + AllocGlobal, T: Step>(
 
 /// Delivers in order. Each is told what it is to be told until the disk fails, and from then on each is told that it did, and so is
 /// who asks for the counts. How many were told before.
-fn told_until_stop<R: Abort + AllocGlobal, K: Keeper>(
+pub(super) fn told_until_stop<R: Abort + AllocGlobal, K: Keeper>(
     rt: &R,
     keeper: &mut K,
     deliveries: &[Delivery],
@@ -192,10 +192,10 @@ fn opened_or_made<R: Abort + AllocGlobal, S: Alter + Drop>(
 
 /// What the database holds is what stood after so many messages, or with the next one too; and all are told as without a stop.
 #[derive(Drop)]
-struct GoesOn<'a> {
-    answered: usize,
-    deliveries: &'a [Delivery],
-    wanted: &'a [String],
+pub(super) struct GoesOn<'a> {
+    pub(super) answered: usize,
+    pub(super) deliveries: &'a [Delivery],
+    pub(super) wanted: &'a [String],
 }
 
 impl Step for GoesOn<'_> {

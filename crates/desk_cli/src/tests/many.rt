@@ -5,9 +5,12 @@ use super::reports::{OWNER_HEADER, is_wanted};
 use super::rows::Row::Asks;
 use super::rows::{Row, SUCCESS, delivery_of};
 use super::stops::{deliveries, heard};
-use super::{expect_told, found};
+use super::{expect_told, found, with_device};
 use desk_engine::{band_report, deliver, owner_report};
-use desk_store::Keeper;
+use desk_store::{Keeper, Lists};
+use duty_core::Span;
+use radio_core::{Band, Name};
+use registry_core::{Booking, Effect, Envelope, Message, Standing};
 use sqlite::{Connection, MemStore, params};
 use std::process::Abort;
 use std::test::Fail;
@@ -99,5 +102,58 @@ fn many_uplinks_of_a_month(rt: HostRuntime) -> Result<(), Fail> {
     insert_rows(&mut conn, UPLINK, 3)?;
     let mut tables = found(rt.alloc(), conn)?;
     expect_month(&rt, &mut *tables);
+    Ok(())
+}
+
+/// Downlinks that a store in memory is given: one in B5 each ten seconds, so 360 in any hour.
+const DOWNLINKS: u32 = 250_000;
+
+/// The downlink in this place. The last ten thousand are on the air twice as long as those before.
+fn booking_at(gateway: Name, place: u32) -> Result<Booking, Fail> {
+    let start = i64::from(place)
+        .saturating_mul(10_000_000)
+        .saturating_add(BEGIN);
+    let airtime = if place < 240_000 { 1_000 } else { 2_000 };
+    Ok(Booking {
+        uplink: 1,
+        gateway,
+        band: Band::B5,
+        span: Span::new(start, airtime).ok_or("out of range")?,
+        standing: Standing::Booked,
+    })
+}
+
+/// Commits all of them for the gateway. What was heard doesn't matter here.
+fn book_each<K: Keeper>(keeper: &mut K) -> Result<(), Fail> {
+    let sender = Name::new(b"bridge").ok_or("no name")?;
+    let gateway = Name::new(b"gw-a").ok_or("no name")?;
+    let message = Message::GatewayAdd { gateway };
+    for place in 0..DOWNLINKS {
+        let envelope = Envelope {
+            sender,
+            transaction: place,
+            message,
+        };
+        let effect = Effect::AddsBooking {
+            booking: booking_at(gateway, place)?,
+        };
+        keeper
+            .commit(&envelope, b"", &effect, b"")
+            .map_err(|_| "not booked")?;
+    }
+    Ok(())
+}
+
+const BANDS_OF_MANY: &str =
+    "band,limit_us,bookings,booked_us,peak_us\nB1,3600000,0,0,0\nB2,36000000,0,0,0\nB3,36000000,0,0,0\nB4,3600000,0,0,0\nB5,360000000,250000,260000000,720000\nB6,36000000,0,0,0\n";
+
+/// No contract speaks of time. Hour by hour 250,000 downlinks would take 125,000,000,000 sums, and a test has a minute.
+#[test]
+fn a_peak_of_many_downlinks_is_swept(rt: HostRuntime) -> Result<(), Fail> {
+    let mut lists = with_device::<HostRuntime, Lists>(&rt)?;
+    book_each(&mut *lists)?;
+    let report = band_report(rt.alloc(), &mut *lists, "gw-a");
+    let is_right = is_wanted(&report, "", &Ok(BANDS_OF_MANY));
+    holds(&rt, is_right, BANDS_OF_MANY);
     Ok(())
 }

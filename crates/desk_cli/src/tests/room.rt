@@ -25,7 +25,7 @@ pub(crate) fn without_room<R: Abort + AllocGlobal>(
 }
 
 /// One more isn't heard, however it is delivered.
-fn expect_no_room<R: Abort + AllocGlobal, K: Keeper>(
+pub(super) fn expect_no_room<R: Abort + AllocGlobal, K: Keeper>(
     rt: &R,
     keeper: &mut K,
     delivery: &Delivery,

@@ -1,6 +1,7 @@
 //! Commands on a desk's file: one of its two files fails after each number of calls.
 use super::{OneFile, ran};
 use crate::endings::Ending;
+use crate::tests::filling::files_that_fill;
 use crate::tests::fuses::{Step, empty, fused, in_files};
 use crate::tests::holding::{holds, holds_at};
 use crate::tests::importing::WORKED;
@@ -9,6 +10,7 @@ use crate::tests::stops::deliveries;
 use crate::tests::{config, made, told_each};
 use sqlite::{Alter, Connection, Files};
 use sqlite_disk::Memory;
+use std::cell::Cell;
 use std::process::Abort;
 use std::test::Fail;
 
@@ -176,6 +178,78 @@ fn commands_fail_where_the_disk_does(rt: HostRuntime) -> Result<(), Fail> {
         // A file is read to its end when it is opened: a command that only reads need not meet a failure after that.
         let writes = !row.1.is_empty();
         holds_at(&rt, !writes || of_log.saturating_add(of_db) > 0, place);
+    }
+    Ok(())
+}
+
+// ---- a disk that fills
+
+/// Runs the command on a disk with room for so many writes, and once more after there is room.
+#[derive(Drop)]
+struct RunsTwice<'a> {
+    row: &'a Row,
+    room: &'a Cell<u64>,
+    writes: u64,
+    has_failed: bool,
+}
+
+impl Step for RunsTwice<'_> {
+    fn take<R: Abort + AllocGlobal, S: Alter + Drop>(
+        &mut self,
+        rt: &R,
+        conn: Connection<S>,
+    ) -> Result<Connection<S>, Fail> {
+        let mut runs = Runs {
+            row: self.row,
+            has_failed: false,
+        };
+        self.room.set(self.writes);
+        let conn = runs.take(rt, conn)?;
+        self.has_failed = runs.has_failed;
+        self.room.set(u64::MAX);
+        let conn = runs.take(rt, conn)?;
+        holds(rt, !runs.has_failed, "that it is done");
+        Ok(conn)
+    }
+}
+
+/// The disk has room for each number of writes, until the command does what is asked of it the first time. Returns how often it failed.
+fn times_full<R: Abort + AllocGlobal>(
+    rt: &R,
+    files: &Files<Memory>,
+    row: &Row,
+) -> Result<u64, Fail> {
+    for writes in 0..MANY {
+        let room = Cell::new(u64::MAX);
+        let mut runs = RunsTwice {
+            row,
+            room: &room,
+            writes,
+            has_failed: false,
+        };
+        let (is_opened, _) = in_files(
+            rt,
+            files_that_fill(rt.alloc(), files, &room, false)?,
+            &mut runs,
+        )?;
+        holds(rt, is_opened, "that they are opened");
+        if !runs.has_failed {
+            return Ok(writes);
+        }
+    }
+    Err("it fails always".into())
+}
+
+#[test]
+fn commands_go_on_once_there_is_room(rt: HostRuntime) -> Result<(), Fail> {
+    let all = deliveries(rt.alloc())?;
+    let mut hears = Hears {
+        deliveries: all.get(..5).ok_or("no messages")?,
+    };
+    let (_, files) = in_files(&rt, empty(rt.alloc()), &mut hears)?;
+    // The two that write.
+    for row in &ROWS[..2] {
+        holds(&rt, times_full(&rt, &files, row)? > 0, "that it fails");
     }
     Ok(())
 }

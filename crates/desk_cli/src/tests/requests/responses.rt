@@ -66,7 +66,7 @@ pub(crate) const EMPTY_REPORT: &str =
 pub(crate) const OWNER_REPORT: &str =
     "HTTP/1.1 200 OK\r\ncontent-type: text/csv\r\ncontent-length: 171\r\nconnection: close\r\n\r\ndev_eui,uplinks,b1_us,b1_peak_us,b2_us,b2_peak_us,b3_us,b3_peak_us,b4_us,b4_peak_us,b5_us,b5_peak_us,b6_us,b6_peak_us\n0004a30b001a2b3c,2,0,0,0,0,102912,102912,0,0,0,0,0,0\n";
 
-pub(super) const UNUSED_BANDS: &str =
+pub(crate) const UNUSED_BANDS: &str =
     "HTTP/1.1 200 OK\r\ncontent-type: text/csv\r\ncontent-length: 148\r\nconnection: close\r\n\r\nband,limit_us,bookings,booked_us,peak_us\nB1,3600000,0,0,0\nB2,36000000,0,0,0\nB3,36000000,0,0,0\nB4,3600000,0,0,0\nB5,360000000,0,0,0\nB6,36000000,0,0,0\n";
 
 pub(crate) const BAND_REPORT: &str =
