@@ -1,5 +1,6 @@
 #!/usr/bin/env python3
-"""Checks what a terminal shows: which file can't be opened, and why; and how many lines a command has read.
+"""Checks what a terminal shows: which file can't be opened, and why; how many lines a command has read, how many records it has
+answered, and how many messages it has heard.
 
     checks/terminal.py [--program FILE]
 
@@ -11,9 +12,12 @@ The program is `./desk`, which is proved and built first if it isn't current, or
 import argparse
 import os
 import pty
+import re
+import signal
 import subprocess
 import tempfile
 import time
+from concurrent.futures import ThreadPoolExecutor
 from pathlib import Path
 
 from common import ROOT, add_program, ready, wants
@@ -25,6 +29,14 @@ FIRST = 5  # how many of them come before the pause
 # above the second after which a number is shown
 PAUSE_SECONDS = 1.2
 CLEARED = "\r\x1b[K"
+# a program goes on this long between two pauses
+RUN_SECONDS = 0.05
+PAUSES = 3
+RECORDS = 3000
+# the frames of a gateway that nobody added: each is heard, and refused
+REPORT = "transaction,type,gateway,time_us,freq_hz,dr,phy,verdict\n" + "".join(
+    f"{number},FrameHeard,gw-none,1706745700041216,868300000,5,400000a00100000011223344,0\n" for number in range(1, RECORDS + 1)
+)
 
 
 def as_nobody():
@@ -137,6 +149,77 @@ def shows_progress(program):
     wants(found == (3, first, f"\rdesk: {FIRST + 1} lines{CLEARED}{TOLD}"), f"hear whose answers are cut ends with {found}")
 
 
+# ---- how many records were answered, and messages heard
+
+
+def paused(program, *words, answers=os.pipe, faults=os.pipe, **more):
+    """Runs the program, and stops it some times for more than a second, early in its work. `answers` and `faults` open two ends for
+    standard output and error. Returns its status, its answers, and what came to standard error."""
+    ends = [answers(), faults()]
+    ran = subprocess.Popen([program, *words], stdout=ends[0][1], stderr=ends[1][1], **more)
+    with ThreadPoolExecutor() as readers:
+        read = [readers.submit(shown_at, ours) for ours, _ in ends]
+        for _, theirs in ends:
+            os.close(theirs)
+        for _ in range(PAUSES):
+            time.sleep(RUN_SECONDS)
+            ran.send_signal(signal.SIGSTOP)
+            time.sleep(PAUSE_SECONDS)
+            ran.send_signal(signal.SIGCONT)
+        return ran.wait(), *(text.result() for text in read)
+
+
+def is_progress(told, these, most):
+    """Whether a terminal showed rising numbers of these, `most` at most, and cleared the last."""
+    if not re.fullmatch(rf"(\rdesk: [0-9,]+ {these})+" + re.escape(CLEARED), told):
+        return False
+    numbers = [int(number.replace(",", "")) for number in re.findall(r"[0-9,]+", told)]
+    return numbers == sorted(set(numbers)) and numbers[-1] <= most
+
+
+def imports(program, file, **more):
+    """Imports the report into a new file. Leaves out the lines that are shown if the first pause comes while the report is read."""
+    subprocess.run([program, "init", file], check=True)
+    with open("report.csv") as report:
+        status, answers, told = paused(program, "import", file, "--sender", "office", stdin=report, **more)
+    return status, answers, re.sub(r"^(\rdesk: [0-9,]+ lines)+" + re.escape(CLEARED), "", told)
+
+
+def shows_records(program):
+    """A terminal shows how many records were answered, also if the answers come to a terminal too."""
+    Path("report.csv").write_text(REPORT)
+    status, answers, told = imports(program, "import-piped.db")
+    wants((status, answers.count("\n"), told) == (0, RECORDS, ""), f"import ends with {status} {told}")
+    status, found, told = imports(program, "import-shown.db", faults=pty.openpty)
+    wants((status, found) == (0, answers), f"import at a terminal ends with {status} {told}")
+    wants(is_progress(told, "records", RECORDS), f"import at a terminal shows {told!r}")
+    status, found, told = imports(program, "import-both.db", answers=pty.openpty, faults=pty.openpty)
+    wants((status, found) == (0, answers), f"import with its answers at a terminal ends with {status} {told}")
+    wants(is_progress(told, "records", RECORDS), f"import with its answers at a terminal shows {told!r}")
+
+
+def audits(program, **more):
+    """Audits the file that the import without a terminal has made."""
+    return paused(program, "audit", "import-piped.db", **more)
+
+
+def shows_messages(program):
+    """A terminal shows how many messages were heard, whatever standard input and output are."""
+    passed = f"heard: {RECORDS}\nin order\n"
+    found = audits(program, stdin=subprocess.DEVNULL)
+    wants(found == (0, passed, ""), f"audit ends with {found}")
+    ours, theirs = pty.openpty()
+    for stdin in (subprocess.DEVNULL, theirs):
+        status, found, told = audits(program, stdin=stdin, faults=pty.openpty)
+        wants((status, found) == (0, passed), f"audit at a terminal ends with {status} {found}")
+        wants(is_progress(told, "messages", RECORDS), f"audit at a terminal shows {told!r}")
+    os.close(ours)
+    os.close(theirs)
+    status, found, told = audits(program, stdin=subprocess.DEVNULL, answers=pty.openpty, faults=pty.openpty)
+    wants((status, found) == (0, passed), f"audit with its answers at a terminal ends with {status} {found}")
+    wants(is_progress(told, "messages", RECORDS), f"audit with its answers at a terminal shows {told!r}")
+
+
 def main():
     words = argparse.ArgumentParser(description=__doc__, formatter_class=argparse.RawDescriptionHelpFormatter)
     add_program(words)
@@ -152,7 +235,10 @@ def main():
             wants((ran.returncode, ran.stderr, ran.stdout) == (3, TOLD, ""), f"{command} ends with {ran}")
             tried += 1
         shows_progress(program)
-    print(f"{tried} files can't be opened: a terminal shows why, and standard error has one line elsewhere; it shows how many lines were read")
+        shows_records(program)
+        shows_messages(program)
+    print(f"{tried} files can't be opened: a terminal shows why, and standard error has one line elsewhere")
+    print("it shows how many lines were read, how many records were answered, and how many messages were heard")
 
 
 if __name__ == "__main__":

@@ -21,6 +21,7 @@ mod walking;
 
 use crate::faults::Fault;
 use comparing::compared_desks;
+use desk_engine::Progress;
 use desk_store::StoreFault;
 use desk_tables::{Tables, open_desk};
 use hearing::hear_log;
@@ -54,7 +55,7 @@ pub struct Place {
 }
 
 /// What an audit found.
-#[derive(Clone, Copy, PartialEq, Eq)]
+#[derive(Clone, Copy)]
 pub enum Finding {
     /// The database is exactly that of a desk which has heard this many messages.
     InOrder(u64),
@@ -75,10 +76,11 @@ pub enum Finding {
 ///
 /// Returns `NotADesk`, `Schema` or `Unavailable` if the database isn't a desk of schema 2, and `Unavailable` if an allocation failed or
 /// either database can't be read or written.
-pub(crate) fn audited_beside<S: Alter + Drop, R: Alter + Drop>(
+pub(crate) fn audited_beside<S: Alter + Drop, R: Alter + Drop, P: Progress>(
     alloc: Global,
     conn: Connection<S>,
     scratch: Connection<R>,
+    progress: &P,
 ) -> (Result<(Finding, R), Fault>, Option<Connection<S>>)
     requires idle { conn.in_transaction ≡ false }
     requires unlimited { conn.step_limit ≡ None }
@@ -97,7 +99,7 @@ pub(crate) fn audited_beside<S: Alter + Drop, R: Alter + Drop>(
         Ok(found) => found,
         Err((fault, conn)) => return (Err(fault), Some(conn)),
     };
-    let Ok((finding, store, scratch)) = heard_anew(alloc, conn, config, scratch) else {
+    let Ok((finding, store, scratch)) = heard_anew(alloc, conn, config, scratch, progress) else {
         return (Err(Fault::Unavailable), None);
     };
     match Connection::over(alloc, store) {
@@ -133,9 +135,10 @@ fn desk_of<S: Alter>(conn: Connection<S>) -> Result<(Config, Connection<S>), (Fa
 /// Reports whether the database is what a desk wrote, as `audited_beside` does, with a scratch database in memory.
 ///
 /// Returns the connection too, unless the audit couldn't be completed. Then the error is `Unavailable`.
-pub(crate) fn audited<S: Alter + Drop>(
+pub(crate) fn audited<S: Alter + Drop, P: Progress>(
     alloc: Global,
     conn: Connection<S>,
+    progress: &P,
 ) -> (Result<Finding, Fault>, Option<Connection<S>>)
     requires idle { conn.in_transaction ≡ false }
     requires unlimited { conn.step_limit ≡ None }
@@ -148,16 +151,17 @@ pub(crate) fn audited<S: Alter + Drop>(
     ensures gone { result.1 ≡ None → result.0 ≡ Err Fault.Unavailable }
 {
     match scratch_in_memory(alloc) {
-        Ok(scratch) => audited_over(alloc, conn, scratch),
+        Ok(scratch) => audited_over(alloc, conn, scratch, progress),
         Err(_) => (Err(Fault::Unavailable), None),
     }
 }
 
 /// Reports the same, with a scratch database of a kind whose disk always returns what was written to it.
-fn audited_over<S: Alter + Drop, R: Alter + Drop>(
+fn audited_over<S: Alter + Drop, R: Alter + Drop, P: Progress>(
     alloc: Global,
     conn: Connection<S>,
     scratch: Connection<R>,
+    progress: &P,
 ) -> (Result<Finding, Fault>, Option<Connection<S>>)
     requires idle { conn.in_transaction ≡ false }
     requires unlimited { conn.step_limit ≡ None }
@@ -172,7 +176,7 @@ fn audited_over<S: Alter + Drop, R: Alter + Drop>(
     ensures kept { IfSome result.1 (λ back. IsGivenBack (state S.Store conn) (state S.Store back) (λ _. ⊥)) }
     ensures gone { result.1 ≡ None → result.0 ≡ Err Fault.Unavailable }
 {
-    let (found, conn) = audited_beside(alloc, conn, scratch);
+    let (found, conn) = audited_beside(alloc, conn, scratch, progress);
     match found {
         Ok((finding, _)) => (Ok(finding), conn),
         Err(fault) => (Err(fault), conn),
@@ -185,11 +189,12 @@ fn audited_over<S: Alter + Drop, R: Alter + Drop>(
 /// # Errors
 ///
 /// Returns the error of the new desk, and `Disk` if either database can't be read.
-fn heard_anew<S: Alter + Drop, R: Alter + Drop>(
+fn heard_anew<S: Alter + Drop, R: Alter + Drop, P: Progress>(
     alloc: Global,
     conn: Connection<S>,
     config: Config,
     scratch: Connection<R>,
+    progress: &P,
 ) -> Result<(Finding, S, R), StoreFault>
     requires idle { conn.in_transaction ≡ false }
     requires scratch_idle { scratch.in_transaction ≡ false }
@@ -207,7 +212,7 @@ fn heard_anew<S: Alter + Drop, R: Alter + Drop>(
         Ok(tables) => tables,
         Err((fault, _)) => return Err(fault),
     };
-    hear_log(alloc, &mut conn, &mut tables)?;
+    hear_log(alloc, &mut conn, &mut tables, progress)?;
     let other = tables.close();
     if !other.is_autocommit() {
         return Err(StoreFault::Disk);

@@ -28,7 +28,7 @@ mod usage;
 mod words;
 
 use files::HostFiles;
-use progress::{Cleared, Counted};
+use progress::{Cleared, Counted, Heard};
 use sockets::Sockets;
 use sqlite::{Start, Unknown};
 use std::cell::Cell;
@@ -52,10 +52,12 @@ fn run_on<T: Start>(rt: &HostRuntime, start: T) -> ExitCode {
         rt,
         files,
         &Sockets::new(rt, rt.stderr()),
-        &mut Counted::new(rt.stdin(), rt, progress::terminal(rt), &is_shown),
-        &mut rt.stdout(),
+        &mut Counted::new(rt.stdin(), rt, progress::terminal_alone(rt), &is_shown),
+        &mut Cleared::new(rt.stdout(), rt.stderr(), &is_shown),
         &mut Cleared::new(rt.stderr(), rt.stderr(), &is_shown),
+        &Heard::new(rt, progress::terminal(rt), &is_shown),
     );
+    progress::clear(&mut rt.stderr(), &is_shown);
     if let Some(line) = why.take() {
         // The line before reports that it is the file; this one is for a user at a terminal.
         let _ = writeln!(&mut rt.stderr(), "{line}");

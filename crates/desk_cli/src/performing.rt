@@ -28,7 +28,7 @@ use crate::endings::Ending;
 use crate::faults::end;
 use crate::files::Files;
 use crate::network::Network;
-use desk_engine::LogText;
+use desk_engine::{LogText, Progress};
 use radio_core::Name;
 use registry_core::laws::rules_are_kept;
 use registry_core::{Config, Whole};
@@ -54,7 +54,15 @@ macro_rules! on_file {
 }
 
 /// Does what the command asks.
-pub(crate) fn perform<S: Alter + Drop, N: Files<S>, B: Network, R: Read, W: Write, F: Write>(
+pub(crate) fn perform<
+    S: Alter + Drop,
+    N: Files<S>,
+    B: Network,
+    R: Read,
+    W: Write,
+    F: Write,
+    P: Progress,
+>(
     alloc: Global,
     command: &Command<'_>,
     files: N,
@@ -62,6 +70,7 @@ pub(crate) fn perform<S: Alter + Drop, N: Files<S>, B: Network, R: Read, W: Writ
     reader: &mut R,
     answers: &mut W,
     faults: &mut F,
+    progress: &P,
 ) -> Performed<S>
     ensures { Ends F.contents faults.old faults.new result.0 (λ done. DoesAsked S.Store (N.paths files)
         (at_ports B.ports network.now B.Port.meaning B.Port.Reader.remaining B.Port.Writer.contents) result.1
@@ -77,7 +86,9 @@ pub(crate) fn perform<S: Alter + Drop, N: Files<S>, B: Network, R: Read, W: Writ
         Command::Migrate { file } => migrate_file(alloc, files, file, faults),
         Command::Hear { file } => hear_file(alloc, files, file, reader, answers, faults),
         Command::Import { file, sender } => {
-            import_file(alloc, files, file, sender, reader, answers, faults)
+            import_file(
+                alloc, files, file, sender, reader, answers, faults, progress,
+            )
         }
         Command::Serve {
             file,
@@ -115,7 +126,7 @@ pub(crate) fn perform<S: Alter + Drop, N: Files<S>, B: Network, R: Read, W: Writ
             which,
         } => { log_file(alloc, files, file, *from, *count, *which, answers, faults) }
         Command::Check { file } => check_file(alloc, files, file, answers, faults),
-        Command::Audit { file } => audit_file(alloc, files, file, answers, faults),
+        Command::Audit { file } => audit_file(alloc, files, file, answers, faults, progress),
     }
 }
 
@@ -172,7 +183,7 @@ fn hear_file<S: Alter, N: Files<S>, R: Read, W: Write, F: Write>(
     )
 }
 
-fn import_file<S: Alter, N: Files<S>, R: Read, W: Write, F: Write>(
+fn import_file<S: Alter, N: Files<S>, R: Read, W: Write, F: Write, P: Progress>(
     alloc: Global,
     files: N,
     file: &str,
@@ -180,6 +191,7 @@ fn import_file<S: Alter, N: Files<S>, R: Read, W: Write, F: Write>(
     reader: &mut R,
     answers: &mut W,
     faults: &mut F,
+    progress: &P,
 ) -> Performed<S>
     ensures { Ends F.contents faults.old faults.new result.0 (λ done. OnDeskFile S.Store (N.paths files) result.1 done file.now
         (Keeps (R.remaining reader.old) (R.remaining reader.new) × Keeps (W.contents answers.old) (W.contents answers.new))
@@ -189,7 +201,7 @@ fn import_file<S: Alter, N: Files<S>, R: Read, W: Write, F: Write>(
     on_file!(
         files.open(file),
         faults,
-        |conn| import_command(alloc, conn, sender, reader, answers, faults)
+        |conn| import_command(alloc, conn, sender, reader, answers, faults, progress)
     )
 }
 
@@ -329,19 +341,20 @@ fn check_file<S: Alter, N: Files<S>, W: Write, F: Write>(
 }
 
 /// Audits the file. Returns its connection, unless the file can't be opened or the audit couldn't be completed.
-fn audit_file<S: Alter + Drop, N: Files<S>, W: Write, F: Write>(
+fn audit_file<S: Alter + Drop, N: Files<S>, W: Write, F: Write, P: Progress>(
     alloc: Global,
     files: N,
     file: &str,
     answers: &mut W,
     faults: &mut F,
+    progress: &P,
 ) -> Performed<S>
     ensures { Ends F.contents faults.old faults.new result.0 (λ done. OnAuditedFile (N.paths files) result.1 done file.now
         (Keeps (W.contents answers.old) (W.contents answers.new))
         (λ conn. AuditsBy S.Store conn result.1 (W.contents answers.old) (W.contents answers.new) done)) }
 {
     match files.open(file) {
-        Ok(conn) => audit_command(alloc, conn, answers, faults),
+        Ok(conn) => audit_command(alloc, conn, answers, faults, progress),
         Err(fault) => (end(faults, Err(fault)), None),
     }
 }

@@ -18,6 +18,7 @@ use crate::network::Network;
 use crate::performing::perform;
 use crate::usage::Usage;
 use crate::words::read_words;
+use desk_engine::Progress;
 use sqlite::{Alter, Connection};
 use std::alloc::{AllocError, Global};
 use std::env::{self, Args};
@@ -25,7 +26,7 @@ use std::io::{self, ErrorKind, Read, Write};
 use std::rt::Env;
 
 /// Does what the program's arguments ask, and gives the connection to its file back, if it has one that could be opened. What is wrong with
-/// the arguments, or why what they ask isn't done, is written to `faults`.
+/// the arguments, or why what they ask isn't done, is written to `faults`. `progress` shows how far an import or an audit is.
 pub fn run<
     E: Env + AllocGlobal,
     S: Alter + Drop,
@@ -34,6 +35,7 @@ pub fn run<
     R: Read,
     W: Write,
     F: Write,
+    P: Progress,
 >(
     rt: &E,
     files: N,
@@ -41,6 +43,7 @@ pub fn run<
     reader: &mut R,
     answers: &mut W,
     faults: &mut F,
+    progress: &P,
 ) -> (Ending, Option<Connection<S>>)
     // Some arguments name a command, and what it asks was done, by how it ended; or they name none, or can't be read.
     ensures runs { (words : Given) × Runs S.Store (N.paths files) (at_ports B.ports network.now B.Port.meaning B.Port.Reader.remaining B.Port.Writer.contents) result.1
@@ -64,11 +67,20 @@ pub fn run<
         reader,
         answers,
         faults,
+        progress,
     )
 }
 
 /// Does what the arguments ask, as std read them. What is wrong with them, or why std has none, is written to `faults`.
-pub fn run_given<S: Alter + Drop, N: Files<S>, B: Network, R: Read, W: Write, F: Write>(
+pub fn run_given<
+    S: Alter + Drop,
+    N: Files<S>,
+    B: Network,
+    R: Read,
+    W: Write,
+    F: Write,
+    P: Progress,
+>(
     alloc: Global,
     arguments: io::Result<Args>,
     files: N,
@@ -76,6 +88,7 @@ pub fn run_given<S: Alter + Drop, N: Files<S>, B: Network, R: Read, W: Write, F:
     reader: &mut R,
     answers: &mut W,
     faults: &mut F,
+    progress: &P,
 ) -> (Ending, Option<Connection<S>>)
     // The arguments name a command, and what it asks was done, by how it ended; or they name none, or can't be read.
     ensures runs { Runs S.Store (N.paths files) (at_ports B.ports network.now B.Port.meaning B.Port.Reader.remaining B.Port.Writer.contents) result.1
@@ -87,13 +100,15 @@ pub fn run_given<S: Alter + Drop, N: Files<S>, B: Network, R: Read, W: Write, F:
     ensures unread { IfErr arguments (λ error. EndsUnread (error_kind error) result.0) }
 {
     match given_strings(alloc, arguments) {
-        Ok(strings) => run_strings(alloc, &strings, files, network, reader, answers, faults),
+        Ok(strings) => run_strings(
+            alloc, &strings, files, network, reader, answers, faults, progress,
+        ),
         Err(why) => (tell(&why, faults), None),
     }
 }
 
 /// Does the same for the texts of the arguments, with the program's own name first.
-fn run_strings<S: Alter + Drop, N: Files<S>, B: Network, R: Read, W: Write, F: Write>(
+fn run_strings<S: Alter + Drop, N: Files<S>, B: Network, R: Read, W: Write, F: Write, P: Progress>(
     alloc: Global,
     strings: &[String],
     files: N,
@@ -101,6 +116,7 @@ fn run_strings<S: Alter + Drop, N: Files<S>, B: Network, R: Read, W: Write, F: W
     reader: &mut R,
     answers: &mut W,
     faults: &mut F,
+    progress: &P,
 ) -> (Ending, Option<Connection<S>>)
     ensures runs { Runs S.Store (N.paths files) (at_ports B.ports network.now B.Port.meaning B.Port.Reader.remaining B.Port.Writer.contents) result.1
         (R.remaining reader.old) (R.remaining reader.new) (W.contents answers.old) (W.contents answers.new) F.contents faults.old faults.new (Ok (map string_bytes strings.now)) result.0 }
@@ -111,7 +127,11 @@ fn run_strings<S: Alter + Drop, N: Files<S>, B: Network, R: Read, W: Write, F: W
         return (tell(&Usage::Memory, faults), None);
     };
     match read_words(alloc, &words) {
-        Ok(command) => { perform(alloc, &command, files, network, reader, answers, faults) }
+        Ok(command) => {
+            perform(
+                alloc, &command, files, network, reader, answers, faults, progress,
+            )
+        }
         Err(usage) => (tell(&usage, faults), None),
     }
 }

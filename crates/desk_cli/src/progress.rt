@@ -1,8 +1,10 @@
-//! Shows a user at a terminal how many lines of standard input were read so far. The contracts state that the octets read and written
-//! stay the same. What a terminal shows is only tested, here and by `checks/terminal.py`.
+//! Shows a user at a terminal how far a command is: how many lines of standard input were read so far, or how many records or messages were
+//! heard. The contracts state that the octets read and written stay the same. What a terminal shows is only tested, here and by
+//! `checks/terminal.py`.
 ghost use Rattle.std.specs.Prelude.{◌≡◌};
 
-use std::cell::Cell;
+use desk_engine::Progress;
+use std::cell::{Cell, RefCell};
 use std::fmt::{self, Display, Formatter};
 use std::io::{self, IsTerminal, Read, Stderr, Write};
 use std::time::{Clock, Duration, Instant};
@@ -13,13 +15,21 @@ const SECONDS: u64 = 1;
 /// Clears the last line of a terminal.
 const CLEAR: &[u8] = b"\r\x1b[K";
 
-/// Returns the standard error if the number can be shown there: it is a terminal, and standard input and output aren't. So nobody types
-/// at it, and no answers are printed on it.
+/// Returns the standard error if it is a terminal. A number can be shown there while nothing is read or printed.
 pub(crate) fn terminal(rt: &HostRuntime) -> Option<Stderr> {
-    if rt.stdin().is_terminal() || rt.stdout().is_terminal() || !rt.stderr().is_terminal() {
+    if rt.stderr().is_terminal() {
+        return Some(rt.stderr());
+    }
+    None
+}
+
+/// Returns the standard error if a number can be shown there while input is read and answers are printed: it is a terminal, and standard
+/// input and output aren't. So nobody types at it, and no answers are printed on it.
+pub(crate) fn terminal_alone(rt: &HostRuntime) -> Option<Stderr> {
+    if rt.stdin().is_terminal() || rt.stdout().is_terminal() {
         return None;
     }
-    Some(rt.stderr())
+    terminal(rt)
 }
 
 /// A number in groups of three digits, as in `12,345`.
@@ -53,34 +63,41 @@ impl Display for Grouped {
     }
 }
 
-/// The number that a terminal shows, and whether it shows one now.
+/// A terminal that shows a number about once a second, and whether it shows one now.
 #[derive(Drop)]
 struct Shown<'a, C, G> {
     clock: &'a C,
     terminal: G,
     is_shown: &'a Cell<bool>,
-    lines: u64,
     since: Option<Instant>,
 }
 
-impl<C: Clock, G: Write> Shown<'_, C, G> {
-    /// Counts the lines that end in these octets, and shows the number if it is due. No octets mean the end of the input: the number is
-    /// cleared.
-    fn note(&mut self, octets: &[u8]) {
-        if octets.is_empty() {
-            clear(&mut self.terminal, self.is_shown);
-            return;
+impl<'a, C: Clock, G: Write> Shown<'a, C, G> {
+    /// Returns a terminal that has shown nothing.
+    fn new(clock: &'a C, terminal: G, is_shown: &'a Cell<bool>) -> Self {
+        Shown {
+            clock,
+            terminal,
+            is_shown,
+            since: None,
         }
-        let ends = octets.iter().filter(|octet| **octet == b'\n').count();
-        self.lines = self.lines.saturating_add(ends as u64);
+    }
+
+    /// Shows the number of these, in the plural, if it is due.
+    fn show(&mut self, number: u64, these: &str) {
         if self.is_due() {
             // A number that can't be written is left out.
-            let _ = write!(self.terminal, "\rdesk: {} lines", Grouped(self.lines));
+            let _ = write!(self.terminal, "\rdesk: {} {these}", Grouped(number));
             self.is_shown.set(true);
         }
     }
 
-    /// Returns whether a second has passed since the last number, or since the first read. Returns `false` if the clock can't be read.
+    /// Clears the number if it is shown.
+    fn clear(&mut self) {
+        clear(&mut self.terminal, self.is_shown);
+    }
+
+    /// Returns whether a second has passed since the last number, or since the first call. Returns `false` if the clock can't be read.
     fn is_due(&mut self) -> bool {
         let Ok(now) = Instant::now(self.clock) else {
             return false;
@@ -98,9 +115,30 @@ impl<C: Clock, G: Write> Shown<'_, C, G> {
 }
 
 /// Clears the number if it is shown.
-fn clear<G: Write>(terminal: &mut G, is_shown: &Cell<bool>) {
+pub(crate) fn clear<G: Write>(terminal: &mut G, is_shown: &Cell<bool>) {
     if is_shown.replace(false) {
         let _ = terminal.write_all(CLEAR);
+    }
+}
+
+/// The lines that were read, and the terminal that shows their number.
+#[derive(Drop)]
+struct Lines<'a, C, G> {
+    shown: Shown<'a, C, G>,
+    count: u64,
+}
+
+impl<C: Clock, G: Write> Lines<'_, C, G> {
+    /// Counts the lines that end in these octets, and shows the number if it is due. No octets mean the end of the input: the number is
+    /// cleared.
+    fn note(&mut self, octets: &[u8]) {
+        if octets.is_empty() {
+            self.shown.clear();
+            return;
+        }
+        let ends = octets.iter().filter(|octet| **octet == b'\n').count();
+        self.count = self.count.saturating_add(ends as u64);
+        self.shown.show(self.count, "lines");
     }
 }
 
@@ -108,7 +146,7 @@ fn clear<G: Write>(terminal: &mut G, is_shown: &Cell<bool>) {
 #[derive(Drop)]
 pub struct Counted<'a, R, C, G> {
     below: R,
-    shown: Option<Shown<'a, C, G>>,
+    lines: Option<Lines<'a, C, G>>,
 }
 
 impl<'a, R, C: Clock, G: Write> Counted<'a, R, C, G> {
@@ -116,14 +154,11 @@ impl<'a, R, C: Clock, G: Write> Counted<'a, R, C, G> {
     pub fn new(below: R, clock: &'a C, terminal: Option<G>, is_shown: &'a Cell<bool>) -> Self
         ensures { result.below ≡ below }
     {
-        let shown = terminal.map(|terminal| Shown {
-            clock,
-            terminal,
-            is_shown,
-            lines: 0,
-            since: None,
+        let lines = terminal.map(|terminal| Lines {
+            shown: Shown::new(clock, terminal, is_shown),
+            count: 0,
         });
-        Counted { below, shown }
+        Counted { below, lines }
     }
 }
 
@@ -133,10 +168,43 @@ impl<R: Read, C: Clock, G: Write> Read for Counted<'_, R, C, G> {
 
     fn read(&mut self, buf: &mut [u8]) -> io::Result<usize> {
         let count = self.below.read(buf)?;
-        if let Some(shown) = &mut self.shown {
-            shown.note(&buf[..count]);
+        if let Some(lines) = &mut self.lines {
+            lines.note(&buf[..count]);
         }
         Ok(count)
+    }
+}
+
+/// Shows how many records or messages were heard, about once a second, if there is a terminal.
+#[derive(Drop)]
+pub struct Heard<'a, C, G> {
+    shown: Option<RefCell<Shown<'a, C, G>>>,
+}
+
+impl<'a, C: Clock, G: Write> Heard<'a, C, G> {
+    /// Returns one that has shown nothing. It sets `is_shown` to whether the terminal shows a number.
+    pub fn new(clock: &'a C, terminal: Option<G>, is_shown: &'a Cell<bool>) -> Self {
+        let shown = terminal.map(|terminal| RefCell::new(Shown::new(clock, terminal, is_shown)));
+        Heard { shown }
+    }
+
+    /// Shows the number of these if there is a terminal and the number is due.
+    fn show(&self, number: u64, these: &str) {
+        if let Some(shown) = &self.shown
+            && let Ok(mut shown) = shown.try_borrow_mut()
+        {
+            shown.show(number, these);
+        }
+    }
+}
+
+impl<C: Clock, G: Write> Progress for Heard<'_, C, G> {
+    fn records(&self, count: u64) {
+        self.show(count, "records");
+    }
+
+    fn messages(&self, count: u64) {
+        self.show(count, "messages");
     }
 }
 

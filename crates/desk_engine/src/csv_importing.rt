@@ -11,6 +11,7 @@ ghost use Rattle.desk_engine.specs.Hearing.{StoreKeeps, StoreLeaves};
 ghost use Rattle.desk_engine.specs.InOrder.{WasInOrder};
 ghost use Rattle.desk_engine.specs.steps.CsvImporting.{HearsEnvelopes, line_of};
 
+use crate::counting::Progress;
 use crate::importing::import;
 use crate::outcomes::Outcome;
 use crate::reads::read_some;
@@ -43,17 +44,18 @@ pub enum ImportEnd {
 /// answers of those that were heard, one a line, and flushes the writer.
 ///
 /// It hears no record before the report is read to its end, and writes nothing before all are heard. If a report is too long, it reads only
-/// enough to see that.
+/// enough to see that. `progress` shows how many records are answered.
 ///
 /// With `Done` exactly the answers of all records were written. With `Unavailable` exactly those of the records before the one that the
 /// store was unavailable for. In each case the store represents the log with the records that were heard, so a record that is delivered
 /// again gets its first answer.
-pub fn import_report<K: Keeper, R: Read, W: Write>(
+pub fn import_report<K: Keeper, R: Read, W: Write, P: Progress>(
     alloc: Global,
     keeper: &mut K,
     sender: &Name,
     reader: &mut R,
     writer: &mut W,
+    progress: &P,
 ) -> ImportEnd
     ensures call { IsCall K.meaning keeper.old keeper.new (is_disk (fault_of_import result)) (is_foreign (fault_of_import result)) }
     ensures told { IsOfCalls (fault_of_import result) }
@@ -66,7 +68,7 @@ pub fn import_report<K: Keeper, R: Read, W: Write>(
         Err(end) => return end,
     };
     match read_report(alloc, &text, sender) {
-        Ok(envelopes) => hear_envelopes(alloc, keeper, &envelopes, writer),
+        Ok(envelopes) => hear_envelopes(alloc, keeper, &envelopes, writer, progress),
         Err(CsvFault::Memory) => ImportEnd::Unavailable(StoreFault::Memory),
         Err(fault) => ImportEnd::NoReport(fault),
     }
@@ -96,11 +98,12 @@ fn report_text<R: Read>(alloc: Global, reader: &mut R) -> Result<Vec<u8>, Import
 }
 
 /// Hears envelopes in order, and writes the answers of those that were heard.
-fn hear_envelopes<K: Keeper, W: Write>(
+fn hear_envelopes<K: Keeper, W: Write, P: Progress>(
     alloc: Global,
     keeper: &mut K,
     envelopes: &[Envelope],
     writer: &mut W,
+    progress: &P,
 ) -> ImportEnd
     ensures call { IsCall K.meaning keeper.old keeper.new (is_disk (fault_of_import result)) (is_foreign (fault_of_import result)) }
     ensures told { IsOfCalls (fault_of_import result) }
@@ -108,7 +111,7 @@ fn hear_envelopes<K: Keeper, W: Write>(
         → HearsEnvelopes c heard (StoreKeeps K.meaning c heard keeper.old keeper.new) (StoreLeaves K.meaning c heard keeper.old keeper.new)
         envelopes.now (W.contents writer.old) (W.contents writer.new) result }
 {
-    let imported = import(alloc, keeper, envelopes);
+    let imported = import(alloc, keeper, envelopes, progress);
     match write_answers(writer, &imported.answers) {
         Ok(()) => {}
         Err(_) => return ImportEnd::Write(imported.stopped),

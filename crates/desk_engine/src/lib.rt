@@ -2,6 +2,7 @@
 #![tactic(auto)]
 
 mod band_reports;
+mod counting;
 mod csv_importing;
 mod delivering;
 mod from_nothing;
@@ -20,6 +21,7 @@ mod uses;
 mod writes;
 
 pub use band_reports::band_report;
+pub use counting::{NoProgress, Progress};
 pub use csv_importing::{ImportEnd, import_report};
 pub use delivering::{LONGEST_MESSAGE, deliver, run};
 pub use from_nothing::run_from_nothing;

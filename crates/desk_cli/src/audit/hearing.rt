@@ -5,7 +5,7 @@ ghost use Rattle.desk_rows.specs.Calls.{IsReadingCall};
 ghost use Rattle.desk_cli.specs.steps.Audit.{HearsSome};
 
 use desk_engine::laws::calls_hear_in_order;
-use desk_engine::{Outcome, deliver};
+use desk_engine::{Outcome, Progress, deliver};
 use desk_rows::texts_at;
 use desk_store::{Keeper, StoreFault};
 use registry_core::Whole;
@@ -13,15 +13,16 @@ use sqlite::{Alter, Connection};
 use std::alloc::Global;
 
 /// Delivers the messages of the file's replies to the keeper, from number 1 on. Ends at the first number without a reply, or after a
-/// message whose answer isn't the one in the file. The rows of the file may be anything.
+/// message whose answer isn't the one in the file. The rows of the file may be anything. `progress` shows how many messages are heard.
 ///
 /// # Errors
 ///
 /// Returns the keeper's error, and `Disk` if the file can't be read.
-pub(crate) fn hear_log<S: Alter, K: Keeper>(
+pub(crate) fn hear_log<S: Alter, K: Keeper, P: Progress>(
     alloc: Global,
     conn: &mut Connection<S>,
     keeper: &mut K,
+    progress: &P,
 ) -> Result<(), StoreFault>
     ensures heard { OnOk result (HearsSome K.meaning keeper.old keeper.new) }
     ensures read { OnOk result (IsReadingCall (state S.Store conn.old) (state S.Store conn.new) true) }
@@ -34,6 +35,7 @@ pub(crate) fn hear_log<S: Alter, K: Keeper>(
         if !hear_reply(alloc, conn, keeper, number)? {
             break;
         }
+        progress.messages(place + 1);
     }
     Ok(())
 }

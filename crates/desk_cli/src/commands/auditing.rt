@@ -16,7 +16,7 @@ use crate::faults::{Fault, end};
 use crate::options::{command_on_file, placed};
 use crate::usage::Usage;
 use clap::ArgMatches;
-use desk_engine::write_whole;
+use desk_engine::{Progress, write_whole};
 use sqlite::{Alter, Connection};
 use std::alloc::{AllocError, Global};
 use std::io::Write;
@@ -51,31 +51,33 @@ pub(crate) fn audit_of<'a>(options: &ArgMatches<'a>) -> Result<Command<'a>, Usag
 /// - `NotADesk`, `Schema` or `Unavailable` if the database isn't a desk of schema 2.
 /// - `Unavailable` if an allocation or the disk failed.
 /// - `File` if a write to standard output failed.
-pub fn audit_command<S: Alter + Drop, W: Write, F: Write>(
+pub fn audit_command<S: Alter + Drop, W: Write, F: Write, P: Progress>(
     alloc: Global,
     conn: Connection<S>,
     answers: &mut W,
     faults: &mut F,
+    progress: &P,
 ) -> (Ending, Option<Connection<S>>)
     requires idle { conn.in_transaction ≡ false }
     requires unlimited { conn.step_limit ≡ None }
     ensures { Ends F.contents faults.old faults.new result.0 (λ done. AuditsBy S.Store conn result.1 (W.contents answers.old) (W.contents answers.new) done) }
 {
-    let (done, conn) = print_audit(alloc, conn, answers);
+    let (done, conn) = print_audit(alloc, conn, answers, progress);
     (end(faults, done), conn)
 }
 
 /// Audits the database, prints what was found, and returns the connection.
-fn print_audit<S: Alter + Drop, W: Write>(
+fn print_audit<S: Alter + Drop, W: Write, P: Progress>(
     alloc: Global,
     conn: Connection<S>,
     answers: &mut W,
+    progress: &P,
 ) -> (Result<(), Fault>, Option<Connection<S>>)
     requires idle { conn.in_transaction ≡ false }
     requires unlimited { conn.step_limit ≡ None }
     ensures { AuditsBy S.Store conn result.1 (W.contents answers.old) (W.contents answers.new) result.0 }
 {
-    let (found, conn) = audited(alloc, conn);
+    let (found, conn) = audited(alloc, conn, progress);
     (print_finding(alloc, answers, found), conn)
 }
 

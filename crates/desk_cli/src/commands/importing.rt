@@ -23,7 +23,7 @@ use crate::jobs::{Job, by_store};
 use crate::options::{command_on_file, name_at, needed, placed, with_word};
 use crate::usage::{BadValue, Usage};
 use clap::ArgMatches;
-use desk_engine::{ImportEnd, import_report};
+use desk_engine::{ImportEnd, Progress, import_report};
 use desk_store::Keeper;
 use radio_core::Name;
 use sqlite::{Alter, Connection};
@@ -52,7 +52,8 @@ pub(crate) fn import_of<'a>(options: &ArgMatches<'a>) -> Result<Command<'a>, Usa
 /// Hears the records of a gateway's report, one after another, as messages of this sender, with the desk of the connection's database.
 /// Writes an answer for each, one a line. Returns the connection.
 ///
-/// Nothing is read before the desk is open, and nothing is heard before the whole report is read.
+/// Nothing is read before the desk is open, and nothing is heard before the whole report is read. `progress` shows how many records are
+/// answered.
 ///
 /// # Errors
 ///
@@ -63,13 +64,14 @@ pub(crate) fn import_of<'a>(options: &ArgMatches<'a>) -> Result<Command<'a>, Usa
 ///   the one at which the desk failed.
 /// - `Unavailable` if the desk failed at a record. Exactly the answers of the records before it were written.
 /// - `NotADesk`, `Schema` or `Unavailable` if the database isn't a desk of schema 2. It stays as it is.
-pub fn import_command<S: Alter, R: Read, W: Write, F: Write>(
+pub fn import_command<S: Alter, R: Read, W: Write, F: Write, P: Progress>(
     alloc: Global,
     conn: Connection<S>,
     sender: &Name,
     reader: &mut R,
     answers: &mut W,
     faults: &mut F,
+    progress: &P,
 ) -> (Ending, Connection<S>)
     requires idle { conn.in_transaction ≡ false }
     requires unlimited { conn.step_limit ≡ None }
@@ -78,17 +80,18 @@ pub fn import_command<S: Alter, R: Read, W: Write, F: Write>(
         (λ c heard. ImportsBy c heard sender.now (KeepsHeard S.Store result.1 c) (IsLeft S.Store result.1 c)
         (R.remaining reader.old) (R.remaining reader.new) (W.contents answers.old) (W.contents answers.new) done)) }
 {
-    let (done, conn) = hear_report(alloc, conn, sender, reader, answers);
+    let (done, conn) = hear_report(alloc, conn, sender, reader, answers, progress);
     (end(faults, done), conn)
 }
 
 /// Hears the reader's report, and returns the connection.
-fn hear_report<S: Alter, R: Read, W: Write>(
+fn hear_report<S: Alter, R: Read, W: Write, P: Progress>(
     alloc: Global,
     conn: Connection<S>,
     sender: &Name,
     reader: &mut R,
     answers: &mut W,
+    progress: &P,
 ) -> (Result<(), Fault>, Connection<S>)
     requires idle { conn.in_transaction ≡ false }
     requires unlimited { conn.step_limit ≡ None }
@@ -99,16 +102,17 @@ fn hear_report<S: Alter, R: Read, W: Write>(
         → RefusesFile S.Store conn result.1 (Keeps (R.remaining reader.old) (R.remaining reader.new) × Keeps (W.contents answers.old) (W.contents answers.new)) result.0 }
     ensures clean { HasCleanDisk (state S.Store result.1) → HasCleanDisk (state S.Store conn) }
 {
-    by_store(alloc, conn, &Import { sender }, reader, answers)
+    by_store(alloc, conn, &Import { sender, progress }, reader, answers)
 }
 
 /// Hears the reader's report as this sender's.
 #[derive(Drop)]
-struct Import<'a> {
+struct Import<'a, P> {
     sender: &'a Name,
+    progress: &'a P,
 }
 
-impl Job for Import<'_> {
+impl<P: Progress> Job for Import<'_, P> {
     ghost does = { λ job. imports job.sender.now };
 
     fn run<K: Keeper, R: Read, W: Write>(
@@ -118,7 +122,7 @@ impl Job for Import<'_> {
         reader: &mut R,
         answers: &mut W,
     ) -> Result<(), Fault> {
-        match import_report(alloc, keeper, self.sender, reader, answers) {
+        match import_report(alloc, keeper, self.sender, reader, answers, self.progress) {
             ImportEnd::Done => Ok(()),
             ImportEnd::NoReport(fault) => Err(fault.into()),
             ImportEnd::Read => Err(Fault::File),

@@ -18,6 +18,7 @@ use crate::network::Network;
 use crate::tests::holding::{holds, holds_at};
 use crate::tests::ready;
 use crate::usage::Usage;
+use desk_engine::NoProgress;
 use desk_http::{Listening, ServeEnd};
 use sqlite::{Alter, Connection, MemStore};
 use std::alloc::Global;
@@ -139,7 +140,15 @@ pub(super) fn ran<R: AllocGlobal, S: Alter + Drop, N: Files<S>, I: Read, W: Writ
 ) -> (Ending, Vec<u8>, Option<Connection<S>>) {
     let process = (Started { words }, rt.alloc());
     let mut faults = Vec::new(rt.alloc());
-    let (ending, conn) = run(&process, files, &NETWORK, reader, answers, &mut faults);
+    let (ending, conn) = run(
+        &process,
+        files,
+        &NETWORK,
+        reader,
+        answers,
+        &mut faults,
+        &NoProgress,
+    );
     (ending, faults, conn)
 }
 
@@ -278,6 +287,7 @@ fn runs_of_words(rt: HostRuntime) -> Result<(), Fail> {
             &mut reader,
             &mut answers,
             &mut faults,
+            &NoProgress,
         );
         holds_at(&rt, conn.is_none(), place);
         holds_at(&rt, end == *ending, place);

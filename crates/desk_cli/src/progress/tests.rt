@@ -1,6 +1,7 @@
 //! What a terminal is shown, by a clock that goes on by 400 milliseconds each time that it is read.
-use super::{CLEAR, Cleared, Counted, Grouped};
+use super::{CLEAR, Cleared, Counted, Grouped, Heard, clear};
 use crate::tests::holding::holds;
+use desk_engine::Progress;
 use std::cell::Cell;
 use std::io::{self, Read, Write};
 use std::test::Fail;
@@ -49,13 +50,34 @@ fn numbers_are_shown_and_cleared(rt: HostRuntime) -> Result<(), Fail> {
         faults.below.as_slice() == "ab".as_bytes(),
         "what is written",
     );
-    let shown = lines.shown.ok_or("nothing is shown")?;
+    let shown = lines.lines.ok_or("nothing is shown")?.shown;
     let wanted = "\rdesk: 5 lines\rdesk: 8 lines\r\x1b[K";
     holds(
         &rt,
         shown.terminal.as_slice() == wanted.as_bytes(),
         "the numbers",
     );
+    Ok(())
+}
+
+/// After the first record every third one shows a number, and so does every third message.
+#[test]
+fn records_and_messages_are_shown(rt: HostRuntime) -> Result<(), Fail> {
+    let clock = Ticking {
+        millis: Cell::new(0),
+    };
+    let is_shown = Cell::new(false);
+    let heard = Heard::new(&clock, Some(Vec::new(rt.alloc())), &is_shown);
+    for count in 1_000..1_004 {
+        heard.records(count);
+    }
+    for count in 7..10 {
+        heard.messages(count);
+    }
+    let mut screen = heard.shown.ok_or("no terminal")?.into_inner().terminal;
+    clear(&mut screen, &is_shown);
+    let wanted = "\rdesk: 1,003 records\rdesk: 9 messages\r\x1b[K";
+    holds(&rt, screen.as_slice() == wanted.as_bytes(), wanted);
     Ok(())
 }
 

@@ -12,7 +12,7 @@ use super::runs::texts_of;
 use super::stops::all_deliveries;
 use super::switched::{Failure, Switched};
 use super::{Reopened, expect_told, hear_each, opening};
-use desk_engine::{LinesEnd, Outcome, deliver, import, run, run_lines};
+use desk_engine::{LinesEnd, NoProgress, Outcome, deliver, import, run, run_lines};
 use desk_http::{ServeEnd, serve_one};
 use desk_store::{Keeper, StoreFault};
 use desk_tables::Tables;
@@ -242,7 +242,12 @@ impl Way for ByImport {
         deliveries: &[Delivery],
         fault: StoreFault,
     ) -> Result<usize, Fail> {
-        let imported = import(rt.alloc(), keeper, &envelopes_of(rt.alloc(), deliveries)?);
+        let imported = import(
+            rt.alloc(),
+            keeper,
+            &envelopes_of(rt.alloc(), deliveries)?,
+            &NoProgress,
+        );
         for (outcome, delivery) in imported.answers.iter().zip(deliveries) {
             expect_told(rt, outcome, delivery);
         }

@@ -1,7 +1,7 @@
 //! Gateway reports: the worked one three times, one that goes on after refusals, and one of a sender that nobody added.
 use super::holding::holds;
 use super::{Opened, Reopened, expect, with_device};
-use desk_engine::{Imported, import};
+use desk_engine::{Imported, NoProgress, import};
 use desk_store::Keeper;
 use desk_tables::Tables;
 use desk_wire::read_report;
@@ -78,7 +78,7 @@ fn imported<K: Keeper>(
 ) -> Result<Imported, Fail> {
     let sender = Name::new(sender).ok_or("no name")?;
     match read_report(alloc, text, &sender) {
-        Ok(envelopes) => Ok(import(alloc, keeper, &envelopes)),
+        Ok(envelopes) => Ok(import(alloc, keeper, &envelopes, &NoProgress)),
         Err(_) => Err("no report".into()),
     }
 }

@@ -4,6 +4,7 @@ use crate::endings::Ending;
 use crate::program::run;
 use crate::tests::holding::holds_at;
 use crate::tests::importing::WORKED;
+use desk_engine::NoProgress;
 use sqlite::{Alter, Connection};
 use std::process::Abort;
 use std::test::Fail;
@@ -221,6 +222,7 @@ fn ends<R: Abort + AllocGlobal, S: Alter + Drop>(
         &mut reader,
         &mut answers,
         &mut faults,
+        &NoProgress,
     );
     holds_at(rt, end == *ending, place);
     holds_at(rt, answers.as_slice() == answered.as_bytes(), place);
