@@ -6,8 +6,9 @@
 It takes the texts of the statements from `crates/desk_rows/src/*.rt`, has the program make a file and hear the day's messages in it,
 and asks `EXPLAIN QUERY PLAN` there of each SELECT and UPDATE. What begins with CREATE has to be in the file as it is written,
 that of a move from an older schema too. A plan that scans a table or sorts rows fails, but for a look at the first row in the order
-of the rowid, which SQLite calls a scan too and ends after one row, for meta, which has one row, and for the sort of a device's
-uplinks in a range of time. It prints a line for each statement and at the end how many there were, and by which key or index.
+of the rowid, which SQLite calls a scan too and ends after one row, for meta, which has one row, for a list of all names or DevEUIs,
+which has to come of an index alone, and for the sorts of a device's sessions and of its uplinks in a range of time. It prints a line
+for each statement and at the end how many there were, and by which key or index.
 """
 
 import argparse
@@ -27,8 +28,12 @@ GOES_ON = re.compile(r"\\\n\s*")
 # The first row in the order of the rowid, or the last; and the table of one row.
 ENDS = re.compile(r"^SELECT (\w+) FROM \w+ ORDER BY \1( DESC)? LIMIT 1$")
 ONE_ROW = re.compile(r"^SELECT [^?]* FROM meta$")
+# All names or DevEUIs in order: an index has them in that order, so the table isn't read and nothing is sorted.
+OF_ALL = re.compile(r"^SELECT (name|eui) FROM \w+ ORDER BY \1, rowid$")
 # The uplinks are found by an index session by session, and those of several sessions have to be sorted: as many as are reported.
 OF_SESSIONS = re.compile(r"^SELECT [^?]* FROM session JOIN uplink ON uplink\.session = session\.number ")
+# The sessions of a device are found by an index in the order of their nonces, and have to be sorted by number.
+OF_DEVICE = re.compile(r"^SELECT number FROM session WHERE device = \?1 ORDER BY number$")
 
 
 def statements():
@@ -42,7 +47,10 @@ def is_bad(text, step):
     """Whether a step of the plan looks through a table, or puts rows in order."""
     if ENDS.match(text) or ONE_ROW.match(text):
         return False
-    return step.startswith("SCAN") or ("TEMP B-TREE" in step and not OF_SESSIONS.match(text))
+    if OF_ALL.match(text):
+        return " USING COVERING INDEX " not in step
+    is_sorted = OF_SESSIONS.match(text) or OF_DEVICE.match(text)
+    return step.startswith("SCAN") or ("TEMP B-TREE" in step and not is_sorted)
 
 
 def made(program, file):

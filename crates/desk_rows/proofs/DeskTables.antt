@@ -12,9 +12,9 @@ use Rattle.sqlite_schema.specs.declared.schema.Index.{Index}
 use Rattle.radio_core.specs.Bands.{band_number}
 use Rattle.registry_core.specs.declared.facts.Kind.{Kind}
 use Rattle.registry_core.specs.declared.facts.Uplink.{Uplink}
-use Rattle.registry_core.specs.Ranges.{IsEui}
+use Rattle.registry_core.specs.Ranges.{IsEui, IsName}
 use Rattle.desk_rows.specs.Schema.{sender_table, reply_table, owner_table, gateway_table, device_table, session_table, uplink_table, copy_table, booking_table, limit_table, unique_index}
-use Rattle.desk_rows.specs.Rows.{SenderRow, ReplyRow, DeviceRow, SessionRow, CopyRow, BookingRow, LimitRow, IsDevice, IsSession, IsUplink, IsCopy, IsBooking, sender_cells, reply_cells, name_cells, device_cells, session_cells, uplink_cells, copy_cells, booking_cells, limit_cells, number, eui, or_null, kind_number, is_sender_named, is_reply, is_device, is_session, is_uplink, is_copy, is_limit}
+use Rattle.desk_rows.specs.Rows.{SenderRow, ReplyRow, DeviceRow, SessionRow, CopyRow, BookingRow, LimitRow, IsSender, IsDevice, IsSession, IsUplink, IsCopy, IsBooking, sender_cells, reply_cells, name_cells, device_cells, session_cells, uplink_cells, copy_cells, booking_cells, limit_cells, number, eui, or_null, kind_number, is_sender_named, is_reply, is_device, is_session, is_uplink, is_copy, is_limit}
 use Rattle.desk_rows.proofs.Ordered.{every}
 use Rattle.desk_rows.proofs.Stored.{Keyed, Stored, passes_alone}
 use Rattle.desk_rows.proofs.Terms.{and_true, eui_equal, number_equal, text_equal}
@@ -26,7 +26,7 @@ device_obeys db n x = go x.floor
     go None = refl
     go (Some m) = refl
 
-abbrev pub senders : Stored SenderRow (λ _. Unit {0})
+abbrev pub senders : Stored SenderRow IsSender
 senders = record {
   at = 1;
   table = sender_table;
@@ -34,8 +34,8 @@ senders = record {
   put = λ r xs. record r { senders = xs };
   cells = sender_cells;
   held = λ db r has. has.ten.sender;
-  ranges = λ r h. every r.senders;
-  in_range = λ r xs h all. record { devices = h.devices; sessions = h.sessions; uplinks = h.uplinks; copies = h.copies; bookings = h.bookings };
+  ranges = λ r h. h.senders;
+  in_range = λ r xs h all. record { senders = all; owners = h.owners; gateways = h.gateways; devices = h.devices; sessions = h.sessions; uplinks = h.uplinks; copies = h.copies; bookings = h.bookings };
   computes = (refl, λ r xs. refl, λ db n x. refl, refl, refl);
 }
 
@@ -59,7 +59,7 @@ replies = record {
   cells = reply_cells;
   held = λ db r has. has.ten.reply;
   ranges = λ r h. every r.replies;
-  in_range = λ r xs h all. record { devices = h.devices; sessions = h.sessions; uplinks = h.uplinks; copies = h.copies; bookings = h.bookings };
+  in_range = λ r xs h all. record { senders = h.senders; owners = h.owners; gateways = h.gateways; devices = h.devices; sessions = h.sessions; uplinks = h.uplinks; copies = h.copies; bookings = h.bookings };
   computes = (refl, λ r xs. refl, λ db n x. refl, refl, refl);
 }
 
@@ -74,7 +74,7 @@ reply_key = record {
   computes = (λ db all row free. rw free refl, λ n x. refl, λ n k x. refl);
 }
 
-abbrev pub owners : Stored (List ℕ) (λ _. Unit {0})
+abbrev pub owners : Stored (List ℕ) IsName
 owners = record {
   at = 3;
   table = owner_table;
@@ -82,8 +82,8 @@ owners = record {
   put = λ r xs. record r { owners = xs };
   cells = name_cells;
   held = λ db r has. has.ten.owner;
-  ranges = λ r h. every r.owners;
-  in_range = λ r xs h all. record { devices = h.devices; sessions = h.sessions; uplinks = h.uplinks; copies = h.copies; bookings = h.bookings };
+  ranges = λ r h. h.owners;
+  in_range = λ r xs h all. record { senders = h.senders; owners = all; gateways = h.gateways; devices = h.devices; sessions = h.sessions; uplinks = h.uplinks; copies = h.copies; bookings = h.bookings };
   computes = (refl, λ r xs. refl, λ db n x. refl, refl, refl);
 }
 
@@ -98,7 +98,7 @@ owner_key = record {
   computes = (λ db all row free. rw free refl, λ n x. refl, λ n name x. refl);
 }
 
-abbrev pub gateways : Stored (List ℕ) (λ _. Unit {0})
+abbrev pub gateways : Stored (List ℕ) IsName
 gateways = record {
   at = 4;
   table = gateway_table;
@@ -106,8 +106,8 @@ gateways = record {
   put = λ r xs. record r { gateways = xs };
   cells = name_cells;
   held = λ db r has. has.ten.gateway;
-  ranges = λ r h. every r.gateways;
-  in_range = λ r xs h all. record { devices = h.devices; sessions = h.sessions; uplinks = h.uplinks; copies = h.copies; bookings = h.bookings };
+  ranges = λ r h. h.gateways;
+  in_range = λ r xs h all. record { senders = h.senders; owners = h.owners; gateways = all; devices = h.devices; sessions = h.sessions; uplinks = h.uplinks; copies = h.copies; bookings = h.bookings };
   computes = (refl, λ r xs. refl, λ db n x. refl, refl, refl);
 }
 
@@ -131,7 +131,7 @@ devices = record {
   cells = device_cells;
   held = λ db r has. has.ten.device;
   ranges = λ r h. h.devices;
-  in_range = λ r xs h all. record { devices = all; sessions = h.sessions; uplinks = h.uplinks; copies = h.copies; bookings = h.bookings };
+  in_range = λ r xs h all. record { senders = h.senders; owners = h.owners; gateways = h.gateways; devices = all; sessions = h.sessions; uplinks = h.uplinks; copies = h.copies; bookings = h.bookings };
   computes = (refl, λ r xs. refl, device_obeys, refl, refl);
 }
 
@@ -158,7 +158,7 @@ sessions = record {
   cells = session_cells;
   held = λ db r has. has.ten.session;
   ranges = λ r h. h.sessions;
-  in_range = λ r xs h all. record { devices = h.devices; sessions = all; uplinks = h.uplinks; copies = h.copies; bookings = h.bookings };
+  in_range = λ r xs h all. record { senders = h.senders; owners = h.owners; gateways = h.gateways; devices = h.devices; sessions = all; uplinks = h.uplinks; copies = h.copies; bookings = h.bookings };
   computes = (refl, λ r xs. refl, λ db n x. refl, refl, refl);
 }
 
@@ -182,7 +182,7 @@ uplinks = record {
   cells = uplink_cells;
   held = λ db r has. has.ten.uplink;
   ranges = λ r h. h.uplinks;
-  in_range = λ r xs h all. record { devices = h.devices; sessions = h.sessions; uplinks = all; copies = h.copies; bookings = h.bookings };
+  in_range = λ r xs h all. record { senders = h.senders; owners = h.owners; gateways = h.gateways; devices = h.devices; sessions = h.sessions; uplinks = all; copies = h.copies; bookings = h.bookings };
   computes = (refl, λ r xs. refl, λ db n x. refl, refl, refl);
 }
 
@@ -206,7 +206,7 @@ copies = record {
   cells = copy_cells;
   held = λ db r has. has.ten.copy;
   ranges = λ r h. h.copies;
-  in_range = λ r xs h all. record { devices = h.devices; sessions = h.sessions; uplinks = h.uplinks; copies = all; bookings = h.bookings };
+  in_range = λ r xs h all. record { senders = h.senders; owners = h.owners; gateways = h.gateways; devices = h.devices; sessions = h.sessions; uplinks = h.uplinks; copies = all; bookings = h.bookings };
   computes = (refl, λ r xs. refl, λ db n x. refl, refl, refl);
 }
 
@@ -230,7 +230,7 @@ bookings = record {
   cells = booking_cells;
   held = λ db r has. has.ten.booking;
   ranges = λ r h. h.bookings;
-  in_range = λ r xs h all. record { devices = h.devices; sessions = h.sessions; uplinks = h.uplinks; copies = h.copies; bookings = all };
+  in_range = λ r xs h all. record { senders = h.senders; owners = h.owners; gateways = h.gateways; devices = h.devices; sessions = h.sessions; uplinks = h.uplinks; copies = h.copies; bookings = all };
   computes = (refl, λ r xs. refl, λ db n x. refl, refl, refl);
 }
 
@@ -243,7 +243,7 @@ limits = record {
   cells = limit_cells;
   held = λ db r has. has.limit;
   ranges = λ r h. every r.limits;
-  in_range = λ r xs h all. record { devices = h.devices; sessions = h.sessions; uplinks = h.uplinks; copies = h.copies; bookings = h.bookings };
+  in_range = λ r xs h all. record { senders = h.senders; owners = h.owners; gateways = h.gateways; devices = h.devices; sessions = h.sessions; uplinks = h.uplinks; copies = h.copies; bookings = h.bookings };
   computes = (refl, λ r xs. refl, λ db n x. refl, refl, refl);
 }
 

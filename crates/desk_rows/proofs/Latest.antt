@@ -34,14 +34,11 @@ use Rattle.desk_rows.specs.Calls.{Reads, ReadsOf}
 use Rattle.desk_rows.specs.steps.Queries.{Finds}
 use Rattle.desk_rows.specs.Rows.{Rows, Holds, SessionRow, IsSession, IsUplink, session_cells, uplink_cells, eui, number, kind_number, table_of, last_number}
 use Rattle.desk_rows.specs.declared.faults.RowFault.{RowFault}
+pub use Rattle.desk_rows.specs.steps.Latest.{latest}
 use Rattle.desk_rows.proofs.Lookups.{IsLookup, IsLookupOf, finds_of, has_schema, says_so}
 use Rattle.desk_rows.proofs.Ordered.{Asked, query_of, falling, encode, zip_from, head, first_sorted, map_same, map_twice}
 use Rattle.desk_rows.proofs.OrderLemmas.Counting.{filter_alike}
 use Rattle.desk_rows.proofs.Terms.{is, same, and_true, number_equal, eui_equal}
-
--- the first of those that pass, by falling keys
-abbrev pub latest : (tree : ℕ) → List Term → List Term → List (Term × Key) → Asked (tree ∷ [])
-latest tree terms project order = record { terms = terms; project = project; order = order; one = true }
 
 -- ---- the first in a falling order is the greatest
 
@@ -99,7 +96,7 @@ greatest_below most (n ∷ ns) all = go (greatest ns) (greatest_below most ns al
     go (Some m) h = omega (arith, all.0, h)
 
 module _ {X : Type 0} (f : X → ℕ) (p : X → Bool) where
-  unnumbered : (n : ℕ) (xs : List X) → map (λ (b : ℕ × X). f b.1) (filter (λ b. p b.1) (zip_from n xs)) ≡ map f (filter p xs)
+  pub unnumbered : (n : ℕ) (xs : List X) → map (λ (b : ℕ × X). f b.1) (filter (λ b. p b.1) (zip_from n xs)) ≡ map f (filter p xs)
   unnumbered n [] = refl
   unnumbered n (x ∷ xs) = go (p x) (unnumbered (n + 1) xs)
     where
@@ -160,7 +157,7 @@ once a b = go (int_cmp (pos b) (pos a)) refl
     go Equal is = sym (ap (λ u. ordering_then u Equal) is)
     go Greater is = refl
 
-any : (o : Option ℕ) → IfSome o (λ n. Unit {0})
+pub any : (o : Option ℕ) → IfSome o (λ n. Unit {0})
 any None = tt
 any (Some n) = tt
 

@@ -10,9 +10,11 @@ pub mod FaultLemmas
 pub mod InsertLemmas
 pub mod Insertions
 pub mod Joined
+pub mod LastOnes
 pub mod LaterLemmas
 pub mod Latest
 pub mod LimitUpdates
+pub mod ListedQueries
 pub mod Lookups
 pub mod MakingLemmas
 pub mod MetaLemmas
@@ -30,6 +32,7 @@ pub mod Ranges
 pub mod ReadLemmas
 pub mod RefusedLemmas
 pub mod SchemaBatch
+pub mod SessionNumbers
 pub mod SpanQueries
 pub mod Stored
 pub mod StoredUpdates

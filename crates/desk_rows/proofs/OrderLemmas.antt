@@ -10,6 +10,7 @@ pub mod Framing
 pub mod Free
 pub mod Keys
 pub mod Limits
+pub mod Listing
 pub mod Looking
 pub mod LookingUp
 pub mod Named

@@ -183,6 +183,9 @@ last_number (x ∷ xs) = Some (1 + length xs)
 
 -- ---- ranges: those of the types that rows are read as
 
+abbrev pub IsSender : SenderRow → Type 0
+IsSender s = IsName s.name
+
 pub record IsDevice (d : DeviceRow) : Type 0 where
   pub dev_eui : IsEui d.dev_eui
   pub join_eui : IsEui d.device.join_eui
@@ -208,6 +211,9 @@ pub record IsBooking (b : BookingRow) : Type 0 where
   pub len : b.booking.span.len < 2 ^ 32
 
 pub record InRange (r : Rows) : Type 0 where
+  pub senders : AllByRecursion IsSender r.senders
+  pub owners : AllByRecursion IsName r.owners
+  pub gateways : AllByRecursion IsName r.gateways
   pub devices : AllByRecursion IsDevice r.devices
   pub sessions : AllByRecursion IsSession r.sessions
   pub uplinks : AllByRecursion IsUplink r.uplinks

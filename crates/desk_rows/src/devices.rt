@@ -9,22 +9,24 @@ ghost use Rattle.registry_core.specs.declared.facts.Device.{Device};
 ghost use Rattle.registry_core.specs.Ranges.{IsEui, IsName};
 ghost use Rattle.registry_core.specs.Reports.{is_after};
 ghost use Rattle.desk_rows.specs.order.Arranged.{by_eui, is_next_of};
+ghost use Rattle.desk_rows.specs.order.Listed.{devices_listed};
 ghost use Rattle.desk_rows.specs.order.LookUps.{first_by};
 ghost use Rattle.desk_rows.specs.steps.Queries.{above_only};
-ghost use Rattle.desk_rows.specs.steps.Texts.{AsksFor, device_after_asked};
+ghost use Rattle.desk_rows.specs.steps.Texts.{AsksFor, all_asked, device_after_asked};
 ghost use Rattle.desk_rows.specs.Rows.{eui, is_device, last_number, number, or_null};
 ghost use Rattle.desk_rows.specs.order.Changes.{moved};
 ghost use Rattle.desk_rows.specs.order.Keys.{HasOnly, floor_set};
 
 use crate::columns::{eui_at, name_at, number_at};
 use crate::faults::RowFault;
-use crate::queries::{FromRow, find};
+use crate::queries::{FromRow, find, find_all};
 use crate::values::{blob, octets_of, text, whole};
 use crate::writes::write;
 use radio_core::{Eui, Name};
 use registry_core::{Device, Whole};
 use sqlite::{Alter, Connection, Row, Transaction};
 use sqlite_value::value::ValueRef;
+use std::alloc::Global;
 
 impl FromRow for Device {
     ghost Seen = { Device };
@@ -185,6 +187,21 @@ pub fn next_device<S: Alter>(
         Some(last) => above(device_after(conn, owner, last), after),
         None => first_device(conn, owner),
     }
+}
+
+/// The text of the look-up of all devices.
+#[tactic(auto, unfolding(sqlite::specs::Listing::understood, sqlite_tied::specs::Compute::everything))]
+fn device_euis_text() -> &'static str
+    ensures { AsksFor result.now 0 (all_asked 9) (codes "eui" ∷ []) }
+{
+    "SELECT eui FROM device ORDER BY eui, rowid"
+}
+
+/// Returns the DevEUIs of all devices, in order.
+pub fn device_euis<S: Alter>(alloc: Global, conn: &mut Connection<S>) -> Result<Vec<Eui>, RowFault>
+    ensures { Reads (state S.Store conn.old) (state S.Store conn.new) result (λ r all. all.items ≡ devices_listed r.devices) }
+{
+    find_all(alloc, conn, device_euis_text(), &[])
 }
 
 /// Adds a device none of whose sessions has a data uplink.

@@ -35,19 +35,20 @@ mod writes;
 pub use bookings::{booking, end_booking, insert_booking, is_answered, last_booking};
 pub use copies::{copy_at, insert_copy};
 pub use devices::{
-    device, floor_of, insert_device, last_device, move_device, next_device, set_floor,
+    device, device_euis, floor_of, insert_device, last_device, move_device, next_device, set_floor,
 };
 pub use faults::{RowFault, fault_of};
-pub use gateways::{gateway_is_known, insert_gateway, last_gateway};
+pub use gateways::{gateway_is_known, gateway_names, insert_gateway, last_gateway};
 pub use limits::{change_limit, insert_limit, last_limit, limit_at};
 pub use making::{create_tables, insert_settings};
 pub use meta::read_settings;
 pub use migrating::{create_limits, raise_version};
-pub use owners::{insert_owner, last_owner, owner_is_known};
-pub use replies::{Texts, insert_reply, last_reply, texts_at, texts_of};
-pub use senders::{insert_sender, last_sender, role_of};
+pub use owners::{insert_owner, last_owner, owner_is_known, owner_names};
+pub use replies::{Texts, insert_reply, last_reply, last_transaction, texts_at, texts_of};
+pub use senders::{insert_sender, last_sender, role_of, sender_names};
 pub use sessions::{
-    insert_session, last_nonce, last_session, next_down, session, session_with, set_next_down,
+    insert_session, last_nonce, last_session, next_down, session, session_with, sessions_of,
+    set_next_down,
 };
 pub use spans::{bookings_of, near, uplinks_of};
-pub use uplinks::{insert_uplink, last_counter, last_uplink, uplink, uplink_with};
+pub use uplinks::{insert_uplink, last_counter, last_start, last_uplink, uplink, uplink_with};

@@ -1,16 +1,19 @@
 //! The table of owners.
-ghost use Rattle.std.specs.Prelude.{◌≡◌, ◌+◌, ◌<◌, ◌^◌, ◌++◌, [], ◌∷◌, length, false, bytes_eq};
+ghost use Rattle.std.specs.Prelude.{◌≡◌, ◌+◌, ◌<◌, ◌^◌, ◌++◌, [], ◌∷◌, codes, length, false, bytes_eq};
 ghost use Rattle.std.specs.List.{list_any};
 ghost use Rattle.sqlite.specs.Held.{state};
 ghost use Rattle.desk_rows.specs.Calls.{Changes, Reads};
 ghost use Rattle.desk_rows.specs.Rows.{last_number};
+ghost use Rattle.desk_rows.specs.order.Listed.{names_listed};
+ghost use Rattle.desk_rows.specs.steps.Texts.{AsksFor, all_asked};
 
 use crate::faults::RowFault;
-use crate::queries::{find, is_found};
+use crate::queries::{find, find_all, is_found};
 use crate::values::text;
 use crate::writes::write;
 use radio_core::Name;
 use sqlite::{Alter, Connection, Transaction};
+use std::alloc::Global;
 
 /// Returns whether there is an owner of this name.
 pub fn owner_is_known<S: Alter>(conn: &mut Connection<S>, name: &Name) -> Result<bool, RowFault>
@@ -32,6 +35,21 @@ pub fn last_owner<S: Alter>(conn: &mut Connection<S>) -> Result<Option<u64>, Row
         "SELECT rowid FROM owner ORDER BY rowid DESC LIMIT 1",
         &[],
     )
+}
+
+/// The text of the look-up of all owners.
+#[tactic(auto, unfolding(sqlite::specs::Listing::understood, sqlite_tied::specs::Compute::everything))]
+fn owner_names_text() -> &'static str
+    ensures { AsksFor result.now 0 (all_asked 5) (codes "name" ∷ []) }
+{
+    "SELECT name FROM owner ORDER BY name, rowid"
+}
+
+/// Returns the names of all owners, ordered by their octets.
+pub fn owner_names<S: Alter>(alloc: Global, conn: &mut Connection<S>) -> Result<Vec<Name>, RowFault>
+    ensures { Reads (state S.Store conn.old) (state S.Store conn.new) result (λ r all. all.items ≡ names_listed r.owners) }
+{
+    find_all(alloc, conn, owner_names_text(), &[])
 }
 
 /// Adds an owner.

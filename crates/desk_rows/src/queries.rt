@@ -5,12 +5,15 @@ ghost use Rattle.sqlite.specs.Values.{bound};
 ghost use Rattle.sqlite.specs.declared.error.Error.{Error};
 ghost use Rattle.sqlite_value.specs.Order.{Row};
 ghost use Rattle.sqlite_value.specs.declared.value.Value.{Value};
+ghost use Rattle.sqlite_value.specs.declared.value.Value.TheVariants.{Text};
+ghost use Rattle.registry_core.specs.Ranges.{IsName};
 ghost use Rattle.desk_rows.specs.steps.Errors.{Decodes, found_of, known_of};
 ghost use Rattle.desk_rows.specs.Rows.{number};
 ghost use Rattle.desk_rows.specs.steps.Queries.{Finds, FindsAll, HasRun, IsReadOf, Knows};
 
-use crate::columns::number_at;
+use crate::columns::{name_at, number_at};
 use crate::faults::{RowFault, found};
+use radio_core::Name;
 use sqlite::{Alter, Connection, Row};
 use sqlite_value::value::ValueRef;
 use std::alloc::Global;
@@ -41,6 +44,21 @@ impl FromRow for u64 {
 
     fn from_row(row: &Row) -> Result<u64, RowFault> {
         number_at(row, 0)
+    }
+}
+
+impl FromRow for Name {
+    ghost Seen = { List ℕ };
+
+    ghost seen = { λ name. name };
+
+    ghost shows = { λ name. Text name ∷ [] };
+
+    ghost InRange = { IsName };
+
+    #[tactic(auto, using(crate::proofs::ListedQueries::name_read))]
+    fn from_row(row: &Row) -> Result<Name, RowFault> {
+        name_at(row, 0)
     }
 }
 

@@ -1,12 +1,13 @@
 //! The table of messages that were heard, with their answers.
-ghost use Rattle.std.specs.Prelude.{◌≡◌, ◌+◌, ◌<◌, ◌^◌, ◌++◌, [], ◌∷◌, ℕ, List, codes, length, false, find, option_map};
+ghost use Rattle.std.specs.Prelude.{◌≡◌, ◌+◌, ◌<◌, ◌^◌, ◌++◌, [], ◌∷◌, ℕ, List, bytes_eq, codes, filter, length, map, false, find, option_map};
 ghost use Rattle.std.specs.List.{list_any};
 ghost use Rattle.sqlite.specs.Held.{state};
 ghost use Rattle.desk_rows.specs.Calls.{Changes, Reads, ReadsFirst};
 ghost use Rattle.sqlite_value.specs.declared.value.Value.TheVariants.{Blob};
-ghost use Rattle.registry_core.specs.Numbered.{item_at};
+ghost use Rattle.registry_core.specs.Numbered.{greatest, item_at};
 ghost use Rattle.desk_rows.specs.Replies.{reply_texts, kept_texts};
 ghost use Rattle.desk_rows.specs.Rows.{is_reply, last_number};
+ghost use Rattle.desk_rows.specs.steps.Latest.{last_transaction_asked};
 ghost use Rattle.desk_rows.specs.steps.Texts.{AsksFor, by_rowid, is, reply_asked};
 ghost use Rattle.sqlite_sql.specs.Term.{col};
 
@@ -87,6 +88,25 @@ pub fn last_reply<S: Alter>(conn: &mut Connection<S>) -> Result<Option<u64>, Row
     ensures first { ReadsFirst (state S.Store conn.old) (state S.Store conn.new) result (λ r number. number ≡ last_number r.replies) }
 {
     find(conn, "SELECT seq FROM reply ORDER BY seq DESC LIMIT 1", &[])
+}
+
+/// Returns the SQL text of the look-up of a sender's last transaction number.
+#[tactic(auto, unfolding(sqlite::specs::Listing::understood, sqlite_tied::specs::Compute::everything))]
+fn last_transaction_text() -> &'static str
+    ensures { AsksFor result.now 1 last_transaction_asked (codes "number" ∷ []) }
+{
+    "SELECT number FROM reply WHERE sender = ?1 ORDER BY number DESC, seq DESC LIMIT 1"
+}
+
+/// Returns the greatest transaction number with which a message of the sender was heard, `None` if none was.
+pub fn last_transaction<S: Alter>(
+    conn: &mut Connection<S>,
+    sender: &Name,
+) -> Result<Option<u64>, RowFault>
+    ensures { Reads (state S.Store conn.old) (state S.Store conn.new) result
+        (λ r number. number ≡ greatest (map (λ row. row.number) (filter (λ row. bytes_eq row.sender sender.now) r.replies))) }
+{
+    find(conn, last_transaction_text(), &[text(sender)])
 }
 
 /// Adds a message that was heard, with its answer, at the end.

@@ -4,17 +4,19 @@ ghost use Rattle.std.specs.List.{list_any};
 ghost use Rattle.sqlite.specs.Held.{state};
 ghost use Rattle.desk_rows.specs.Calls.{Changes, Reads};
 ghost use Rattle.desk_rows.specs.Rows.{is_sender_named, last_number, number, role_number};
-ghost use Rattle.desk_rows.specs.steps.Texts.{AsksFor, role_asked};
+ghost use Rattle.desk_rows.specs.order.Listed.{senders_listed};
+ghost use Rattle.desk_rows.specs.steps.Texts.{AsksFor, all_asked, role_asked};
 ghost use Rattle.registry_core.specs.declared.messages.Role.{Role};
 
 use crate::columns::role_at;
 use crate::faults::RowFault;
-use crate::queries::{FromRow, find};
+use crate::queries::{FromRow, find, find_all};
 use crate::values::{role, text};
 use crate::writes::write;
 use radio_core::Name;
 use registry_core::Role;
 use sqlite::{Alter, Connection, Row, Transaction};
+use std::alloc::Global;
 
 impl FromRow for Role {
     ghost Seen = { Role };
@@ -54,6 +56,24 @@ pub fn last_sender<S: Alter>(conn: &mut Connection<S>) -> Result<Option<u64>, Ro
         "SELECT rowid FROM sender ORDER BY rowid DESC LIMIT 1",
         &[],
     )
+}
+
+/// The text of the look-up of all senders.
+#[tactic(auto, unfolding(sqlite::specs::Listing::understood, sqlite_tied::specs::Compute::everything))]
+fn sender_names_text() -> &'static str
+    ensures { AsksFor result.now 0 (all_asked 1) (codes "name" ∷ []) }
+{
+    "SELECT name FROM sender ORDER BY name, rowid"
+}
+
+/// Returns the names of all senders, ordered by their octets.
+pub fn sender_names<S: Alter>(
+    alloc: Global,
+    conn: &mut Connection<S>,
+) -> Result<Vec<Name>, RowFault>
+    ensures { Reads (state S.Store conn.old) (state S.Store conn.new) result (λ r all. all.items ≡ senders_listed r.senders) }
+{
+    find_all(alloc, conn, sender_names_text(), &[])
 }
 
 /// Adds a sender with this role.

@@ -4,20 +4,24 @@ ghost use Rattle.std.specs.List.{list_any};
 ghost use Rattle.sqlite.specs.Held.{state};
 ghost use Rattle.desk_rows.specs.Calls.{Changes, Reads, ReadsFirst};
 ghost use Rattle.registry_core.specs.declared.facts.Session.{Session};
+ghost use Rattle.registry_core.specs.Listing.{sessions_of};
 ghost use Rattle.registry_core.specs.Numbered.{first_that, greatest, item_at, item_changed};
 ghost use Rattle.registry_core.specs.Ranges.{IsEui};
 ghost use Rattle.desk_rows.specs.Rows.{SessionRow, eui, is_session, last_number, number};
+ghost use Rattle.desk_rows.specs.order.Facts.{sessions_in};
 ghost use Rattle.desk_rows.specs.order.Keys.{next_down_set};
+ghost use Rattle.desk_rows.specs.steps.Latest.{sessions_asked};
 ghost use Rattle.desk_rows.specs.steps.Texts.{AsksFor, next_down_asked};
 
 use crate::columns::{eui_at, short_at};
 use crate::faults::RowFault;
-use crate::queries::{FromRow, find};
+use crate::queries::{FromRow, find, find_all};
 use crate::values::{blob, octets_of, short, whole};
 use crate::writes::write;
 use radio_core::Eui;
 use registry_core::{Session, Whole};
 use sqlite::{Alter, Connection, Row, Transaction};
+use std::alloc::Global;
 
 impl FromRow for Session {
     ghost Seen = { Session };
@@ -117,6 +121,26 @@ pub fn last_nonce<S: Alter>(conn: &mut Connection<S>, device: Eui) -> Result<Opt
         "SELECT nonce FROM session WHERE device = ?1 ORDER BY nonce DESC, number DESC LIMIT 1",
         &[blob(&octets)],
     )
+}
+
+/// Returns the SQL text of the look-up of a device's sessions.
+#[tactic(auto, unfolding(sqlite::specs::Listing::understood, sqlite_tied::specs::Compute::everything))]
+fn sessions_text() -> &'static str
+    ensures { AsksFor result.now 1 sessions_asked (codes "number" ∷ []) }
+{
+    "SELECT number FROM session WHERE device = ?1 ORDER BY number"
+}
+
+/// Returns the numbers of the device's sessions, in the order in which they began.
+pub fn sessions_of<S: Alter>(
+    alloc: Global,
+    conn: &mut Connection<S>,
+    device: Eui,
+) -> Result<Vec<u64>, RowFault>
+    ensures { Reads (state S.Store conn.old) (state S.Store conn.new) result (λ r numbers. numbers.items ≡ sessions_of (sessions_in r.sessions) device) }
+{
+    let octets = octets_of(device);
+    find_all(alloc, conn, sessions_text(), &[blob(&octets)])
 }
 
 /// Adds a session at the end. No booking answers an uplink of it yet.

@@ -1,13 +1,16 @@
 //! The table of uplinks.
-ghost use Rattle.std.specs.Prelude.{◌≡◌, ◌+◌, ◌<◌, ◌^◌, ◌++◌, [], ◌∷◌, ℕ, length, false, option_map};
+ghost use Rattle.std.specs.Prelude.{◌≡◌, ◌+◌, ◌<◌, ◌^◌, ◌++◌, [], ◌∷◌, ℕ, codes, length, false, option_map};
 ghost use Rattle.std.specs.List.{list_any};
 ghost use Rattle.sqlite.specs.Held.{state};
 ghost use Rattle.desk_rows.specs.Calls.{Changes, Reads, ReadsFirst};
 ghost use Rattle.registry_core.specs.declared.facts.Uplink.{Uplink};
 ghost use Rattle.registry_core.specs.Derived.{last_counter};
+ghost use Rattle.registry_core.specs.Listing.{last_start};
 ghost use Rattle.registry_core.specs.Numbered.{first_that, item_at};
 ghost use Rattle.desk_rows.specs.Rows.{IsUplink, is_uplink, last_number, number};
+ghost use Rattle.desk_rows.specs.steps.Latest.{last_start_asked};
 ghost use Rattle.desk_rows.specs.steps.Shown.{uplink_shown};
+ghost use Rattle.desk_rows.specs.steps.Texts.{AsksFor};
 
 use crate::columns::{band_at, frame_at, kind_at, number_at, whole_at, word_at};
 use crate::faults::RowFault;
@@ -116,6 +119,24 @@ pub fn last_counter<S: Alter>(
         "SELECT counter FROM uplink WHERE session = ?1 AND kind = 1 ORDER BY counter DESC, number DESC LIMIT 1",
         &[whole(session)],
     )
+}
+
+/// Returns the SQL text of the look-up of the last start of a session.
+#[tactic(auto, unfolding(sqlite::specs::Listing::understood, sqlite_tied::specs::Compute::everything))]
+fn last_start_text() -> &'static str
+    ensures { AsksFor result.now 1 last_start_asked (codes "start" ∷ []) }
+{
+    "SELECT start FROM uplink WHERE session = ?1 ORDER BY start DESC, number DESC LIMIT 1"
+}
+
+/// Returns the greatest start of a session's uplinks, joins and data, in microseconds since 1970 UTC; `None` if it has none.
+pub fn last_start<S: Alter>(
+    conn: &mut Connection<S>,
+    session: Whole,
+) -> Result<Option<u64>, RowFault>
+    ensures { Reads (state S.Store conn.old) (state S.Store conn.new) result (λ r start. start ≡ last_start r.uplinks session) }
+{
+    find(conn, last_start_text(), &[whole(session)])
 }
 
 /// Adds an uplink at the end.

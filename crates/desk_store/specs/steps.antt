@@ -5,6 +5,7 @@ pub mod ByKey
 pub mod Devices
 pub mod Downlinks
 pub mod Growing
+pub mod Listing
 pub mod Parts
 pub mod Sessions
 pub mod StartIndex

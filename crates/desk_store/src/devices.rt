@@ -1,14 +1,16 @@
 //! The devices by DevEUI. An index finds those of one owner, ordered by DevEUI, without a search of the others.
-ghost use Rattle.std.specs.Prelude.{◌≡◌, [], OnOk, OnErr, Some, None, bytes_eq, if◌then◌else◌};
+ghost use Rattle.std.specs.Prelude.{◌≡◌, [], IfOk, OnOk, OnErr, Some, None, bytes_eq, if◌then◌else◌, is_some};
 ghost use Rattle.std.specs.Cmp.{partial_order_from_own_ties};
 ghost use Rattle.std.specs.Cmp.Rules.{comparing};
 ghost use Rattle.std.specs.Ordering.{as_partial_cmp};
 ghost use Rattle.std.proofs.Common.{rules};
+ghost use Rattle.registry_core.specs.Listing.{AreDevices};
 ghost use Rattle.registry_core.specs.Reports.{IsNextDevice};
 ghost use Rattle.registry_core.specs.State.{State, at_number, devices_with_move};
 ghost use Rattle.desk_store.specs.Devices.{devices_of};
 ghost use Rattle.desk_store.specs.steps.Devices.{bound_above, owned_cmp};
 
+use crate::listing::devices_in;
 use indexmap::IndexMap;
 use radio_core::{Eui, Name};
 use registry_core::Device;
@@ -128,6 +130,13 @@ impl Devices {
             .range((bound_above(owner, after), Bound::Unbounded))
             .next()?;
         its_device(next, owner)
+    }
+
+    /// Returns the DevEUIs, in order.
+    pub(crate) fn in_order(&self, alloc: Global) -> Result<Vec<Eui>, AllocError>
+        ensures { IfOk result (λ sorted. AreDevices (λ dev_eui. is_some (devices_of self.now dev_eui)) sorted.items) }
+    {
+        devices_in(alloc, &self.devices)
     }
 }
 

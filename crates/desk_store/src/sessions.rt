@@ -1,5 +1,5 @@
 //! The sessions by number. Those of one device are found without a search of the others.
-ghost use Rattle.std.specs.Prelude.{◌≡◌, ◌≤◌, [], ◌∷◌, ◌++◌, length, max, IsOk, OnOk, OnErr};
+ghost use Rattle.std.specs.Prelude.{◌≡◌, ◌≤◌, ◌<◌, ◌^◌, [], ◌∷◌, ◌++◌, length, max, IsOk, OnOk, OnErr};
 ghost use Rattle.std.specs.Option.{option_map_or};
 ghost use Rattle.registry_core.specs.Derived.{last_nonce};
 ghost use Rattle.registry_core.specs.Numbered.{item_at};
@@ -58,7 +58,8 @@ impl Sessions {
     }
 
     pub(crate) fn len(&self) -> usize
-        ensures { result ≡ length self.now.items }
+        ensures count { result ≡ length self.now.items }
+        ensures small { result < 2 ^ 63 }
     {
         self.links.len()
     }

@@ -3,12 +3,14 @@
 ghost use Rattle.std.specs.Prelude.{◌≡◌, ◌^◌, ◌<◌, [], ◌∷◌, ◌++◌, length, filter, option_and_then, option_map, pos, IfOk, OnOk, OnErr};
 ghost use Rattle.std.specs.List.{filter_map};
 ghost use Rattle.registry_core.specs.Derived.{data_with, last_counter};
+ghost use Rattle.registry_core.specs.Listing.{last_start};
 ghost use Rattle.registry_core.specs.Numbered.{item_at};
 ghost use Rattle.registry_core.specs.Reports.{interval_of};
 ghost use Rattle.desk_store.specs.steps.ByKey.{Rises};
 ghost use Rattle.desk_store.specs.steps.StartIndex.{is_place_in};
 ghost use Rattle.desk_store.specs.steps.UplinkPlaces.{uplink_places, uplink_span_at};
 
+use crate::listing::last_start;
 use crate::lookups::item_at;
 use crate::reports::Period;
 use crate::start_index::{Place, StartIndex, places_between};
@@ -92,6 +94,13 @@ impl Uplinks {
         ensures { result ≡ last_counter self.now session }
     {
         self.index.counters.get(&session).copied()
+    }
+
+    /// Returns the greatest start of the session's uplinks, in microseconds since 1970 UTC.
+    pub(crate) fn last_start(&self, session: u64) -> Option<u64>
+        ensures { result ≡ last_start self.now session }
+    {
+        last_start(&self.items, session)
     }
 
     /// Returns the session's first data uplink with this counter, with its number from 1.

@@ -9,6 +9,7 @@ use Rattle.registry_core.specs.declared.facts.Kind.TheVariants.{Join}
 use Rattle.registry_core.specs.declared.facts.Uplink.{Uplink}
 use Rattle.registry_core.specs.Bookings.{is_answer_to, is_dropped}
 use Rattle.registry_core.specs.Derived.{data_with, is_data, is_data_of, is_data_with, last_counter}
+use Rattle.registry_core.specs.Listing.{is_of_session, last_start}
 use Rattle.registry_core.specs.Numbered.{first_from, first_that, greatest, item_at}
 use Rattle.registry_core.specs.Settings.{Settings}
 use Rattle.registry_core.specs.State.{State}
@@ -97,6 +98,10 @@ module _ (c : Settings) (kept : Kept) (r : Rows) (tell : RowsTell c kept r) (n :
   no_counter = ap (λ (s : State). last_counter s.uplinks n) tell.are.is
       ∙ ap (λ us. greatest (map (λ (u : Uplink). u.counter) us)) (filter_none (is_data_of n) r.uplinks
       (each_so (λ (u : Uplink). (u.session == n) ≡ false) (λ u. is_data_of n u ≡ false) (λ u is. ap (λ b. is_data u.kind && b) is ∙ and_false (is_data u.kind)) r.uplinks of_no_session))
+
+  pub no_start : last_start kept.facts.uplinks n ≡ None
+  no_start = ap (λ (s : State). last_start s.uplinks n) tell.are.is
+      ∙ ap (λ us. greatest (map (λ (u : Uplink). u.start) us)) (filter_none (is_of_session n) r.uplinks of_no_session)
 
   pub no_data : (counter : ℕ) → data_with kept.facts.uplinks n counter ≡ None
   no_data counter = ap (λ (s : State). data_with s.uplinks n counter) tell.are.is ∙ first_none (is_data_with n counter) 1 r.uplinks

@@ -8,8 +8,10 @@ mod uplinks;
 
 use crate::seen::{seen_counter, seen_floor, seen_role, seen_session};
 use crate::tables::Tables;
-use desk_rows::order::{arranged_rows_tell, orders_hold};
-use desk_rows::{gateway_is_known, owner_is_known};
+use desk_rows::order::{arranged_rows_tell, listed_rows_tell, orders_hold};
+use desk_rows::{
+    device_euis, gateway_is_known, gateway_names, owner_is_known, owner_names, sender_names,
+};
 use desk_store::{Counts, Looks, StoreFault, Texts};
 use duty_core::Span;
 use radio_core::{Band, Eui, Name};
@@ -259,6 +261,66 @@ impl<S: Alter> Looks for Tables<S> {
         arranged_rows_tell();
         orders_hold();
         let answer = desk_rows::bookings_of(self.alloc, &mut self.conn, gateway, band);
+        self.tell(answer)
+    }
+
+    fn senders(&mut self) -> Result<Vec<Name>, StoreFault> {
+        if self.down {
+            return Err(StoreFault::Disk);
+        }
+        listed_rows_tell();
+        let answer = sender_names(self.alloc, &mut self.conn);
+        self.tell(answer)
+    }
+
+    fn owners(&mut self) -> Result<Vec<Name>, StoreFault> {
+        if self.down {
+            return Err(StoreFault::Disk);
+        }
+        listed_rows_tell();
+        let answer = owner_names(self.alloc, &mut self.conn);
+        self.tell(answer)
+    }
+
+    fn gateways(&mut self) -> Result<Vec<Name>, StoreFault> {
+        if self.down {
+            return Err(StoreFault::Disk);
+        }
+        listed_rows_tell();
+        let answer = gateway_names(self.alloc, &mut self.conn);
+        self.tell(answer)
+    }
+
+    fn devices(&mut self) -> Result<Vec<Eui>, StoreFault> {
+        if self.down {
+            return Err(StoreFault::Disk);
+        }
+        listed_rows_tell();
+        let answer = device_euis(self.alloc, &mut self.conn);
+        self.tell(answer)
+    }
+
+    fn sessions_of(&mut self, device: Eui) -> Result<Vec<u64>, StoreFault> {
+        if self.down {
+            return Err(StoreFault::Disk);
+        }
+        let answer = desk_rows::sessions_of(self.alloc, &mut self.conn, device);
+        self.tell(answer)
+    }
+
+    fn last_start(&mut self, session: u64) -> Result<Option<u64>, StoreFault> {
+        if self.down {
+            return Err(StoreFault::Disk);
+        }
+        let answer = sessions::last_start(&mut self.conn, session);
+        self.tell(answer)
+    }
+
+    fn last_transaction(&mut self, sender: &Name) -> Result<Option<u64>, StoreFault> {
+        if self.down {
+            return Err(StoreFault::Disk);
+        }
+        let answer = desk_rows::last_transaction(&mut self.conn, sender);
         self.tell(answer)
     }
 }

@@ -17,6 +17,7 @@ pub mod Joins
 pub mod Laws
 pub mod LimitLaws
 pub mod Limits
+pub mod Listing
 pub mod Near
 pub mod Numbered
 pub mod NumberedLaws

@@ -277,6 +277,41 @@ impl<K: Keeper> Looks for Switched<K> {
     fn bookings_of(&mut self, gateway: &Name, band: Band) -> Result<Vec<Span>, StoreFault> {
         in_turn!(self, self.inner.bookings_of(gateway, band))
     }
+
+    #[tactic(auto, using(crate::proofs::Unsound::read_by))]
+    fn senders(&mut self) -> Result<Vec<Name>, StoreFault> {
+        in_turn!(self, self.inner.senders())
+    }
+
+    #[tactic(auto, using(crate::proofs::Unsound::read_by))]
+    fn owners(&mut self) -> Result<Vec<Name>, StoreFault> {
+        in_turn!(self, self.inner.owners())
+    }
+
+    #[tactic(auto, using(crate::proofs::Unsound::read_by))]
+    fn gateways(&mut self) -> Result<Vec<Name>, StoreFault> {
+        in_turn!(self, self.inner.gateways())
+    }
+
+    #[tactic(auto, using(crate::proofs::Unsound::read_by))]
+    fn devices(&mut self) -> Result<Vec<Eui>, StoreFault> {
+        in_turn!(self, self.inner.devices())
+    }
+
+    #[tactic(auto, using(crate::proofs::Unsound::read_by))]
+    fn sessions_of(&mut self, device: Eui) -> Result<Vec<u64>, StoreFault> {
+        in_turn!(self, self.inner.sessions_of(device))
+    }
+
+    #[tactic(auto, using(crate::proofs::Unsound::read_by))]
+    fn last_start(&mut self, session: u64) -> Result<Option<u64>, StoreFault> {
+        in_turn!(self, self.inner.last_start(session))
+    }
+
+    #[tactic(auto, using(crate::proofs::Unsound::read_by))]
+    fn last_transaction(&mut self, sender: &Name) -> Result<Option<u64>, StoreFault> {
+        in_turn!(self, self.inner.last_transaction(sender))
+    }
 }
 
 impl<K: Keeper> Keeper for Switched<K> {

@@ -133,6 +133,10 @@ role_asked = by_rowid 1 (is 1 0 ∷ []) (col 1 2 ∷ [])
 abbrev pub device_after_asked : Asked (9 ∷ [])
 device_after_asked = record { terms = is 3 0 ∷ above 1 1 ∷ []; project = col 1 1 ∷ []; order = (col 1 1, rising) ∷ (col 1 0, rising) ∷ []; one = true }
 
+-- the first column of all rows, in its order and then by rowid
+abbrev pub all_asked : (tree : ℕ) → Asked (tree ∷ [])
+all_asked tree = all_by (tree ∷ []) [] (col 1 1 ∷ []) ((col 1 1, rising) ∷ (col 1 0, rising) ∷ [])
+
 -- ---- texts of INSERT and UPDATE
 
 -- what the resolver makes of a text that is one such statement, with this number of parameters

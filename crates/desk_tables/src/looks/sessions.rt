@@ -3,6 +3,7 @@ ghost use Rattle.std.specs.Prelude.{◌≡◌, IfSome, option_and_then};
 ghost use Rattle.sqlite.specs.Held.{state};
 ghost use Rattle.registry_core.specs.Bookings.{next_down};
 ghost use Rattle.registry_core.specs.Derived.{data_with, is_below, is_below_floor, last_counter};
+ghost use Rattle.registry_core.specs.Listing.{last_start};
 ghost use Rattle.registry_core.specs.Numbered.{item_at};
 ghost use Rattle.desk_rows.specs.Calls.{Reads};
 ghost use Rattle.desk_tables.specs.Seen.{IsCounterOf, IsFloorOf, IsSessionAt};
@@ -37,6 +38,18 @@ pub(crate) fn last_counter<S: Alter>(
 {
     match Whole::new(session) {
         Some(session) => desk_rows::last_counter(conn, session),
+        None => Ok(None),
+    }
+}
+
+pub(crate) fn last_start<S: Alter>(
+    conn: &mut Connection<S>,
+    session: u64,
+) -> Result<Option<u64>, RowFault>
+    ensures { Reads (state S.Store conn.old) (state S.Store conn.new) result (OfKept (λ kept start. start ≡ last_start kept.facts.uplinks session)) }
+{
+    match Whole::new(session) {
+        Some(session) => desk_rows::last_start(conn, session),
         None => Ok(None),
     }
 }

@@ -4,4 +4,4 @@ use Rattle.desk_rows.proofs.gateways.insert_gateway.Goals as goal
 
 pub returns-clause-changes : goal.returns-clause-changes
 unfolding understood everything
-returns-clause-changes g c = adds gateways gateway_key (insert_is 4 gateway_table refl) c.args.name.now tt _ refl refl refl (rw (c.text.ensures.same) at c.write.ensures.written)
+returns-clause-changes g c = adds gateways gateway_key (insert_is 4 gateway_table refl) c.args.name.now c.text.ensures.range _ refl refl refl (rw (c.text.ensures.same) at c.write.ensures.written)

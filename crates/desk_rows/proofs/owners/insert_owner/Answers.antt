@@ -4,4 +4,4 @@ use Rattle.desk_rows.proofs.owners.insert_owner.Goals as goal
 
 pub returns-clause-changes : goal.returns-clause-changes
 unfolding understood everything
-returns-clause-changes g c = adds owners owner_key (insert_is 3 owner_table refl) c.args.name.now tt _ refl refl refl (rw (c.text.ensures.same) at c.write.ensures.written)
+returns-clause-changes g c = adds owners owner_key (insert_is 3 owner_table refl) c.args.name.now c.text.ensures.range _ refl refl refl (rw (c.text.ensures.same) at c.write.ensures.written)

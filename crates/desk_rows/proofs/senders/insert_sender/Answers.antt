@@ -4,4 +4,4 @@ use Rattle.desk_rows.proofs.senders.insert_sender.Goals as goal
 
 pub returns-clause-changes : goal.returns-clause-changes
 unfolding understood everything
-returns-clause-changes g c = adds senders sender_key (insert_is 1 sender_table refl) (record { name = c.args.name.now; role = c.args.has }) tt _ refl refl refl (rw (c.text.ensures.same, c.role.ensures) at c.write.ensures.written)
+returns-clause-changes g c = adds senders sender_key (insert_is 1 sender_table refl) (record { name = c.args.name.now; role = c.args.has }) c.text.ensures.range _ refl refl refl (rw (c.text.ensures.same, c.role.ensures) at c.write.ensures.written)

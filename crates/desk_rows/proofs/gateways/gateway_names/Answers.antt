@@ -1,0 +1,5 @@
+use Rattle.desk_rows.proofs.ListedQueries.{reads_gateways}
+use Rattle.desk_rows.proofs.gateways.gateway_names.Goals as goal
+
+pub returns : goal.returns
+returns g c = reads_gateways c.find_all.ensures c.gateway_names_text.ensures

@@ -1,0 +1,5 @@
+use Rattle.desk_rows.proofs.OrderLemmas.Listing.{listed_rows_tell}
+use Rattle.desk_rows.proofs.order.listed.listed_rows_tell.Goals as goal
+
+pub returns : goal.returns
+returns c = listed_rows_tell

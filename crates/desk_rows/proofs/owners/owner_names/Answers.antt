@@ -1,0 +1,5 @@
+use Rattle.desk_rows.proofs.ListedQueries.{reads_owners}
+use Rattle.desk_rows.proofs.owners.owner_names.Goals as goal
+
+pub returns : goal.returns
+returns g c = reads_owners c.find_all.ensures c.owner_names_text.ensures

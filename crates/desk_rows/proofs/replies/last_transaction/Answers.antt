@@ -1,0 +1,5 @@
+use Rattle.desk_rows.proofs.LastOnes.{reads_last_transaction}
+use Rattle.desk_rows.proofs.replies.last_transaction.Goals as goal
+
+pub returns : goal.returns
+returns g c = reads_last_transaction c.last_transaction_text.ensures c.args.sender.now (rw (c.text.ensures.same) at c.find.ensures)

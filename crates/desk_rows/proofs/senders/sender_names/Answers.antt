@@ -1,0 +1,5 @@
+use Rattle.desk_rows.proofs.ListedQueries.{reads_senders}
+use Rattle.desk_rows.proofs.senders.sender_names.Goals as goal
+
+pub returns : goal.returns
+returns g c = reads_senders c.find_all.ensures c.sender_names_text.ensures

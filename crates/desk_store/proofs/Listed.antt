@@ -1,0 +1,115 @@
+-- What lists of the store in memory say: keys in order, the numbers of a device's sessions, and the greatest of some numbers.
+use Rattle.std.proofs.Common.{◌≡◌, ◌∙◌, ℕ, suc, ◌+◌, Bool, true, false, cond, List, [], ◌∷◌, get_or, length, map, slice_get, Option, Some, None, refl, sym, ap, arith}
+use Rattle.std.specs.Prelude.{◌==◌, ◌||◌, bytes_eq, filter, is_some, max, nat_eq}
+use Rattle.std.specs.Cmp.{nat_eq_equiv}
+use Rattle.std.specs.Cmp.Lexicographic.{nat_list_cmp_total, nat_list_eq_equiv, slice_cmp}
+use Rattle.std.specs.declared.cmp.Ordering.{Ordering}
+use Rattle.std.specs.declared.cmp.Ordering.TheVariants.{Less, Equal, Greater}
+use Rattle.std.specs.List.{IsDistinct, fold, list_any, range_with_len, reduce}
+use Rattle.std.specs.List.Sorted.{IsPermutation, IsSorted}
+use Rattle.std.specs.Map.{keys_of, lookup}
+use Rattle.std.specs.Option.{option_map_or}
+use Rattle.std.specs.Ordering.{is_eq, is_lt, nat_cmp, ordering_reverse}
+use Rattle.std.proofs.lemmas.List.Sorted.{IsNonDecreasingBy-from_sort, list_any-IsPermutation}
+use Rattle.std.proofs.lemmas.Map.Keys.{IsDistinct-IsPermutation, IsStrictlyIncreasing-from_distinct, apart_from_distinct, sorted_from_all_adjacent}
+use Rattle.std.proofs.lemmas.Map.Made.{is_some-lookup}
+use Rattle.std.proofs.lemmas.Map.Text.{is_eq-slice_cmp}
+use Rattle.registry_core.specs.declared.facts.Device.{Device}
+use Rattle.registry_core.specs.declared.facts.Session.{Session}
+use Rattle.registry_core.specs.declared.messages.Role.{Role}
+use Rattle.registry_core.specs.Derived.{is_of_device, is_session_of}
+use Rattle.registry_core.specs.Listing.{AreDevices, AreNames, numbers_from, sessions_of}
+use Rattle.registry_core.specs.Numbered.{greatest, item_at}
+use Rattle.desk_store.specs.declared.looks.Texts.{Texts}
+use Rattle.desk_store.specs.Devices.{devices_of}
+use Rattle.desk_store.specs.Kept.{Entry}
+use Rattle.desk_store.specs.Lists.{entry_shown}
+use Rattle.desk_store.specs.Looks.{is_from, last_transaction}
+use Rattle.desk_store.specs.steps.Listing.{is_key_of}
+
+-- ---- keys in order
+
+less_by : (r s : Ordering) → r ≡ ordering_reverse s → is_lt s ≡ false → is_eq r ≡ false → r ≡ Less
+less_by r Less turned not_less apart = let no : true ≡ false = not_less in cc
+less_by r Equal turned not_less apart = let no : true ≡ false = ap is_eq (sym turned) ∙ apart in cc
+less_by r Greater turned not_less apart = turned
+
+less_than : (a b : List ℕ) → is_lt (slice_cmp nat_cmp b a) ≡ false → bytes_eq a b ≡ false → slice_cmp nat_cmp a b ≡ Less
+less_than a b not_less apart = less_by (slice_cmp nat_cmp a b) (slice_cmp nat_cmp b a) (nat_list_cmp_total.antisymm a b) not_less (is_eq-slice_cmp a b ∙ apart)
+
+any_same : {X : Type 0} (p q : X → Bool) → ((x : X) → p x ≡ q x) → (xs : List X) → list_any p xs ≡ list_any q xs
+any_same p q same [] = refl
+any_same p q same (x ∷ xs) = ap (λ b. b || list_any p xs) (same x) ∙ ap (λ b. q x || b) (any_same p q same xs)
+
+pub names_listed : (keys sorted : List (List ℕ)) → IsDistinct bytes_eq keys → IsPermutation keys sorted → IsSorted (slice_cmp nat_cmp) sorted
+    → AreNames (λ name. list_any (bytes_eq name) keys) sorted
+names_listed keys sorted distinct moved up =
+    let apart : IsDistinct bytes_eq sorted = IsDistinct-IsPermutation bytes_eq nat_list_eq_equiv.symm keys sorted moved distinct in
+    record {
+      rising = sorted_from_all_adjacent nat_list_cmp_total sorted [] (λ k within. less_than (get_or sorted k []) (get_or sorted (k + 1) [])
+          (up k [] (omega arith) within) (apart_from_distinct bytes_eq sorted k (k + 1) [] apart (omega arith) within));
+      each = λ name. sym (list_any-IsPermutation (λ other. bytes_eq other name) keys sorted moved)
+          ∙ any_same (λ other. bytes_eq other name) (bytes_eq name) (λ other. nat_list_eq_equiv.symm other name) keys;
+    }
+
+pub senders_listed : (senders : List (List ℕ × Role)) (sorted : List (List ℕ)) → AreNames (λ name. list_any (bytes_eq name) (keys_of senders)) sorted
+    → AreNames (λ name. is_some (lookup (bytes_eq name) senders)) sorted
+senders_listed senders sorted are = record { rising = are.rising; each = λ name. are.each name ∙ sym (is_some-lookup (bytes_eq name) senders) }
+
+pub devices_listed : (devices : List (ℕ × Device)) (sorted : List ℕ) → IsDistinct nat_eq (keys_of devices) → IsPermutation (keys_of devices) sorted → IsSorted nat_cmp sorted
+    → AreDevices (λ dev_eui. is_some (devices_of devices dev_eui)) sorted
+devices_listed devices sorted distinct moved up = record {
+  rising = IsStrictlyIncreasing-from_distinct sorted (IsNonDecreasingBy-from_sort (λ x. x) sorted up)
+      (IsDistinct-IsPermutation nat_eq nat_eq_equiv.symm (keys_of devices) sorted moved distinct);
+  each = λ dev_eui. sym (list_any-IsPermutation (λ other. other == dev_eui) (keys_of devices) sorted moved)
+      ∙ any_same (λ other. other == dev_eui) (nat_eq dev_eui) (λ other. nat_eq_equiv.symm other dev_eui) (keys_of devices)
+      ∙ sym (is_some-lookup (nat_eq dev_eui) devices);
+}
+
+-- ---- the numbers of a device's sessions
+
+numbers_by : {X : Type 0} (test : X → Bool) (at : ℕ → Option X) (first : ℕ) (xs : List X) → ((k n : ℕ) → n ≡ first + k → at n ≡ slice_get xs k)
+    → filter (λ n. option_map_or test (at n) false) (range_with_len first (length xs)) ≡ numbers_from first test xs
+numbers_by test at first [] each = refl
+numbers_by test at first (x ∷ xs) each =
+    let rest = numbers_by test at (first + 1) xs (λ k n is. each (suc k) n (omega arith)) in
+    let kept = filter (λ n. option_map_or test (at n) false) (range_with_len (first + 1) (length xs)) in
+    ap (λ found. cond (option_map_or test found false) (first ∷ kept) kept) (each 0 first (omega arith))
+    ∙ ap (λ ns. cond (test x) (first ∷ ns) ns) rest
+
+from_one : {X : Type 0} (xs : List X) (k n : ℕ) → n ≡ 1 + k → item_at xs n ≡ slice_get xs k
+from_one xs k n is = let same : n ≡ suc k = omega arith in ap (item_at xs) same
+
+pub numbered_by : (sessions : List Session) (dev_eui : ℕ)
+    → filter (is_of_device sessions dev_eui) (range_with_len 1 (length sessions)) ≡ sessions_of sessions dev_eui
+numbered_by sessions dev_eui = numbers_by (is_session_of dev_eui) (item_at sessions) 1 sessions (from_one sessions)
+
+-- ---- the greatest of some numbers
+
+max_of_more : (a n : ℕ) (rest : Option ℕ) → option_map_or (max (max a n)) rest (max a n) ≡ max a (option_map_or (max n) rest n)
+max_of_more a n None = refl
+max_of_more a n (Some m) = grind arith
+
+max_reduced : (a : ℕ) (ns : List ℕ) → fold max a ns ≡ option_map_or (max a) (greatest ns) a
+max_reduced a [] = refl
+max_reduced a (n ∷ ns) = max_reduced (max a n) ns ∙ max_of_more a n (greatest ns)
+
+pub greatest_reduced : (ns : List ℕ) → reduce max ns ≡ greatest ns
+greatest_reduced [] = refl
+greatest_reduced (n ∷ ns) = ap Some (max_reduced n ns)
+
+key_by : (e : (ℕ × List ℕ) × Texts) (b : Bool) (keys : List (ℕ × List ℕ)) (entries : List Entry)
+    → map (λ (key : ℕ × List ℕ). key.0) keys ≡ map (λ entry. entry.transaction) entries
+    → map (λ (key : ℕ × List ℕ). key.0) (cond b (e.0 ∷ keys) keys) ≡ map (λ entry. entry.transaction) (cond b (entry_shown e ∷ entries) entries)
+key_by e true keys entries same = ap (λ ns. e.0.0 ∷ ns) same
+key_by e false keys entries same = same
+
+keys_shown : (sender : List ℕ) (entries : List ((ℕ × List ℕ) × Texts))
+    → map (λ (key : ℕ × List ℕ). key.0) (filter (is_key_of sender) (keys_of entries))
+    ≡ map (λ entry. entry.transaction) (filter (is_from sender) (map entry_shown entries))
+keys_shown sender [] = refl
+keys_shown sender (e ∷ entries) = key_by e (bytes_eq e.0.1 sender) _ _ (keys_shown sender entries)
+
+pub last_heard : (sender : List ℕ) (entries : List ((ℕ × List ℕ) × Texts))
+    → reduce max (map (λ (key : ℕ × List ℕ). key.0) (filter (is_key_of sender) (keys_of entries))) ≡ last_transaction (map entry_shown entries) sender
+last_heard sender entries = greatest_reduced _ ∙ ap greatest (keys_shown sender entries)
