@@ -1,3 +1,4 @@
+pub mod Addresses
 pub mod AirUse
 pub mod BookedUplinks
 pub mod CsvImports
@@ -12,6 +13,7 @@ pub mod KeptAfter
 pub mod LineCuts
 pub mod LineParts
 pub mod LineRuns
+pub mod Listings
 pub mod LogEnds
 pub mod LogInputs
 pub mod LogLines
@@ -28,5 +30,6 @@ pub mod RisingLists
 pub mod RoomLaws
 pub mod RoomTexts
 pub mod Runs
+pub mod TableTexts
 pub mod Unread
 pub mod WorkedRooms

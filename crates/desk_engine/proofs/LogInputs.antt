@@ -1,8 +1,8 @@
 -- A log as an input of lines.
-use Rattle.std.proofs.Common.{◌≡◌, ◌≢◌, ◌<◌, ◌≤◌, ℕ, zero, suc, List, [], ◌∷◌, ◌++◌, false, length, map, take, drop, refl, sym, ap, ap₂, ◌∙◌, append_assoc}
+use Rattle.std.proofs.Common.{◌≡◌, ◌≢◌, ℕ, zero, suc, List, [], ◌∷◌, ◌++◌, false, map, take, drop, refl, ap, ap₂, ◌∙◌, append_assoc}
 use Rattle.std.specs.List.{list_any}
 use Rattle.registry_core.specs.declared.messages.Envelope.{Envelope}
-use Rattle.registry_core.specs.Heard.{AreHeard, IsHeard}
+use Rattle.registry_core.specs.Heard.{AreHeard}
 use Rattle.registry_core.specs.Ranges.{IsEnvelope, IsSettings}
 use Rattle.registry_core.specs.Settings.{Settings}
 use Rattle.desk_wire.specs.Laws.{MessagesAreLines}

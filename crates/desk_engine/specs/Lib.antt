@@ -5,6 +5,7 @@ pub mod Importing
 pub mod InOrder
 pub mod Laws
 pub mod Lines
+pub mod Listing
 pub mod Log
 pub mod Months
 pub mod Outcomes

@@ -4,7 +4,7 @@ use Rattle.registry_core.specs.State.{State}
 use Rattle.desk_store.specs.declared.faults.StoreFault.{StoreFault}
 use Rattle.desk_store.specs.Calls.{IsUnavailability}
 use Rattle.desk_engine.specs.declared.report_faults.ReportFault.{ReportFault}
-use Rattle.desk_engine.specs.declared.report_faults.ReportFault.TheVariants.{Month, Time, Owner, Gateway, Unavailable}
+use Rattle.desk_engine.specs.declared.report_faults.ReportFault.TheVariants.{Month, Time, Owner, Gateway, Device, Unavailable}
 use Rattle.desk_engine.specs.Reports.{is_gateway, is_owner}
 
 -- the store's error, if that is why there is no report
@@ -19,6 +19,7 @@ IsOwnerFault s owner (Unavailable fault) = IsUnavailability fault
 IsOwnerFault s owner Month = ⊥
 IsOwnerFault s owner Time = ⊥
 IsOwnerFault s owner Gateway = ⊥
+IsOwnerFault s owner Device = ⊥
 
 -- why there is no report on a gateway
 abbrev pub IsGatewayFault : State → List ℕ → ReportFault → Type 0
@@ -27,3 +28,4 @@ IsGatewayFault s gateway (Unavailable fault) = IsUnavailability fault
 IsGatewayFault s gateway Month = ⊥
 IsGatewayFault s gateway Time = ⊥
 IsGatewayFault s gateway Owner = ⊥
+IsGatewayFault s gateway Device = ⊥

@@ -11,6 +11,7 @@ use Rattle.registry_core.specs.Reports.{IsUse, Use, in_band, is_owned, uplinks_f
 use Rattle.registry_core.specs.State.{State}
 use Rattle.desk_wire.specs.Hexadecimal.{eui_digits}
 use Rattle.desk_engine.specs.Lines.{line_feed}
+use Rattle.desk_engine.specs.Listing.{table_text}
 
 -- ---- an owner's month
 
@@ -39,7 +40,7 @@ pub record IsOwnerReport (s : State) (owner : List ℕ) (from to : ℤ) (text : 
   -- each device's use of each band
   pub used : ℕ → Band → Use
   pub used_is : (dev_eui : ℕ) (band : Band) → IsUse (in_band band (uplinks_from s.uplinks s.sessions dev_eui from to)) (used dev_eui band)
-  pub text_is : text ≡ owner_header ++ flat_map (λ dev_eui. device_line dev_eui (length (uplinks_from s.uplinks s.sessions dev_eui from to)) (used dev_eui)) devices
+  pub text_is : text ≡ table_text owner_header (λ dev_eui. device_line dev_eui (length (uplinks_from s.uplinks s.sessions dev_eui from to)) (used dev_eui)) devices
 
 -- two states agree on an owner, on its devices and on their uplinks
 pub record AgreeOn (owner : List ℕ) (s t : State) : Type 0 where
@@ -70,4 +71,4 @@ is_gateway s name = is_name name && s.gateways name
 pub record IsBandReport (s : State) (gateway : List ℕ) (text : List ℕ) : Type 0 where
   pub used : Band → Use
   pub used_is : (band : Band) → IsUse (downlinks_in s.bookings gateway band) (used band)
-  pub text_is : text ≡ band_header ++ flat_map (λ band. band_line band (limit_standing s gateway band) (used band)) bands
+  pub text_is : text ≡ table_text band_header (λ band. band_line band (limit_standing s gateway band) (used band)) bands

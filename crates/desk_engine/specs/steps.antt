@@ -2,6 +2,7 @@
 pub mod CsvImporting
 pub mod Hearing
 pub mod Lines
+pub mod Listing
 pub mod Logs
 pub mod Rooms
 pub mod Uses

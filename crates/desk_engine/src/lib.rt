@@ -2,21 +2,28 @@
 #![tactic(auto)]
 
 mod band_reports;
+mod columns;
 mod counting;
 mod csv_importing;
 mod delivering;
+mod device_lists;
 mod from_nothing;
+mod gateway_lists;
 mod hearing;
 mod importing;
 pub mod laws;
 mod lines;
+mod lists;
 mod log;
 mod months;
 mod outcomes;
+mod owner_lists;
 mod owner_reports;
 mod reads;
 mod report_faults;
 mod room_reports;
+mod sender_lists;
+mod tables;
 mod uses;
 mod writes;
 
@@ -28,6 +35,7 @@ pub use from_nothing::run_from_nothing;
 pub use hearing::hear;
 pub use importing::{Imported, import};
 pub use lines::{LinesEnd, run_lines};
+pub use lists::{ListOf, device_report, list};
 pub use log::{LogEnd, LogText, message_number, write_log};
 pub use outcomes::Outcome;
 pub use owner_reports::owner_report;

@@ -15,6 +15,8 @@ pub enum ReportFault {
     Owner,
     /// No gateway has the name: refusal 11.
     Gateway,
+    /// No device has the DevEUI: refusal 12.
+    Device,
     /// The store or memory is unavailable: refusal 33 if what is stored is not a desk, else 32.
     Unavailable(StoreFault),
 }

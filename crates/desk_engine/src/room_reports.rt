@@ -65,6 +65,7 @@ pub fn room_report<K: Keeper>(
         → IfErr result (IsGatewayFault kept.facts gateway.now)) }
     ensures no_month { ¬ (result ≡ Err ReportFault.Month) }
     ensures no_owner { ¬ (result ≡ Err ReportFault.Owner) }
+    ensures no_device { ¬ (result ≡ Err ReportFault.Device) }
 {
     downlinks_are_short();
     rules_are_kept();

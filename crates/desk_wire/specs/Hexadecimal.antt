@@ -23,6 +23,10 @@ octets_in text = decoded (unprefixed text)
 unfoldable pub eui_in : List ℕ → Option ℕ
 eui_in text = option_map (from_be_bytes w64) (octets_in text >>= only_if (λ octets. length octets == 8))
 
+-- the EUI that digits are: exactly 8 octets with no `0x`, the most significant first
+unfoldable pub eui_of_digits : List ℕ → Option ℕ
+eui_of_digits text = option_map (from_be_bytes w64) (decoded text >>= only_if (λ octets. length octets == 8))
+
 -- the device address that a text is: exactly 4 octets with no `0x`, the most significant first
 unfoldable pub addr_in : List ℕ → Option ℕ
 addr_in text = option_map (from_be_bytes w32) (decoded text >>= only_if (λ octets. length octets == 4))

@@ -1,7 +1,9 @@
 //! Hexadecimal text: reads octets, EUIs and device addresses from digits, and writes them as digits.
-ghost use Rattle.std.specs.Prelude.{◌≡◌, ◌/◌, IfOk, length};
+ghost use Rattle.std.specs.Prelude.{◌≡◌, ◌==◌, ◌/◌, IfOk, length, option_map};
+ghost use Rattle.std.specs.Int.{from_be_bytes, w64};
 ghost use Rattle.std.specs.String.{string_bytes};
-ghost use Rattle.desk_wire.specs.Hexadecimal.{unprefixed, decoded, octets_in, eui_in, addr_in, octet_digits, eui_digits, addr_digits};
+ghost use Rattle.desk_wire.specs.Optional.{only_if};
+ghost use Rattle.desk_wire.specs.Hexadecimal.{unprefixed, decoded, octets_in, eui_in, eui_of_digits, addr_in, octet_digits, eui_digits, addr_digits};
 
 use radio_core::{DevAddr, Eui, Octets};
 use std::alloc::{AllocError, Global};
@@ -44,14 +46,28 @@ pub(crate) fn octets_of(text: &[u8]) -> Option<Octets>
     octets_of_digits(unprefixed(text))
 }
 
-/// Returns the EUI that a text is: exactly 8 octets, the most significant first.
+/// Returns the EUI of exactly 8 octets, the most significant first.
+fn eui_with(octets: &Octets) -> Option<Eui>
+    ensures { result ≡ option_map (from_be_bytes w64) (only_if (λ octets. length octets == 8) octets.now) }
+{
+    let number = <[u8; 8]>::try_from(octets.get()).ok()?;
+    Some(Eui::new(u64::from_be_bytes(number)))
+}
+
+/// Returns the EUI that a text is: exactly 8 octets, the most significant first, with or without `0x` before its digits.
 #[tactic(auto, unfolding(crate::specs::Hexadecimal::eui_in))]
 pub(crate) fn eui_of(text: &str) -> Option<Eui>
     ensures { result ≡ eui_in text.now }
 {
-    let octets = octets_of(text.as_bytes())?;
-    let number = <[u8; 8]>::try_from(octets.get()).ok()?;
-    Some(Eui::new(u64::from_be_bytes(number)))
+    eui_with(&octets_of(text.as_bytes())?)
+}
+
+/// Returns the EUI that a text is: 16 digits in either case and nothing else, the most significant first. `None` for any other text.
+#[tactic(auto, unfolding(crate::specs::Hexadecimal::eui_of_digits))]
+pub fn eui_of_digits(text: &str) -> Option<Eui>
+    ensures { result ≡ eui_of_digits text.now }
+{
+    eui_with(&octets_of_digits(text.as_bytes())?)
 }
 
 /// Returns the device address that a text is: 8 digits in either case and nothing else, the most significant first. `None` for any other

@@ -15,7 +15,8 @@ pub(crate) fn role_named(text: &str) -> Option<Role>
     }
 }
 
-pub(crate) fn role_name(role: Role) -> &'static str
+/// Returns the name of a role.
+pub fn role_name(role: Role) -> &'static str
     ensures { result.now ≡ role_name role }
 {
     match role {
