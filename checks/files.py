@@ -34,6 +34,8 @@ MESSAGES = "".join(path.read_text() for path in sorted(EXAMPLES.glob("[1-4]-*.js
 ANSWERS = "".join((EXAMPLES / "day.txt").read_text().splitlines(keepends=True)[: MESSAGES.count("\n")])
 REPORT = (EXAMPLES / "evening-report.csv").read_text()
 HEADER = REPORT.splitlines(keepends=True)[0]
+# commands that print a report or a list, without FILE
+READING = [["report", "town", "2024-02"], ["bands", "gw-a"], ["list", "owners"], ["device", "0004a30b001a2b3c"]]
 LIMIT = '{"ProtocolVersion":"1.0","SenderID":"office","ReceiverID":"desk","TransactionID":6,"MessageType":"LimitSet","Gateway":"gw-a","Band":"B1","Limit":0}\n'
 LIMIT_ANSWER = '{"MessageType":"LimitSetAns","ProtocolVersion":"1.0","ReceiverID":"office","Result":{"Description":"","ResultCode":"Success"},"SenderID":"desk","TransactionID":6}\n'
 REFUSED_SENDER = '"ResultCode":"UnknownSender"'
@@ -138,7 +140,7 @@ def options(desk):
 
 def missing(desk):
     """A file that isn't there is refused, and not made."""
-    for words in (["hear"], ["import", "--sender", "bridge"], ["report", "town", "2024-02"], ["bands", "gw-a"], ["check"], ["audit"], ["migrate"]):
+    for words in (["hear"], ["import", "--sender", "bridge"], *READING, ["check"], ["audit"], ["migrate"]):
         desk.ends(3, "desk: file\n", words[0], "nothing.db", *words[1:], given=HEADER)
     desk.ends(3, "desk: file\n", "serve", "nothing.db", "--port", str(free_port()), "--count", "1")
     desk.wants(not list(Path().iterdir()), f"no file is made: {list(Path().iterdir())}")
@@ -188,7 +190,7 @@ def earlier(desk):
     """A file of schema 1 is refused by every command but `migrate`, by that one where the disk is full, and left as it is."""
     file = schema_1(desk, "town.db")
     before = file.read_bytes()
-    for words in (["hear"], ["import", "--sender", "bridge"], ["report", "town", "2024-02"], ["bands", "gw-a"], ["check"], ["audit"]):
+    for words in (["hear"], ["import", "--sender", "bridge"], *READING, ["check"], ["audit"]):
         desk.ends(1, "desk: schema\n", words[0], file, *words[1:], given=HEADER)
     desk.ends(1, "desk: schema\n", "serve", file, "--port", str(free_port()), "--count", "1")
     desk.ends(1, "desk: exists\n", "init", file)
@@ -292,8 +294,8 @@ def held(desk):
     """A file is one program's: others are refused, and reports are asked of the one that serves."""
     file = desk.made()
     program, port = desk.serving(file, 3)
-    for words in (["hear", file], ["report", file, "town", "2024-02"], ["bands", file, "gw-a"], ["check", file], ["audit", file], ["migrate", file], ["import", file, "--sender", "bridge"]):
-        desk.ends(3, "desk: file\n", *words, given=HEADER)
+    for words in (["hear"], *READING, ["check"], ["audit"], ["migrate"], ["import", "--sender", "bridge"]):
+        desk.ends(3, "desk: file\n", words[0], file, *words[1:], given=HEADER)
     desk.ends(3, "desk: file\n", "init", file)
     try:
         execute(file, "SELECT * FROM meta", "?mode=ro")
@@ -327,6 +329,9 @@ def responses(desk):
         (b"no head\r\n\r\n", b"400", "head\n"),
         (get("/v1/bands/gw-z"), b"404", "gateway\n"),
         (get("/v1/reports/town/2024-02"), b"404", "owner\n"),
+        (get("/v1/owners"), b"200", "owner,devices\n"),
+        (get("/v1/devices/0004a30b001a2b3c"), b"404", "device\n"),
+        (get("/v1/devices/"), b"404", "route\n"),
         (get("/v1/answers/1"), b"200", answer + "\n"),
         (get("/v1/log/02"), b"200", ""),
         (get("/v1/log/0"), b"400", "number\n"),
@@ -400,6 +405,8 @@ def smaller_pages(desk):
         (["import", "--sender", "bridge"], REPORT),
         (["report", "town", "2024-02"], ""),
         (["bands", "gw-a"], ""),
+        (["list", "devices"], ""),
+        (["device", "0004a30b001a2b3c"], ""),
         (["check"], ""),
         (["audit"], ""),
         (["log"], ""),

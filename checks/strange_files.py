@@ -5,8 +5,8 @@
 
 A text, a file of zeros, somebody's database, and a desk's file: of version 7, of schema 1, with the tables of the one
 schema and the version of the other, without its row of meta, with a bad name in it, with a table more, and of version
-7 with a table more. `desk check`, `audit`, `hear`, `import`, `report`, `bands` and `serve` get each of them. The port of `serve`
-is taken, so that it would report that if it bound the port before it has opened the file. An empty file is refused
+7 with a table more. `desk check`, `audit`, `hear`, `import`, `report`, `bands`, `list`, `device` and `serve` get each of
+them. The port of `serve` is taken, so that it would report that if it bound the port before it has opened the file. An empty file is refused
 too, and is a database without tables then. `desk init` makes no desk in somebody's database, whether or not an index or
 a view of it has a name of the desk's, in other letters.
 
@@ -76,6 +76,8 @@ COMMANDS = [
     ["import", "town.db", "--sender", "office"],
     ["report", "town.db", "town", "2024-02"],
     ["bands", "town.db", "gw-a"],
+    ["list", "town.db", "senders"],
+    ["device", "town.db", "0004a30b001a2b3c"],
 ]
 
 

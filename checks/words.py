@@ -41,6 +41,8 @@ Commands:
   report   Prints the report of an owner's month
   bands    Prints the bands of a gateway
   room     Prints how long a downlink of a gateway may be that begins at a time
+  list     Prints the senders, the owners, the gateways or the devices of a desk
+  device   Prints one device: its owner, its latest session and its counters
   log      Prints the messages that the desk has heard, or their answers, one a line
   check    Prints what a desk's file was made with, and how much it holds
   audit    Checks that a desk's file has exactly the rows that its messages make
@@ -200,6 +202,36 @@ Options:
 Example:
   desk room town.db gw-a 1706745601061696
 """,
+    "list --help": """\
+Prints the senders, the owners, the gateways or the devices of a desk
+
+Usage: desk list <FILE> <WHAT>
+
+Arguments:
+  <FILE>  The desk's file
+  <WHAT>  What to list: senders, owners, gateways or devices
+
+Options:
+  -h, --help  Print help
+
+Example:
+  desk list town.db devices
+""",
+    "device --help": """\
+Prints one device: its owner, its latest session and its counters
+
+Usage: desk device <FILE> <DEVEUI>
+
+Arguments:
+  <FILE>    The desk's file
+  <DEVEUI>  The device's DevEUI
+
+Options:
+  -h, --help  Print help
+
+Example:
+  desk device town.db 0004a30b001a2b3c
+""",
     "log --help": """\
 Prints the messages that the desk has heard, or their answers, one a line
 
@@ -284,6 +316,12 @@ TAKEN = [
     "bands gw-a town.db",
     "room town.db gw-a 1706745601061696",
     "room town.db gw-a x",
+    "list town.db senders",
+    "list town.db owners",
+    "list owners gateways",
+    "list -- -a devices",
+    "device town.db 0004a30b001a2b3c",
+    "device town.db x",
     "log town.db",
     "log --answers town.db --from 1",
     "log --count=9007199254740991 town.db --from=0000000000000001",
@@ -326,6 +364,8 @@ REFUSED = {
         "report town.db town",
         "bands town.db",
         "room town.db gw-a",
+        "list town.db",
+        "device town.db",
         "log --from 1",
         "check",
         "audit",
@@ -343,6 +383,8 @@ REFUSED = {
         "report town.db town 2024-02 x",
         "bands town.db gw-a x",
         "room town.db gw-a 1 x",
+        "list town.db owners devices",
+        "device town.db 0004a30b001a2b3c x",
         "log town.db 9",
         "check town.db x",
         "audit a b",
@@ -372,6 +414,13 @@ REFUSED = {
 # ---- values out of their form or range: the first one is reported
 
 BAD = {
+    "WHAT is senders, owners, gateways or devices": [
+        "list town.db device",
+        "list town.db Devices",
+        "list town.db devices,owners",
+        "list devices town.db",
+        "list town.db ",
+    ],
     "--receiver takes 1 to 32 ASCII letters, digits, '-', '_' and '.'": [
         "lines --receiver abcdefghijklmnopqrstuvwxyz-_.0123",
         "lines --receiver=",

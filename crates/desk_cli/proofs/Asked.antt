@@ -18,7 +18,7 @@ use Rattle.desk_cli.specs.steps.Usages.{TellsUsage}
 use Rattle.desk_cli.specs.declared.endings.Ending.{Ending}
 use Rattle.desk_cli.specs.declared.endings.Ending.TheVariants.{Done, Refused, Misused, Failed}
 use Rattle.desk_cli.specs.declared.faults.Fault.{Fault}
-use Rattle.desk_cli.specs.declared.faults.Fault.TheVariants.{Exists, NotADesk, Schema, Owner, Gateway, Month, Time, CsvSize, CsvEnd, CsvHeader, CsvRecord, Differs, Unavailable, File, Network}
+use Rattle.desk_cli.specs.declared.faults.Fault.TheVariants.{Exists, NotADesk, Schema, Owner, Gateway, Device, Month, Time, CsvSize, CsvEnd, CsvHeader, CsvRecord, Differs, Unavailable, File, Network}
 use Rattle.desk_cli.specs.declared.usage.Usage.{Usage}
 use Rattle.desk_cli.specs.declared.usage.Usage.TheVariants.{Words, Value, NotText, Memory}
 
@@ -41,6 +41,7 @@ fault_is_not_done NotADesk = tt
 fault_is_not_done Schema = tt
 fault_is_not_done Owner = tt
 fault_is_not_done Gateway = tt
+fault_is_not_done Device = tt
 fault_is_not_done Month = tt
 fault_is_not_done Time = tt
 fault_is_not_done CsvSize = tt
@@ -62,6 +63,7 @@ fault_is_not_misused NotADesk is = cc
 fault_is_not_misused Schema is = cc
 fault_is_not_misused Owner is = cc
 fault_is_not_misused Gateway is = cc
+fault_is_not_misused Device is = cc
 fault_is_not_misused Month is = cc
 fault_is_not_misused Time is = cc
 fault_is_not_misused CsvSize is = cc

@@ -20,7 +20,7 @@ use Rattle.desk_cli.specs.commands.Importing.{ImportsBy}
 use Rattle.desk_cli.specs.commands.Log.{LogsBy}
 use Rattle.desk_cli.specs.commands.Serving.{ServesBy}
 use Rattle.desk_cli.specs.declared.faults.Fault.{Fault}
-use Rattle.desk_cli.specs.declared.faults.Fault.TheVariants.{Exists, NotADesk, Schema, Owner, Gateway, Month, Time, CsvSize, CsvEnd, CsvHeader, CsvRecord, Differs, Unavailable, File, Network}
+use Rattle.desk_cli.specs.declared.faults.Fault.TheVariants.{Exists, NotADesk, Schema, Owner, Gateway, Device, Month, Time, CsvSize, CsvEnd, CsvHeader, CsvRecord, Differs, Unavailable, File, Network}
 use Rattle.desk_cli.proofs.OnTables.{leaves_rules}
 use Rattle.desk_cli.proofs.Opened.{left_as_it_was}
 
@@ -60,6 +60,7 @@ module _ {S : Type 0} (law : RulesAreKept) (g : Ghosts S) (back : Held S) (c : S
     answers_by_rules (Err Schema) by = absurd by
     answers_by_rules (Err Owner) by = absurd by
     answers_by_rules (Err Gateway) by = absurd by
+    answers_by_rules (Err Device) by = absurd by
     answers_by_rules (Err Month) by = absurd by
     answers_by_rules (Err Time) by = absurd by
     answers_by_rules (Err CsvSize) by = absurd by
@@ -87,6 +88,7 @@ module _ {S : Type 0} (law : RulesAreKept) (g : Ghosts S) (back : Held S) (c : S
     imports_by_rules sender (Err Schema) by = absurd by
     imports_by_rules sender (Err Owner) by = absurd by
     imports_by_rules sender (Err Gateway) by = absurd by
+    imports_by_rules sender (Err Device) by = absurd by
     imports_by_rules sender (Err Month) by = absurd by
     imports_by_rules sender (Err Time) by = absurd by
     imports_by_rules sender (Err Network) by = absurd by
@@ -104,6 +106,7 @@ module _ {S : Type 0} (law : RulesAreKept) (g : Ghosts S) (back : Held S) (c : S
     serves_by_rules ports port n (Err Schema) by = absurd by
     serves_by_rules ports port n (Err Owner) by = absurd by
     serves_by_rules ports port n (Err Gateway) by = absurd by
+    serves_by_rules ports port n (Err Device) by = absurd by
     serves_by_rules ports port n (Err Month) by = absurd by
     serves_by_rules ports port n (Err Time) by = absurd by
     serves_by_rules ports port n (Err CsvSize) by = absurd by
@@ -122,6 +125,7 @@ module _ {S : Type 0} (law : RulesAreKept) (g : Ghosts S) (back : Held S) (c : S
     logs_by_rules lines (Err Schema) by = absurd by
     logs_by_rules lines (Err Owner) by = absurd by
     logs_by_rules lines (Err Gateway) by = absurd by
+    logs_by_rules lines (Err Device) by = absurd by
     logs_by_rules lines (Err Month) by = absurd by
     logs_by_rules lines (Err Time) by = absurd by
     logs_by_rules lines (Err CsvSize) by = absurd by

@@ -19,7 +19,7 @@ use Rattle.desk_cli.proofs.Opened.{err, is_unavailable}
 use Rattle.desk_cli.specs.Faults.{fault_of_csv, fault_of_store}
 use Rattle.desk_cli.specs.commands.Importing.{ImportsBy}
 use Rattle.desk_cli.specs.declared.faults.Fault.{Fault}
-use Rattle.desk_cli.specs.declared.faults.Fault.TheVariants.{Exists, NotADesk, Schema, Owner, Gateway, Month, Time, CsvSize, CsvEnd, CsvHeader, CsvRecord, Differs, Unavailable, File, Network}
+use Rattle.desk_cli.specs.declared.faults.Fault.TheVariants.{Exists, NotADesk, Schema, Owner, Gateway, Device, Month, Time, CsvSize, CsvEnd, CsvHeader, CsvRecord, Differs, Unavailable, File, Network}
 
 -- each answer has an octet, its LF
 some_octets : (xs : List ℕ) (x : ℕ) (ys : List ℕ) → xs ++ x ∷ ys ≡ [] → ⊥
@@ -121,6 +121,7 @@ module _ (c : Settings) (heard : List Envelope) (sender : List ℕ) (Kept Stands
   carried (Err Schema) by = absurd by
   carried (Err Owner) by = absurd by
   carried (Err Gateway) by = absurd by
+  carried (Err Device) by = absurd by
   carried (Err Month) by = absurd by
   carried (Err Time) by = absurd by
   carried (Err Network) by = absurd by

@@ -15,7 +15,7 @@ use Rattle.desk_cli.specs.Faults.{fault_of_store}
 use Rattle.desk_engine.specs.Hearing.{StoreKeeps, StoreLeaves}
 use Rattle.desk_cli.specs.Answering.{AnswersBy, AnswersFirst, HearsFirst}
 use Rattle.desk_cli.specs.declared.faults.Fault.{Fault}
-use Rattle.desk_cli.specs.declared.faults.Fault.TheVariants.{Exists, NotADesk, Schema, Owner, Gateway, Month, Time, CsvSize, CsvEnd, CsvHeader, CsvRecord, Differs, Unavailable, File, Network}
+use Rattle.desk_cli.specs.declared.faults.Fault.TheVariants.{Exists, NotADesk, Schema, Owner, Gateway, Device, Month, Time, CsvSize, CsvEnd, CsvHeader, CsvRecord, Differs, Unavailable, File, Network}
 
 module _ {K : Type 0} (m : Meaning K) (c : Settings) (heard : List Envelope) (old new : K) where
   -- the store represents what was heard, unless a call returned `Disk`
@@ -73,6 +73,7 @@ module _ (c : Settings) (heard : List Envelope) (Kept Stands : List Envelope →
   carried (Err Schema) by = absurd by
   carried (Err Owner) by = absurd by
   carried (Err Gateway) by = absurd by
+  carried (Err Device) by = absurd by
   carried (Err Month) by = absurd by
   carried (Err Time) by = absurd by
   carried (Err CsvSize) by = absurd by

@@ -8,7 +8,7 @@ use Rattle.desk_cli.proofs.Opened.{err, is_unavailable}
 use Rattle.desk_cli.specs.Faults.{fault_of_store}
 use Rattle.desk_cli.specs.commands.Log.{LogsBy}
 use Rattle.desk_cli.specs.declared.faults.Fault.{Fault}
-use Rattle.desk_cli.specs.declared.faults.Fault.TheVariants.{Exists, NotADesk, Schema, Owner, Gateway, Month, Time, CsvSize, CsvEnd, CsvHeader, CsvRecord, Differs, Unavailable, File, Network}
+use Rattle.desk_cli.specs.declared.faults.Fault.TheVariants.{Exists, NotADesk, Schema, Owner, Gateway, Device, Month, Time, CsvSize, CsvEnd, CsvHeader, CsvRecord, Differs, Unavailable, File, Network}
 
 module _ (lines : List (List ℕ)) where
   -- the store was unavailable, and that is returned
@@ -28,6 +28,7 @@ module _ (lines : List (List ℕ)) where
   carried kept left before after (Err Schema) by = absurd by
   carried kept left before after (Err Owner) by = absurd by
   carried kept left before after (Err Gateway) by = absurd by
+  carried kept left before after (Err Device) by = absurd by
   carried kept left before after (Err Month) by = absurd by
   carried kept left before after (Err Time) by = absurd by
   carried kept left before after (Err CsvSize) by = absurd by

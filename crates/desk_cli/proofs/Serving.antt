@@ -16,7 +16,7 @@ use Rattle.desk_cli.specs.Ports.{AtPorts, Ports, at_ports}
 use Rattle.desk_cli.specs.commands.Serving.{HearsServed, ServesBy, listening_line}
 use Rattle.desk_cli.specs.steps.Serving.{ended}
 use Rattle.desk_cli.specs.declared.faults.Fault.{Fault}
-use Rattle.desk_cli.specs.declared.faults.Fault.TheVariants.{Exists, NotADesk, Schema, Owner, Gateway, Month, Time, CsvSize, CsvEnd, CsvHeader, CsvRecord, Differs, Unavailable, File, Network}
+use Rattle.desk_cli.specs.declared.faults.Fault.TheVariants.{Exists, NotADesk, Schema, Owner, Gateway, Device, Month, Time, CsvSize, CsvEnd, CsvHeader, CsvRecord, Differs, Unavailable, File, Network}
 
 hears_served : {L R W K T : Type 0} (m : Meaning K) (ports : AtPorts) (l : Connections L R W) (remaining : R → Option (List ℕ)) (contents : W → Option (List ℕ)) (n : ℕ)
     (c : Settings) (heard : List Envelope) (old new : K) (first last : L) (port : ℕ) (before after : Option (List ℕ)) (end : Result T NetworkFault) (Answered : Delivered → Type 0)
@@ -63,6 +63,7 @@ module _ (c : Settings) (heard : List Envelope) (Kept Stands : List Envelope →
   carried (Err Schema) by = absurd by
   carried (Err Owner) by = absurd by
   carried (Err Gateway) by = absurd by
+  carried (Err Device) by = absurd by
   carried (Err Month) by = absurd by
   carried (Err Time) by = absurd by
   carried (Err CsvSize) by = absurd by

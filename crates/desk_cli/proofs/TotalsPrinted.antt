@@ -6,7 +6,7 @@ use Rattle.desk_store.specs.declared.faults.StoreFault.{StoreFault}
 use Rattle.desk_store.specs.Calls.{IsRead}
 use Rattle.desk_store.specs.Meaning.{Meaning}
 use Rattle.desk_engine.specs.declared.report_faults.ReportFault.{ReportFault}
-use Rattle.desk_engine.specs.declared.report_faults.ReportFault.TheVariants.{Month, Time, Owner, Gateway, Unavailable}
+use Rattle.desk_engine.specs.declared.report_faults.ReportFault.TheVariants.{Month, Time, Owner, Gateway, Device, Unavailable}
 use Rattle.desk_engine.specs.InOrder.{kept_after}
 use Rattle.desk_cli.specs.OnTables.{WasOpened}
 use Rattle.desk_cli.specs.commands.Checking.{IsCheck, check_text}
@@ -23,6 +23,7 @@ is_check m c heard old new octets was sound (Err Month) told = absurd told
 is_check m c heard old new octets was sound (Err Time) told = absurd told
 is_check m c heard old new octets was sound (Err Owner) told = absurd told
 is_check m c heard old new octets was sound (Err Gateway) told = absurd told
+is_check m c heard old new octets was sound (Err Device) told = absurd told
 
 -- why a desk that can't be read isn't printed
 pub no_check : {K X : Type 0} (m : Meaning K) (old new : K) (octets : X → List ℕ) (fault : StoreFault) (r : Result X ReportFault)

@@ -11,6 +11,7 @@ use Rattle.desk_cli.specs.commands.Hear.{hear_app, hear_named}
 use Rattle.desk_cli.specs.commands.Importing.{import_app, import_named}
 use Rattle.desk_cli.specs.commands.Init.{init_app, init_named}
 use Rattle.desk_cli.specs.commands.Lines.{lines_app, lines_named}
+use Rattle.desk_cli.specs.commands.Listing.{device_app, device_named, list_app, list_named}
 use Rattle.desk_cli.specs.commands.Log.{log_app, log_named}
 use Rattle.desk_cli.specs.commands.Migrating.{migrate_app, migrate_named}
 use Rattle.desk_cli.specs.commands.Reports.{bands_app, bands_named, report_app, report_named, room_app, room_named}
@@ -35,11 +36,13 @@ with_readers app =
 -- the command line
 abbrev pub desk_app : App
 desk_app =
-    with_subcommand (with_subcommand (with_subcommand (with_subcommand (with_subcommand (with_subcommand (with_subcommand (with_readers top_app)
+    with_subcommand (with_subcommand (with_subcommand (with_subcommand (with_subcommand (with_subcommand (with_subcommand (with_subcommand (with_subcommand (with_readers top_app)
     serve_app.top)
     report_app.top)
     bands_app.top)
     room_app.top)
+    list_app.top)
+    device_app.top)
     log_app.top)
     check_app.top)
     audit_app.top
@@ -56,6 +59,8 @@ named_with name rows =
     else if bytes_eq name (codes "report") then report_named rows
     else if bytes_eq name (codes "bands") then bands_named rows
     else if bytes_eq name (codes "room") then room_named rows
+    else if bytes_eq name (codes "list") then list_named rows
+    else if bytes_eq name (codes "device") then device_named rows
     else if bytes_eq name (codes "log") then log_named rows
     else if bytes_eq name (codes "check") then check_named rows
     else if bytes_eq name (codes "audit") then audit_named rows

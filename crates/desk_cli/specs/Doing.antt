@@ -8,10 +8,11 @@ use Rattle.sqlite_trees.specs.declared.store.Store.{Ghosts}
 use Rattle.registry_core.specs.declared.messages.Envelope.{Envelope}
 use Rattle.registry_core.specs.Heard.{state_of}
 use Rattle.registry_core.specs.Settings.{Settings}
+use Rattle.desk_engine.specs.Listing.{IsDeviceAnswer, IsListAnswer}
 use Rattle.desk_engine.specs.Log.{log_of}
 use Rattle.desk_http.specs.Reports.{IsBandAnswer}
 use Rattle.desk_cli.specs.Ports.{AtPorts}
-use Rattle.desk_cli.specs.Named.{Asked, version, lines, init, migrate, hear, import, serve, report, bands, room, log, check, audit}
+use Rattle.desk_cli.specs.Named.{Asked, version, lines, init, migrate, hear, import, serve, report, bands, room, list, device, log, check, audit}
 use Rattle.desk_cli.specs.NoDesk.{HoldsNoDesk, RefusesFile}
 use Rattle.desk_cli.specs.OnTables.{IsLeft, KeepsHeard, LeavesRules}
 use Rattle.desk_cli.specs.Printing.{IsGatewaysRoom, IsOwnersMonth, PrintsBy}
@@ -109,6 +110,14 @@ module _ {S T : Type 0} (g : Ghosts S) (paths : AtPaths S) (ports : Bool → AtP
   DoesAsked (room file gateway time) =
       OnDeskByRules g paths given_back result file (Keeps before after)
       (λ back c heard. PrintsBy (KeepsHeard g back c heard) (IsLeft g back c heard None) before after (IsGatewaysRoom (state_of c heard) gateway time) result)
+      × Keeps left rest
+  DoesAsked (list file of) =
+      OnDeskByRules g paths given_back result file (Keeps before after)
+      (λ back c heard. PrintsBy (KeepsHeard g back c heard) (IsLeft g back c heard None) before after (IsListAnswer of c heard) result)
+      × Keeps left rest
+  DoesAsked (device file dev_eui) =
+      OnDeskByRules g paths given_back result file (Keeps before after)
+      (λ back c heard. PrintsBy (KeepsHeard g back c heard) (IsLeft g back c heard None) before after (IsDeviceAnswer c heard dev_eui) result)
       × Keeps left rest
   DoesAsked (log file from count which) =
       OnDeskByRules g paths given_back result file (Keeps before after)

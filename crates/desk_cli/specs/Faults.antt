@@ -15,7 +15,7 @@ use Rattle.desk_cli.specs.declared.audit.Table.TheVariants as table
 use Rattle.desk_cli.specs.declared.endings.Ending.{Ending}
 use Rattle.desk_cli.specs.declared.endings.Ending.TheVariants as ending
 use Rattle.desk_cli.specs.declared.faults.Fault.{Fault}
-use Rattle.desk_cli.specs.declared.faults.Fault.TheVariants.{Exists, NotADesk, Schema, Owner, Gateway, Month, Time, CsvSize, CsvEnd, CsvHeader, CsvRecord, Differs, Unavailable, File, Network}
+use Rattle.desk_cli.specs.declared.faults.Fault.TheVariants.{Exists, NotADesk, Schema, Owner, Gateway, Device, Month, Time, CsvSize, CsvEnd, CsvHeader, CsvRecord, Differs, Unavailable, File, Network}
 
 -- the exit status: memory, the file, the streams or the network failed; for any other error the command is refused
 abbrev pub ending_of_fault : Fault → Ending
@@ -51,6 +51,7 @@ fault_word NotADesk = codes "not a desk"
 fault_word Schema = codes "schema"
 fault_word Owner = codes "owner"
 fault_word Gateway = codes "gateway"
+fault_word Device = codes "device"
 fault_word Month = codes "month"
 fault_word Time = codes "time"
 fault_word CsvSize = codes "csv size"
@@ -99,12 +100,13 @@ fault_of_store store.NotADesk = NotADesk
 fault_of_store store.SchemaVersion = Schema
 fault_of_store store.Exists = Exists
 
--- refusals 31, 10 and 11
+-- refusals 31, 10, 11 and 12
 abbrev pub fault_of_report : ReportFault → Fault
 fault_of_report report.Month = Month
 fault_of_report report.Time = Time
 fault_of_report report.Owner = Owner
 fault_of_report report.Gateway = Gateway
+fault_of_report report.Device = Device
 fault_of_report (report.Unavailable fault) = fault_of_store fault
 
 -- why a text isn't a gateway report

@@ -5,9 +5,10 @@ use Rattle.clap.specs.Values.{kind_of}
 use Rattle.clap.specs.Walk.{Text}
 use Rattle.clap.specs.declared.error.kind.ErrorKind.{ErrorKind}
 use Rattle.registry_core.specs.Settings.{Settings}
+use Rattle.desk_engine.specs.declared.lists.ListOf.{ListOf}
 use Rattle.desk_engine.specs.declared.log.LogText.{LogText}
 use Rattle.desk_cli.specs.declared.commands.Command.{Command}
-use Rattle.desk_cli.specs.declared.commands.Command.TheVariants.{Version, Lines, Init, Migrate, Hear, Import, Serve, Report, Bands, Room, Log, Check, Audit}
+use Rattle.desk_cli.specs.declared.commands.Command.TheVariants.{Version, Lines, Init, Migrate, Hear, Import, Serve, Report, Bands, Room, Listing, Device, Log, Check, Audit}
 use Rattle.desk_cli.specs.declared.usage.BadValue.{BadValue}
 use Rattle.desk_cli.specs.declared.usage.Usage.{Usage}
 use Rattle.desk_cli.specs.declared.usage.Usage.TheVariants.{Words, Value, NotText, Memory}
@@ -29,6 +30,10 @@ pub data Asked : Type 0 where
   bands : Text → Text → Asked
   -- the file, the gateway and the time
   room : Text → Text → Text → Asked
+  -- the file, and what the list is of
+  list : Text → ListOf → Asked
+  -- the file and the DevEUI
+  device : Text → Text → Asked
   -- the file, the number of the first message, how many messages at most, and which text of each
   log : Text → ℕ → ℕ → LogText → Asked
   check : Text → Asked
@@ -45,6 +50,8 @@ asked_by (Serve file port connections logged) = serve file.now port connections 
 asked_by (Report file owner month) = report file.now owner.now month.now
 asked_by (Bands file gateway) = bands file.now gateway.now
 asked_by (Room file gateway time) = room file.now gateway.now time.now
+asked_by (Listing file of) = list file.now of
+asked_by (Device file dev_eui) = device file.now dev_eui.now
 asked_by (Log file from count which) = log file.now from count which
 asked_by (Check file) = check file.now
 asked_by (Audit file) = audit file.now

@@ -6,6 +6,8 @@ use Rattle.clap.specs.declared.builder.action.ArgAction.TheVariants.{SetTrue}
 use Rattle.clap.specs.Walk.{Row, Rule, Text, first_of}
 use Rattle.radio_core.specs.Names.{is_name}
 use Rattle.registry_core.specs.Settings.{Settings}
+use Rattle.desk_engine.specs.declared.lists.ListOf.{ListOf}
+use Rattle.desk_engine.specs.declared.lists.ListOf.TheVariants.{Senders, Owners, Gateways, Devices}
 use Rattle.desk_wire.specs.Decimals.{count_in}
 use Rattle.desk_wire.specs.Hexadecimal.{addr_in}
 use Rattle.desk_cli.specs.declared.usage.BadValue.{BadValue}
@@ -60,6 +62,15 @@ or_bad None bad = Err bad
 
 abbrev pub name_of : Text → Option Text
 name_of text = if is_name text then Some text else None
+
+-- the list that a text names
+unfoldable pub list_in : Text → Option ListOf
+list_in text =
+    if bytes_eq text (codes "senders") then Some Senders
+    else if bytes_eq text (codes "owners") then Some Owners
+    else if bytes_eq text (codes "gateways") then Some Gateways
+    else if bytes_eq text (codes "devices") then Some Devices
+    else None
 
 -- there is at least one address, and the last is ffffffff or before
 abbrev pub is_block : ℕ → ℕ → Bool

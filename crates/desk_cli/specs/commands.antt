@@ -5,6 +5,7 @@ pub mod Hear
 pub mod Importing
 pub mod Init
 pub mod Lines
+pub mod Listing
 pub mod Log
 pub mod Migrating
 pub mod Reports

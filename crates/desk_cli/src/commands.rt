@@ -1,5 +1,5 @@
-//! The list of the program's commands. Each has a module with its arguments and what it does. `report`, `bands` and `room` share one.
-//! What commands do on one file is tested in `program/tests/one_file.rt`, and by rows over each kind of store.
+//! The list of the program's commands. Each has a module with its arguments and what it does. `report`, `bands` and `room` share one, as do
+//! `list` and `device`. What commands do on one file is tested in `program/tests/one_file.rt`, and by rows over each kind of store.
 ghost use Rattle.std.specs.Prelude.{◌≡◌, IfOk};
 ghost use Rattle.clap.specs.Matches.{found_of};
 ghost use Rattle.clap.specs.Simple.{App, app_of, subcommand_rows_of};
@@ -14,6 +14,7 @@ mod hear;
 mod importing;
 mod init;
 mod lines;
+mod listing;
 mod log;
 mod migrating;
 mod reports;
@@ -27,7 +28,7 @@ use auditing::{audit_app, audit_of};
 pub use checking::check_command;
 use checking::{check_app, check_of};
 use clap::ArgMatches;
-use desk_engine::LogText;
+use desk_engine::{ListOf, LogText};
 pub use hear::hear_command;
 use hear::{hear_app, hear_of};
 pub use importing::import_command;
@@ -36,6 +37,8 @@ pub use init::init_command;
 use init::{init_app, init_of};
 pub use lines::lines_command;
 use lines::{lines_app, lines_of};
+pub use listing::{device_command, list_command};
+use listing::{device_app, device_of, list_app, list_of};
 pub use log::log_command;
 use log::{log_app, log_of};
 pub use migrating::migrate_command;
@@ -100,6 +103,16 @@ pub enum Command<'a> {
         gateway: &'a str,
         time: &'a str,
     },
+    /// Prints the list of the senders, owners, gateways or devices.
+    Listing {
+        file: &'a str,
+        of: ListOf,
+    },
+    /// Prints one device.
+    Device {
+        file: &'a str,
+        dev_eui: &'a str,
+    },
     /// Prints at most `count` messages that the desk has heard, from number `from` on, or their answers, one a line.
     Log {
         file: &'a str,
@@ -135,6 +148,8 @@ pub(crate) fn desk_app<'a>(alloc: Global) -> Result<clap::Command<'a>, AllocErro
     let desk = added(desk, report_app(alloc));
     let desk = added(desk, bands_app(alloc));
     let desk = added(desk, room_app(alloc));
+    let desk = added(desk, list_app(alloc));
+    let desk = added(desk, device_app(alloc));
     let desk = added(desk, log_app(alloc));
     let desk = added(desk, check_app(alloc));
     added(desk, audit_app(alloc))
@@ -209,6 +224,8 @@ fn command_with<'a>(
         "report" => report_of(options),
         "bands" => bands_of(options),
         "room" => room_of(options),
+        "list" => list_of(options),
+        "device" => device_of(options),
         "log" => log_of(options),
         "check" => check_of(options),
         "audit" => audit_of(options),

@@ -24,6 +24,8 @@ pub enum Fault {
     Owner,
     /// No gateway has the name.
     Gateway,
+    /// No device has the DevEUI.
+    Device,
     /// The text isn't a month.
     Month,
     /// The text isn't a time.
@@ -68,6 +70,7 @@ impl Display for Fault {
             Fault::Schema => f.write_str("schema"),
             Fault::Owner => f.write_str("owner"),
             Fault::Gateway => f.write_str("gateway"),
+            Fault::Device => f.write_str("device"),
             Fault::Month => f.write_str("month"),
             Fault::Time => f.write_str("time"),
             Fault::CsvSize => f.write_str("csv size"),
@@ -132,6 +135,7 @@ impl From<ReportFault> for Fault {
             ReportFault::Time => Fault::Time,
             ReportFault::Owner => Fault::Owner,
             ReportFault::Gateway => Fault::Gateway,
+            ReportFault::Device => Fault::Device,
             ReportFault::Unavailable(fault) => fault.into(),
         }
     }

@@ -11,12 +11,12 @@ ghost use Rattle.desk_engine.specs.Log.{message_number};
 ghost use Rattle.desk_cli.specs.Numbers.{connections_of, port_of};
 ghost use Rattle.desk_cli.specs.steps.CommandLine.{AddsWord, IsCommand};
 ghost use Rattle.desk_cli.specs.steps.Options.{behind};
-ghost use Rattle.desk_cli.specs.Options.{config_of, flag_rule, is_set, name_of, needed_rule, option_rule, optional_rule, place_rule, placed, settings_from, value_at, value_or, with_settings};
+ghost use Rattle.desk_cli.specs.Options.{config_of, flag_rule, is_set, list_in, name_of, needed_rule, option_rule, optional_rule, place_rule, placed, settings_from, value_at, value_or, with_settings};
 
 use crate::numbers::{connections_of, port_of};
 use crate::usage::BadValue;
 use clap::{Arg, ArgAction, ArgMatches};
-use desk_engine::message_number;
+use desk_engine::{ListOf, message_number};
 use desk_wire::{addr_of, count_of};
 use radio_core::Name;
 use registry_core::{Config, GREATEST_WHOLE, Whole};
@@ -201,6 +201,13 @@ pub(crate) fn connections_at(options: &ArgMatches<'_>, option: &str) -> Option<u
     connections_of(text_at(options, option)?)
 }
 
+/// Returns the list that an argument names, or `None` if it isn't there or names none.
+pub(crate) fn list_at(options: &ArgMatches<'_>, place: &str) -> Option<ListOf>
+    ensures { result ≡ value_at list_in place.now (rows_of (found_of options.now)) }
+{
+    list_of(text_at(options, place)?)
+}
+
 /// Returns the number that an option has, or `None` if it isn't there or isn't a number in the form.
 pub(crate) fn number_at(options: &ArgMatches<'_>, option: &str) -> Option<Whole>
     ensures { result ≡ value_at message_number option.now (rows_of (found_of options.now)) }
@@ -225,6 +232,19 @@ pub(crate) fn is_set(options: &ArgMatches<'_>, option: &str) -> bool
     match text_at(options, option) {
         Some(text) => text == "true",
         None => false,
+    }
+}
+
+#[tactic(auto, unfolding(crate::specs::Options::list_in))]
+fn list_of(text: &str) -> Option<ListOf>
+    ensures { result ≡ list_in text.now }
+{
+    match text {
+        "senders" => Some(ListOf::Senders),
+        "owners" => Some(ListOf::Owners),
+        "gateways" => Some(ListOf::Gateways),
+        "devices" => Some(ListOf::Devices),
+        _ => None,
     }
 }
 

@@ -1,6 +1,7 @@
 //! What a command asks, done. Its file is opened before the standard input is read, and before the port is bound.
 ghost use Rattle.registry_core.specs.Heard.{state_of};
 ghost use Rattle.std.specs.Io.KnownBytes.{Keeps};
+ghost use Rattle.desk_engine.specs.Listing.{IsDeviceAnswer, IsListAnswer};
 ghost use Rattle.desk_engine.specs.Log.{log_of};
 ghost use Rattle.desk_http.specs.Reports.{IsBandAnswer};
 ghost use Rattle.desk_cli.specs.Doing.{DoesAsked, OnAuditedFile, OnDeskFile, OnFile};
@@ -20,15 +21,15 @@ ghost use Rattle.desk_cli.specs.commands.Serving.{ServesBy};
 ghost use Rattle.std.specs.Prelude.{None};
 
 use crate::commands::{
-    Command, audit_command, bands_command, check_command, hear_command, import_command,
-    init_command, lines_command, log_command, migrate_command, report_command, room_command,
-    serve_command, version_command,
+    Command, audit_command, bands_command, check_command, device_command, hear_command,
+    import_command, init_command, lines_command, list_command, log_command, migrate_command,
+    report_command, room_command, serve_command, version_command,
 };
 use crate::endings::Ending;
 use crate::faults::end;
 use crate::files::Files;
 use crate::network::Network;
-use desk_engine::{LogText, Progress};
+use desk_engine::{ListOf, LogText, Progress};
 use radio_core::Name;
 use registry_core::laws::rules_are_kept;
 use registry_core::{Config, Whole};
@@ -119,6 +120,10 @@ pub(crate) fn perform<
             gateway,
             time,
         } => room_file(alloc, files, file, gateway, time, answers, faults),
+        Command::Listing { file, of } => list_file(alloc, files, file, *of, answers, faults),
+        Command::Device { file, dev_eui } => {
+            device_file(alloc, files, file, dev_eui, answers, faults)
+        }
         Command::Log {
             file,
             from,
@@ -296,6 +301,46 @@ fn room_file<S: Alter, N: Files<S>, W: Write, F: Write>(
         files.open(file),
         faults,
         |conn| room_command(alloc, conn, gateway, time, answers, faults)
+    )
+}
+
+fn list_file<S: Alter, N: Files<S>, W: Write, F: Write>(
+    alloc: Global,
+    files: N,
+    file: &str,
+    of: ListOf,
+    answers: &mut W,
+    faults: &mut F,
+) -> Performed<S>
+    ensures { Ends F.contents faults.old faults.new result.0 (λ done. OnDeskFile S.Store (N.paths files) result.1 done file.now
+        (Keeps (W.contents answers.old) (W.contents answers.new))
+        (λ back c heard. PrintsBy (KeepsHeard S.Store back c heard) (IsLeft S.Store back c heard None) (W.contents answers.old) (W.contents answers.new)
+        (IsListAnswer of c heard) done)) }
+{
+    on_file!(
+        files.open(file),
+        faults,
+        |conn| list_command(alloc, conn, of, answers, faults)
+    )
+}
+
+fn device_file<S: Alter, N: Files<S>, W: Write, F: Write>(
+    alloc: Global,
+    files: N,
+    file: &str,
+    dev_eui: &str,
+    answers: &mut W,
+    faults: &mut F,
+) -> Performed<S>
+    ensures { Ends F.contents faults.old faults.new result.0 (λ done. OnDeskFile S.Store (N.paths files) result.1 done file.now
+        (Keeps (W.contents answers.old) (W.contents answers.new))
+        (λ back c heard. PrintsBy (KeepsHeard S.Store back c heard) (IsLeft S.Store back c heard None) (W.contents answers.old) (W.contents answers.new)
+        (IsDeviceAnswer c heard dev_eui.now) done)) }
+{
+    on_file!(
+        files.open(file),
+        faults,
+        |conn| device_command(alloc, conn, dev_eui, answers, faults)
     )
 }
 

@@ -4,9 +4,7 @@ ghost use Rattle.std.specs.Io.KnownBytes.{Keeps};
 ghost use Rattle.sqlite.specs.Held.{state};
 ghost use Rattle.sqlite.specs.State.{HasCleanDisk};
 ghost use Rattle.registry_core.specs.declared.messages.Envelope.{Envelope};
-ghost use Rattle.registry_core.specs.Heard.{state_of};
 ghost use Rattle.registry_core.specs.Settings.{Settings};
-ghost use Rattle.registry_core.specs.State.{State};
 ghost use Rattle.desk_store.specs.Calls.{IsRead};
 ghost use Rattle.desk_engine.specs.declared.report_faults.ReportFault.{ReportFault};
 ghost use Rattle.desk_engine.specs.InOrder.{WasInOrder};
@@ -30,17 +28,17 @@ use std::io::{self, Read, Write};
 
 /// A report that a store can give.
 pub(crate) trait Report {
-    /// The report of the registry's state, or why there is none.
-    ghost is_answer: { Self → State → Result (List ℕ) ReportFault → Type 0 };
+    /// The report of a desk of this configuration that heard this log, or why there is none.
+    ghost is_answer: { Self → Settings → List Envelope → Result (List ℕ) ReportFault → Type 0 };
 
     /// Returns the report's text, or why there is none.
     fn ask<K: Keeper>(&self, alloc: Global, keeper: &mut K) -> Result<Vec<u8>, ReportFault>
         ensures read { IsRead K.meaning keeper.old keeper.new (store_fault_in result) }
         ensures told { (c : Settings) (heard : List Envelope) → WasInOrder K.meaning c heard keeper.old keeper.new
-            → is_answer self.now (state_of c heard) (shown (λ text. text.items) result) };
+            → is_answer self.now c heard (shown (λ text. text.items) result) };
 
     /// If there is no memory to open the desk, that is why there is no text.
-    ghost unopened: { (report : Self) (s : State) → is_answer report s unasked };
+    ghost unopened: { (report : Self) (c : Settings) (heard : List Envelope) → is_answer report c heard unasked };
 }
 
 /// Prints the report of the desk in the connection's database, and gives the connection back. Nothing is changed.
@@ -59,7 +57,7 @@ pub(crate) fn print_report<S: Alter, Q: Report, W: Write, F: Write>(
     ensures { Ends F.contents faults.old faults.new result.0 (λ done. OnDesk S.Store conn result.1 done
         (Keeps (W.contents answers.old) (W.contents answers.new))
         (λ c heard. PrintsBy (KeepsHeard S.Store result.1 c heard) (IsLeft S.Store result.1 c heard None) (W.contents answers.old) (W.contents answers.new)
-        (Q.is_answer report.now (state_of c heard)) done)) }
+        (Q.is_answer report.now c heard) done)) }
 {
     let (done, conn) = print_by_store(alloc, conn, report, answers);
     (end(faults, done), conn)
@@ -76,7 +74,7 @@ fn print_by_store<S: Alter, Q: Report, W: Write>(
     requires unlimited { conn.step_limit ≡ None }
     ensures prints { HasCleanDisk (state S.Store result.1) → (c : Settings) (heard : List Envelope) → KeepsHeard S.Store conn c heard
         → PrintsBy (KeepsHeard S.Store result.1 c heard) (IsLeft S.Store result.1 c heard None) (W.contents answers.old) (W.contents answers.new)
-        (Q.is_answer report.now (state_of c heard)) result.0 }
+        (Q.is_answer report.now c heard) result.0 }
     ensures no_desk { HasCleanDisk (state S.Store result.1) → HoldsNoDesk S.Store conn
         → RefusesFile S.Store conn result.1 (Keeps (W.contents answers.old) (W.contents answers.new)) result.0 }
     ensures clean { HasCleanDisk (state S.Store result.1) → HasCleanDisk (state S.Store conn) }

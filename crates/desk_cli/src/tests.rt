@@ -17,6 +17,7 @@ mod joins;
 mod keys;
 mod limits;
 mod lines;
+mod lists;
 pub(crate) mod log;
 mod many;
 mod migrating;
@@ -187,7 +188,8 @@ fn rows_hold<R: Abort + AllocGlobal, K: Opened>(rt: &R) -> Result<(), Fail> {
     limits::bands_show_limits::<R, K>(rt)?;
     importing::reports_are_heard_in_order::<R, K>(rt)?;
     reports::are_told::<R, K>(rt)?;
-    rooms::are_told::<R, K>(rt)
+    rooms::are_told::<R, K>(rt)?;
+    lists::are_told::<R, K>(rt)
 }
 
 #[test]

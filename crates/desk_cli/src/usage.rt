@@ -31,6 +31,8 @@ pub enum BadValue {
     FirstMessage,
     /// `--count` of `log` isn't one to sixteen decimal digits, or isn't 1 to 9,007,199,254,740,991.
     Messages,
+    /// WHAT of `list` isn't `senders`, `owners`, `gateways` or `devices`.
+    What,
     /// A positional argument isn't given. clap reports that first, so the user doesn't see it.
     Missing,
 }
@@ -65,6 +67,7 @@ impl Display for BadValue {
             BadValue::Connections => "--count takes a number from 1 to 1000000, in digits",
             BadValue::FirstMessage => "--from takes a number from 1 to 9007199254740991, in digits",
             BadValue::Messages => "--count takes a number from 1 to 9007199254740991, in digits",
+            BadValue::What => "WHAT is senders, owners, gateways or devices",
             BadValue::Missing => "a word is missing",
         })
     }

@@ -1,11 +1,12 @@
 -- What a path names, from the route that is found.
-use Rattle.std.proofs.Common.{◌≡◌, ℕ, Bool, true, false, cond, ◌==◌, List, [], ◌∷◌, ◌++◌, codes, Option, Some, None, refl, sym, ap, ◌∙◌, inl, inr, true≢false, append_assoc, not, subst}
+use Rattle.std.proofs.Common.{◌≡◌, ℕ, Bool, true, false, cond, ◌==◌, List, [], ◌∷◌, ◌++◌, codes, Option, Some, None, refl, sym, ap, ◌∙◌, inl, inr, true≢false, append_assoc, append-nil, not, subst}
 use Rattle.std.proofs.lemmas.Bool.{and_parts, eqb-true}
 use Rattle.std.specs.List.{list_any}
 use Rattle.std.specs.Prelude.{IsTrue, option_map}
+use Rattle.desk_engine.specs.declared.lists.ListOf.TheVariants.{Senders, Owners, Gateways, Devices}
 use Rattle.desk_http.specs.declared.targets.Route.{Route}
-use Rattle.desk_http.specs.declared.targets.Route.TheVariants.{Messages, OwnerReport, BandReport, Room, Log, Answers}
-use Rattle.desk_http.specs.Targets.{Resource, messages, reports, bands, room, log, answers, IsPathTo, Names, is_part, is_slash, path_to}
+use Rattle.desk_http.specs.declared.targets.Route.TheVariants.{Messages, OwnerReport, BandReport, Room, Log, Answers, Listing, Device}
+use Rattle.desk_http.specs.Targets.{Resource, messages, reports, bands, room, log, answers, lists, device, IsPathTo, Names, is_part, is_slash, list_path, path_to}
 use Rattle.desk_http.specs.steps.Targets.{two_parts, after_slash, before_slash, follows, is_empty, is_tail, led, form_of, forms_of, all_routes, named_in_path, resource_of, route_of}
 use Rattle.desk_http.proofs.Routes.{drop-one-more, or_false_parts, split, take-one-more}
 
@@ -55,6 +56,8 @@ form_is Room names parts = (and_parts _ _ parts, ap (λ text. codes "/v1/room/" 
 form_is BandReport names part = (part, refl)
 form_is Log names part = (part, refl)
 form_is Answers names part = (part, refl)
+form_is (Listing of) names none = (tt, ap (λ text. list_path of ++ text) (empty-is names none) ∙ append-nil (list_path of))
+form_is Device names part = (part, refl)
 
 -- ---- a path of a form has the route of it
 
@@ -89,6 +92,11 @@ found path messages at = ap named_in_path at.1
 found path (bands gateway) at = ap named_in_path at.1 ∙ one-found (resource_of (path_to (bands gateway))) BandReport gateway at.0
 found path (log from) at = ap named_in_path at.1 ∙ one-found (resource_of (path_to (log from))) Log from at.0
 found path (answers from) at = ap named_in_path at.1 ∙ one-found (resource_of (path_to (answers from))) Answers from at.0
+found path (device dev_eui) at = ap named_in_path at.1 ∙ one-found (resource_of (path_to (device dev_eui))) Device dev_eui at.0
+found path (lists Senders) at = ap named_in_path at.1
+found path (lists Owners) at = ap named_in_path at.1
+found path (lists Gateways) at = ap named_in_path at.1
+found path (lists Devices) at = ap named_in_path at.1
 found path (reports owner month) at =
     let names = codes "/v1/reports/" ++ (owner ++ 47 ∷ month) in
     ap named_in_path (at.1 ∙ ap (λ tail. codes "/v1/reports/" ++ tail) (append_assoc owner (codes "/") month))

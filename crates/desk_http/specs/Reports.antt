@@ -5,10 +5,12 @@ use Rattle.registry_core.specs.Heard.{state_of}
 use Rattle.registry_core.specs.Settings.{Settings}
 use Rattle.registry_core.specs.State.{State}
 use Rattle.desk_store.specs.Calls.{IsUnavailability}
+use Rattle.desk_engine.specs.declared.lists.ListOf.{ListOf}
 use Rattle.desk_engine.specs.declared.log.LogText.{LogText}
 use Rattle.desk_engine.specs.declared.report_faults.ReportFault.{ReportFault}
 use Rattle.desk_engine.specs.declared.report_faults.ReportFault.TheVariants.{Month, Time, Unavailable}
 use Rattle.desk_engine.specs.Lines.{input_of}
+use Rattle.desk_engine.specs.Listing.{IsDeviceAnswer, IsListAnswer}
 use Rattle.desk_engine.specs.Log.{log_of}
 use Rattle.desk_engine.specs.Months.{IsMonth}
 use Rattle.desk_engine.specs.Reporting.{IsOwnerFault, IsGatewayFault}
@@ -16,12 +18,14 @@ use Rattle.desk_engine.specs.Reports.{IsBandReport, IsOwnerReport, is_gateway, i
 use Rattle.desk_engine.specs.Rooms.{IsRoomReport, time_in}
 
 -- the report on an owner for a month; the report of a gateway's bands; its room at a time; the log from this number on, of messages or of
--- answers
+-- answers; a list; one device
 pub data Report : Type 0 where
   owner_report : (owner month : List ℕ) → Report
   band_report : (gateway : List ℕ) → Report
   room_report : (gateway time : List ℕ) → Report
   log_part : (which : LogText) (from : ℕ) → Report
+  list_of : (of : ListOf) → Report
+  device_report : (dev_eui : List ℕ) → Report
 
 -- the content type of its text
 abbrev pub kind_of : Report → List ℕ
@@ -66,6 +70,8 @@ IsAnswer c heard (owner_report owner month) answer = IsOwnerAnswer (state_of c h
 IsAnswer c heard (band_report gateway) answer = IsBandAnswer (state_of c heard) gateway answer
 IsAnswer c heard (room_report gateway time) answer = IsRoomAnswer (state_of c heard) gateway time answer
 IsAnswer c heard (log_part which from) answer = IsLogAnswer c heard which from answer
+IsAnswer c heard (list_of of) answer = IsListAnswer of c heard answer
+IsAnswer c heard (device_report dev_eui) answer = IsDeviceAnswer c heard dev_eui answer
 
 -- Whatever was heard: an owner's report is refused for its month if and only if that is not a month, and a room's for its time if and only
 -- if that is not a time.

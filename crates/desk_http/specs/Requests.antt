@@ -11,9 +11,9 @@ use Rattle.desk_http.specs.declared.fields.BodyLength.{BodyLength}
 use Rattle.desk_http.specs.declared.fields.BodyLength.TheVariants.{Absent, Number, TooLong, Bad}
 use Rattle.desk_http.specs.Fields.{NamedValue, has_origin, has_transfer_encoding, body_length}
 use Rattle.desk_http.specs.Heads.{IsNoHead, IsWithinLimits}
-use Rattle.desk_http.specs.Reports.{Report, owner_report, band_report, room_report, log_part}
+use Rattle.desk_http.specs.Reports.{Report, owner_report, band_report, room_report, log_part, list_of, device_report}
 use Rattle.desk_http.specs.Responses.{Response, no_head, cross_origin, no_number, no_route, other_method, no_length, too_long}
-use Rattle.desk_http.specs.Targets.{Resource, messages, reports, bands, room, log, answers, Names, method_of, path_of}
+use Rattle.desk_http.specs.Targets.{Resource, messages, reports, bands, room, log, answers, lists, device, Names, method_of, path_of}
 
 -- what is asked for: the delivery of a message of `count` octets, or a text; or nothing that is served, and this response refuses it
 pub data Request : Type 0 where
@@ -45,6 +45,8 @@ asked_by_resource (bands gateway) fields = report (band_report gateway)
 asked_by_resource (room gateway time) fields = report (room_report gateway time)
 asked_by_resource (log from) fields = asked_by_number Message (message_number from)
 asked_by_resource (answers from) fields = asked_by_number Answer (message_number from)
+asked_by_resource (lists of) fields = report (list_of of)
+asked_by_resource (device dev_eui) fields = report (device_report dev_eui)
 
 -- first the resource is checked, then its method, then what is asked of it
 abbrev pub asked_of_named : Option Resource → List ℕ → List NamedValue → Request

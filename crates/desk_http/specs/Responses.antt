@@ -86,6 +86,7 @@ fault_response fault.Month = plain 400 (codes "time\n")
 fault_response fault.Time = plain 400 (codes "time\n")
 fault_response fault.Owner = plain 404 (codes "owner\n")
 fault_response fault.Gateway = plain 404 (codes "gateway\n")
+fault_response fault.Device = plain 404 (codes "device\n")
 fault_response (fault.Unavailable of_store) = unavailable
 
 -- the response to a GET of a text of this type

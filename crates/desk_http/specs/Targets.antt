@@ -1,6 +1,8 @@
 -- The resource that a request's target names.
 use Rattle.std.specs.Prelude.{◌≡◌, ℕ, List, [], ◌∷◌, ◌++◌, Bool, false, ◌==◌, not, codes, IsTrue, Option, Some, None}
 use Rattle.std.specs.List.{before_first, list_any}
+use Rattle.desk_engine.specs.declared.lists.ListOf.{ListOf}
+use Rattle.desk_engine.specs.declared.lists.ListOf.TheVariants.{Senders, Owners, Gateways, Devices}
 
 abbrev pub is_question_mark : ℕ → Bool
 is_question_mark c = c == 63
@@ -25,6 +27,15 @@ pub data Resource : Type 0 where
   room : (gateway time : List ℕ) → Resource
   log : (from : List ℕ) → Resource
   answers : (from : List ℕ) → Resource
+  lists : (of : ListOf) → Resource
+  device : (dev_eui : List ℕ) → Resource
+
+-- the path of a list
+abbrev pub list_path : ListOf → List ℕ
+list_path Senders = codes "/v1/senders"
+list_path Owners = codes "/v1/owners"
+list_path Gateways = codes "/v1/gateways"
+list_path Devices = codes "/v1/devices"
 
 -- the path of a resource
 abbrev pub path_to : Resource → List ℕ
@@ -34,6 +45,8 @@ path_to (bands gateway) = codes "/v1/bands/" ++ gateway
 path_to (room gateway time) = codes "/v1/room/" ++ gateway ++ codes "/" ++ time
 path_to (log from) = codes "/v1/log/" ++ from
 path_to (answers from) = codes "/v1/answers/" ++ from
+path_to (lists of) = list_path of
+path_to (device dev_eui) = codes "/v1/devices/" ++ dev_eui
 
 -- each name in it can be a part of a path
 abbrev pub HasParts : Resource → Type 0
@@ -43,6 +56,8 @@ HasParts (bands gateway) = IsTrue (is_part gateway)
 HasParts (room gateway time) = IsTrue (is_part gateway) × IsTrue (is_part time)
 HasParts (log from) = IsTrue (is_part from)
 HasParts (answers from) = IsTrue (is_part from)
+HasParts (lists of) = Unit {0}
+HasParts (device dev_eui) = IsTrue (is_part dev_eui)
 
 -- the path is that of the resource
 abbrev pub IsPathTo : List ℕ → Resource → Type 0

@@ -10,7 +10,7 @@ ghost use Rattle.desk_http.specs.steps.Targets.{named_in_path, resource_of};
 
 use crate::fields::{BodyLength, body_length, has_origin, has_transfer_encoding};
 use crate::targets::{Route, method_of, names_of, path_of, route_of};
-use desk_engine::{LogText, message_number};
+use desk_engine::{ListOf, LogText, message_number};
 use httparse::spans::HeaderSpan;
 use matchit::InsertError;
 use registry_core::Whole;
@@ -36,6 +36,8 @@ pub(crate) enum Asked {
     Room,
     /// The log from this message on.
     Log(LogText, Whole),
+    Listing(ListOf),
+    Device,
     /// The path has no message number where the log needs one.
     BadNumber,
 }
@@ -96,6 +98,8 @@ fn asked_by_route(route: Route, path: &str, octets: &[u8], headers: &[HeaderSpan
         Route::Room => Asked::Room,
         Route::Log => asked_of_log(LogText::Message, names_of(path)),
         Route::Answers => asked_of_log(LogText::Answer, names_of(path)),
+        Route::Listing(of) => Asked::Listing(of),
+        Route::Device => Asked::Device,
     }
 }
 

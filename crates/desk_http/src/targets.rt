@@ -4,6 +4,7 @@ ghost use Rattle.std.specs.Str.{IsUtf8};
 ghost use Rattle.desk_http.specs.Targets.{path_of, method_of};
 ghost use Rattle.desk_http.specs.steps.Targets.{before_slash, after_slash, names_of, route_of, resource_of};
 
+use desk_engine::ListOf;
 use matchit::{InsertError, Router};
 use std::alloc::Global;
 use std::str;
@@ -23,6 +24,10 @@ pub(crate) enum Route {
     Log,
     /// The answers of the log from a message on.
     Answers,
+    /// A list.
+    Listing(ListOf),
+    /// One device.
+    Device,
 }
 
 /// Returns the method of a route.
@@ -33,6 +38,7 @@ pub(crate) fn method_of(route: Route) -> &'static str
         Route::Messages => "POST",
         Route::OwnerReport | Route::BandReport | Route::Room => "GET",
         Route::Log | Route::Answers => "GET",
+        Route::Listing(_) | Route::Device => "GET",
     }
 }
 
@@ -95,10 +101,15 @@ pub(crate) fn route_of(alloc: Global, path: &str) -> Result<Option<Route>, Inser
     let mut router = Router::new(alloc);
     router.insert("/v1/answers/{from}", Route::Answers)?;
     router.insert("/v1/bands/{gateway}", Route::BandReport)?;
+    router.insert("/v1/devices", Route::Listing(ListOf::Devices))?;
+    router.insert("/v1/devices/{deveui}", Route::Device)?;
+    router.insert("/v1/gateways", Route::Listing(ListOf::Gateways))?;
     router.insert("/v1/log/{from}", Route::Log)?;
     router.insert("/v1/messages", Route::Messages)?;
+    router.insert("/v1/owners", Route::Listing(ListOf::Owners))?;
     router.insert("/v1/reports/{owner}/{month}", Route::OwnerReport)?;
     router.insert("/v1/room/{gateway}/{time}", Route::Room)?;
+    router.insert("/v1/senders", Route::Listing(ListOf::Senders))?;
     match router.at(path) {
         Ok(found) => Ok(Some(*found.value)),
         Err(_) => Ok(None),

@@ -11,8 +11,6 @@ use Rattle.desk_tables.specs.InOrder.{AreOfDesk, IsOfDesk}
 use Rattle.desk_tables.specs.Store.{meaning_of}
 use Rattle.desk_tables.specs.declared.tables.Tables.{Tables}
 use Rattle.desk_engine.specs.declared.report_faults.ReportFault.{ReportFault}
-use Rattle.registry_core.specs.Heard.{state_of}
-use Rattle.registry_core.specs.State.{State}
 use Rattle.desk_engine.specs.Hearing.{StoreKeeps, StoreLeaves}
 use Rattle.desk_engine.specs.Log.{log_of}
 use Rattle.desk_engine.specs.declared.log.LogText.{LogText}
@@ -68,10 +66,10 @@ abbrev pub serves : AtPorts → ℕ → ℕ → Done
 serves ports port n K m c heard old new left rest before after result =
     ServesBy c heard (StoreKeeps m c heard old new) (StoreLeaves m c heard old new) ports port n before after result
 
--- a report was printed that is this of the desk's state
-abbrev pub prints : (State → Result (List ℕ) ReportFault → Type 0) → Done
+-- a report was printed that is this of the desk's configuration and log
+abbrev pub prints : (Settings → List Envelope → Result (List ℕ) ReportFault → Type 0) → Done
 prints IsAnswer K m c heard old new left rest before after result =
-    PrintsBy (StoreKeeps m c heard old new heard) (StoreLeaves m c heard old new heard None) before after (IsAnswer (state_of c heard)) result
+    PrintsBy (StoreKeeps m c heard old new heard) (StoreLeaves m c heard old new heard None) before after (IsAnswer c heard) result
 
 -- at most `count` messages of the log were printed from this number on, or their answers
 abbrev pub logs : LogText → ℕ → ℕ → Done

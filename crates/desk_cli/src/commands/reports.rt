@@ -132,9 +132,9 @@ struct OwnersMonth<'a> {
 }
 
 impl Report for OwnersMonth<'_> {
-    ghost is_answer = { λ report s answer. IsOwnersMonth s report.owner.now report.month.now answer };
+    ghost is_answer = { λ report c heard answer. IsOwnersMonth (state_of c heard) report.owner.now report.month.now answer };
 
-    ghost unopened = { λ report s. unasked_month s report.owner.now report.month.now };
+    ghost unopened = { λ report c heard. unasked_month (state_of c heard) report.owner.now report.month.now };
 
     fn ask<K: Keeper>(&self, alloc: Global, keeper: &mut K) -> Result<Vec<u8>, ReportFault> {
         owner_report(alloc, keeper, self.owner, self.month)
@@ -170,9 +170,9 @@ struct GatewaysBands<'a> {
 }
 
 impl Report for GatewaysBands<'_> {
-    ghost is_answer = { λ report s answer. IsBandAnswer s report.gateway.now answer };
+    ghost is_answer = { λ report c heard answer. IsBandAnswer (state_of c heard) report.gateway.now answer };
 
-    ghost unopened = { λ report s. record { known = tt; report = tt; fault = tt } };
+    ghost unopened = { λ report c heard. record { known = tt; report = tt; fault = tt } };
 
     fn ask<K: Keeper>(&self, alloc: Global, keeper: &mut K) -> Result<Vec<u8>, ReportFault> {
         band_report(alloc, keeper, self.gateway)
@@ -218,9 +218,9 @@ struct GatewaysRoom<'a> {
 }
 
 impl Report for GatewaysRoom<'_> {
-    ghost is_answer = { λ report s answer. IsGatewaysRoom s report.gateway.now report.time.now answer };
+    ghost is_answer = { λ report c heard answer. IsGatewaysRoom (state_of c heard) report.gateway.now report.time.now answer };
 
-    ghost unopened = { λ report s. unasked_room s report.gateway.now report.time.now };
+    ghost unopened = { λ report c heard. unasked_room (state_of c heard) report.gateway.now report.time.now };
 
     fn ask<K: Keeper>(&self, alloc: Global, keeper: &mut K) -> Result<Vec<u8>, ReportFault> {
         room_report(alloc, keeper, self.gateway, self.time)

@@ -45,12 +45,13 @@ impl Write for Slow {
     }
 }
 
-static LINES: [(Fault, &str); 15] = [
+static LINES: [(Fault, &str); 16] = [
     (Fault::Exists, "desk: exists\n"),
     (Fault::NotADesk, "desk: not a desk\n"),
     (Fault::Schema, "desk: schema\n"),
     (Fault::Owner, "desk: owner\n"),
     (Fault::Gateway, "desk: gateway\n"),
+    (Fault::Device, "desk: device\n"),
     (Fault::Month, "desk: month\n"),
     (Fault::Time, "desk: time\n"),
     (Fault::CsvSize, "desk: csv size\n"),

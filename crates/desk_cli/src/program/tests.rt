@@ -200,12 +200,15 @@ Example:
   desk lines --receiver town < messages.txt
 ";
 
+const NO_LIST: &str =
+    "error: WHAT is senders, owners, gateways or devices\n\nFor more information, try '--help'.\n";
+
 const NO_TEXT: &str = "error: a word isn't UTF-8\n";
 
 /// Arguments, how the program ends, its standard output, and its standard error.
 type Row = (&'static [&'static [u8]], Ending, &'static str, &'static str);
 
-static ROWS: [Row; 17] = [
+static ROWS: [Row; 18] = [
     (&[], Ending::Misused, "", NO_COMMAND),
     (&[b"desk"], Ending::Misused, "", NO_COMMAND),
     (&[b"lines"], Ending::Misused, "", NO_COMMAND_OF_LINES),
@@ -267,6 +270,12 @@ static ROWS: [Row; 17] = [
         Ending::Misused,
         "",
         OPERATOR,
+    ),
+    (
+        &[b"desk", b"list", b"f.db", b"device"],
+        Ending::Misused,
+        "",
+        NO_LIST,
     ),
     (&[b"desk", b"lines", b"\xff"], Ending::Misused, "", NO_TEXT),
     (&[b"\xff", b"lines"], Ending::Misused, "", NO_TEXT),

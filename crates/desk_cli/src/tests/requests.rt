@@ -1,6 +1,7 @@
 //! Requests over plain lists, and over damaged tables: whole responses, and what is left unread.
 mod damaged;
 mod limits;
+mod lists;
 mod log;
 mod reports;
 pub(crate) mod responses;

@@ -1,9 +1,10 @@
 -- How the route of a path is found, and the names in it.
 use Rattle.std.specs.Prelude.{ℕ, List, [], ◌∷◌, Bool, true, false, ◌&&◌, ◌==◌, codes, map, Option, Some, None, option_map, if◌then◌else◌}
 use Rattle.std.specs.List.{after_first, before_first}
+use Rattle.desk_engine.specs.declared.lists.ListOf.TheVariants.{Senders, Owners, Gateways, Devices}
 use Rattle.desk_http.specs.declared.targets.Route.{Route}
-use Rattle.desk_http.specs.declared.targets.Route.TheVariants.{Messages, OwnerReport, BandReport, Room, Log, Answers}
-use Rattle.desk_http.specs.Targets.{Resource, messages, reports, bands, room, log, answers, is_part, is_slash}
+use Rattle.desk_http.specs.declared.targets.Route.TheVariants.{Messages, OwnerReport, BandReport, Room, Log, Answers, Listing, Device}
+use Rattle.desk_http.specs.Targets.{Resource, messages, reports, bands, room, log, answers, lists, device, is_part, is_slash, list_path}
 
 -- what precedes the first slash, and what follows it
 abbrev pub before_slash : List ℕ → List ℕ
@@ -54,13 +55,17 @@ form_of BandReport = (codes "/v1/bands/", one_part)
 form_of Room = (codes "/v1/room/", two_parts)
 form_of Log = (codes "/v1/log/", one_part)
 form_of Answers = (codes "/v1/answers/", one_part)
+form_of (Listing of) = (list_path of, nothing)
+form_of Device = (codes "/v1/devices/", one_part)
 
 abbrev pub forms_of : List Route → List (Form Route)
 forms_of routes = map (λ route. ((form_of route).0, (form_of route).1, route)) routes
 
--- all of them, in the order of their paths
+-- all of them, in the order of their paths; a path comes after those that it begins
 abbrev pub all_routes : List Route
-all_routes = Answers ∷ BandReport ∷ Log ∷ Messages ∷ OwnerReport ∷ Room ∷ []
+all_routes =
+    Answers ∷ BandReport ∷ Device ∷ Listing Devices ∷ Listing Gateways ∷ Log ∷ Messages ∷ Listing Owners ∷ OwnerReport ∷ Room
+    ∷ Listing Senders ∷ []
 
 unfoldable pub route_of : List ℕ → Option Route
 route_of path = led (forms_of all_routes) path
@@ -73,6 +78,8 @@ resource_of path BandReport = bands (names_of path)
 resource_of path Room = room (before_slash (names_of path)) (after_slash (names_of path))
 resource_of path Log = log (names_of path)
 resource_of path Answers = answers (names_of path)
+resource_of path (Listing of) = lists of
+resource_of path Device = device (names_of path)
 
 abbrev pub named_in_path : List ℕ → Option Resource
 named_in_path path = option_map (resource_of path) (route_of path)

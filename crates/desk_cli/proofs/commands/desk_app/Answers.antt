@@ -7,6 +7,8 @@ returns c =
     let two = c.added-desk-2.ensures _ _ one c.report_app.ensures in
     let three = c.added-desk-3.ensures _ _ two c.bands_app.ensures in
     let four = c.added-desk-4.ensures _ _ three c.room_app.ensures in
-    let five = c.added-desk-5.ensures _ _ four c.log_app.ensures in
-    let six = c.added-desk-6.ensures _ _ five c.check_app.ensures in
-    c.added.ensures _ _ six c.audit_app.ensures
+    let five = c.added-desk-5.ensures _ _ four c.list_app.ensures in
+    let six = c.added-desk-6.ensures _ _ five c.device_app.ensures in
+    let seven = c.added-desk-7.ensures _ _ six c.log_app.ensures in
+    let eight = c.added-desk-8.ensures _ _ seven c.check_app.ensures in
+    c.added.ensures _ _ eight c.audit_app.ensures

@@ -48,6 +48,18 @@ returns-in-Room g c = rw c.in-Room.is (ends_so c.room_file.ensures (λ r done. (
   Keeps-refl _,
 )))
 
+pub returns-in-Listing : goal.returns-in-Listing
+returns-in-Listing g c = rw c.in-Listing.is (ends_so c.list_file.ensures (λ r done. (
+  by_rules _ (g.N.Files.paths c.args.files) _ _ _ _ _ (λ back config heard. prints_by_rules c.rules_are_kept.ensures _ back config heard _ _ _ _) done,
+  Keeps-refl _,
+)))
+
+pub returns-in-Device : goal.returns-in-Device
+returns-in-Device g c = rw c.in-Device.is (ends_so c.device_file.ensures (λ r done. (
+  by_rules _ (g.N.Files.paths c.args.files) _ _ _ _ _ (λ back config heard. prints_by_rules c.rules_are_kept.ensures _ back config heard _ _ _ _) done,
+  Keeps-refl _,
+)))
+
 pub returns-in-Log : goal.returns-in-Log
 returns-in-Log g c = rw c.in-Log.is (ends_so c.log_file.ensures (λ r done. (
   by_rules _ (g.N.Files.paths c.args.files) _ _ _ _ _ (λ back config heard. logs_by_rules c.rules_are_kept.ensures _ back config heard _ _ _ _) done,

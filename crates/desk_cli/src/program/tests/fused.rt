@@ -37,6 +37,11 @@ const BANDS: &str =
 const ROOM: &str =
     "band,limit_us,used_us,room_us\nB1,3600000,0,3000000\nB2,36000000,0,3000000\nB3,36000000,0,3000000\nB4,3600000,0,3000000\nB5,360000000,0,3000000\nB6,36000000,0,3000000\n";
 
+const DEVICES: &str = "\
+dev_eui,join_eui,owner,sessions,dev_addr,last_nonce,last_counter,next_downlink_counter,last_start_us
+0004a30b001a2b3c,70b3d57ed0000001,town,0,,,,,
+";
+
 const HOLDS: &str = "\
 schema: 2
 receiver: desk
@@ -65,7 +70,7 @@ const LOG: &str = "\
 /// Arguments, standard input, and standard output if nothing fails.
 pub(super) type Row = (&'static [&'static [u8]], &'static str, &'static str);
 
-pub(super) static ROWS: [Row; 7] = [
+pub(super) static ROWS: [Row; 8] = [
     (&[b"desk", b"hear", b"f.db"], ADD_OWNER, OWNER_ADDED),
     (
         &[b"desk", b"import", b"f.db", b"--sender", b"bridge"],
@@ -83,6 +88,7 @@ pub(super) static ROWS: [Row; 7] = [
         "",
         ROOM,
     ),
+    (&[b"desk", b"list", b"f.db", b"devices"], "", DEVICES),
     (&[b"desk", b"log", b"f.db"], "", LOG),
     (&[b"desk", b"check", b"f.db"], "", HOLDS),
 ];

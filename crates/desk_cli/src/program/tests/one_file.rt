@@ -25,6 +25,9 @@ const OWNER_ADDED: &str =
 const OWNER_HEADER: &str =
     "dev_eui,uplinks,b1_us,b1_peak_us,b2_us,b2_peak_us,b3_us,b3_peak_us,b4_us,b4_peak_us,b5_us,b5_peak_us,b6_us,b6_peak_us\n";
 
+const DEVICE_HEADER: &str =
+    "dev_eui,join_eui,owner,sessions,dev_addr,last_nonce,last_counter,next_downlink_counter,last_start_us\n";
+
 /// The operator and an owner; the three records of the report that were refused, and the owner's message.
 const HOLDS: &str = "\
 schema: 2
@@ -52,7 +55,7 @@ type Row = (
     &'static str,
 );
 
-static ROWS: [Row; 22] = [
+static ROWS: [Row; 26] = [
     (
         &[b"desk", b"import", b"f.db", b"--sender", b"office"],
         WORKED,
@@ -151,6 +154,34 @@ static ROWS: [Row; 22] = [
         Ending::Refused,
         "",
         "desk: gateway\n",
+    ),
+    (
+        &[b"desk", b"list", b"f.db", b"senders"],
+        "",
+        Ending::Done,
+        "sender,role,last_transaction\noffice,operator,12\n",
+        "",
+    ),
+    (
+        &[b"desk", b"list", b"f.db", b"owners"],
+        "",
+        Ending::Done,
+        "owner,devices\ntown,0\n",
+        "",
+    ),
+    (
+        &[b"desk", b"list", b"f.db", b"devices"],
+        "",
+        Ending::Done,
+        DEVICE_HEADER,
+        "",
+    ),
+    (
+        &[b"desk", b"device", b"f.db", b"0004a30b001a2b3c"],
+        "",
+        Ending::Refused,
+        "",
+        "desk: device\n",
     ),
     // the worked report with a fourth record, cut after its fourth field
     (

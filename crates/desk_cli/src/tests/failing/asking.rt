@@ -3,7 +3,9 @@ use super::{FAILURES, MANY};
 use crate::tests::fuses::rows_after_each;
 use crate::tests::holding::{holds, holds_at};
 use crate::tests::reports::{BANDS_BOOKED, OWNER_HEADER, WORKED_LINE, is_wanted};
-use crate::tests::requests::responses::{BAND_REPORT, NINTH_OF_LOG, OWNER_REPORT, UNAVAILABLE};
+use crate::tests::requests::responses::{
+    BAND_REPORT, DEVICES, GATEWAYS, NINTH_OF_LOG, OWNER_REPORT, OWNERS, SENDERS, UNAVAILABLE,
+};
 use crate::tests::stops::deliveries;
 use crate::tests::switched::{Failure, Switched};
 use crate::tests::{Reopened, hear_each, opening};
@@ -24,7 +26,7 @@ enum Asked {
     Get(&'static str, &'static str),
 }
 
-static ASKED: [Asked; 5] = [
+static ASKED: [Asked; 10] = [
     Asked::Owner,
     Asked::Bands,
     Asked::Get(
@@ -33,6 +35,11 @@ static ASKED: [Asked; 5] = [
     ),
     Asked::Get("GET /v1/bands/gw-a HTTP/1.1\r\n\r\n", BAND_REPORT),
     Asked::Get("GET /v1/log/9 HTTP/1.1\r\n\r\n", NINTH_OF_LOG),
+    Asked::Get("GET /v1/senders HTTP/1.1\r\n\r\n", SENDERS),
+    Asked::Get("GET /v1/owners HTTP/1.1\r\n\r\n", OWNERS),
+    Asked::Get("GET /v1/gateways HTTP/1.1\r\n\r\n", GATEWAYS),
+    Asked::Get("GET /v1/devices HTTP/1.1\r\n\r\n", DEVICES),
+    Asked::Get("GET /v1/devices/0004a30b001a2b3c HTTP/1.1\r\n\r\n", DEVICES),
 ];
 
 /// Whether the report is there, as it is to be; if not, the store failed by this fault.

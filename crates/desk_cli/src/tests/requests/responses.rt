@@ -86,3 +86,30 @@ pub(super) const ROOM_AFTER: &str =
 
 pub(crate) const NINTH_OF_LOG: &str =
     "HTTP/1.1 200 OK\r\ncontent-type: application/x-ndjson\r\ncontent-length: 199\r\nconnection: close\r\n\r\n{\"Gateway\":\"gw-a\",\"MessageType\":\"DownBook\",\"PHYPayload\":\"20000102030405060708090a0b0c0d0e0f\",\"ProtocolVersion\":\"1.0\",\"ReceiverID\":\"desk\",\"SenderID\":\"bridge\",\"TransactionID\":13,\"Uplink\":1,\"Window\":1}\n";
+
+pub(crate) const NO_DEVICE: &str =
+    "HTTP/1.1 404 Not Found\r\ncontent-type: text/plain\r\ncontent-length: 7\r\nconnection: close\r\n\r\ndevice\n";
+
+pub(crate) const SENDERS: &str =
+    "HTTP/1.1 200 OK\r\ncontent-type: text/csv\r\ncontent-length: 63\r\nconnection: close\r\n\r\nsender,role,last_transaction\nbridge,radio,13\noffice,operator,5\n";
+
+pub(crate) const OWNERS: &str =
+    "HTTP/1.1 200 OK\r\ncontent-type: text/csv\r\ncontent-length: 21\r\nconnection: close\r\n\r\nowner,devices\ntown,1\n";
+
+pub(crate) const GATEWAYS: &str =
+    "HTTP/1.1 200 OK\r\ncontent-type: text/csv\r\ncontent-length: 196\r\nconnection: close\r\n\r\ngateway,b1_limit_us,b2_limit_us,b3_limit_us,b4_limit_us,b5_limit_us,b6_limit_us\ngw-a,3600000,36000000,36000000,3600000,360000000,36000000\ngw-b,3600000,36000000,36000000,3600000,360000000,36000000\n";
+
+pub(crate) const DEVICES: &str =
+    "HTTP/1.1 200 OK\r\ncontent-type: text/csv\r\ncontent-length: 174\r\nconnection: close\r\n\r\ndev_eui,join_eui,owner,sessions,dev_addr,last_nonce,last_counter,next_downlink_counter,last_start_us\n0004a30b001a2b3c,70b3d57ed0000001,town,1,01a00000,0,0,0,1706745700000000\n";
+
+pub(super) const NEW_SENDERS: &str =
+    "HTTP/1.1 200 OK\r\ncontent-type: text/csv\r\ncontent-length: 46\r\nconnection: close\r\n\r\nsender,role,last_transaction\noffice,operator,\n";
+
+pub(super) const NEW_OWNERS: &str =
+    "HTTP/1.1 200 OK\r\ncontent-type: text/csv\r\ncontent-length: 14\r\nconnection: close\r\n\r\nowner,devices\n";
+
+pub(super) const NEW_GATEWAYS: &str =
+    "HTTP/1.1 200 OK\r\ncontent-type: text/csv\r\ncontent-length: 80\r\nconnection: close\r\n\r\ngateway,b1_limit_us,b2_limit_us,b3_limit_us,b4_limit_us,b5_limit_us,b6_limit_us\n";
+
+pub(super) const NEW_DEVICES: &str =
+    "HTTP/1.1 200 OK\r\ncontent-type: text/csv\r\ncontent-length: 101\r\nconnection: close\r\n\r\ndev_eui,join_eui,owner,sessions,dev_addr,last_nonce,last_counter,next_downlink_counter,last_start_us\n";
