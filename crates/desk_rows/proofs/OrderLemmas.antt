@@ -16,7 +16,9 @@ pub mod LookingUp
 pub mod Named
 pub mod Numbering
 pub mod Opening
+pub mod NumbersByStart
 pub mod Orders
+pub mod Rising
 pub mod Sorting
 pub mod Telling
 pub mod There

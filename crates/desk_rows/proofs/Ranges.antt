@@ -150,21 +150,21 @@ module _ {sql : List ℕ} {many tree : ℕ} {terms project : List Term} {order :
     {X : Type 0} (cells : X → Row) (xs : Rows → List X) (stored : (r : Rows) → Holds old.now r → overlay old.now.trees [] tree ≡ table_of cells (xs r))
     (p : X → Bool) (tests : (b : ℕ × X) → list_all (holds (params ∷ encode cells b ∷ [])) terms ≡ p b.1)
     {Y : Type 0} (shows : Y → Row) (Fits : Y → Type 0)
-    (shown : X → Y) (shows_it : (b : ℕ × X) → eval_all project (params ∷ encode cells b ∷ []) ≡ shows (shown b.1))
+    (shown : ℕ × X → Y) (shows_it : (b : ℕ × X) → eval_all project (params ∷ encode cells b ∷ []) ≡ shows (shown b))
     (start : X → ℤ) (orders : (b c : ℕ × X) → output_cmp (query_of (all_by (tree ∷ []) terms project order))
     (output (query_of (all_by (tree ∷ []) terms project order)) (params ∷ encode cells b ∷ []))
     (output (query_of (all_by (tree ∷ []) terms project order)) (params ∷ encode cells c ∷ [])) ≡ by_start start b c)
-    (P : X → Type 0) (ranges : (r : Rows) → Holds old.now r → AllByRecursion P (xs r)) (fits : (x : X) → P x → Fits (shown x)) where
+    (P : X → Type 0) (ranges : (r : Rows) → Holds old.now r → AllByRecursion P (xs r)) (fits : (b : ℕ × X) → P b.1 → Fits (shown b)) where
   pub reads_by_start : {result : Result (Vec Y Global) RowFault} → FindsAll sql params old new (λ y. y) shows Fits result
-      → Reads old new result (λ r all. all.items ≡ map (λ (row : ℕ × X). shown row.1) (rows_by (by_start start) p (xs r)))
-  reads_by_start found = says_so (reads_all text params many_is typed found (λ r. map (λ (row : ℕ × X). shown row.1) (rows_by (by_start start) p (xs r)))
+      → Reads old new result (λ r all. all.items ≡ map shown (rows_by (by_start start) p (xs r)))
+  reads_by_start found = says_so (reads_all text params many_is typed found (λ r. map shown (rows_by (by_start start) p (xs r)))
       (λ r has. (
-        all_map (λ (b : ℕ × X). P b.1) Fits (λ b. shown b.1) (λ b. fits b.1) _
+        all_map (λ (b : ℕ × X). P b.1) Fits shown fits _
             (rows_all P P (by_start start) p (λ x fit passes. fit) (xs r) (ranges r has)),
         λ rows answer. rows_sorted (all_by (tree ∷ []) terms project order) (overlay old.now.trees []) cells (xs r) (stored r has) params (λ b. p b.1) tests
-            (λ b. shows (shown b.1)) shows_it
+            (λ b. shows (shown b)) shows_it
             (by_start start) (untied start) orders rows answer
-            ∙ sym (map-map shows (λ (b : ℕ × X). shown b.1) (rows_by (by_start start) p (xs r))),
+            ∙ sym (map-map shows shown (rows_by (by_start start) p (xs r))),
       )))
       (λ r has all is. sym (map-id all.items) ∙ is)
 
@@ -181,4 +181,4 @@ module _ {sql : List ℕ} {many tree : ℕ} {terms project : List Term} {order :
     (P : X → Type 0) (ranges : (r : Rows) → Holds old.now r → AllByRecursion P (xs r)) (fits : (x : X) → P x → IsSpan (span x)) where
   pub reads_spans : {result : Result (Vec Interval Global) RowFault} → FindsAll sql params old new (λ s. s) span_shown IsSpan result
       → Reads old new result (λ r spans. spans.items ≡ spans_by span (by_start (λ x. (span x).start)) p (xs r))
-  reads_spans = reads_by_start text params many_is typed cells xs stored p tests span_shown IsSpan span shown (λ x. (span x).start) orders P ranges fits
+  reads_spans = reads_by_start text params many_is typed cells xs stored p tests span_shown IsSpan (λ b. span b.1) shown (λ x. (span x).start) orders P ranges (λ b. fits b.1)

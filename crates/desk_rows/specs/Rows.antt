@@ -202,6 +202,7 @@ pub record IsUplink (u : Uplink) : Type 0 where
   pub airtime : u.airtime < 2 ^ 32
 
 pub record IsCopy (c : CopyRow) : Type 0 where
+  pub gateway : IsName c.gateway
   pub end : IsWhole c.reception.end
   pub freq : c.reception.rate.freq < 2 ^ 32
 

@@ -8,19 +8,22 @@ ghost use Rattle.registry_core.specs.Bookings.{is_answer_to};
 ghost use Rattle.registry_core.specs.Numbered.{item_at, item_changed};
 ghost use Rattle.registry_core.specs.Ranges.{IsName};
 ghost use Rattle.desk_rows.specs.steps.Shown.{booking_shown};
-ghost use Rattle.desk_rows.specs.steps.Texts.{AsksFor, answer_asked};
+ghost use Rattle.desk_rows.specs.steps.Texts.{AsksFor, answer_asked, between_asked};
 ghost use Rattle.sqlite.specs.Held.{state};
 ghost use Rattle.desk_rows.specs.Rows.{BookingRow, last_number};
 ghost use Rattle.desk_rows.specs.order.Changes.{ended_row};
+ghost use Rattle.desk_rows.specs.order.Listed.{bookings_listed};
 ghost use Rattle.desk_rows.specs.Calls.{Changes, Reads, ReadsFirst};
 
 use crate::columns::{band_at, name_at, number_at, span_at, standing_at};
 use crate::faults::RowFault;
-use crate::queries::{FromRow, find, is_found};
-use crate::values::{band, kind, len, number, standing, start, text, whole};
+use crate::queries::{FromRow, find, find_all, is_found};
+use crate::values::{band, integer, kind, len, number, standing, start, text, whole};
 use crate::writes::write;
+use radio_core::Name;
 use registry_core::{Booking, Kind, Standing, Whole};
 use sqlite::{Alter, Connection, Row, Transaction};
+use std::alloc::Global;
 
 impl FromRow for Booking {
     ghost Seen = { Booking };
@@ -85,6 +88,33 @@ pub fn last_booking<S: Alter>(conn: &mut Connection<S>) -> Result<Option<u64>, R
         conn,
         "SELECT number FROM booking ORDER BY number DESC LIMIT 1",
         &[],
+    )
+}
+
+/// Returns the SQL text of the look-up of the numbers of a gateway's bookings in a range of starts.
+#[tactic(auto, unfolding(sqlite::specs::Listing::understood, sqlite_tied::specs::Compute::everything))]
+fn between_text() -> &'static str
+    ensures { AsksFor result.now 3 between_asked (codes "number" ∷ []) }
+{
+    "SELECT number FROM booking WHERE gateway = ?1 AND start >= ?2 AND start < ?3 ORDER BY start, number"
+}
+
+/// Returns the numbers of the gateway's bookings that start at `from` or later and before `to`, in microseconds since 1970 UTC, dropped
+/// ones too. They are ordered by start, and those that start together by number.
+pub fn bookings_between<S: Alter>(
+    alloc: Global,
+    conn: &mut Connection<S>,
+    gateway: &Name,
+    from: i64,
+    to: i64,
+) -> Result<Vec<u64>, RowFault>
+    ensures { Reads (state S.Store conn.old) (state S.Store conn.new) result (λ r numbers. numbers.items ≡ bookings_listed gateway.now from to r) }
+{
+    find_all(
+        alloc,
+        conn,
+        between_text(),
+        &[text(gateway), integer(from), integer(to)],
     )
 }
 

@@ -1,24 +1,26 @@
 //! The table of receptions of uplinks.
-ghost use Rattle.std.specs.Prelude.{◌≡◌, ◌+◌, ◌<◌, ◌^◌, ◌++◌, [], ◌∷◌, length, false, find, option_map};
+ghost use Rattle.std.specs.Prelude.{◌≡◌, ◌+◌, ◌<◌, ◌^◌, ◌++◌, [], ◌∷◌, codes, length, false, find, option_map};
 ghost use Rattle.std.specs.List.{list_any};
 ghost use Rattle.sqlite.specs.Held.{state};
 ghost use Rattle.desk_rows.specs.Calls.{Changes, Reads};
 ghost use Rattle.registry_core.specs.declared.facts.Reception.{Reception};
 ghost use Rattle.registry_core.specs.Wholes.{IsWhole};
 ghost use Rattle.desk_rows.specs.Rows.{is_copy};
+ghost use Rattle.desk_rows.specs.order.Listed.{gateways_listed};
 ghost use Rattle.desk_rows.specs.steps.Shown.{copy_shown};
-ghost use Rattle.desk_rows.specs.steps.Texts.{InsertsRow};
+ghost use Rattle.desk_rows.specs.steps.Texts.{AsksFor, InsertsRow, gateways_asked};
 ghost use Rattle.sqlite_sql.specs.Term.{lit, col};
 ghost use Rattle.sqlite_value.specs.declared.value.Value.TheVariants.{Null};
 
 use crate::columns::{data_rate_at, whole_at, word_at};
 use crate::faults::RowFault;
-use crate::queries::{FromRow, find};
+use crate::queries::{FromRow, find, find_all};
 use crate::values::{data_rate, number, text, whole, word};
 use crate::writes::write;
 use radio_core::{Name, Rate};
 use registry_core::{Reception, Whole};
 use sqlite::{Alter, Connection, Row, Transaction};
+use std::alloc::Global;
 
 impl FromRow for Reception {
     ghost Seen = { Reception };
@@ -53,6 +55,25 @@ pub fn copy_at<S: Alter>(
         "SELECT ended, freq, dr FROM copy WHERE uplink = ?1 AND gateway = ?2 ORDER BY rowid",
         &[whole(uplink), text(gateway)],
     )
+}
+
+/// Returns the SQL text of the look-up of the gateways of an uplink's receptions.
+#[tactic(auto, unfolding(sqlite::specs::Listing::understood, sqlite_tied::specs::Compute::everything))]
+fn gateways_text() -> &'static str
+    ensures { AsksFor result.now 1 gateways_asked (codes "gateway" ∷ []) }
+{
+    "SELECT gateway FROM copy WHERE uplink = ?1 ORDER BY gateway, rowid"
+}
+
+/// Returns the names of the gateways that reported a reception of the uplink, ordered by their octets.
+pub fn gateways_of<S: Alter>(
+    alloc: Global,
+    conn: &mut Connection<S>,
+    uplink: Whole,
+) -> Result<Vec<Name>, RowFault>
+    ensures { Reads (state S.Store conn.old) (state S.Store conn.new) result (λ r all. all.items ≡ gateways_listed uplink r.copies) }
+{
+    find_all(alloc, conn, gateways_text(), &[whole(uplink)])
 }
 
 /// The text of the statement that adds a copy.

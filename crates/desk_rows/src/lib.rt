@@ -32,8 +32,10 @@ mod uplinks;
 mod values;
 mod writes;
 
-pub use bookings::{booking, end_booking, insert_booking, is_answered, last_booking};
-pub use copies::{copy_at, insert_copy};
+pub use bookings::{
+    booking, bookings_between, end_booking, insert_booking, is_answered, last_booking,
+};
+pub use copies::{copy_at, gateways_of, insert_copy};
 pub use devices::{
     device, device_euis, floor_of, insert_device, last_device, move_device, next_device, set_floor,
 };
@@ -51,4 +53,6 @@ pub use sessions::{
     set_next_down,
 };
 pub use spans::{bookings_of, near, uplinks_of};
-pub use uplinks::{insert_uplink, last_counter, last_start, last_uplink, uplink, uplink_with};
+pub use uplinks::{
+    insert_uplink, last_counter, last_start, last_uplink, uplink, uplink_with, uplinks_between,
+};

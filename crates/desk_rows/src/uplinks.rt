@@ -8,17 +8,20 @@ ghost use Rattle.registry_core.specs.Derived.{last_counter};
 ghost use Rattle.registry_core.specs.Listing.{last_start};
 ghost use Rattle.registry_core.specs.Numbered.{first_that, item_at};
 ghost use Rattle.desk_rows.specs.Rows.{IsUplink, is_uplink, last_number, number};
+ghost use Rattle.desk_rows.specs.order.Listed.{uplinks_listed};
 ghost use Rattle.desk_rows.specs.steps.Latest.{last_start_asked};
 ghost use Rattle.desk_rows.specs.steps.Shown.{uplink_shown};
-ghost use Rattle.desk_rows.specs.steps.Texts.{AsksFor};
+ghost use Rattle.desk_rows.specs.steps.Texts.{AsksFor, uplinks_between_asked};
 
 use crate::columns::{band_at, frame_at, kind_at, number_at, whole_at, word_at};
 use crate::faults::RowFault;
-use crate::queries::{FromRow, find};
-use crate::values::{band, frame, kind, number, whole, word};
+use crate::queries::{FromRow, find, find_all};
+use crate::values::{band, blob, frame, integer, kind, number, octets_of, whole, word};
 use crate::writes::write;
+use radio_core::Eui;
 use registry_core::{Kind, Uplink, Whole};
 use sqlite::{Alter, Connection, Row, Transaction};
+use std::alloc::Global;
 
 impl FromRow for (u64, Uplink) {
     ghost Seen = { ℕ × Uplink };
@@ -137,6 +140,34 @@ pub fn last_start<S: Alter>(
     ensures { Reads (state S.Store conn.old) (state S.Store conn.new) result (λ r start. start ≡ last_start r.uplinks session) }
 {
     find(conn, last_start_text(), &[whole(session)])
+}
+
+/// Returns the SQL text of the look-up of the numbers of a device's uplinks in a range of starts.
+#[tactic(auto, unfolding(sqlite::specs::Listing::understood, sqlite_tied::specs::Compute::everything))]
+fn between_text() -> &'static str
+    ensures { AsksFor result.now 3 uplinks_between_asked (codes "number" ∷ []) }
+{
+    "SELECT uplink.number FROM session JOIN uplink ON uplink.session = session.number WHERE session.device = ?1 AND uplink.start >= ?2 AND uplink.start < ?3 ORDER BY uplink.start, uplink.number"
+}
+
+/// Returns the numbers of the device's uplinks that start at `from` or later and before `to`, in microseconds since 1970 UTC. They are
+/// ordered by start, and those that start together by number.
+pub fn uplinks_between<S: Alter>(
+    alloc: Global,
+    conn: &mut Connection<S>,
+    device: Eui,
+    from: i64,
+    to: i64,
+) -> Result<Vec<u64>, RowFault>
+    ensures { Reads (state S.Store conn.old) (state S.Store conn.new) result (λ r numbers. numbers.items ≡ uplinks_listed device from to r) }
+{
+    let eui = octets_of(device);
+    find_all(
+        alloc,
+        conn,
+        between_text(),
+        &[blob(&eui), integer(from), integer(to)],
+    )
 }
 
 /// Adds an uplink at the end.

@@ -17,7 +17,7 @@ not_below a b c ab ca = grind (arith, ints)
 below_above : (a b c : ℤ) → int_lt a b ≡ true → int_lt c a ≡ true → int_lt c b ≡ true
 below_above a b c ab ca = grind (arith, ints)
 
-not_both : (a b : ℤ) → int_lt a b ≡ true → int_lt b a ≡ false
+pub not_both : (a b : ℤ) → int_lt a b ≡ true → int_lt b a ≡ false
 not_both a b ab = grind (arith, ints)
 
 below_not_below : (a b c : ℤ) → int_lt a b ≡ false → int_lt c b ≡ true → int_lt c a ≡ true

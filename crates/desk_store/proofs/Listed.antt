@@ -1,20 +1,24 @@
--- What lists of the store in memory say: keys in order, the numbers of a device's sessions, and the greatest of some numbers.
-use Rattle.std.proofs.Common.{◌≡◌, ◌∙◌, ℕ, suc, ◌+◌, Bool, true, false, cond, List, [], ◌∷◌, get_or, length, map, slice_get, Option, Some, None, refl, sym, ap, arith}
-use Rattle.std.specs.Prelude.{◌==◌, ◌||◌, bytes_eq, filter, is_some, max, nat_eq}
+-- What lists of the store in memory say: keys in order, the numbers of a device's sessions, the greatest of some numbers, and an uplink's
+-- gateways.
+use Rattle.std.proofs.Common.{◌≡◌, ◌∙◌, ℕ, suc, ◌+◌, Bool, true, false, cond, List, [], ◌∷◌, get_or, length, map, slice_get, Option, Some, None, refl, sym, ap, subst, arith}
+use Rattle.std.specs.Prelude.{◌==◌, ◌&&◌, ◌||◌, bytes_eq, filter, is_some, max, nat_eq}
 use Rattle.std.specs.Cmp.{nat_eq_equiv}
 use Rattle.std.specs.Cmp.Lexicographic.{nat_list_cmp_total, nat_list_eq_equiv, slice_cmp}
 use Rattle.std.specs.declared.cmp.Ordering.{Ordering}
 use Rattle.std.specs.declared.cmp.Ordering.TheVariants.{Less, Equal, Greater}
-use Rattle.std.specs.List.{IsDistinct, fold, list_any, range_with_len, reduce}
+use Rattle.std.specs.List.{AllByRecursion, IsDistinct, fold, list_any, range_with_len, reduce}
 use Rattle.std.specs.List.Sorted.{IsPermutation, IsSorted}
 use Rattle.std.specs.Map.{keys_of, lookup}
 use Rattle.std.specs.Option.{option_map_or}
 use Rattle.std.specs.Ordering.{is_eq, is_lt, nat_cmp, ordering_reverse}
+use Rattle.std.proofs.lemmas.Bool.{eq-eqb, eqb-true}
 use Rattle.std.proofs.lemmas.List.Sorted.{IsNonDecreasingBy-from_sort, list_any-IsPermutation}
 use Rattle.std.proofs.lemmas.Map.Keys.{IsDistinct-IsPermutation, IsStrictlyIncreasing-from_distinct, apart_from_distinct, sorted_from_all_adjacent}
 use Rattle.std.proofs.lemmas.Map.Made.{is_some-lookup}
 use Rattle.std.proofs.lemmas.Map.Text.{is_eq-slice_cmp}
+use Rattle.indexmap.specs.IndexMap.{IndexMap, IsUnique, keys}
 use Rattle.registry_core.specs.declared.facts.Device.{Device}
+use Rattle.registry_core.specs.declared.facts.Reception.{Reception}
 use Rattle.registry_core.specs.declared.facts.Session.{Session}
 use Rattle.registry_core.specs.declared.messages.Role.{Role}
 use Rattle.registry_core.specs.Derived.{is_of_device, is_session_of}
@@ -22,10 +26,11 @@ use Rattle.registry_core.specs.Listing.{AreDevices, AreNames, numbers_from, sess
 use Rattle.registry_core.specs.Numbered.{greatest, item_at}
 use Rattle.desk_store.specs.declared.looks.Texts.{Texts}
 use Rattle.desk_store.specs.Devices.{devices_of}
+use Rattle.desk_store.specs.Facts.{copies_of, same_key}
 use Rattle.desk_store.specs.Kept.{Entry}
 use Rattle.desk_store.specs.Lists.{entry_shown}
 use Rattle.desk_store.specs.Looks.{is_from, last_transaction}
-use Rattle.desk_store.specs.steps.Listing.{is_key_of}
+use Rattle.desk_store.specs.steps.Listing.{is_copy_of, is_key_of}
 
 -- ---- keys in order
 
@@ -77,7 +82,7 @@ numbers_by test at first (x ∷ xs) each =
     ap (λ found. cond (option_map_or test found false) (first ∷ kept) kept) (each 0 first (omega arith))
     ∙ ap (λ ns. cond (test x) (first ∷ ns) ns) rest
 
-from_one : {X : Type 0} (xs : List X) (k n : ℕ) → n ≡ 1 + k → item_at xs n ≡ slice_get xs k
+pub from_one : {X : Type 0} (xs : List X) (k n : ℕ) → n ≡ 1 + k → item_at xs n ≡ slice_get xs k
 from_one xs k n is = let same : n ≡ suc k = omega arith in ap (item_at xs) same
 
 pub numbered_by : (sessions : List Session) (dev_eui : ℕ)
@@ -113,3 +118,54 @@ keys_shown sender (e ∷ entries) = key_by e (bytes_eq e.0.1 sender) _ _ (keys_s
 pub last_heard : (sender : List ℕ) (entries : List ((ℕ × List ℕ) × Texts))
     → reduce max (map (λ (key : ℕ × List ℕ). key.0) (filter (is_key_of sender) (keys_of entries))) ≡ last_transaction (map entry_shown entries) sender
 last_heard sender entries = greatest_reduced _ ∙ ap greatest (keys_shown sender entries)
+
+-- ---- the gateways of an uplink
+
+gateways_found : (uplink : ℕ) (gateway : List ℕ) (keys : List (ℕ × List ℕ))
+    → list_any (bytes_eq gateway) (map (λ (key : ℕ × List ℕ). key.1) (filter (is_copy_of uplink) keys)) ≡ list_any (same_key (uplink, gateway)) keys
+gateways_found uplink gateway [] = refl
+gateways_found uplink gateway (key ∷ keys) = by (key.0 == uplink) refl (gateways_found uplink gateway keys)
+  where
+    by : (b : Bool) → (key.0 == uplink) ≡ b
+        → list_any (bytes_eq gateway) (map (λ (k : ℕ × List ℕ). k.1) (filter (is_copy_of uplink) keys)) ≡ list_any (same_key (uplink, gateway)) keys
+        → list_any (bytes_eq gateway) (map (λ (k : ℕ × List ℕ). k.1) (cond b (key ∷ filter (is_copy_of uplink) keys) (filter (is_copy_of uplink) keys)))
+        ≡ (same_key (uplink, gateway) key || list_any (same_key (uplink, gateway)) keys)
+    by true is rest = rw (nat_eq_equiv.symm uplink key.0, is) (ap (λ b. bytes_eq gateway key.1 || b) rest)
+    by false is rest = rw (nat_eq_equiv.symm uplink key.0, is) rest
+
+-- those of the other keys differ from this one's
+others_apart : (uplink : ℕ) (key : ℕ × List ℕ) (keys : List (ℕ × List ℕ)) → key.0 ≡ uplink → AllByRecursion (λ other. same_key key other ≡ false) keys
+    → AllByRecursion (λ gateway. bytes_eq key.1 gateway ≡ false) (map (λ (k : ℕ × List ℕ). k.1) (filter (is_copy_of uplink) keys))
+others_apart uplink key [] own apart = tt
+others_apart uplink key (other ∷ keys) own apart = by (other.0 == uplink) refl (others_apart uplink key keys own apart.1)
+  where
+    by : (b : Bool) → (other.0 == uplink) ≡ b → AllByRecursion (λ gateway. bytes_eq key.1 gateway ≡ false) (map (λ (k : ℕ × List ℕ). k.1) (filter (is_copy_of uplink) keys))
+        → AllByRecursion (λ gateway. bytes_eq key.1 gateway ≡ false) (map (λ (k : ℕ × List ℕ). k.1) (cond b (other ∷ filter (is_copy_of uplink) keys) (filter (is_copy_of uplink) keys)))
+    by true is rest =
+        let same : nat_eq key.0 other.0 ≡ true = eq-eqb key.0 other.0 (own ∙ sym (eqb-true other.0 uplink is)) in
+        (ap (λ b. b && bytes_eq key.1 other.1) (sym same) ∙ apart.0, rest)
+    by false is rest = rest
+
+gateways_distinct : (uplink : ℕ) (keys : List (ℕ × List ℕ)) → IsDistinct same_key keys
+    → IsDistinct bytes_eq (map (λ (key : ℕ × List ℕ). key.1) (filter (is_copy_of uplink) keys))
+unfolding IsDistinct
+gateways_distinct uplink [] distinct = tt
+gateways_distinct uplink (key ∷ keys) distinct = by (key.0 == uplink) refl (gateways_distinct uplink keys distinct.1)
+  where
+    by : (b : Bool) → (key.0 == uplink) ≡ b → IsDistinct bytes_eq (map (λ (k : ℕ × List ℕ). k.1) (filter (is_copy_of uplink) keys))
+        → IsDistinct bytes_eq (map (λ (k : ℕ × List ℕ). k.1) (cond b (key ∷ filter (is_copy_of uplink) keys) (filter (is_copy_of uplink) keys)))
+    by true is rest = (others_apart uplink key keys (eqb-true key.0 uplink is) distinct.0, rest)
+    by false is rest = rest
+
+module _ {S : Type 0} where
+  pub gateways_listed : (copies : IndexMap (ℕ × List ℕ) Reception S) (uplink : ℕ) (names sorted : List (List ℕ))
+      → IsUnique same_key copies → names ≡ map (λ (key : ℕ × List ℕ). key.1) (filter (is_copy_of uplink) (keys copies))
+      → (IsDistinct bytes_eq names → AreNames (λ name. list_any (bytes_eq name) names) sorted)
+      → AreNames (λ name. is_some (copies_of copies uplink name)) sorted
+  gateways_listed copies uplink names sorted apart names_are listed =
+      let are : AreNames (λ name. list_any (bytes_eq name) names) sorted = listed (subst (IsDistinct bytes_eq) (sym names_are) (gateways_distinct uplink (keys copies) apart)) in
+      record {
+        rising = are.rising;
+        each = λ name. are.each name ∙ ap (list_any (bytes_eq name)) names_are ∙ gateways_found uplink name (keys copies)
+            ∙ sym (is_some-lookup (same_key (uplink, name)) copies.entries);
+      }

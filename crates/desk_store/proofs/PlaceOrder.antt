@@ -3,7 +3,7 @@ use Rattle.std.proofs.Common.{◌≡◌, ℕ, suc, ◌+◌, ◌<◌, ◌≤◌, 
 use Rattle.std.specs.Prelude.{ℤ, int_lt, sum_by, slice_index_or, IsPermutation}
 use Rattle.std.specs.Cmp.{IsStrictWeakOrder, IsTotalOrder, int_cmp_total, nat_cmp_total, on_total, then_total}
 use Rattle.std.specs.List.{AllByRecursion, cons_option, filter_map}
-use Rattle.std.specs.List.Sorted.{IsSortedBy}
+use Rattle.std.specs.List.Sorted.{IsSortedBy, IsStrictlySortedBy}
 use Rattle.std.specs.Ordering.{int_cmp, is_lt, ordering_reverse, ordering_then}
 use Rattle.std.specs.declared.cmp.Ordering.{Ordering}
 use Rattle.std.specs.declared.cmp.Ordering.TheVariants.{Less, Equal, Greater}
@@ -14,7 +14,8 @@ use Rattle.std.proofs.lemmas.List.Sums.{sum_by-cons}
 use Rattle.desk_store.specs.declared.start_index.Place.{Place}
 use Rattle.desk_store.specs.steps.ByKey.{in_order, put_before}
 use Rattle.desk_store.specs.steps.StartIndex.{numbered_from, place_of, places_that}
-use Rattle.desk_store.proofs.ByKey.{in_order_permutation}
+use Rattle.desk_store.proofs.ByKey.{in_order_permutation, not_both}
+use Rattle.desk_store.proofs.ToldInOrder.{all_weaker}
 
 -- ---- the order
 
@@ -133,28 +134,28 @@ NumbersRise [] = Unit {0}
 NumbersRise (p ∷ ps) = Above p.number ps × NumbersRise ps
 
 -- what starts later goes after
-later_start : (a b : ℤ) (o : Ordering) → int_lt b a ≡ true → is_lt (ordering_then (int_cmp a b) o) ≡ false
-later_start a b o later = by (int_lt a b) refl
-  where
-    by : (c : Bool) → int_lt a b ≡ c → is_lt (ordering_then (cond c Less (cond (int_lt b a) Greater Equal)) o) ≡ false
-    by true is = let no : ⊥ = grind (arith, ints) in absurd no
-    by false is = rw later refl
+later_start : (a b : ℤ) (o : Ordering) → int_lt a b ≡ true → ordering_then (int_cmp a b) o ≡ Less
+later_start a b o later = rw later refl
 
 -- and so does what starts no earlier and has a greater number
-greater_number : (a b : ℤ) (m n : ℕ) → int_lt b a ≡ false → m < n → is_lt (ordering_then (int_cmp b a) (nat_cmp n m)) ≡ false
-greater_number a b m n starts numbers = by (int_lt b a) (int_lt a b) starts
+greater_number : (a b : ℤ) (m n : ℕ) → int_lt b a ≡ false → m < n → ordering_then (int_cmp a b) (nat_cmp m n) ≡ Less
+greater_number a b m n starts numbers = by (int_lt a b) (int_lt b a) starts
   where
-    number : is_lt (nat_cmp n m) ≡ false
+    number : nat_cmp m n ≡ Less
     number = grind arith
 
-    by : (c d : Bool) → c ≡ false → is_lt (ordering_then (cond c Less (cond d Greater Equal)) (nat_cmp n m)) ≡ false
-    by true d is = let no : ⊥ = cc in absurd no
-    by false true is = refl
+    by : (c d : Bool) → d ≡ false → ordering_then (cond c Less (cond d Greater Equal)) (nat_cmp m n) ≡ Less
+    by true d is = refl
+    by false true is = let no : ⊥ = cc in absurd no
     by false false is = number
 
-not_below_by : (c d : Bool) (o : Ordering) → is_lt (ordering_then (cond c Less (cond d Greater Equal)) o) ≡ false → c ≡ false
-not_below_by true d o none = let no : ⊥ = cc in absurd no
-not_below_by false d o none = refl
+not_above : (a b : ℤ) (o : Ordering) → ordering_then (int_cmp a b) o ≡ Less → int_lt b a ≡ false
+not_above a b o less = by (int_lt a b) (int_lt b a) refl refl less
+  where
+    by : (c d : Bool) → int_lt a b ≡ c → int_lt b a ≡ d → ordering_then (cond c Less (cond d Greater Equal)) o ≡ Less → d ≡ false
+    by true d ab ba told = sym ba ∙ not_both a b ab
+    by false true ab ba told = let no : ⊥ = cc in absurd no
+    by false false ab ba told = refl
 
 starts_chain : (a b c : ℤ) → int_lt c b ≡ false → int_lt b a ≡ false → int_lt c a ≡ false
 starts_chain a b c cb ba = grind (arith, ints)
@@ -171,30 +172,45 @@ all_both : (P Q R : Place → Type 0) → ((p : Place) → P p → Q p → R p) 
 all_both P Q R both [] ps qs = tt
 all_both P Q R both (x ∷ xs) ps qs = (both x ps.0 qs.0, all_both P Q R both xs ps.1 qs.1)
 
-put_ordered : (p : Place) (qs : List Place) → Above p.number qs → Ordered qs → Ordered (put_before (λ (r : Place). r.start) p qs)
-put_ordered p [] above ordered = (tt, tt)
-put_ordered p (q ∷ qs) above ordered = by (int_lt q.start p.start) refl (put_ordered p qs above.1 ordered.1)
+put_rising : (p : Place) (qs : List Place) → Above p.number qs → IsStrictlySortedBy place_cmp qs → IsStrictlySortedBy place_cmp (put_before (λ (r : Place). r.start) p qs)
+unfolding IsStrictlySortedBy
+put_rising p [] above rising = (tt, tt)
+put_rising p (q ∷ qs) above rising = by (int_lt q.start p.start) refl (put_rising p qs above.1 rising.1)
   where
-    by : (b : Bool) → int_lt q.start p.start ≡ b → Ordered (put_before (λ (r : Place). r.start) p qs) → Ordered (cond b (q ∷ put_before (λ (r : Place). r.start) p qs) (p ∷ q ∷ qs))
-    by true is rest = (all_put (λ r. before r q ≡ false) p qs (later_start p.start q.start (nat_cmp p.number q.number) is) ordered.0, rest)
+    by : (b : Bool) → int_lt q.start p.start ≡ b → IsStrictlySortedBy place_cmp (put_before (λ (r : Place). r.start) p qs)
+        → IsStrictlySortedBy place_cmp (cond b (q ∷ put_before (λ (r : Place). r.start) p qs) (p ∷ q ∷ qs))
+    by true is rest = (all_put (λ r. place_cmp q r ≡ Less) p qs (later_start q.start p.start (nat_cmp q.number p.number) is) rising.0, rest)
     by false is rest = (
       (
         greater_number p.start q.start p.number q.number is above.0,
-        all_both (λ r. before r q ≡ false) (λ r. p.number < r.number) (λ r. before r p ≡ false)
+        all_both (λ r. place_cmp q r ≡ Less) (λ r. p.number < r.number) (λ r. place_cmp p r ≡ Less)
             (λ r after greater. greater_number p.start r.start p.number r.number
-            (starts_chain p.start q.start r.start (not_below_by (int_lt r.start q.start) (int_lt q.start r.start) (nat_cmp r.number q.number) after) is) greater)
-            qs ordered.0 above.1,
+            (starts_chain p.start q.start r.start (not_above q.start r.start (nat_cmp q.number r.number) after) is) greater)
+            qs rising.0 above.1,
       ),
-      ordered,
+      rising,
     )
 
-in_order_ordered : (ps : List Place) → NumbersRise ps → Ordered (in_order (λ (p : Place). p.start) ps)
-in_order_ordered [] rise = tt
-in_order_ordered (p ∷ ps) rise =
-    put_ordered p (in_order (λ (q : Place). q.start) ps)
+in_order_rising : (ps : List Place) → NumbersRise ps → IsStrictlySortedBy place_cmp (in_order (λ (p : Place). p.start) ps)
+unfolding IsStrictlySortedBy
+in_order_rising [] rise = tt
+in_order_rising (p ∷ ps) rise =
+    put_rising p (in_order (λ (q : Place). q.start) ps)
     (recursion_from_All _ _ (All-permutation (λ (q : Place). p.number < q.number) ps (in_order (λ (q : Place). q.start) ps)
     (in_order_permutation (λ (q : Place). q.start) ps) (All-from_recursion _ _ rise.0)))
-    (in_order_ordered ps rise.1)
+    (in_order_rising ps rise.1)
+
+-- what comes later doesn't go before
+less_after : (r s : Ordering) → r ≡ ordering_reverse s → s ≡ Less → is_lt r ≡ false
+less_after r s turned less = ap is_lt (turned ∙ ap ordering_reverse less)
+
+rising_ordered : (ps : List Place) → IsStrictlySortedBy place_cmp ps → Ordered ps
+unfolding IsStrictlySortedBy
+rising_ordered [] rising = tt
+rising_ordered (p ∷ ps) rising = (
+  all_weaker (λ q. place_cmp p q ≡ Less) (λ q. before q p ≡ false) (λ q less. less_after (place_cmp q p) (place_cmp p q) (place_total.antisymm q p) less) ps rising.0,
+  rising_ordered ps rising.1,
+)
 
 -- ---- the numbers of items rise
 
@@ -217,7 +233,11 @@ module _ {X : Type 0} (start : X → ℤ) (test : X → Bool) where
       by true rest = (numbers_above first (first + 1) xs (omega arith), rest)
       by false rest = rest
 
+  -- the places of items that pass rise
+  pub places_rising : (xs : List X) → IsStrictlySortedBy place_cmp (places_that start test xs)
+  places_rising xs = in_order_rising (filter_map (place_of start test) (numbered_from 1 xs)) (numbers_rise 1 xs)
+
   -- places of items that pass, sorted, are the list of their places
   pub places_sorted : (xs : List X) (ps : List Place) → IsSortedBy before ps → IsPermutation (places_that start test xs) ps → ps ≡ places_that start test xs
   places_sorted xs ps sorted same =
-      sym (ordered_once (places_that start test xs) ps (in_order_ordered (filter_map (place_of start test) (numbered_from 1 xs)) (numbers_rise 1 xs)) (ordered_sorted ps sorted) same)
+      sym (ordered_once (places_that start test xs) ps (rising_ordered (places_that start test xs) (places_rising xs)) (ordered_sorted ps sorted) same)

@@ -40,7 +40,7 @@ shown_same : {X Y : Type 0} (f g : X → Option Y) (xs : List X) → AllByRecurs
 shown_same f g [] all = refl
 shown_same f g (x ∷ xs) all = λ i. cons_option (all.0 i) (shown_same f g xs all.1 i)
 
-all_weaker : {X : Type 0} (P Q : X → Type 0) → ((x : X) → P x → Q x) → (xs : List X) → AllByRecursion P xs → AllByRecursion Q xs
+pub all_weaker : {X : Type 0} (P Q : X → Type 0) → ((x : X) → P x → Q x) → (xs : List X) → AllByRecursion P xs → AllByRecursion Q xs
 all_weaker P Q weaker [] all = tt
 all_weaker P Q weaker (x ∷ xs) all = (weaker x all.0, all_weaker P Q weaker xs all.1)
 
@@ -55,7 +55,7 @@ numbered_past {X} first (x ∷ xs) = (
 )
 
 -- each item has its number
-numbered_found : {X : Type 0} (xs : List X) → AllByRecursion (λ (n : ℕ × X). item_at xs n.0 ≡ Some n.1) (numbered_from 1 xs)
+pub numbered_found : {X : Type 0} (xs : List X) → AllByRecursion (λ (n : ℕ × X). item_at xs n.0 ≡ Some n.1) (numbered_from 1 xs)
 numbered_found {X} xs = all_weaker _ (λ (n : ℕ × X). item_at xs n.0 ≡ Some n.1)
     (λ n at. let number : n.0 ≡ suc at.0 = omega (arith, at.1) in rw number at.2) (numbered_from 1 xs) (numbered_past 1 xs)
 

@@ -88,7 +88,7 @@ module _ {X : Type 0} (start : X → ℤ) where
       by false = refl
 
   -- those of the places that pass by their starts are the places of the items that do
-  places_kept : (test : X → Bool) (passes : ℤ → Bool) (xs : List X)
+  pub places_kept : (test : X → Bool) (passes : ℤ → Bool) (xs : List X)
       → filter (λ (p : Place). passes p.start) (places_that start test xs) ≡ places_that start (λ x. test x && passes (start x)) xs
   places_kept test passes xs =
       let key = λ (p : Place). p.start in

@@ -1,17 +1,20 @@
 //! The bookings by number. An index finds those of one gateway, ordered by start, without a search of the others.
-ghost use Rattle.std.specs.Prelude.{◌≡◌, ◌^◌, ◌<◌, [], ◌∷◌, ◌++◌, length, count_by, pos, not, IfOk, OnOk, OnErr};
+ghost use Rattle.std.specs.Prelude.{◌≡◌, ◌^◌, ◌<◌, [], ◌∷◌, ◌++◌, length, count_by, filter, pos, not, IfOk, OnOk, OnErr};
 ghost use Rattle.std.specs.List.{filter_map};
 ghost use Rattle.duty_core.specs.InOrder.{IsByStart};
 ghost use Rattle.registry_core.specs.Bookings.{downlinks_in, is_answered, is_dropped};
+ghost use Rattle.registry_core.specs.Listing.{AreNumbersByStart, booking_start, is_booking_from};
 ghost use Rattle.registry_core.specs.Near.{AreByStart, bookings_near};
 ghost use Rattle.registry_core.specs.Numbered.{item_at, item_changed};
 ghost use Rattle.registry_core.specs.State.{ended};
 ghost use Rattle.desk_store.specs.steps.Answers.{is_naming};
-ghost use Rattle.desk_store.specs.steps.BookingPlaces.{booking_span_at, near_booking_at};
+ghost use Rattle.desk_store.specs.steps.BookingPlaces.{booking_places, booking_span_at, near_booking_at};
+ghost use Rattle.desk_store.specs.steps.StartIndex.{is_place_in};
 
 use crate::answers::Answers;
 use crate::lookups::item_at;
-use crate::start_index::{Place, StartIndex, places_near};
+use crate::reports::Period;
+use crate::start_index::{Place, StartIndex, numbers_at, places_near, places_of_period};
 use duty_core::Span;
 use radio_core::{Band, Name};
 use registry_core::{Booking, NearBooking, Standing};
@@ -135,6 +138,28 @@ impl Bookings {
         ensures { IfOk result (λ spans. IsByStart (downlinks_in self.now gateway.now band) spans.items) }
     {
         spans_at(alloc, &self.items, self.starts.places(gateway), band)
+    }
+
+    /// Returns the numbers of the gateway's bookings that start in the period, dropped ones too. They are ordered by start, and those that
+    /// start together by number.
+    #[tactic(auto, using(crate::proofs::NumbersByStart::bookings_listed))]
+    pub(crate) fn between(
+        &self,
+        alloc: Global,
+        gateway: &Name,
+        period: &Period,
+    ) -> Result<Vec<u64>, AllocError>
+        ensures { IfOk result (λ numbers. AreNumbersByStart booking_start
+            (is_booking_from gateway.now period.now.from period.now.to) self.now numbers.items) }
+    {
+        numbers_at(alloc, self.places(gateway, period))
+    }
+
+    /// Returns the places of those bookings.
+    fn places(&self, gateway: &Name, period: &Period) -> &[Place]
+        ensures { result.now ≡ filter (is_place_in period.now.from period.now.to) (booking_places self.now gateway.now) }
+    {
+        places_of_period(self.starts.places(gateway), period)
     }
 }
 

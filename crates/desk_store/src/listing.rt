@@ -1,23 +1,29 @@
-//! Look-ups for lists in the store in memory: the names and DevEUIs in order, a device's sessions, a session's last start and a sender's
-//! last transaction number. Each goes through all items.
+//! Look-ups for lists in the store in memory: the names and DevEUIs in order, a device's sessions and uplinks, an uplink's gateways, a
+//! session's last start and a sender's last transaction number. Each goes through all items.
 ghost use Rattle.std.specs.Prelude.{◌≡◌, ◌+◌, IfOk, bytes_eq, filter, is_some, length, map, max, nat_eq};
 ghost use Rattle.std.specs.Cmp.Lexicographic.{slice_cmp};
-ghost use Rattle.std.specs.List.{IsDistinct, list_any, range_with_len, reduce};
+ghost use Rattle.std.specs.List.{IsDistinct, filter_map, list_any, range_with_len, reduce};
 ghost use Rattle.std.specs.Ordering.{nat_cmp};
-ghost use Rattle.indexmap.specs.IndexMap.{get, keys};
+ghost use Rattle.indexmap.specs.IndexMap.{IsUnique, get, keys};
 ghost use Rattle.indexmap.specs.IndexSet.{contains};
 ghost use Rattle.registry_core.specs.Derived.{is_of_device};
-ghost use Rattle.registry_core.specs.Listing.{AreDevices, AreNames, is_of_session, last_start, sessions_of};
+ghost use Rattle.registry_core.specs.Listing.{AreDevices, AreNames, AreNumbersByStart, is_of_session, last_start, sessions_of, uplink_start};
+ghost use Rattle.registry_core.specs.Reports.{is_uplink_from};
 ghost use Rattle.desk_store.specs.Devices.{devices_of};
+ghost use Rattle.desk_store.specs.Facts.{copies_of, same_key};
 ghost use Rattle.desk_store.specs.Lists.{entries_shown};
 ghost use Rattle.desk_store.specs.Looks.{last_transaction};
-ghost use Rattle.desk_store.specs.steps.Listing.{is_key_of};
+ghost use Rattle.desk_store.specs.steps.Listing.{is_copy_of, is_key_of};
+ghost use Rattle.desk_store.specs.steps.StartIndex.{place_at};
 
 use crate::looks::Texts;
+use crate::reports::Period;
 use crate::sessions::Sessions;
+use crate::start_index::{Place, numbers_at};
+use crate::uplinks::{Uplinks, place_of};
 use indexmap::{IndexMap, IndexSet};
 use radio_core::{Eui, Name};
-use registry_core::{Device, Role, Uplink};
+use registry_core::{Device, Reception, Role, Uplink};
 use std::alloc::{AllocError, Global};
 use std::cmp::Ordering;
 
@@ -98,6 +104,91 @@ fn is_of_device(sessions: &Sessions, device: Eui, number: u64) -> bool
         Some(session) => session.device == device,
         None => false,
     }
+}
+
+/// Returns the numbers of the device's uplinks that start in the period. They are ordered by start, and those that start together by
+/// number.
+pub(crate) fn uplinks_between(
+    alloc: Global,
+    uplinks: &Uplinks,
+    sessions: &Sessions,
+    device: Eui,
+    period: &Period,
+) -> Result<Vec<u64>, AllocError>
+    ensures { IfOk result (λ numbers. AreNumbersByStart uplink_start
+        (is_uplink_from sessions.now.items device period.now.from period.now.to) uplinks.now numbers.items) }
+{
+    let mut places = places_from(alloc, uplinks, sessions, device, period)?;
+    places.sort_unstable();
+    numbers_at(alloc, &places)
+}
+
+/// Returns the places of those uplinks, ordered by number.
+fn places_from(
+    alloc: Global,
+    uplinks: &Uplinks,
+    sessions: &Sessions,
+    device: Eui,
+    period: &Period,
+) -> Result<Vec<Place>, AllocError>
+    ensures { IfOk result (λ places. places.items
+        ≡ filter_map (place_at uplink_start (is_uplink_from sessions.now.items device period.now.from period.now.to) uplinks.now)
+        (range_with_len 1 (length uplinks.now))) }
+{
+    (1..uplinks.len() as u64 + 1)
+        .filter_map(|number| place_from(uplinks, sessions, device, period, number))
+        .collect(alloc)
+}
+
+/// Returns the place of the uplink with this number, if it is one of them.
+fn place_from(
+    uplinks: &Uplinks,
+    sessions: &Sessions,
+    device: Eui,
+    period: &Period,
+    number: u64,
+) -> Option<Place>
+    ensures { result ≡ place_at uplink_start (is_uplink_from sessions.now.items device period.now.from period.now.to) uplinks.now number }
+{
+    let uplink = uplinks.at(number)?;
+    is_uplink_from(sessions, device, period, &uplink).then_some(place_of(&uplink, number))
+}
+
+/// Returns whether the uplink is one of the device and starts in the period.
+fn is_uplink_from(sessions: &Sessions, device: Eui, period: &Period, uplink: &Uplink) -> bool
+    ensures { result ≡ is_uplink_from sessions.now.items device period.now.from period.now.to uplink.now }
+{
+    let start = uplink.start.get() as i64;
+    is_of_device(sessions, device, uplink.session) && period.from <= start && start < period.to
+}
+
+/// Returns the names of the gateways that reported a reception of the uplink with this number, ordered by their octets.
+pub(crate) fn gateways_of(
+    alloc: Global,
+    copies: &IndexMap<(u64, Name), Reception>,
+    uplink: u64,
+) -> Result<Vec<Name>, AllocError>
+    ensures { IfOk result (λ sorted. AreNames (λ gateway. is_some (copies_of copies.now uplink gateway)) sorted.items) }
+{
+    let mut names = names_of(alloc, copies, uplink)?;
+    sort_names(&mut names);
+    Ok(names)
+}
+
+/// Returns those names in the order in which they are stored.
+fn names_of(
+    alloc: Global,
+    copies: &IndexMap<(u64, Name), Reception>,
+    uplink: u64,
+) -> Result<Vec<Name>, AllocError>
+    ensures names { IfOk result (λ names. names.items ≡ map (λ key. key.1) (filter (is_copy_of uplink) (keys copies.now))) }
+    ensures distinct { IsUnique same_key copies.now }
+{
+    copies
+        .keys()
+        .filter(|key| key.0 == uplink)
+        .map(|key| key.1)
+        .collect(alloc)
 }
 
 /// Returns the greatest start of the session's uplinks, in microseconds since 1970 UTC.

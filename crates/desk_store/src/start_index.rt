@@ -1,8 +1,9 @@
 //! The places of the items of one key, ordered by start, without a search of the others.
-ghost use Rattle.std.specs.Prelude.{◌≡◌, ◌+◌, [], ◌∷◌, int_le, int_lt, OnOk, OnErr, filter, if◌then◌else◌};
+ghost use Rattle.std.specs.Prelude.{◌≡◌, ◌+◌, [], ◌∷◌, int_le, int_lt, IfOk, OnOk, OnErr, filter, if◌then◌else◌, map};
 ghost use Rattle.desk_store.specs.steps.ByKey.{Rises, put_after};
 ghost use Rattle.desk_store.specs.steps.StartIndex.{is_near_place, is_place_in, places_in};
 
+use crate::reports::Period;
 use duty_core::NEAR_REACH;
 use indexmap::IndexMap;
 use std::alloc::{AllocError, Global};
@@ -87,8 +88,22 @@ pub(crate) fn places_near(places: &[Place], start: u64) -> &[Place]
     places_between(places, start - reach + 1, start + reach)
 }
 
+/// Returns the places that begin in the period.
+pub(crate) fn places_of_period<'a>(places: &'a [Place], period: &Period) -> &'a [Place]
+    ensures { Rises (λ place. place.start) places.now → result.now ≡ filter (is_place_in period.now.from period.now.to) places.now }
+{
+    places_between(places, i128::from(period.from), i128::from(period.to))
+}
+
+/// Returns the numbers of the items at these places, in the places' order.
+pub(crate) fn numbers_at(alloc: Global, places: &[Place]) -> Result<Vec<u64>, AllocError>
+    ensures { IfOk result (λ numbers. numbers.items ≡ map (λ place. place.number) places.now) }
+{
+    places.iter().map(|place| place.number).collect(alloc)
+}
+
 /// Returns the places that begin at `from` or later and before `to`.
-pub(crate) fn places_between(places: &[Place], from: i128, to: i128) -> &[Place]
+fn places_between(places: &[Place], from: i128, to: i128) -> &[Place]
     ensures { Rises (λ place. place.start) places.now → result.now ≡ filter (is_place_in from to) places.now }
 {
     places_before(places_from(places, from), to)

@@ -6,14 +6,13 @@ ghost use Rattle.registry_core.specs.Derived.{data_with, last_counter};
 ghost use Rattle.registry_core.specs.Listing.{last_start};
 ghost use Rattle.registry_core.specs.Numbered.{item_at};
 ghost use Rattle.registry_core.specs.Reports.{interval_of};
-ghost use Rattle.desk_store.specs.steps.ByKey.{Rises};
 ghost use Rattle.desk_store.specs.steps.StartIndex.{is_place_in};
 ghost use Rattle.desk_store.specs.steps.UplinkPlaces.{uplink_places, uplink_span_at};
 
 use crate::listing::last_start;
 use crate::lookups::item_at;
 use crate::reports::Period;
-use crate::start_index::{Place, StartIndex, places_between};
+use crate::start_index::{Place, StartIndex, places_of_period};
 use crate::uplink_index::UplinkIndex;
 use duty_core::Span;
 use radio_core::Band;
@@ -146,15 +145,8 @@ impl Uplinks {
     }
 }
 
-/// Returns the places that begin in the period.
-fn places_of_period<'a>(places: &'a [Place], period: &Period) -> &'a [Place]
-    ensures { Rises (λ place. place.start) places.now → result.now ≡ filter (is_place_in period.now.from period.now.to) places.now }
-{
-    places_between(places, i128::from(period.from), i128::from(period.to))
-}
-
 /// Returns the place of an uplink with this number.
-fn place_of(uplink: &Uplink, number: u64) -> Place
+pub(crate) fn place_of(uplink: &Uplink, number: u64) -> Place
     ensures { result ≡ record { start = pos uplink.now.start; number = number } }
 {
     Place {

@@ -1,7 +1,8 @@
 -- What isn't there: numbers above the greatest whole one.
-use Rattle.std.proofs.Common.{◌≡◌, ℕ, zero, suc, ◌+◌, ◌<◌, ◌==◌, ◌&&◌, ◌||◌, not, Bool, true, false, cond, List, [], ◌∷◌, map, filter, find, length, Option, Some, None, option_map, refl, ap, ap₂, ◌∙◌, arith}
+use Rattle.std.proofs.Common.{◌≡◌, ℕ, zero, suc, ◌+◌, ◌<◌, ◌==◌, ◌&&◌, ◌||◌, not, Bool, true, false, cond, List, [], ◌∷◌, map, filter, find, length, Option, Some, None, option_map, refl, sym, ap, ap₂, ◌∙◌, arith}
 use Rattle.std.specs.Prelude.{bytes_eq, is_some}
 use Rattle.std.specs.List.{AllByRecursion, list_any}
+use Rattle.std.specs.List.Sorted.{IsStrictlySortedBy}
 use Rattle.std.proofs.lemmas.Bool.{ne_eqb}
 use Rattle.std.proofs.lemmas.List.{length-map}
 use Rattle.std.proofs.lemmas.Option.{slice_get_past, slice_get_within}
@@ -9,7 +10,7 @@ use Rattle.registry_core.specs.declared.facts.Kind.TheVariants.{Join}
 use Rattle.registry_core.specs.declared.facts.Uplink.{Uplink}
 use Rattle.registry_core.specs.Bookings.{is_answer_to, is_dropped}
 use Rattle.registry_core.specs.Derived.{data_with, is_data, is_data_of, is_data_with, last_counter}
-use Rattle.registry_core.specs.Listing.{is_of_session, last_start}
+use Rattle.registry_core.specs.Listing.{AreNames, has_reception, is_of_session, last_start}
 use Rattle.registry_core.specs.Numbered.{first_from, first_that, greatest, item_at}
 use Rattle.registry_core.specs.Settings.{Settings}
 use Rattle.registry_core.specs.State.{State}
@@ -117,6 +118,10 @@ module _ (c : Settings) (kept : Kept) (r : Rows) (tell : RowsTell c kept r) (n :
   no_copy gateway = ap (λ (s : State). s.copies n gateway) tell.are.is ∙ ap (option_map (λ (copy : CopyRow). copy.reception)) (find_none (is_copy n gateway) r.copies
       (each_so (λ (copy : CopyRow). (copy.uplink == n) ≡ false) (λ copy. is_copy n gateway copy ≡ false)
       (λ copy is. ap (λ b. b && bytes_eq copy.gateway gateway) is) r.copies of_no_uplink))
+
+  pub no_gateway : AreNames (has_reception kept.facts n) []
+  unfolding IsStrictlySortedBy
+  no_gateway = record { rising = tt; each = λ name. ap is_some (sym (no_copy name)) }
 
   pub no_answer : list_any (λ (b : BookingRow). is_answer_to n b.booking) r.bookings ≡ false
   no_answer = any_none (λ (b : BookingRow). is_answer_to n b.booking) r.bookings

@@ -316,6 +316,37 @@ impl<S: Alter> Looks for Tables<S> {
         self.tell(answer)
     }
 
+    fn uplinks_between(&mut self, device: Eui, from: i64, to: i64) -> Result<Vec<u64>, StoreFault> {
+        if self.down {
+            return Err(StoreFault::Disk);
+        }
+        listed_rows_tell();
+        let answer = desk_rows::uplinks_between(self.alloc, &mut self.conn, device, from, to);
+        self.tell(answer)
+    }
+
+    fn gateways_of(&mut self, uplink: u64) -> Result<Vec<Name>, StoreFault> {
+        if self.down {
+            return Err(StoreFault::Disk);
+        }
+        let answer = uplinks::gateways_of(self.alloc, &mut self.conn, uplink);
+        self.tell(answer)
+    }
+
+    fn bookings_between(
+        &mut self,
+        gateway: &Name,
+        from: i64,
+        to: i64,
+    ) -> Result<Vec<u64>, StoreFault> {
+        if self.down {
+            return Err(StoreFault::Disk);
+        }
+        listed_rows_tell();
+        let answer = desk_rows::bookings_between(self.alloc, &mut self.conn, gateway, from, to);
+        self.tell(answer)
+    }
+
     fn last_transaction(&mut self, sender: &Name) -> Result<Option<u64>, StoreFault> {
         if self.down {
             return Err(StoreFault::Disk);

@@ -312,6 +312,26 @@ impl<K: Keeper> Looks for Switched<K> {
     fn last_transaction(&mut self, sender: &Name) -> Result<Option<u64>, StoreFault> {
         in_turn!(self, self.inner.last_transaction(sender))
     }
+
+    #[tactic(auto, using(crate::proofs::Unsound::read_by))]
+    fn uplinks_between(&mut self, device: Eui, from: i64, to: i64) -> Result<Vec<u64>, StoreFault> {
+        in_turn!(self, self.inner.uplinks_between(device, from, to))
+    }
+
+    #[tactic(auto, using(crate::proofs::Unsound::read_by))]
+    fn gateways_of(&mut self, uplink: u64) -> Result<Vec<Name>, StoreFault> {
+        in_turn!(self, self.inner.gateways_of(uplink))
+    }
+
+    #[tactic(auto, using(crate::proofs::Unsound::read_by))]
+    fn bookings_between(
+        &mut self,
+        gateway: &Name,
+        from: i64,
+        to: i64,
+    ) -> Result<Vec<u64>, StoreFault> {
+        in_turn!(self, self.inner.bookings_between(gateway, from, to))
+    }
 }
 
 impl<K: Keeper> Keeper for Switched<K> {

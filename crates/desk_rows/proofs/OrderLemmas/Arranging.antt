@@ -17,7 +17,7 @@ use Rattle.registry_core.specs.Ranges.{IsEui}
 use Rattle.registry_core.specs.Reports.{IsNextDevice, in_band, interval_of, is_after, is_in_band, is_owned, is_uplink_from, uplinks_from}
 use Rattle.sqlite_keyed.specs.Lists.{insert_sorted, sort_by}
 use Rattle.desk_rows.specs.Rows.{Rows, BookingRow, DeviceRow, SessionRow, is_device}
-use Rattle.desk_rows.specs.order.Arranged.{ArrangedRowsTell, ListsTell, RisesByEui, booking_span, is_near_at, is_next_of, is_uplink_of}
+use Rattle.desk_rows.specs.order.Arranged.{ArrangedRowsTell, ListsTell, RisesByEui, booking_span, is_near_at, is_next_of, is_uplink_between, is_uplink_of}
 use Rattle.desk_rows.specs.order.Facts.{facts_in, sessions_in}
 use Rattle.desk_rows.specs.order.LookUps.{first_by, is_row_of_device, zip_from}
 use Rattle.desk_rows.proofs.OrderLemmas.Counting.{filter_alike, filter_twice}
@@ -25,21 +25,19 @@ use Rattle.desk_rows.proofs.OrderLemmas.Each.{all_both, all_found, all_kept, all
 use Rattle.desk_rows.proofs.OrderLemmas.Finding.{found_passes}
 use Rattle.desk_rows.proofs.Ordered.{every}
 use Rattle.desk_rows.proofs.OrderLemmas.Looking.{filter_shown, zipped_shown}
-use Rattle.desk_rows.proofs.OrderLemmas.Numbering.{item_at-map}
+use Rattle.desk_rows.proofs.OrderLemmas.Numbering.{item_shown}
 use Rattle.desk_rows.proofs.OrderLemmas.Sorting.{all_sorted, near_in_order, spans_in_order}
 
 -- ---- in order of start
 
-own_by : (dev_eui : ℕ) (found : Option SessionRow)
-    → option_map_or (is_row_of_device dev_eui) found false ≡ option_map_or (is_session_of dev_eui) (option_map (λ (s : SessionRow). s.session) found) false
-own_by dev_eui None = refl
-own_by dev_eui (Some s) = refl
-
 own_row : (sessions : List SessionRow) (dev_eui n : ℕ)
     → option_map_or (is_row_of_device dev_eui) (item_at sessions n) false ≡ is_of_device (sessions_in sessions) dev_eui n
-own_row sessions dev_eui n =
-    own_by dev_eui (item_at sessions n)
-    ∙ ap (λ found. option_map_or (is_session_of dev_eui) found false) (sym (item_at-map (λ (s : SessionRow). s.session) sessions n))
+own_row sessions dev_eui n = sym (item_shown (λ (s : SessionRow). s.session) (is_session_of dev_eui) false sessions n)
+
+-- a device's uplink in a range of time is one by the sessions that the rows represent
+pub between_rows : (sessions : List SessionRow) (dev_eui : ℕ) (from to : ℤ) (u : Uplink)
+    → is_uplink_between sessions dev_eui from to u ≡ is_uplink_from (sessions_in sessions) dev_eui from to u
+between_rows sessions dev_eui from to u = ap (λ own. (own && int_le from (pos u.start)) && int_lt (pos u.start) to) (own_row sessions dev_eui u.session)
 
 uplinks_shown : (sessions : List SessionRow) (uplinks : List Uplink) (dev_eui : ℕ) (band : Band) (from to : ℤ)
     → map interval_of (filter (is_uplink_of sessions dev_eui band from to) uplinks)
@@ -47,7 +45,7 @@ uplinks_shown : (sessions : List SessionRow) (uplinks : List Uplink) (dev_eui : 
 uplinks_shown sessions uplinks dev_eui band from to = ap (map interval_of) (
     filter_alike (λ u. Unit {0}) (is_uplink_of sessions dev_eui band from to)
     (λ u. is_uplink_from (sessions_in sessions) dev_eui from to u && is_in_band band u)
-    (λ u done. ap (λ own. ((own && int_le from (pos u.start)) && int_lt (pos u.start) to) && is_in_band band u) (own_row sessions dev_eui u.session)) uplinks
+    (λ u done. ap (λ passes. passes && is_in_band band u) (between_rows sessions dev_eui from to u)) uplinks
     (every uplinks)
     ∙ sym (filter_twice (is_uplink_from (sessions_in sessions) dev_eui from to) (is_in_band band) uplinks))
 

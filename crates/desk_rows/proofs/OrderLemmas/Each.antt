@@ -64,6 +64,9 @@ module _ {X : Type 0} (P : X → Type 0) (p : X → Bool) where
   all_kept [] each = tt
   all_kept (x ∷ xs) each = kept_by x (filter p xs) (p x) refl each.0 (all_kept xs each.1)
 
+  pub all_passing : (xs : List X) → AllByRecursion P xs → AllByRecursion P (filter p xs)
+  all_passing xs each = all_kept xs (all_so P (λ x. p x ≡ true → P x) (λ x is passes. is) xs each)
+
   was_by : (x : X) (kept : List X) (b : Bool) → p x ≡ b → AllByRecursion P (cond b (x ∷ kept) kept) → (p x ≡ true → P x) × AllByRecursion P kept
   was_by x kept true is each = (λ passes. each.0, each.1)
   was_by x kept false is each = ((λ passes. absurd (both_ways (p x) is passes)), each)
@@ -73,6 +76,20 @@ module _ {X : Type 0} (P : X → Type 0) (p : X → Bool) where
   all_were (x ∷ xs) each = let parts = was_by x (filter p xs) (p x) refl each in (parts.0, all_were xs parts.1)
 
 -- ---- each two rows
+
+-- each with each later one
+abbrev pub EachTwo : {X : Type 0} → (X → X → Type 0) → List X → Type 0
+EachTwo R [] = Unit {0}
+EachTwo R (x ∷ xs) = AllByRecursion (R x) xs × EachTwo R xs
+
+-- of those that pass a test
+pub two_passing : {X : Type 0} (R : X → X → Type 0) (p : X → Bool) (xs : List X) → EachTwo R xs → EachTwo R (filter p xs)
+two_passing R p [] each = tt
+two_passing R p (x ∷ xs) each = by (p x) (two_passing R p xs each.1)
+  where
+    by : (b : Bool) → EachTwo R (filter p xs) → EachTwo R (cond b (x ∷ filter p xs) (filter p xs))
+    by true rest = (all_passing (R x) p xs each.0, rest)
+    by false rest = rest
 
 module _ {X : Type 0} (same : X → X → Bool) where
   pub distinct_with : (xs : List X) (x : X) → IsDistinct same xs → AllByRecursion (λ y. same y x ≡ false) xs → IsDistinct same (xs ++ x ∷ [])

@@ -26,7 +26,7 @@ use Rattle.desk_rows.proofs.OrderLemmas.Counting.{filter_none}
 use Rattle.desk_rows.proofs.OrderLemmas.Each.{all_at, all_map, all_so, all_with}
 use Rattle.desk_rows.proofs.OrderLemmas.Few.{few_with}
 use Rattle.desk_rows.proofs.OrderLemmas.Finding.{keys_changed}
-use Rattle.desk_rows.proofs.OrderLemmas.Keys.{devices_with, named_once_with, senders_with, sessions_with}
+use Rattle.desk_rows.proofs.OrderLemmas.Keys.{copies_keyed, devices_with, named_once_with, senders_with, sessions_with}
 use Rattle.desk_rows.proofs.OrderLemmas.Limits.{limits_keyed}
 use Rattle.desk_rows.proofs.OrderLemmas.Named.{HasDevice, copies_with, device_changed, device_with, session_kept, session_new, session_there}
 use Rattle.desk_rows.proofs.OrderLemmas.Numbering.{item_end, item_past, item_there, item_with}
@@ -196,13 +196,14 @@ names_with r (AddsBooking booking) reply fits names =
 -- ---- keys
 
 keyed_with : (r : Rows) (effect : Effect) (reply : ReplyRow) → Fits effect (facts_in r) → IsKeyed r → IsKeyed (rows_with effect reply r)
-keyed_with r Nothing reply fits keyed = record { senders = keyed.senders; owners = keyed.owners; gateways = keyed.gateways; devices = keyed.devices; sessions = keyed.sessions; limits = keyed.limits }
+keyed_with r Nothing reply fits keyed = record { senders = keyed.senders; owners = keyed.owners; gateways = keyed.gateways; devices = keyed.devices; sessions = keyed.sessions; copies = keyed.copies; limits = keyed.limits }
 keyed_with r (AddsSender name role) reply fits keyed = record {
   senders = senders_with r.senders (sender_row name role) fits keyed.senders;
   owners = keyed.owners;
   gateways = keyed.gateways;
   devices = keyed.devices;
   sessions = keyed.sessions;
+  copies = keyed.copies;
   limits = keyed.limits;
 }
 keyed_with r (AddsOwner name) reply fits keyed = record {
@@ -211,6 +212,7 @@ keyed_with r (AddsOwner name) reply fits keyed = record {
   gateways = keyed.gateways;
   devices = keyed.devices;
   sessions = keyed.sessions;
+  copies = keyed.copies;
   limits = keyed.limits;
 }
 keyed_with r (AddsGateway name) reply fits keyed = record {
@@ -219,16 +221,26 @@ keyed_with r (AddsGateway name) reply fits keyed = record {
   gateways = named_once_with r.gateways name fits keyed.gateways;
   devices = keyed.devices;
   sessions = keyed.sessions;
+  copies = keyed.copies;
   limits = keyed.limits;
 }
-keyed_with r (AddsCopy number gateway reception) reply fits keyed = record { senders = keyed.senders; owners = keyed.owners; gateways = keyed.gateways; devices = keyed.devices; sessions = keyed.sessions; limits = keyed.limits }
-keyed_with r (EndsBooking number sent) reply fits keyed = record { senders = keyed.senders; owners = keyed.owners; gateways = keyed.gateways; devices = keyed.devices; sessions = keyed.sessions; limits = keyed.limits }
+keyed_with r (AddsCopy number gateway reception) reply fits keyed = record {
+  senders = keyed.senders;
+  owners = keyed.owners;
+  gateways = keyed.gateways;
+  devices = keyed.devices;
+  sessions = keyed.sessions;
+  copies = copies_keyed r.copies (copy_row number gateway reception) fits.no_copy keyed.copies;
+  limits = keyed.limits;
+}
+keyed_with r (EndsBooking number sent) reply fits keyed = record { senders = keyed.senders; owners = keyed.owners; gateways = keyed.gateways; devices = keyed.devices; sessions = keyed.sessions; copies = keyed.copies; limits = keyed.limits }
 keyed_with r (AddsDevice dev_eui device) reply fits keyed = record {
   senders = keyed.senders;
   owners = keyed.owners;
   gateways = keyed.gateways;
   devices = devices_with r.devices (device_row dev_eui device) fits.0 keyed.devices;
   sessions = keyed.sessions;
+  copies = keyed.copies;
   limits = keyed.limits;
 }
 keyed_with r (MovesDevice dev_eui owner) reply fits keyed = record {
@@ -237,6 +249,7 @@ keyed_with r (MovesDevice dev_eui owner) reply fits keyed = record {
   gateways = keyed.gateways;
   devices = subst (IsDistinct nat_eq) (keys_changed (λ (d : DeviceRow). d.dev_eui) (is_device dev_eui) (moved owner) (λ d. refl) r.devices) keyed.devices;
   sessions = keyed.sessions;
+  copies = keyed.copies;
   limits = keyed.limits;
 }
 keyed_with r (AddsSession session uplink gateway reception) reply fits keyed = record {
@@ -245,6 +258,7 @@ keyed_with r (AddsSession session uplink gateway reception) reply fits keyed = r
   gateways = keyed.gateways;
   devices = keyed.devices;
   sessions = subst (IsDistinct same_join) (sym (sessions_more r.sessions session)) (sessions_with (sessions_in r.sessions) session fits.nonce keyed.sessions);
+  copies = copies_keyed r.copies (copy_row (length r.uplinks + 1) gateway reception) fits.no_copy keyed.copies;
   limits = keyed.limits;
 }
 keyed_with r (AddsUplink uplink gateway reception) reply fits keyed = record {
@@ -254,6 +268,7 @@ keyed_with r (AddsUplink uplink gateway reception) reply fits keyed = record {
   devices = subst (IsDistinct nat_eq)
       (keys_changed (λ (d : DeviceRow). d.dev_eui) (λ d. is_of_device (sessions_in r.sessions) d.dev_eui uplink.session) (raised uplink.session) (λ d. refl) r.devices) keyed.devices;
   sessions = keyed.sessions;
+  copies = copies_keyed r.copies (copy_row (length r.uplinks + 1) gateway reception) fits.no_copy keyed.copies;
   limits = keyed.limits;
 }
 keyed_with r (AddsBooking booking) reply fits keyed = record {
@@ -262,6 +277,7 @@ keyed_with r (AddsBooking booking) reply fits keyed = record {
   gateways = keyed.gateways;
   devices = keyed.devices;
   sessions = subst (IsDistinct same_join) (counted_shown (kind_at r.uplinks booking.uplink) (session_at r.uplinks booking.uplink) r.sessions) keyed.sessions;
+  copies = keyed.copies;
   limits = keyed.limits;
 }
 keyed_with r (SetsLimit gateway limit) reply fits keyed = record {
@@ -270,6 +286,7 @@ keyed_with r (SetsLimit gateway limit) reply fits keyed = record {
   gateways = keyed.gateways;
   devices = keyed.devices;
   sessions = keyed.sessions;
+  copies = keyed.copies;
   limits = limits_keyed r.limits gateway limit keyed.limits;
 }
 

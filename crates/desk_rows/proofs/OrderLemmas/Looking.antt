@@ -41,7 +41,7 @@ module _ {X : Type 0} (f : X → ℕ) (p : X → Bool) (n : ℕ) where
   below_greatest [] = refl
   below_greatest (x ∷ xs) = below_by x (filter p xs) (list_any (λ y. p y && nat_lt n (f y)) xs) (p x) (below_greatest xs)
 
-any_alike : {X : Type 0} (p q : X → Bool) → ((x : X) → p x ≡ q x) → (xs : List X) → list_any p xs ≡ list_any q xs
+pub any_alike : {X : Type 0} (p q : X → Bool) → ((x : X) → p x ≡ q x) → (xs : List X) → list_any p xs ≡ list_any q xs
 any_alike p q same [] = refl
 any_alike p q same (x ∷ xs) = ap₂ (λ a b. a || b) (same x) (any_alike p q same xs)
 

@@ -1,6 +1,7 @@
 -- Items by their numbers: in a list with one item more, shown otherwise, or with one of them changed.
 use Rattle.std.proofs.Common.{◌≡◌, ℕ, zero, suc, ◌+◌, ◌<◌, ◌≤◌, ◌≢◌, List, [], ◌∷◌, ◌++◌, map, length, Option, Some, None, option_map, is_some, true, refl, sym, ◌∙◌, ap, subst, slice_get, inl, inr, add-one, arith}
 use Rattle.std.specs.Prelude.{◌⊎◌}
+use Rattle.std.specs.Option.{option_map_or}
 use Rattle.std.proofs.lemmas.Option.{slice_get_past}
 use Rattle.registry_core.specs.Numbered.{item_at, item_changed, place_changed}
 
@@ -69,6 +70,16 @@ slice_get-map f (x ∷ xs) (suc n) = slice_get-map f xs n
 pub item_at-map : {X Y : Type 0} (f : X → Y) (xs : List X) (n : ℕ) → item_at (map f xs) n ≡ option_map f (item_at xs n)
 item_at-map f xs zero = refl
 item_at-map f xs (suc n) = slice_get-map f xs n
+
+shown_or : {X Y V : Type 0} (f : X → Y) (g : Y → V) (none : V) (found : Option X)
+    → option_map_or g (option_map f found) none ≡ option_map_or (λ x. g (f x)) found none
+shown_or f g none None = refl
+shown_or f g none (Some x) = refl
+
+-- what the item with a number shows
+pub item_shown : {X Y V : Type 0} (f : X → Y) (g : Y → V) (none : V) (xs : List X) (n : ℕ)
+    → option_map_or g (item_at (map f xs) n) none ≡ option_map_or (λ x. g (f x)) (item_at xs n) none
+item_shown f g none xs n = ap (λ found. option_map_or g found none) (item_at-map f xs n) ∙ shown_or f g none (item_at xs n)
 
 row_by : {X Y : Type 0} (f : X → Y) (y : Y) (found : Option X) → option_map f found ≡ Some y → (x : X) × (found ≡ Some x) × (f x ≡ y)
 row_by f y None is = let no : None ≡ Some y = is in cc

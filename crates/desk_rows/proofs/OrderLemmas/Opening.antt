@@ -25,7 +25,7 @@ opening_tells c = record {
   };
   counted = record { floors = tt; next_downs = λ n s at. absurd (none_at n s at); bookings = tt };
   names = record { sessions = tt; uplinks = tt; copies = tt };
-  keyed = record { senders = (tt, tt); owners = tt; gateways = tt; devices = tt; sessions = tt; limits = tt };
+  keyed = record { senders = (tt, tt); owners = tt; gateways = tt; devices = tt; sessions = tt; copies = tt; limits = tt };
   few = record { senders = omega arith; owners = omega arith; gateways = omega arith; devices = omega arith; sessions = omega arith; uplinks = omega arith; copies = omega arith; bookings = omega arith; limits = omega arith };
 }
   where

@@ -20,7 +20,7 @@ below m n less = grind (arith, ints)
 lower_first : (m n : ℕ) → m < n → is_gt (ordering_then (int_cmp (pos m) (pos n)) Equal) ≡ false
 lower_first m n less = ap (λ b. is_gt (ordering_then (cond b Less (cond (int_lt (pos n) (pos m)) Greater Equal)) Equal)) (below m n less)
 
-puts_by_start : {X : Type 0} (start : X → ℤ) → PutsByStart start (by_start start)
+pub puts_by_start : {X : Type 0} (start : X → ℤ) → PutsByStart start (by_start start)
 puts_by_start start a b less = by (int_lt (start a.1) (start b.1)) (int_lt (start b.1) (start a.1)) refl refl
   where
     by : (p q : Bool) → int_lt (start a.1) (start b.1) ≡ p → int_lt (start b.1) (start a.1) ≡ q

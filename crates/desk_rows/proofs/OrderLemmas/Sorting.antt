@@ -13,7 +13,7 @@ use Rattle.registry_core.specs.Near.{AreByStart}
 use Rattle.sqlite_keyed.specs.Lists.{insert_sorted, sort_by}
 use Rattle.desk_rows.specs.order.Arranged.{PutsByStart, spans_by}
 use Rattle.desk_rows.specs.order.LookUps.{rows_by, zip_from}
-use Rattle.desk_rows.proofs.OrderLemmas.Each.{all_so}
+use Rattle.desk_rows.proofs.OrderLemmas.Each.{EachTwo, all_so, two_passing}
 use Rattle.desk_rows.proofs.OrderLemmas.Looking.{zipped_shown}
 use Rattle.desk_rows.proofs.OrderLemmas.Orders.{not_both}
 
@@ -43,6 +43,23 @@ module _ {X : Type 0} (order : X → X → Ordering) (P : X → Type 0) where
   all_sorted [] each = tt
   all_sorted (x ∷ xs) each = all_inserted x (sort_by order xs) each.0 (all_sorted xs each.1)
 
+-- ---- numbered rows
+
+abbrev pub NumbersRise : {X : Type 0} → List (ℕ × X) → Type 0
+NumbersRise rows = EachTwo (λ a b. a.0 < b.0) rows
+
+above_zipped : {X : Type 0} (n m : ℕ) (xs : List X) → n < m → AllByRecursion (λ (b : ℕ × X). n < b.0) (zip_from m xs)
+above_zipped n m [] less = tt
+above_zipped n m (x ∷ xs) less = (less, above_zipped n (m + 1) xs (omega arith))
+
+rise_zipped : {X : Type 0} (n : ℕ) (xs : List X) → NumbersRise (zip_from n xs)
+rise_zipped n [] = tt
+rise_zipped n (x ∷ xs) = (above_zipped n (n + 1) xs (omega arith), rise_zipped (n + 1) xs)
+
+-- those that pass a test
+pub numbers_rise : {X : Type 0} (test : X → Bool) (xs : List X) → NumbersRise (filter (λ b. test b.1) (zip_from 1 xs))
+numbers_rise {X} test xs = two_passing (λ (a b : ℕ × X). a.0 < b.0) (λ b. test b.1) (zip_from 1 xs) (rise_zipped 1 xs)
+
 -- ---- sorted rows
 
 module _ {X : Type 0} (span : X → Interval) (order : ℕ × X → ℕ × X → Ordering) (puts : PutsByStart (λ x. (span x).start) order) where
@@ -56,11 +73,6 @@ module _ {X : Type 0} (span : X → Interval) (order : ℕ × X → ℕ × X →
   abbrev Ascends : List (ℕ × X) → Type 0
   Ascends [] = Unit {0}
   Ascends (a ∷ rows) = NoneBefore a rows × Ascends rows
-
-  -- and none has a lower number
-  abbrev NumbersRise : List (ℕ × X) → Type 0
-  NumbersRise [] = Unit {0}
-  NumbersRise (a ∷ rows) = AllByRecursion (λ (b : ℕ × X). a.0 < b.0) rows × NumbersRise rows
 
   -- ---- one row more, with a lower number than all
 
@@ -160,29 +172,10 @@ module _ {X : Type 0} (span : X → Interval) (order : ℕ × X → ℕ × X →
 
   -- ---- rows that pass a test
 
-  module _ (test : X → Bool) where
-    above_by : (n m : ℕ) (x : X) (rest : List (ℕ × X)) (t : Bool) → n < m → AllByRecursion (λ (b : ℕ × X). n < b.0) rest
-        → AllByRecursion (λ (b : ℕ × X). n < b.0) (cond t ((m, x) ∷ rest) rest)
-    above_by n m x rest true less each = (less, each)
-    above_by n m x rest false less each = each
-
-    above_zipped : (n m : ℕ) (xs : List X) → n < m → AllByRecursion (λ (b : ℕ × X). n < b.0) (filter (λ b. test b.1) (zip_from m xs))
-    above_zipped n m [] less = tt
-    above_zipped n m (x ∷ xs) less = above_by n m x _ (test x) less (above_zipped n (m + 1) xs (omega arith))
-
-    rise_by : (n : ℕ) (x : X) (rest : List (ℕ × X)) (t : Bool) → AllByRecursion (λ (b : ℕ × X). n < b.0) rest → NumbersRise rest
-        → NumbersRise (cond t ((n, x) ∷ rest) rest)
-    rise_by n x rest true above rise = (above, rise)
-    rise_by n x rest false above rise = rise
-
-    rise_zipped : (n : ℕ) (xs : List X) → NumbersRise (filter (λ b. test b.1) (zip_from n xs))
-    rise_zipped n [] = tt
-    rise_zipped n (x ∷ xs) = rise_by n x _ (test x) (above_zipped n (n + 1) xs (omega arith)) (rise_zipped (n + 1) xs)
-
-    pub spans_in_order : (xs : List X) (spans : List Interval) → map span (filter test xs) ≡ spans → IsByStart spans (spans_by span order test xs)
-    spans_in_order xs spans is =
-        subst (λ l. IsByStart l (spans_by span order test xs)) (zipped_shown span test 1 xs
-        ∙ is) (by_start (filter (λ b. test b.1) (zip_from 1 xs)) (rise_zipped 1 xs))
+  pub spans_in_order : (test : X → Bool) (xs : List X) (spans : List Interval) → map span (filter test xs) ≡ spans → IsByStart spans (spans_by span order test xs)
+  spans_in_order test xs spans is =
+      subst (λ l. IsByStart l (spans_by span order test xs)) (zipped_shown span test 1 xs
+      ∙ is) (by_start (filter (λ b. test b.1) (zip_from 1 xs)) (numbers_rise test xs))
 
 -- ---- near bookings
 
@@ -207,7 +200,7 @@ module _ {X : Type 0} (shown : X → NearBooking) (order : ℕ × X → ℕ × X
   near_starts start [] = refl
   near_starts start (a ∷ rows) = near_kept a _ _ (int_eq (span_of a.1).start start) (near_starts start rows)
 
-  near_by_start : (rows : List (ℕ × X)) → NumbersRise span_of order puts rows → AreByStart (near_of rows) (near_of (sort_by order rows))
+  near_by_start : (rows : List (ℕ × X)) → NumbersRise rows → AreByStart (near_of rows) (near_of (sort_by order rows))
   near_by_start rows rise = record {
     same = IsPermutation-map (λ a. shown a.1) rows (sort_by order rows) (permutation_sorted span_of order puts rows);
     ascend = subst StartsAscend (spans_of_near (sort_by order rows)) (neighbours span_of order puts (sort_by order rows) (ascends_sorted span_of order puts rows rise));
@@ -217,4 +210,4 @@ module _ {X : Type 0} (shown : X → NearBooking) (order : ℕ × X → ℕ × X
   pub near_in_order : (test : X → Bool) (xs : List X) (near : List NearBooking) → map shown (filter test xs) ≡ near → AreByStart near (near_of (rows_by order test xs))
   near_in_order test xs near is =
       subst (λ l. AreByStart l (near_of (rows_by order test xs))) (zipped_shown shown test 1 xs ∙ is)
-      (near_by_start (filter (λ b. test b.1) (zip_from 1 xs)) (rise_zipped span_of order puts test 1 xs))
+      (near_by_start (filter (λ b. test b.1) (zip_from 1 xs)) (numbers_rise test xs))

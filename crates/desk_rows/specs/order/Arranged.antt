@@ -33,6 +33,10 @@ PutsByStart {X} start order = (a b : ℕ × X) → a.0 < b.0 → is_gt (order a 
 abbrev pub spans_by : {X : Type 0} → (X → Interval) → (ℕ × X → ℕ × X → Ordering) → (X → Bool) → List X → List Interval
 spans_by span order test rows = map (λ row. span row.1) (rows_by order test rows)
 
+-- the numbers of the rows that pass the test, in this order
+abbrev pub numbers_by : {X : Type 0} → (ℕ × X → ℕ × X → Ordering) → (X → Bool) → List X → List ℕ
+numbers_by order test rows = map (λ row. row.0) (rows_by order test rows)
+
 abbrev pub booking_span : BookingRow → Interval
 booking_span b = b.booking.span
 
@@ -44,10 +48,14 @@ near_by order test rows = map (λ row. near_shown row.1.booking) (rows_by order 
 abbrev pub is_near_at : List ℕ → ℤ → BookingRow → Bool
 is_near_at gateway start b = stands_near gateway start b.booking
 
--- the uplink is one of the device's in the band, and starts at `from` or later and before `to`
+-- the uplink is one of the device's, and starts at `from` or later and before `to`
+abbrev pub is_uplink_between : List SessionRow → ℕ → ℤ → ℤ → Uplink → Bool
+is_uplink_between sessions dev_eui from to u =
+    option_map_or (is_row_of_device dev_eui) (item_at sessions u.session) false && int_le from (pos u.start) && int_lt (pos u.start) to
+
+-- the same, and it is booked in the band
 abbrev pub is_uplink_of : List SessionRow → ℕ → Band → ℤ → ℤ → Uplink → Bool
-is_uplink_of sessions dev_eui band from to u =
-    (option_map_or (is_row_of_device dev_eui) (item_at sessions u.session) false && int_le from (pos u.start) && int_lt (pos u.start) to) && is_in_band band u
+is_uplink_of sessions dev_eui band from to u = is_uplink_between sessions dev_eui from to u && is_in_band band u
 
 -- ---- by DevEUI
 

@@ -60,6 +60,13 @@ pub record NamesRows (r : Rows) : Type 0 where
 abbrev pub same_join : Session → Session → Bool
 same_join a b = a.device == b.device && a.nonce == b.nonce
 
+-- the number of an uplink and a gateway
+abbrev pub copy_key : CopyRow → ℕ × List ℕ
+copy_key c = (c.uplink, c.gateway)
+
+abbrev pub same_copy : ℕ × List ℕ → ℕ × List ℕ → Bool
+same_copy a b = a.0 == b.0 && bytes_eq a.1 b.1
+
 -- a gateway and a band by its number
 abbrev pub limit_key : LimitRow → List ℕ × ℕ
 limit_key l = (l.gateway, band_number l.limit.band)
@@ -67,14 +74,15 @@ limit_key l = (l.gateway, band_number l.limit.band)
 abbrev pub same_band : List ℕ × ℕ → List ℕ × ℕ → Bool
 same_band a b = bytes_eq a.0 b.0 && a.1 == b.1
 
--- No two senders, owners or gateways have one name, no two devices one DevEUI, no two sessions one device and one nonce,
--- and no two limits one gateway and one band.
+-- No two senders, owners or gateways have one name, no two devices one DevEUI, no two sessions one device and one nonce, no two receptions
+-- one uplink and one gateway, and no two limits one gateway and one band.
 pub record IsKeyed (r : Rows) : Type 0 where
   pub senders : IsDistinct bytes_eq (map (λ (s : SenderRow). s.name) r.senders)
   pub owners : IsDistinct bytes_eq r.owners
   pub gateways : IsDistinct bytes_eq r.gateways
   pub devices : IsDistinct nat_eq (map (λ (d : DeviceRow). d.dev_eui) r.devices)
   pub sessions : IsDistinct same_join (sessions_in r.sessions)
+  pub copies : IsDistinct same_copy (map copy_key r.copies)
   pub limits : IsDistinct same_band (map limit_key r.limits)
 
 -- ---- how many

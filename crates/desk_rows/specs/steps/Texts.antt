@@ -4,7 +4,7 @@ use Rattle.sqlite_value.specs.declared.keys.Collation.TheVariants.{Binary}
 use Rattle.sqlite_value.specs.declared.keys.Key.{Key}
 use Rattle.sqlite_value.specs.declared.value.Value.TheVariants.{Int}
 use Rattle.sqlite_sql.specs.declared.ops.BinaryOp.TheVariants.{Compare}
-use Rattle.sqlite_sql.specs.declared.ops.CompareOp.TheVariants.{Eq, Gt, Lt, Ne}
+use Rattle.sqlite_sql.specs.declared.ops.CompareOp.TheVariants.{Eq, Ge, Gt, Lt, Ne}
 use Rattle.sqlite_sql.specs.Term.{Term, lit, col, op2}
 use Rattle.sqlite_sql.specs.Query.{Query, Join, inner, end}
 use Rattle.sqlite_schema.specs.declared.schema.Schema.{Schema}
@@ -106,9 +106,12 @@ answer_asked = by_rowid 17 (is 2 0 ∷ undropped ∷ []) (lit (Int (pos 1)) ∷ 
 abbrev pub bookings_asked : Asked (17 ∷ [])
 bookings_asked = all_by (17 ∷ []) (is 3 0 ∷ is 6 1 ∷ undropped ∷ []) (col 1 7 ∷ col 1 8 ∷ []) ((col 1 7, rising) ∷ (col 1 0, rising) ∷ [])
 
--- a column is above a parameter, and below one
+-- a column is above a parameter, not below one, and below one
 abbrev pub above : ℕ → ℕ → Term
 above place param = op2 (Compare Gt Binary) (col 1 place) (col 0 param)
+
+abbrev pub at_least : ℕ → ℕ → Term
+at_least place param = op2 (Compare Ge Binary) (col 1 place) (col 0 param)
 
 abbrev pub below : ℕ → ℕ → Term
 below place param = op2 (Compare Lt Binary) (col 1 place) (col 0 param)
@@ -116,6 +119,25 @@ below place param = op2 (Compare Lt Binary) (col 1 place) (col 0 param)
 -- start, airtime and band of a gateway's bookings between two starts that aren't dropped, by start and then by number
 abbrev pub near_asked : Asked (17 ∷ [])
 near_asked = all_by (17 ∷ []) (is 3 0 ∷ above 7 1 ∷ below 7 2 ∷ undropped ∷ []) (col 1 7 ∷ col 1 8 ∷ col 1 6 ∷ []) ((col 1 7, rising) ∷ (col 1 0, rising) ∷ [])
+
+-- the numbers of a gateway's bookings that start at a parameter or later and before another, by start and then by number
+abbrev pub between_asked : Asked (17 ∷ [])
+between_asked = all_by (17 ∷ []) (is 3 0 ∷ at_least 7 1 ∷ below 7 2 ∷ []) (col 1 0 ∷ []) ((col 1 7, rising) ∷ (col 1 0, rising) ∷ [])
+
+-- two columns, or a column and a parameter, are equal
+abbrev pub equal : Term → Term → Term
+equal a b = op2 (Compare Eq Binary) a b
+
+-- Of each session with the device in a parameter, and each uplink that names it and starts at a parameter or later and before another: these
+-- columns of those that pass more tests, by start and then by number.
+abbrev pub uplinks_asked : List Term → List Term → Asked (11 ∷ 13 ∷ [])
+uplinks_asked more project = all_by (11 ∷ 13 ∷ []) (equal (col 2 2) (col 1 0) ∷ equal (col 1 2) (col 0 0)
+    ∷ op2 (Compare Ge Binary) (col 2 6) (col 0 1) ∷ op2 (Compare Lt Binary) (col 2 6) (col 0 2) ∷ more)
+    project ((col 2 6, rising) ∷ (col 2 0, rising) ∷ [])
+
+-- the numbers of a device's uplinks in a range of starts
+abbrev pub uplinks_between_asked : Asked (11 ∷ 13 ∷ [])
+uplinks_between_asked = uplinks_asked [] (col 2 0 ∷ [])
 
 -- both texts of the message with a sender and a transaction number
 abbrev pub reply_asked : Asked (3 ∷ [])
@@ -133,9 +155,17 @@ role_asked = by_rowid 1 (is 1 0 ∷ []) (col 1 2 ∷ [])
 abbrev pub device_after_asked : Asked (9 ∷ [])
 device_after_asked = record { terms = is 3 0 ∷ above 1 1 ∷ []; project = col 1 1 ∷ []; order = (col 1 1, rising) ∷ (col 1 0, rising) ∷ []; one = true }
 
--- the first column of all rows, in its order and then by rowid
+-- a column of the rows that pass, in its order and then by rowid
+abbrev pub column_asked : (tree : ℕ) → List Term → ℕ → Asked (tree ∷ [])
+column_asked tree terms place = all_by (tree ∷ []) terms (col 1 place ∷ []) ((col 1 place, rising) ∷ (col 1 0, rising) ∷ [])
+
+-- the first column of all rows
 abbrev pub all_asked : (tree : ℕ) → Asked (tree ∷ [])
-all_asked tree = all_by (tree ∷ []) [] (col 1 1 ∷ []) ((col 1 1, rising) ∷ (col 1 0, rising) ∷ [])
+all_asked tree = column_asked tree [] 1
+
+-- the gateways of an uplink's receptions
+abbrev pub gateways_asked : Asked (15 ∷ [])
+gateways_asked = column_asked 15 (is 1 0 ∷ []) 2
 
 -- ---- texts of INSERT and UPDATE
 

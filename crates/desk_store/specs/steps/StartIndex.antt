@@ -1,10 +1,11 @@
 -- Items that are found by a key, ordered by start: an index returns what a search of all items would.
-use Rattle.std.specs.Prelude.{◌≡◌, ℕ, ◌+◌, ◌&&◌, ℤ, pos, ◌+ℤ◌, ◌-ℤ◌, int_le, int_lt, Bool, List, [], ◌∷◌, Option, Some, None, if◌then◌else◌}
+use Rattle.std.specs.Prelude.{◌≡◌, ℕ, ◌+◌, ◌&&◌, ℤ, pos, ◌+ℤ◌, ◌-ℤ◌, int_le, int_lt, Bool, List, [], ◌∷◌, Option, Some, None, option_and_then, if◌then◌else◌}
 use Rattle.std.specs.List.{filter_map}
 use Rattle.std.specs.Option.{option_map_or}
 use Rattle.indexmap.specs.IndexMap.{get}
 use Rattle.duty_core.specs.Near.{greatest_length}
 use Rattle.duty_core.specs.Use.{hour}
+use Rattle.registry_core.specs.Numbered.{item_at}
 use Rattle.desk_store.specs.declared.start_index.Place.{Place}
 use Rattle.desk_store.specs.declared.start_index.StartIndex.{StartIndex}
 use Rattle.desk_store.specs.steps.ByKey.{in_order}
@@ -18,6 +19,10 @@ module _ {X : Type 0} (start : X → ℤ) where
   -- the place of an item with its number, if it passes the test
   abbrev pub place_of : (X → Bool) → ℕ × X → Option Place
   place_of test n = if test n.1 then Some (record { start = start n.1; number = n.0 }) else None
+
+  -- the place of the item with this number, if it passes the test
+  abbrev pub place_at : (X → Bool) → List X → ℕ → Option Place
+  place_at test items number = option_and_then (λ (item : X). place_of test (number, item)) (item_at items number)
 
   -- the places of the items that pass the test, ordered by start, and those that start together by number
   abbrev pub places_that : (X → Bool) → List X → List Place

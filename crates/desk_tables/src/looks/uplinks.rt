@@ -4,17 +4,19 @@ ghost use Rattle.sqlite.specs.Held.{state};
 ghost use Rattle.registry_core.specs.declared.facts.Kind.TheVariants.{Join};
 ghost use Rattle.registry_core.specs.Bookings.{is_answered};
 ghost use Rattle.registry_core.specs.Derived.{join_with};
+ghost use Rattle.registry_core.specs.Listing.{AreNames, has_reception};
 ghost use Rattle.registry_core.specs.Numbered.{first_that, item_at};
 ghost use Rattle.desk_rows.specs.Calls.{Reads};
 ghost use Rattle.desk_rows.specs.Rows.{is_uplink};
 ghost use Rattle.desk_tables.specs.steps.Calls.{Asks};
 ghost use Rattle.desk_tables.specs.steps.LookUps.{OfKept};
 
-use desk_rows::order::look_ups_tell;
+use desk_rows::order::{listed_rows_tell, look_ups_tell};
 use desk_rows::{RowFault, session_with, uplink_with};
 use radio_core::{Eui, Name};
 use registry_core::{Booking, Kind, Reception, Uplink, Whole};
 use sqlite::{Alter, Connection};
+use std::alloc::Global;
 
 /// Returns the number of the session that has the join uplink of the device with this nonce.
 fn session_joined<S: Alter>(
@@ -88,6 +90,22 @@ pub(crate) fn copy_at<S: Alter>(
     match Whole::new(uplink) {
         Some(uplink) => desk_rows::copy_at(conn, uplink, gateway),
         None => Ok(None),
+    }
+}
+
+/// Returns the names of the gateways that reported a reception of the uplink, ordered by their octets.
+pub(crate) fn gateways_of<S: Alter>(
+    alloc: Global,
+    conn: &mut Connection<S>,
+    uplink: u64,
+) -> Result<Vec<Name>, RowFault>
+    ensures { Reads (state S.Store conn.old) (state S.Store conn.new) result
+        (OfKept (λ kept names. AreNames (has_reception kept.facts uplink) names.items)) }
+{
+    listed_rows_tell();
+    match Whole::new(uplink) {
+        Some(uplink) => desk_rows::gateways_of(alloc, conn, uplink),
+        None => Ok(Vec::new(alloc)),
     }
 }
 

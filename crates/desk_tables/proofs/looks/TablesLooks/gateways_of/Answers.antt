@@ -1,0 +1,6 @@
+-- By hand: the search doesn't find that the look-up only reads.
+use Rattle.desk_tables.proofs.LookUps.{answered_by_rows}
+use Rattle.desk_tables.proofs.looks.TablesLooks.gateways_of.Goals as goal
+
+pub returns-clause-read : goal.returns-clause-read
+returns-clause-read g c = answered_by_rows _ _ _ _ _ _ _ c.if-self.false c.gateways_of-answer.ensures c.tell.ensures
