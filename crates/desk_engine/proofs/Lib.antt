@@ -23,6 +23,7 @@ pub mod OwnTexts
 pub mod OwnerLines
 pub mod Places
 pub mod Readings
+pub mod Receptions
 pub mod RepeatedTexts
 pub mod Replies
 pub mod ReportLaw

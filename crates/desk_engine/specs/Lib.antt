@@ -7,6 +7,7 @@ pub mod Laws
 pub mod Lines
 pub mod Listing
 pub mod Log
+pub mod MonthReports
 pub mod Months
 pub mod Outcomes
 pub mod Repeats

@@ -4,5 +4,6 @@ pub mod Hearing
 pub mod Lines
 pub mod Listing
 pub mod Logs
+pub mod MonthReports
 pub mod Rooms
 pub mod Uses

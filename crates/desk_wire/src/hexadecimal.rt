@@ -82,8 +82,12 @@ pub fn addr_of(text: &str) -> Option<DevAddr>
 }
 
 /// Returns the text of octets: two digits for each, in lower case.
+///
+/// # Errors
+///
+/// Returns `AllocError` if an allocation failed.
 #[tactic(auto, unfolding(crate::specs::Hexadecimal::octet_digits))]
-pub(crate) fn octet_digits(alloc: Global, octets: &[u8]) -> Result<String, AllocError>
+pub fn octet_digits(alloc: Global, octets: &[u8]) -> Result<String, AllocError>
     ensures { IfOk result (λ text. string_bytes text ≡ octet_digits octets.now) }
 {
     hex::encode(alloc, octets)

@@ -29,7 +29,7 @@ pub use csv_reports::{LONGEST_REPORT, read_report};
 pub use decimals::{count_of, decimal_of};
 pub use faults::WireFault;
 pub use heads::{Head, head_of};
-pub use hexadecimal::{addr_digits, addr_of, eui_digits, eui_of_digits};
+pub use hexadecimal::{addr_digits, addr_of, eui_digits, eui_of_digits, octet_digits};
 pub use reading::read_message;
 pub use roles::role_name;
 pub use type_names::TypeName;
