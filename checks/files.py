@@ -35,7 +35,14 @@ ANSWERS = "".join((EXAMPLES / "day.txt").read_text().splitlines(keepends=True)[:
 REPORT = (EXAMPLES / "evening-report.csv").read_text()
 HEADER = REPORT.splitlines(keepends=True)[0]
 # commands that print a report or a list, without FILE
-READING = [["report", "town", "2024-02"], ["bands", "gw-a"], ["list", "owners"], ["device", "0004a30b001a2b3c"]]
+READING = [
+    ["report", "town", "2024-02"],
+    ["bands", "gw-a"],
+    ["list", "owners"],
+    ["device", "0004a30b001a2b3c"],
+    ["receptions", "0004a30b001a2b3c", "2024-02"],
+    ["downlinks", "gw-a", "2024-02"],
+]
 LIMIT = '{"ProtocolVersion":"1.0","SenderID":"office","ReceiverID":"desk","TransactionID":6,"MessageType":"LimitSet","Gateway":"gw-a","Band":"B1","Limit":0}\n'
 LIMIT_ANSWER = '{"MessageType":"LimitSetAns","ProtocolVersion":"1.0","ReceiverID":"office","Result":{"Description":"","ResultCode":"Success"},"SenderID":"desk","TransactionID":6}\n'
 REFUSED_SENDER = '"ResultCode":"UnknownSender"'
@@ -332,6 +339,9 @@ def responses(desk):
         (get("/v1/owners"), b"200", "owner,devices\n"),
         (get("/v1/devices/0004a30b001a2b3c"), b"404", "device\n"),
         (get("/v1/devices/"), b"404", "route\n"),
+        (get("/v1/receptions/0004a30b001a2b3c/2024-02"), b"404", "device\n"),
+        (get("/v1/downlinks/gw-z/2024-02"), b"404", "gateway\n"),
+        (get("/v1/downlinks/gw-z/2024-13"), b"400", "time\n"),
         (get("/v1/answers/1"), b"200", answer + "\n"),
         (get("/v1/log/02"), b"200", ""),
         (get("/v1/log/0"), b"400", "number\n"),
@@ -407,6 +417,8 @@ def smaller_pages(desk):
         (["bands", "gw-a"], ""),
         (["list", "devices"], ""),
         (["device", "0004a30b001a2b3c"], ""),
+        (["receptions", "0004a30b001a2b3c", "2024-02"], ""),
+        (["downlinks", "gw-a", "2024-02"], ""),
         (["check"], ""),
         (["audit"], ""),
         (["log"], ""),

@@ -1,11 +1,11 @@
 #!/usr/bin/env python3
-"""Compares the lists of a desk, and each of its devices, with what a plain Python program computes.
+"""Compares the lists of a desk, its devices, their receptions and the downlinks of gateways with what a plain Python program computes.
 
     checks/lists.py [--program FILE] [--messages 20000] [--questions 40] [--seed 1]
 
 A desk serves a new file, and a client posts messages of mixed operation (mixed_operation.py). The plain program
-(bench/dictionaries.py) hears each of them too. At random moments between two messages the client asks for the four lists and for some devices, there
-and not there. Each response has to be the text that follows from the plain program's own tables at that moment. Some are asked for by
+(bench/dictionaries.py) hears each of them too. At random moments between two messages the client asks for the four lists, for some devices and
+their receptions of a month, and for downlinks of gateways in a month, there and not there. Each response has to be the text that follows from the plain program's own tables at that moment. Some are asked for by
 curl. At the end the commands print the same from the file at rest, and end with the statuses that they should. The program is `./desk`,
 which is proved and built first if it isn't current, or with --program the built one in FILE.
 """
@@ -15,6 +15,7 @@ import random
 import subprocess
 import sys
 import tempfile
+from datetime import datetime, timezone
 from pathlib import Path
 
 from common import add_program, ready, text_of, wants
@@ -22,10 +23,15 @@ from http_client import asked, body, free_port, get, post
 from mixed_operation import NO_MESSAGE, mixed_operation
 
 sys.path.insert(0, str(Path(__file__).resolve().parent.parent / "bench"))
-from dictionaries import BANDS, BASE  # noqa: E402
+from dictionaries import BANDS, BASE, BOOKED, DROPPED, SENT  # noqa: E402
 
 LISTS = ["senders", "owners", "gateways", "devices"]
 DEVICES_PRINTED = 20
+STATES = {BOOKED: "booked", SENT: "sent", DROPPED: "dropped"}
+RECEPTION_FIELDS = "uplink,session,kind,counter,gateway,end_us,freq_hz,dr,start_us,airtime_us,band,phy"
+DOWNLINK_FIELDS = "booking,uplink,kind,band,start_us,airtime_us,state"
+# a month in which nothing is heard
+EMPTY_MONTH = "2099-12"
 DEVICE_FIELDS = "dev_eui,join_eui,owner,sessions,dev_addr,last_nonce,last_counter,next_downlink_counter,last_start_us"
 
 
@@ -89,6 +95,48 @@ def devices(desk):
     return text_of([DEVICE_FIELDS, *device_lines(desk).values()])
 
 
+def month_of(time):
+    return f"{datetime.fromtimestamp(time // 1_000_000, timezone.utc):%Y-%m}"
+
+
+def uplinks_of(desk, name):
+    return [uplink for uplink in desk.uplinks if desk.sessions[uplink["session"] - 1]["device"] == name]
+
+
+def reception_lines(uplink, counter):
+    for gateway, (end, frequency, rate) in sorted(uplink["copies"].items()):
+        yield line_of(
+            *(uplink["number"], uplink["session"], uplink["kind"], counter),
+            *(gateway, end, frequency, rate),
+            *(start_of(uplink), uplink["airtime"], uplink["band"], uplink["octets"].hex()),
+        )
+
+
+def receptions(desk, name, month):
+    counters = {uplink["number"]: counter for known in (desk.joins, desk.frames) for (_, counter), uplink in known.items()}
+    heard = [uplink for uplink in uplinks_of(desk, name) if month_of(start_of(uplink)) == month]
+    heard.sort(key=lambda uplink: (start_of(uplink), uplink["number"]))
+    return text_of([RECEPTION_FIELDS, *(line for uplink in heard for line in reception_lines(uplink, counters[uplink["number"]]))])
+
+
+def downlink_line(number, booking):
+    uplink, start = booking["uplink"], booking["start"]
+    return line_of(number, uplink["number"], uplink["kind"], booking["band"], start, booking["end"] - start, STATES[booking["state"]])
+
+
+def downlinks(desk, gateway, month):
+    booked = [number for start, number in sorted(desk.starts.get(gateway, [])) if month_of(start) == month]
+    return text_of([DOWNLINK_FIELDS, *(downlink_line(number, desk.bookings[number - 1]) for number in booked)])
+
+
+def months_of_device(desk, name):
+    return sorted({month_of(start_of(uplink)) for uplink in uplinks_of(desk, name)})
+
+
+def months_of_gateway(desk, name):
+    return sorted({month_of(start) for start, _ in desk.starts.get(name, [])})
+
+
 TEXTS = {"senders": senders, "owners": owners, "gateways": gateways, "devices": devices}
 
 
@@ -113,18 +161,42 @@ def compares(what, given, wanted):
     wants(given == wanted, f"{what} is\n{given}\nand not\n{wanted}")
 
 
+def some(chosen, items, most):
+    return chosen.sample(items, min(most, len(items)))
+
+
 def asks(desk, port, chosen, ask):
-    """Asks for each list, a device, one in upper case, one that isn't there and two texts that are none's. Returns how many were asked for."""
+    """Asks for each list, a device, one in upper case, one that isn't there, two texts that are none's, and months. Returns how many were asked for."""
     for name in LISTS:
         compares(f"/v1/{name}", ask(port, f"/v1/{name}"), (200, TEXTS[name](desk)))
     lines = device_lines(desk)
-    names = chosen.sample(sorted(lines), min(2, len(lines)))
+    names = some(chosen, sorted(lines), 2)
     for name, text in [*zip(names, names), *((name, name.upper()) for name in names[:1])]:
         compares(f"device {text}", ask(port, f"/v1/devices/{text}"), (200, text_of([DEVICE_FIELDS, lines[name]])))
     others = ["ffffffffffffffff", "0004a30b001a000", "0x0004a30b001a0000"]
     for text in others:
         compares(f"device {text}", ask(port, f"/v1/devices/{text}"), (404, "device\n"))
-    return len(LISTS) + len(names) + len(names[:1]) + len(others)
+    return len(LISTS) + len(names) + len(names[:1]) + len(others) + asks_for_months(desk, port, chosen, ask, names)
+
+
+def asks_for_months(desk, port, chosen, ask, names):
+    """Asks for a month of each device and of some gateways, and for an empty one; and for what there isn't."""
+    targets = {
+        "receptions/ffffffffffffffff/2024-13": (400, "time\n"),
+        "receptions/ffffffffffffffff/2024-02": (404, "device\n"),
+        "receptions/town/2024-02": (404, "device\n"),
+        "downlinks/town/2024-2": (400, "time\n"),
+        "downlinks/town/2024-02": (404, "gateway\n"),
+    }
+    for name in names:
+        for month in [*some(chosen, months_of_device(desk, name), 1), EMPTY_MONTH]:
+            targets[f"receptions/{name}/{month}"] = 200, receptions(desk, name, month)
+    for name in some(chosen, sorted(desk.gateways), 2):
+        for month in [*some(chosen, months_of_gateway(desk, name), 1), EMPTY_MONTH]:
+            targets[f"downlinks/{name}/{month}"] = 200, downlinks(desk, name, month)
+    for target, wanted in targets.items():
+        compares(target, ask(port, f"/v1/{target}"), wanted)
+    return len(targets)
 
 
 def printed(program, *words):
@@ -137,12 +209,27 @@ def prints(program, file, desk, chosen):
     for name in LISTS:
         compares(f"desk list {name}", printed(program, "list", file, name), (0, TEXTS[name](desk), ""))
     lines = device_lines(desk)
-    for name in chosen.sample(sorted(lines), min(DEVICES_PRINTED, len(lines))):
+    names = some(chosen, sorted(lines), DEVICES_PRINTED)
+    for name in names:
         compares(f"desk device {name}", printed(program, "device", file, name), (0, text_of([DEVICE_FIELDS, lines[name]]), ""))
     for text in ["ffffffffffffffff", "1", "town"]:
         compares(f"desk device {text}", printed(program, "device", file, text), (1, "", "desk: device\n"))
-    for words in [("list", file), ("list", file, "sessions"), ("device", file)]:
+    prints_months(program, file, desk, names)
+    for words in [("list", file), ("list", file, "sessions"), ("device", file), ("receptions", file, "2024-02"), ("downlinks", file, "gw-1")]:
         wants(printed(program, *words)[0] == 2, f"{words} doesn't end with status 2")
+
+
+def prints_months(program, file, desk, names):
+    for name in names:
+        for month in [*months_of_device(desk, name), EMPTY_MONTH]:
+            compares(f"desk receptions {name} {month}", printed(program, "receptions", file, name, month), (0, receptions(desk, name, month), ""))
+    for name in sorted(desk.gateways):
+        for month in [*months_of_gateway(desk, name), EMPTY_MONTH]:
+            compares(f"desk downlinks {name} {month}", printed(program, "downlinks", file, name, month), (0, downlinks(desk, name, month), ""))
+    for what in ["receptions", "downlinks"]:
+        compares(f"desk {what} town 2024-13", printed(program, what, file, "town", "2024-13"), (1, "", "desk: month\n"))
+    compares("desk receptions town 2024-02", printed(program, "receptions", file, "town", "2024-02"), (1, "", "desk: device\n"))
+    compares("desk downlinks town 2024-02", printed(program, "downlinks", file, "town", "2024-02"), (1, "", "desk: gateway\n"))
 
 
 def main():
@@ -172,6 +259,8 @@ def main():
             count += asks(desk, port, chosen, by_curl)
             refused = asked(port, b"POST /v1/devices HTTP/1.1\r\nhost: a\r\ncontent-length: 0\r\n\r\n")
             wants(refused.startswith(b"HTTP/1.1 405 ") and b"allow: GET\r\n" in refused, f"a POST gets\n{refused}")
+            refused = asked(port, b"DELETE /v1/downlinks/gw-1/2024-02 HTTP/1.1\r\nhost: a\r\n\r\n")
+            wants(refused.startswith(b"HTTP/1.1 405 ") and b"allow: GET\r\n" in refused, f"a DELETE gets\n{refused}")
         finally:
             serving.kill()
             serving.wait()

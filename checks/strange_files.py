@@ -5,9 +5,9 @@
 
 A text, a file of zeros, somebody's database, and a desk's file: of version 7, of schema 1, with the tables of the one
 schema and the version of the other, without its row of meta, with a bad name in it, with a table more, and of version
-7 with a table more. `desk check`, `audit`, `hear`, `import`, `report`, `bands`, `list`, `device` and `serve` get each of
-them. The port of `serve` is taken, so that it would report that if it bound the port before it has opened the file. An empty file is refused
-too, and is a database without tables then. `desk init` makes no desk in somebody's database, whether or not an index or
+7 with a table more. `desk check`, `audit`, `hear`, `import`, `report`, `bands`, `list`, `device`, `receptions`,
+`downlinks` and `serve` get each of them. The port of `serve` is taken, so that it would report that if it bound the port before it has
+opened the file. An empty file is refused too, and is a database without tables then. `desk init` makes no desk in somebody's database, whether or not an index or
 a view of it has a name of the desk's, in other letters.
 
 Then a desk's file with one value out of its range, in the columns that messages and reports read: a message or a
@@ -78,6 +78,8 @@ COMMANDS = [
     ["bands", "town.db", "gw-a"],
     ["list", "town.db", "senders"],
     ["device", "town.db", "0004a30b001a2b3c"],
+    ["receptions", "town.db", "0004a30b001a2b3c", "2024-02"],
+    ["downlinks", "town.db", "gw-a", "2024-02"],
 ]
 
 

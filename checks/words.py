@@ -32,21 +32,23 @@ A LoRaWAN device registry and airtime desk
 Usage: desk [COMMAND]
 
 Commands:
-  lines    Answers the messages of standard input, one a line, for a new desk in memory
-  init     Makes a file for a new desk
-  migrate  Moves a desk's file from schema 1 to schema 2
-  hear     Answers the messages of standard input, one a line, for the desk in a file
-  import   Answers the records of a gateway's CSV report on standard input, one a line
-  serve    Serves messages, reports and the log over HTTP on 127.0.0.1
-  report   Prints the report of an owner's month
-  bands    Prints the bands of a gateway
-  room     Prints how long a downlink of a gateway may be that begins at a time
-  list     Prints the senders, the owners, the gateways or the devices of a desk
-  device   Prints one device: its owner, its latest session and its counters
-  log      Prints the messages that the desk has heard, or their answers, one a line
-  check    Prints what a desk's file was made with, and how much it holds
-  audit    Checks that a desk's file has exactly the rows that its messages make
-  help     Print this message or the help of the given subcommand(s)
+  lines       Answers the messages of standard input, one a line, for a new desk in memory
+  init        Makes a file for a new desk
+  migrate     Moves a desk's file from schema 1 to schema 2
+  hear        Answers the messages of standard input, one a line, for the desk in a file
+  import      Answers the records of a gateway's CSV report on standard input, one a line
+  serve       Serves messages, reports and the log over HTTP on 127.0.0.1
+  report      Prints the report of an owner's month
+  bands       Prints the bands of a gateway
+  room        Prints how long a downlink of a gateway may be that begins at a time
+  list        Prints the senders, the owners, the gateways or the devices of a desk
+  device      Prints one device: its owner, its latest session and its counters
+  receptions  Prints the receptions of a device in a month
+  downlinks   Prints the downlinks of a gateway in a month
+  log         Prints the messages that the desk has heard, or their answers, one a line
+  check       Prints what a desk's file was made with, and how much it holds
+  audit       Checks that a desk's file has exactly the rows that its messages make
+  help        Print this message or the help of the given subcommand(s)
 
 Options:
       --version  Prints which desk this is
@@ -232,6 +234,38 @@ Options:
 Example:
   desk device town.db 0004a30b001a2b3c
 """,
+    "receptions --help": """\
+Prints the receptions of a device in a month
+
+Usage: desk receptions <FILE> <DEVEUI> <MONTH>
+
+Arguments:
+  <FILE>    The desk's file
+  <DEVEUI>  The device's DevEUI
+  <MONTH>   The month, as 2024-02
+
+Options:
+  -h, --help  Print help
+
+Example:
+  desk receptions town.db 0004a30b001a2b3c 2024-02
+""",
+    "downlinks --help": """\
+Prints the downlinks of a gateway in a month
+
+Usage: desk downlinks <FILE> <GATEWAY> <MONTH>
+
+Arguments:
+  <FILE>     The desk's file
+  <GATEWAY>  The gateway
+  <MONTH>    The month, as 2024-02
+
+Options:
+  -h, --help  Print help
+
+Example:
+  desk downlinks town.db gw-a 2024-02
+""",
     "log --help": """\
 Prints the messages that the desk has heard, or their answers, one a line
 
@@ -322,6 +356,11 @@ TAKEN = [
     "list -- -a devices",
     "device town.db 0004a30b001a2b3c",
     "device town.db x",
+    "receptions town.db 0004a30b001a2b3c 2024-02",
+    "receptions town.db x y",
+    "downlinks town.db gw-a 2024-02",
+    "downlinks 2024-02 town.db gw-a",
+    "downlinks -- -a --b -c",
     "log town.db",
     "log --answers town.db --from 1",
     "log --count=9007199254740991 town.db --from=0000000000000001",
@@ -366,6 +405,8 @@ REFUSED = {
         "room town.db gw-a",
         "list town.db",
         "device town.db",
+        "receptions town.db 0004a30b001a2b3c",
+        "downlinks town.db gw-a",
         "log --from 1",
         "check",
         "audit",
@@ -385,6 +426,8 @@ REFUSED = {
         "room town.db gw-a 1 x",
         "list town.db owners devices",
         "device town.db 0004a30b001a2b3c x",
+        "receptions town.db 0004a30b001a2b3c 2024-02 x",
+        "downlinks town.db gw-a 2024-02 x",
         "log town.db 9",
         "check town.db x",
         "audit a b",

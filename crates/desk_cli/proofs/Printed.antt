@@ -13,13 +13,13 @@ use Rattle.desk_engine.specs.declared.report_faults.ReportFault.TheVariants.{Mon
 use Rattle.desk_engine.specs.declared.lists.ListOf.{ListOf}
 use Rattle.desk_engine.specs.Listing.{IsDeviceAnswer, IsDeviceFault, IsList, IsListAnswer, IsListFault, device_text, is_device}
 use Rattle.desk_engine.specs.Months.{IsMonth}
-use Rattle.desk_engine.specs.Reporting.{IsGatewayFault, IsOwnerFault, store_fault_in}
-use Rattle.desk_engine.specs.Reports.{IsBandReport, IsOwnerReport, is_gateway, is_owner}
+use Rattle.desk_engine.specs.Reporting.{IsGatewayFault, store_fault_in}
+use Rattle.desk_engine.specs.Reports.{IsBandReport, is_gateway}
 use Rattle.desk_engine.specs.Rooms.{IsRoomReport, time_in}
-use Rattle.desk_http.specs.Reports.{IsBandAnswer}
+use Rattle.desk_http.specs.Reports.{IsBandAnswer, IsMonthAnswer}
 use Rattle.desk_cli.proofs.Opened.{err}
 use Rattle.desk_cli.specs.Faults.{fault_of_report}
-use Rattle.desk_cli.specs.Printing.{IsGatewaysRoom, IsOwnersMonth, PrintsAnswer, PrintsBy, RefusesMonth, RefusesTime}
+use Rattle.desk_cli.specs.Printing.{IsGatewaysRoom, IsOfMonth, PrintsAnswer, PrintsBy, RefusesMonth, RefusesTime}
 use Rattle.desk_cli.specs.steps.Printing.{IsPrinted, shown, unasked}
 use Rattle.desk_cli.specs.declared.faults.Fault.{Fault}
 use Rattle.desk_cli.specs.declared.faults.Fault.TheVariants as told
@@ -32,22 +32,23 @@ is_no_fault text is = subst IsText is tt
     IsText (Ok text) = Unit {0}
     IsText (Err why) = ⊥
 
-module _ {X : Type 0} (octets : X → List ℕ) (s : State) where
-  pub owners_month : (owner month : List ℕ) (r : Result X ReportFault) → (r ≡ Err Month) ↔ ((from to : ℤ) → ¬ (IsMonth month from to))
-      → OnOk r (IsTrue (is_owner s owner))
-      → ((from to : ℤ) → IsMonth month from to → IfOk r (λ text. IsOwnerReport s owner from to (octets text)))
-      → ((from to : ℤ) → IsMonth month from to → IfErr r (IsOwnerFault s owner)) → IsOwnersMonth s owner month (shown octets r)
-  owners_month owner month (Ok text) refused known report fault = record {
+module _ {X : Type 0} (octets : X → List ℕ) (month : List ℕ) (IsKnown : Type 0) (IsReport : ℤ → ℤ → List ℕ → Type 0) (IsFault : ReportFault → Type 0) where
+  pub of_month : (r : Result X ReportFault) → (r ≡ Err Month) ↔ ((from to : ℤ) → ¬ (IsMonth month from to))
+      → OnOk r IsKnown
+      → ((from to : ℤ) → IsMonth month from to → IfOk r (λ text. IsReport from to (octets text)))
+      → ((from to : ℤ) → IsMonth month from to → IfErr r IsFault) → IsOfMonth month (IsMonthAnswer month IsKnown IsReport IsFault) (shown octets r)
+  of_month (Ok text) refused known report fault = record {
     answer_is = record { known = known; report = report; fault = fault };
     bad_month = λ is. absurd (is_no_fault (octets text) is);
     no_month = λ none. absurd (is_no_fault text (refused.1 none));
   }
-  owners_month owner month (Err why) refused known report fault = record {
+  of_month (Err why) refused known report fault = record {
     answer_is = record { known = known; report = report; fault = fault };
     bad_month = λ is. let same : why ≡ Month = cc in refused.0 (ap Err same);
     no_month = λ none. subst (λ (r : Result X ReportFault). RefusesMonth (shown octets r)) (sym (refused.1 none)) tt;
   }
 
+module _ {X : Type 0} (octets : X → List ℕ) (s : State) where
   pub gateways_room : (gateway time : List ℕ) (r : Result X ReportFault) → (r ≡ Err Time) ↔ (time_in time ≡ None)
       → OnOk r (IsTrue (is_gateway s gateway))
       → ((at : ℕ) → time_in time ≡ Some at → IfOk r (λ text. IsRoomReport s gateway at (octets text)))

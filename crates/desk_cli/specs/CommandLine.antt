@@ -14,6 +14,7 @@ use Rattle.desk_cli.specs.commands.Lines.{lines_app, lines_named}
 use Rattle.desk_cli.specs.commands.Listing.{device_app, device_named, list_app, list_named}
 use Rattle.desk_cli.specs.commands.Log.{log_app, log_named}
 use Rattle.desk_cli.specs.commands.Migrating.{migrate_app, migrate_named}
+use Rattle.desk_cli.specs.commands.MonthReports.{downlinks_app, downlinks_named, receptions_app, receptions_named}
 use Rattle.desk_cli.specs.commands.Reports.{bands_app, bands_named, report_app, report_named, room_app, room_named}
 use Rattle.desk_cli.specs.commands.Serving.{serve_app, serve_named}
 use Rattle.desk_cli.specs.Named.{Named, names, refused, version}
@@ -36,13 +37,15 @@ with_readers app =
 -- the command line
 abbrev pub desk_app : App
 desk_app =
-    with_subcommand (with_subcommand (with_subcommand (with_subcommand (with_subcommand (with_subcommand (with_subcommand (with_subcommand (with_subcommand (with_readers top_app)
+    with_subcommand (with_subcommand (with_subcommand (with_subcommand (with_subcommand (with_subcommand (with_subcommand (with_subcommand (with_subcommand (with_subcommand (with_subcommand (with_readers top_app)
     serve_app.top)
     report_app.top)
     bands_app.top)
     room_app.top)
     list_app.top)
     device_app.top)
+    receptions_app.top)
+    downlinks_app.top)
     log_app.top)
     check_app.top)
     audit_app.top
@@ -61,6 +64,8 @@ named_with name rows =
     else if bytes_eq name (codes "room") then room_named rows
     else if bytes_eq name (codes "list") then list_named rows
     else if bytes_eq name (codes "device") then device_named rows
+    else if bytes_eq name (codes "receptions") then receptions_named rows
+    else if bytes_eq name (codes "downlinks") then downlinks_named rows
     else if bytes_eq name (codes "log") then log_named rows
     else if bytes_eq name (codes "check") then check_named rows
     else if bytes_eq name (codes "audit") then audit_named rows

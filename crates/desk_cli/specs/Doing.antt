@@ -8,14 +8,15 @@ use Rattle.sqlite_trees.specs.declared.store.Store.{Ghosts}
 use Rattle.registry_core.specs.declared.messages.Envelope.{Envelope}
 use Rattle.registry_core.specs.Heard.{state_of}
 use Rattle.registry_core.specs.Settings.{Settings}
+use Rattle.desk_engine.specs.declared.report_faults.ReportFault.{ReportFault}
 use Rattle.desk_engine.specs.Listing.{IsDeviceAnswer, IsListAnswer}
 use Rattle.desk_engine.specs.Log.{log_of}
 use Rattle.desk_http.specs.Reports.{IsBandAnswer}
 use Rattle.desk_cli.specs.Ports.{AtPorts}
-use Rattle.desk_cli.specs.Named.{Asked, version, lines, init, migrate, hear, import, serve, report, bands, room, list, device, log, check, audit}
+use Rattle.desk_cli.specs.Named.{Asked, version, lines, init, migrate, hear, import, serve, report, bands, room, list, device, receptions, downlinks, log, check, audit}
 use Rattle.desk_cli.specs.NoDesk.{HoldsNoDesk, RefusesFile}
 use Rattle.desk_cli.specs.OnTables.{IsLeft, KeepsHeard, LeavesRules}
-use Rattle.desk_cli.specs.Printing.{IsGatewaysRoom, IsOwnersMonth, PrintsBy}
+use Rattle.desk_cli.specs.Printing.{IsDevicesMonth, IsGatewaysMonth, IsGatewaysRoom, IsOwnersMonth, PrintsBy}
 use Rattle.desk_cli.specs.commands.Auditing.{AuditsBy}
 use Rattle.desk_cli.specs.commands.Checking.{IsCheck}
 use Rattle.desk_cli.specs.commands.Hear.{HearsBy}
@@ -80,6 +81,13 @@ OnAuditedByRules g paths given_back result file Untouched Does =
 -- `paths` is what is known of files, `ports` what is answered at the ports, with a log of their connections or without. `given_back` is the
 -- connection that a run returns, `left` and `rest` what is left to read before and after, `before` and `after` what was written by then.
 module _ {S T : Type 0} (g : Ghosts S) (paths : AtPaths S) (ports : Bool → AtPorts) (given_back : Option (Held S)) (left rest before after : Option (List ℕ)) (result : Result T Fault) where
+  -- a report was printed that is this of the configuration and log of the desk in the file
+  abbrev PrintsReport : Text → (Settings → List Envelope → Result (List ℕ) ReportFault → Type 0) → Type 0
+  PrintsReport file IsAnswer =
+      OnDeskByRules g paths given_back result file (Keeps before after)
+      (λ back c heard. PrintsBy (KeepsHeard g back c heard) (IsLeft g back c heard None) before after (IsAnswer c heard) result)
+      × Keeps left rest
+
   -- The command did what was asked, according to its result. A stream that the command doesn't use stays as it was.
   abbrev pub DoesAsked : Asked → Type 0
   DoesAsked version = PrintsVersion before after result × Keeps left rest × (given_back ≡ None)
@@ -99,34 +107,18 @@ module _ {S T : Type 0} (g : Ghosts S) (paths : AtPaths S) (ports : Bool → AtP
       OnDeskByRules g paths given_back result file (Keeps before after)
       (λ back c heard. ServesBy c heard (KeepsHeard g back c) (IsLeft g back c) (ports logged) port connections before after result)
       × Keeps left rest
-  DoesAsked (report file owner month) =
-      OnDeskByRules g paths given_back result file (Keeps before after)
-      (λ back c heard. PrintsBy (KeepsHeard g back c heard) (IsLeft g back c heard None) before after (IsOwnersMonth (state_of c heard) owner month) result)
-      × Keeps left rest
-  DoesAsked (bands file gateway) =
-      OnDeskByRules g paths given_back result file (Keeps before after)
-      (λ back c heard. PrintsBy (KeepsHeard g back c heard) (IsLeft g back c heard None) before after (IsBandAnswer (state_of c heard) gateway) result)
-      × Keeps left rest
-  DoesAsked (room file gateway time) =
-      OnDeskByRules g paths given_back result file (Keeps before after)
-      (λ back c heard. PrintsBy (KeepsHeard g back c heard) (IsLeft g back c heard None) before after (IsGatewaysRoom (state_of c heard) gateway time) result)
-      × Keeps left rest
-  DoesAsked (list file of) =
-      OnDeskByRules g paths given_back result file (Keeps before after)
-      (λ back c heard. PrintsBy (KeepsHeard g back c heard) (IsLeft g back c heard None) before after (IsListAnswer of c heard) result)
-      × Keeps left rest
-  DoesAsked (device file dev_eui) =
-      OnDeskByRules g paths given_back result file (Keeps before after)
-      (λ back c heard. PrintsBy (KeepsHeard g back c heard) (IsLeft g back c heard None) before after (IsDeviceAnswer c heard dev_eui) result)
-      × Keeps left rest
+  DoesAsked (report file owner month) = PrintsReport file (λ c heard. IsOwnersMonth (state_of c heard) owner month)
+  DoesAsked (bands file gateway) = PrintsReport file (λ c heard. IsBandAnswer (state_of c heard) gateway)
+  DoesAsked (room file gateway time) = PrintsReport file (λ c heard. IsGatewaysRoom (state_of c heard) gateway time)
+  DoesAsked (list file of) = PrintsReport file (IsListAnswer of)
+  DoesAsked (device file dev_eui) = PrintsReport file (λ c heard. IsDeviceAnswer c heard dev_eui)
+  DoesAsked (receptions file dev_eui month) = PrintsReport file (λ c heard. IsDevicesMonth (state_of c heard) dev_eui month)
+  DoesAsked (downlinks file gateway month) = PrintsReport file (λ c heard. IsGatewaysMonth (state_of c heard) gateway month)
   DoesAsked (log file from count which) =
       OnDeskByRules g paths given_back result file (Keeps before after)
       (λ back c heard. LogsBy (log_of which c heard from count) (KeepsHeard g back c heard) (IsLeft g back c heard None) before after result)
       × Keeps left rest
-  DoesAsked (check file) =
-      OnDeskByRules g paths given_back result file (Keeps before after)
-      (λ back c heard. PrintsBy (KeepsHeard g back c heard) (IsLeft g back c heard None) before after (IsCheck c heard) result)
-      × Keeps left rest
+  DoesAsked (check file) = PrintsReport file IsCheck
   DoesAsked (audit file) =
       OnAuditedByRules g paths given_back result file (Keeps before after) (λ conn. AuditsBy g conn given_back before after result)
       × Keeps left rest

@@ -8,7 +8,7 @@ use Rattle.registry_core.specs.Settings.{Settings}
 use Rattle.desk_engine.specs.declared.lists.ListOf.{ListOf}
 use Rattle.desk_engine.specs.declared.log.LogText.{LogText}
 use Rattle.desk_cli.specs.declared.commands.Command.{Command}
-use Rattle.desk_cli.specs.declared.commands.Command.TheVariants.{Version, Lines, Init, Migrate, Hear, Import, Serve, Report, Bands, Room, Listing, Device, Log, Check, Audit}
+use Rattle.desk_cli.specs.declared.commands.Command.TheVariants.{Version, Lines, Init, Migrate, Hear, Import, Serve, Report, Bands, Room, Listing, Device, Receptions, Downlinks, Log, Check, Audit}
 use Rattle.desk_cli.specs.declared.usage.BadValue.{BadValue}
 use Rattle.desk_cli.specs.declared.usage.Usage.{Usage}
 use Rattle.desk_cli.specs.declared.usage.Usage.TheVariants.{Words, Value, NotText, Memory}
@@ -34,6 +34,10 @@ pub data Asked : Type 0 where
   list : Text → ListOf → Asked
   -- the file and the DevEUI
   device : Text → Text → Asked
+  -- the file, the DevEUI and the month
+  receptions : Text → Text → Text → Asked
+  -- the file, the gateway and the month
+  downlinks : Text → Text → Text → Asked
   -- the file, the number of the first message, how many messages at most, and which text of each
   log : Text → ℕ → ℕ → LogText → Asked
   check : Text → Asked
@@ -52,6 +56,8 @@ asked_by (Bands file gateway) = bands file.now gateway.now
 asked_by (Room file gateway time) = room file.now gateway.now time.now
 asked_by (Listing file of) = list file.now of
 asked_by (Device file dev_eui) = device file.now dev_eui.now
+asked_by (Receptions file dev_eui month) = receptions file.now dev_eui.now month.now
+asked_by (Downlinks file gateway month) = downlinks file.now gateway.now month.now
 asked_by (Log file from count which) = log file.now from count which
 asked_by (Check file) = check file.now
 asked_by (Audit file) = audit file.now

@@ -8,7 +8,7 @@ use Rattle.desk_engine.specs.declared.report_faults.ReportFault.TheVariants as r
 use Rattle.desk_engine.specs.declared.report_faults.ReportFault.TheVariants.{Month, Time}
 use Rattle.desk_engine.specs.Months.{IsMonth}
 use Rattle.desk_engine.specs.Rooms.{time_in}
-use Rattle.desk_http.specs.Reports.{IsOwnerAnswer, IsRoomAnswer}
+use Rattle.desk_http.specs.Reports.{IsDownlinkAnswer, IsOwnerAnswer, IsReceptionAnswer, IsRoomAnswer}
 use Rattle.desk_cli.specs.Faults.{fault_of_report}
 use Rattle.desk_cli.specs.declared.faults.Fault.{Fault}
 use Rattle.desk_cli.specs.declared.faults.Fault.TheVariants.{File, Unavailable}
@@ -19,11 +19,23 @@ RefusesMonth (Err Month) = Unit {0}
 RefusesMonth (Err (report.Unavailable fault)) = IsUnavailability fault
 RefusesMonth _ = ⊥
 
--- the owner's report of a month, or why there is none; `Month` only for a text that isn't a month, whoever the owner is
-pub record IsOwnersMonth (s : State) (owner month : List ℕ) (answer : Result (List ℕ) ReportFault) : Type 0 where
-  pub answer_is : IsOwnerAnswer s owner month answer
+-- the report of a month, or why there is none; `Month` only for a text that isn't a month, whatever the report is about
+pub record IsOfMonth (month : List ℕ) (IsAnswer : Result (List ℕ) ReportFault → Type 0) (answer : Result (List ℕ) ReportFault) : Type 0 where
+  pub answer_is : IsAnswer answer
   pub bad_month : answer ≡ Err Month → (from to : ℤ) → ¬ (IsMonth month from to)
   pub no_month : ((from to : ℤ) → ¬ (IsMonth month from to)) → RefusesMonth answer
+
+-- the owner's report of a month
+abbrev pub IsOwnersMonth : State → List ℕ → List ℕ → Result (List ℕ) ReportFault → Type 0
+IsOwnersMonth s owner month = IsOfMonth month (IsOwnerAnswer s owner month)
+
+-- the receptions of a device in a month
+abbrev pub IsDevicesMonth : State → List ℕ → List ℕ → Result (List ℕ) ReportFault → Type 0
+IsDevicesMonth s dev_eui month = IsOfMonth month (IsReceptionAnswer s dev_eui month)
+
+-- the downlinks of a gateway in a month
+abbrev pub IsGatewaysMonth : State → List ℕ → List ℕ → Result (List ℕ) ReportFault → Type 0
+IsGatewaysMonth s gateway month = IsOfMonth month (IsDownlinkAnswer s gateway month)
 
 -- the error for a text that is not a time: that, or that the desk can't be read
 abbrev pub RefusesTime : Result (List ℕ) ReportFault → Type 0

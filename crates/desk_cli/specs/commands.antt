@@ -8,6 +8,7 @@ pub mod Lines
 pub mod Listing
 pub mod Log
 pub mod Migrating
+pub mod MonthReports
 pub mod Reports
 pub mod Serving
 pub mod Version

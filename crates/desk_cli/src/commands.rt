@@ -1,5 +1,6 @@
 //! The list of the program's commands. Each has a module with its arguments and what it does. `report`, `bands` and `room` share one, as do
-//! `list` and `device`. What commands do on one file is tested in `program/tests/one_file.rt`, and by rows over each kind of store.
+//! `list` and `device`, and `receptions` and `downlinks`. What commands do on one file is tested in `program/tests/one_file.rt`, and by rows
+//! over each kind of store.
 ghost use Rattle.std.specs.Prelude.{◌≡◌, IfOk};
 ghost use Rattle.clap.specs.Matches.{found_of};
 ghost use Rattle.clap.specs.Simple.{App, app_of, subcommand_rows_of};
@@ -17,6 +18,7 @@ mod lines;
 mod listing;
 mod log;
 mod migrating;
+mod month_reports;
 mod reports;
 mod serving;
 mod version;
@@ -43,6 +45,8 @@ pub use log::log_command;
 use log::{log_app, log_of};
 pub use migrating::migrate_command;
 use migrating::{migrate_app, migrate_of};
+pub use month_reports::{downlinks_command, receptions_command};
+use month_reports::{downlinks_app, downlinks_of, receptions_app, receptions_of};
 use radio_core::Name;
 use registry_core::{Config, Whole};
 pub use reports::{bands_command, report_command, room_command};
@@ -113,6 +117,18 @@ pub enum Command<'a> {
         file: &'a str,
         dev_eui: &'a str,
     },
+    /// Prints the receptions of a device in a month.
+    Receptions {
+        file: &'a str,
+        dev_eui: &'a str,
+        month: &'a str,
+    },
+    /// Prints the downlinks of a gateway in a month.
+    Downlinks {
+        file: &'a str,
+        gateway: &'a str,
+        month: &'a str,
+    },
     /// Prints at most `count` messages that the desk has heard, from number `from` on, or their answers, one a line.
     Log {
         file: &'a str,
@@ -150,6 +166,8 @@ pub(crate) fn desk_app<'a>(alloc: Global) -> Result<clap::Command<'a>, AllocErro
     let desk = added(desk, room_app(alloc));
     let desk = added(desk, list_app(alloc));
     let desk = added(desk, device_app(alloc));
+    let desk = added(desk, receptions_app(alloc));
+    let desk = added(desk, downlinks_app(alloc));
     let desk = added(desk, log_app(alloc));
     let desk = added(desk, check_app(alloc));
     added(desk, audit_app(alloc))
@@ -226,6 +244,8 @@ fn command_with<'a>(
         "room" => room_of(options),
         "list" => list_of(options),
         "device" => device_of(options),
+        "receptions" => receptions_of(options),
+        "downlinks" => downlinks_of(options),
         "log" => log_of(options),
         "check" => check_of(options),
         "audit" => audit_of(options),

@@ -8,7 +8,7 @@ ghost use Rattle.desk_cli.specs.Doing.{DoesAsked, OnAuditedFile, OnDeskFile, OnF
 ghost use Rattle.desk_cli.specs.Faults.{Ends};
 ghost use Rattle.desk_cli.specs.Named.{asked_by};
 ghost use Rattle.desk_cli.specs.OnTables.{IsLeft, KeepsHeard};
-ghost use Rattle.desk_cli.specs.Printing.{IsGatewaysRoom, IsOwnersMonth, PrintsBy};
+ghost use Rattle.desk_cli.specs.Printing.{IsDevicesMonth, IsGatewaysMonth, IsGatewaysRoom, IsOwnersMonth, PrintsBy};
 ghost use Rattle.desk_cli.specs.Ports.{at_ports};
 ghost use Rattle.desk_cli.specs.commands.Auditing.{AuditsBy};
 ghost use Rattle.desk_cli.specs.commands.Checking.{IsCheck};
@@ -21,9 +21,10 @@ ghost use Rattle.desk_cli.specs.commands.Serving.{ServesBy};
 ghost use Rattle.std.specs.Prelude.{None};
 
 use crate::commands::{
-    Command, audit_command, bands_command, check_command, device_command, hear_command,
-    import_command, init_command, lines_command, list_command, log_command, migrate_command,
-    report_command, room_command, serve_command, version_command,
+    Command, audit_command, bands_command, check_command, device_command, downlinks_command,
+    hear_command, import_command, init_command, lines_command, list_command, log_command,
+    migrate_command, receptions_command, report_command, room_command, serve_command,
+    version_command,
 };
 use crate::endings::Ending;
 use crate::faults::end;
@@ -124,6 +125,16 @@ pub(crate) fn perform<
         Command::Device { file, dev_eui } => {
             device_file(alloc, files, file, dev_eui, answers, faults)
         }
+        Command::Receptions {
+            file,
+            dev_eui,
+            month,
+        } => receptions_file(alloc, files, file, dev_eui, month, answers, faults),
+        Command::Downlinks {
+            file,
+            gateway,
+            month,
+        } => downlinks_file(alloc, files, file, gateway, month, answers, faults),
         Command::Log {
             file,
             from,
@@ -341,6 +352,48 @@ fn device_file<S: Alter, N: Files<S>, W: Write, F: Write>(
         files.open(file),
         faults,
         |conn| device_command(alloc, conn, dev_eui, answers, faults)
+    )
+}
+
+fn receptions_file<S: Alter, N: Files<S>, W: Write, F: Write>(
+    alloc: Global,
+    files: N,
+    file: &str,
+    dev_eui: &str,
+    month: &str,
+    answers: &mut W,
+    faults: &mut F,
+) -> Performed<S>
+    ensures { Ends F.contents faults.old faults.new result.0 (λ done. OnDeskFile S.Store (N.paths files) result.1 done file.now
+        (Keeps (W.contents answers.old) (W.contents answers.new))
+        (λ back c heard. PrintsBy (KeepsHeard S.Store back c heard) (IsLeft S.Store back c heard None) (W.contents answers.old) (W.contents answers.new)
+        (IsDevicesMonth (state_of c heard) dev_eui.now month.now) done)) }
+{
+    on_file!(
+        files.open(file),
+        faults,
+        |conn| receptions_command(alloc, conn, dev_eui, month, answers, faults)
+    )
+}
+
+fn downlinks_file<S: Alter, N: Files<S>, W: Write, F: Write>(
+    alloc: Global,
+    files: N,
+    file: &str,
+    gateway: &str,
+    month: &str,
+    answers: &mut W,
+    faults: &mut F,
+) -> Performed<S>
+    ensures { Ends F.contents faults.old faults.new result.0 (λ done. OnDeskFile S.Store (N.paths files) result.1 done file.now
+        (Keeps (W.contents answers.old) (W.contents answers.new))
+        (λ back c heard. PrintsBy (KeepsHeard S.Store back c heard) (IsLeft S.Store back c heard None) (W.contents answers.old) (W.contents answers.new)
+        (IsGatewaysMonth (state_of c heard) gateway.now month.now) done)) }
+{
+    on_file!(
+        files.open(file),
+        faults,
+        |conn| downlinks_command(alloc, conn, gateway, month, answers, faults)
     )
 }
 

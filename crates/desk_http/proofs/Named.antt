@@ -5,8 +5,8 @@ use Rattle.std.specs.List.{list_any}
 use Rattle.std.specs.Prelude.{IsTrue, option_map}
 use Rattle.desk_engine.specs.declared.lists.ListOf.TheVariants.{Senders, Owners, Gateways, Devices}
 use Rattle.desk_http.specs.declared.targets.Route.{Route}
-use Rattle.desk_http.specs.declared.targets.Route.TheVariants.{Messages, OwnerReport, BandReport, Room, Log, Answers, Listing, Device}
-use Rattle.desk_http.specs.Targets.{Resource, messages, reports, bands, room, log, answers, lists, device, IsPathTo, Names, is_part, is_slash, list_path, path_to}
+use Rattle.desk_http.specs.declared.targets.Route.TheVariants.{Messages, OwnerReport, BandReport, Room, Log, Answers, Listing, Device, Receptions, Downlinks}
+use Rattle.desk_http.specs.Targets.{Resource, messages, reports, bands, room, log, answers, lists, device, receptions, downlinks, IsPathTo, Names, is_part, is_slash, list_path, path_to}
 use Rattle.desk_http.specs.steps.Targets.{two_parts, after_slash, before_slash, follows, is_empty, is_tail, led, form_of, forms_of, all_routes, named_in_path, resource_of, route_of}
 use Rattle.desk_http.proofs.Routes.{drop-one-more, or_false_parts, split, take-one-more}
 
@@ -53,6 +53,8 @@ form_is : (route : Route) (names : List ℕ) → is_tail (form_of route).1 names
 form_is Messages names none = (tt, ap (λ text. codes "/v1/messages" ++ text) (empty-is names none))
 form_is OwnerReport names parts = (and_parts _ _ parts, ap (λ text. codes "/v1/reports/" ++ text) (joined names (and_parts _ _ parts).1))
 form_is Room names parts = (and_parts _ _ parts, ap (λ text. codes "/v1/room/" ++ text) (joined names (and_parts _ _ parts).1))
+form_is Receptions names parts = (and_parts _ _ parts, ap (λ text. codes "/v1/receptions/" ++ text) (joined names (and_parts _ _ parts).1))
+form_is Downlinks names parts = (and_parts _ _ parts, ap (λ text. codes "/v1/downlinks/" ++ text) (joined names (and_parts _ _ parts).1))
 form_is BandReport names part = (part, refl)
 form_is Log names part = (part, refl)
 form_is Answers names part = (part, refl)
@@ -105,6 +107,14 @@ found path (room gateway time) at =
     let names = codes "/v1/room/" ++ (gateway ++ 47 ∷ time) in
     ap named_in_path (at.1 ∙ ap (λ tail. codes "/v1/room/" ++ tail) (append_assoc gateway (codes "/") time))
     ∙ two-found (resource_of names) room Room gateway time at.0 refl
+found path (receptions dev_eui month) at =
+    let names = codes "/v1/receptions/" ++ (dev_eui ++ 47 ∷ month) in
+    ap named_in_path (at.1 ∙ ap (λ tail. codes "/v1/receptions/" ++ tail) (append_assoc dev_eui (codes "/") month))
+    ∙ two-found (resource_of names) receptions Receptions dev_eui month at.0 refl
+found path (downlinks gateway month) at =
+    let names = codes "/v1/downlinks/" ++ (gateway ++ 47 ∷ month) in
+    ap named_in_path (at.1 ∙ ap (λ tail. codes "/v1/downlinks/" ++ tail) (append_assoc gateway (codes "/") month))
+    ∙ two-found (resource_of names) downlinks Downlinks gateway month at.0 refl
 
 -- ---- so a path names what is found, and nothing else
 

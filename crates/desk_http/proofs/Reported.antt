@@ -16,11 +16,12 @@ use Rattle.desk_engine.specs.InOrder.{IsInOrder, WasInOrder, kept_after}
 use Rattle.desk_engine.specs.Lines.{input_of}
 use Rattle.desk_engine.specs.Listing.{IsDeviceFault, IsList, IsListFault, device_text, is_device}
 use Rattle.desk_engine.specs.Log.{log_of}
+use Rattle.desk_engine.specs.MonthReports.{IsDownlinkReport, IsReceptionReportOf}
 use Rattle.desk_engine.specs.Months.{IsMonth}
 use Rattle.desk_engine.specs.Reporting.{IsGatewayFault, IsOwnerFault, store_fault_in}
 use Rattle.desk_engine.specs.Reports.{IsBandReport, IsOwnerReport, is_gateway, is_owner}
 use Rattle.desk_engine.specs.Rooms.{IsRoomReport, time_in}
-use Rattle.desk_http.specs.Reports.{IsAnswer, IsBandAnswer, IsLogFault, IsOwnerAnswer, IsRoomAnswer, RefusesTime, Report, band_report, device_report, kind_of, list_of, log_part, most_lines, owner_report, room_report}
+use Rattle.desk_http.specs.Reports.{IsAnswer, IsBandAnswer, IsLogFault, IsMonthAnswer, IsRoomAnswer, RefusesMonth, RefusesTime, Report, band_report, device_report, downlink_report, kind_of, list_of, log_part, most_lines, owner_report, reception_report, room_report}
 use Rattle.desk_http.specs.steps.Answering.{answer_shown}
 use Rattle.desk_http.specs.Responses.{report_response}
 use Rattle.desk_http.specs.Serving.{ServesReport}
@@ -39,11 +40,11 @@ module _ {T : Type 0} (octets : T → List ℕ) where
   same_why why (Ok text) P h = (λ e. cc, λ p. let e = h.1 p in cc)
   same_why why (Err fault) P h = (λ e. let same : fault ≡ why = cc in h.0 (ap Err same), λ p. let e = h.1 p in let same : fault ≡ why = cc in ap Err same)
 
-  owner_answer : (s : State) (owner month : List ℕ) (r : Result T ReportFault) → OnOk r (IsTrue (is_owner s owner))
-      → ((from to : ℤ) → IsMonth month from to → IfOk r (λ text. IsOwnerReport s owner from to (octets text)))
-      → ((from to : ℤ) → IsMonth month from to → IfErr r (IsOwnerFault s owner)) → IsOwnerAnswer s owner month (answer_shown octets r)
-  owner_answer s owner month (Ok text) known report fault = record { known = known; report = report; fault = fault }
-  owner_answer s owner month (Err why) known report fault = record { known = known; report = report; fault = fault }
+  month_answer : (month : List ℕ) (IsKnown : Type 0) (IsReport : ℤ → ℤ → List ℕ → Type 0) (IsFault : ReportFault → Type 0) (r : Result T ReportFault) → OnOk r IsKnown
+      → ((from to : ℤ) → IsMonth month from to → IfOk r (λ text. IsReport from to (octets text)))
+      → ((from to : ℤ) → IsMonth month from to → IfErr r IsFault) → IsMonthAnswer month IsKnown IsReport IsFault (answer_shown octets r)
+  month_answer month IsKnown IsReport IsFault (Ok text) known report fault = record { known = known; report = report; fault = fault }
+  month_answer month IsKnown IsReport IsFault (Err why) known report fault = record { known = known; report = report; fault = fault }
 
   band_answer : (s : State) (gateway : List ℕ) (r : Result T ReportFault) → OnOk r (IsTrue (is_gateway s gateway))
       → IfOk r (λ text. IsBandReport s gateway (octets text)) → IfErr r (IsGatewayFault s gateway) → IsBandAnswer s gateway (answer_shown octets r)
@@ -73,17 +74,48 @@ module _ {T : Type 0} (octets : T → List ℕ) where
       order = stays _ read;
     }
 
+    -- a report of a month, which is refused as such and answered as such
+    month_served : (wanted : Report) (month : List ℕ) (IsKnown : State → Type 0) (IsReport : State → ℤ → ℤ → List ℕ → Type 0) (IsFault : State → ReportFault → Type 0) (r : Result T ReportFault)
+        → (RefusesMonth month (answer_shown octets r) → RefusesTime wanted (answer_shown octets r))
+        → ((c : Settings) (heard : List Envelope) → let s = state_of c heard in IsMonthAnswer month (IsKnown s) (IsReport s) (IsFault s) (answer_shown octets r) → IsAnswer c heard wanted (answer_shown octets r))
+        → IsRead m old new (store_fault_in r)
+        → (r ≡ Err Month) ↔ ((from to : ℤ) → ¬ (IsMonth month from to))
+        → ForHeld m old new (λ kept. OnOk r (IsKnown kept.facts))
+        → ForHeld m old new (λ kept. (from to : ℤ) → IsMonth month from to → IfOk r (λ text. IsReport kept.facts from to (octets text)))
+        → ForHeld m old new (λ kept. (from to : ℤ) → IsMonth month from to → IfErr r (IsFault kept.facts))
+        → ServesReport m old new wanted (report_response (kind_of wanted) (answer_shown octets r))
+    unfolding kept_after
+    month_served wanted month IsKnown IsReport IsFault r refuses answers read time known report fault =
+        reported wanted r read (refuses (same_why Month r _ time)) (λ c heard was. let s = state_of c heard in answers c heard (
+        month_answer month (IsKnown s) (IsReport s) (IsFault s) r (known (kept_after c heard) was.sound was.order.kept)
+        (report (kept_after c heard) was.sound was.order.kept) (fault (kept_after c heard) was.sound was.order.kept)))
+
     pub owner_served : (owner month : List ℕ) (r : Result T ReportFault) → IsRead m old new (store_fault_in r)
         → (r ≡ Err Month) ↔ ((from to : ℤ) → ¬ (IsMonth month from to))
         → ForHeld m old new (λ kept. OnOk r (IsTrue (is_owner kept.facts owner)))
         → ForHeld m old new (λ kept. (from to : ℤ) → IsMonth month from to → IfOk r (λ text. IsOwnerReport kept.facts owner from to (octets text)))
         → ForHeld m old new (λ kept. (from to : ℤ) → IsMonth month from to → IfErr r (IsOwnerFault kept.facts owner))
         → ServesReport m old new (owner_report owner month) (report_response (codes "text/csv") (answer_shown octets r))
-    unfolding kept_after
-    owner_served owner month r read time known report fault =
-        reported (owner_report owner month) r read (same_why Month r _ time) (λ c heard was.
-        owner_answer (state_of c heard) owner month r (known (kept_after c heard) was.sound was.order.kept)
-        (report (kept_after c heard) was.sound was.order.kept) (fault (kept_after c heard) was.sound was.order.kept))
+    owner_served owner month r =
+        month_served (owner_report owner month) month (λ s. IsTrue (is_owner s owner)) (λ s. IsOwnerReport s owner) (λ s. IsOwnerFault s owner) r (λ refuses. refuses) (λ c heard answer. answer)
+
+    pub receptions_served : (dev_eui month : List ℕ) (r : Result T ReportFault) → IsRead m old new (store_fault_in r)
+        → (r ≡ Err Month) ↔ ((from to : ℤ) → ¬ (IsMonth month from to))
+        → ForHeld m old new (λ kept. OnOk r (IsTrue (is_device kept.facts dev_eui)))
+        → ForHeld m old new (λ kept. (from to : ℤ) → IsMonth month from to → IfOk r (λ text. IsReceptionReportOf kept.facts dev_eui from to (octets text)))
+        → ForHeld m old new (λ kept. (from to : ℤ) → IsMonth month from to → IfErr r (IsDeviceFault kept.facts dev_eui))
+        → ServesReport m old new (reception_report dev_eui month) (report_response (codes "text/csv") (answer_shown octets r))
+    receptions_served dev_eui month r =
+        month_served (reception_report dev_eui month) month (λ s. IsTrue (is_device s dev_eui)) (λ s. IsReceptionReportOf s dev_eui) (λ s. IsDeviceFault s dev_eui) r (λ refuses. refuses) (λ c heard answer. answer)
+
+    pub downlinks_served : (gateway month : List ℕ) (r : Result T ReportFault) → IsRead m old new (store_fault_in r)
+        → (r ≡ Err Month) ↔ ((from to : ℤ) → ¬ (IsMonth month from to))
+        → ForHeld m old new (λ kept. OnOk r (IsTrue (is_gateway kept.facts gateway)))
+        → ForHeld m old new (λ kept. (from to : ℤ) → IsMonth month from to → IfOk r (λ text. IsDownlinkReport kept.facts gateway from to (octets text)))
+        → ForHeld m old new (λ kept. (from to : ℤ) → IsMonth month from to → IfErr r (IsGatewayFault kept.facts gateway))
+        → ServesReport m old new (downlink_report gateway month) (report_response (codes "text/csv") (answer_shown octets r))
+    downlinks_served gateway month r =
+        month_served (downlink_report gateway month) month (λ s. IsTrue (is_gateway s gateway)) (λ s. IsDownlinkReport s gateway) (λ s. IsGatewayFault s gateway) r (λ refuses. refuses) (λ c heard answer. answer)
 
     pub band_served : (gateway : List ℕ) (r : Result T ReportFault) → IsRead m old new (store_fault_in r)
         → ForHeld m old new (λ kept. OnOk r (IsTrue (is_gateway kept.facts gateway)))

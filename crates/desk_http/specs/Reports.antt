@@ -1,5 +1,5 @@
 -- Texts that may be asked for, and the answer to each: the text, or why there is none.
-use Rattle.std.specs.Prelude.{◌≡◌, ◌↔◌, ℕ, List, [], ℤ, Option, Some, None, Result, Err, IfOk, IfErr, OnOk, IsTrue, codes}
+use Rattle.std.specs.Prelude.{◌≡◌, ◌↔◌, ℕ, List, [], ℤ, Some, None, Result, Err, IfOk, IfErr, OnOk, IsTrue, codes}
 use Rattle.registry_core.specs.declared.messages.Envelope.{Envelope}
 use Rattle.registry_core.specs.Heard.{state_of}
 use Rattle.registry_core.specs.Settings.{Settings}
@@ -10,15 +10,16 @@ use Rattle.desk_engine.specs.declared.log.LogText.{LogText}
 use Rattle.desk_engine.specs.declared.report_faults.ReportFault.{ReportFault}
 use Rattle.desk_engine.specs.declared.report_faults.ReportFault.TheVariants.{Month, Time, Unavailable}
 use Rattle.desk_engine.specs.Lines.{input_of}
-use Rattle.desk_engine.specs.Listing.{IsDeviceAnswer, IsListAnswer}
+use Rattle.desk_engine.specs.Listing.{IsDeviceAnswer, IsDeviceFault, IsListAnswer, is_device}
 use Rattle.desk_engine.specs.Log.{log_of}
+use Rattle.desk_engine.specs.MonthReports.{IsDownlinkReport, IsReceptionReportOf}
 use Rattle.desk_engine.specs.Months.{IsMonth}
 use Rattle.desk_engine.specs.Reporting.{IsOwnerFault, IsGatewayFault}
 use Rattle.desk_engine.specs.Reports.{IsBandReport, IsOwnerReport, is_gateway, is_owner}
 use Rattle.desk_engine.specs.Rooms.{IsRoomReport, time_in}
 
 -- the report on an owner for a month; the report of a gateway's bands; its room at a time; the log from this number on, of messages or of
--- answers; a list; one device
+-- answers; a list; one device; the receptions of a device in a month; the downlinks of a gateway in a month
 pub data Report : Type 0 where
   owner_report : (owner month : List ℕ) → Report
   band_report : (gateway : List ℕ) → Report
@@ -26,6 +27,8 @@ pub data Report : Type 0 where
   log_part : (which : LogText) (from : ℕ) → Report
   list_of : (of : ListOf) → Report
   device_report : (dev_eui : List ℕ) → Report
+  reception_report : (dev_eui month : List ℕ) → Report
+  downlink_report : (gateway month : List ℕ) → Report
 
 -- the content type of its text
 abbrev pub kind_of : Report → List ℕ
@@ -36,11 +39,23 @@ kind_of _ = codes "text/csv"
 abbrev pub most_lines : ℕ
 most_lines = 1000
 
--- the answer by the registry's facts: if the month is one, the report if the owner is known, and else why not
-pub record IsOwnerAnswer (s : State) (owner month : List ℕ) (answer : Result (List ℕ) ReportFault) : Type 0 where
-  pub known : OnOk answer (IsTrue (is_owner s owner))
-  pub report : (from to : ℤ) → IsMonth month from to → IfOk answer (IsOwnerReport s owner from to)
-  pub fault : (from to : ℤ) → IsMonth month from to → IfErr answer (IsOwnerFault s owner)
+-- if the month is one: the report from its beginning to its end if what it is about is known, and else why not
+pub record IsMonthAnswer (month : List ℕ) (IsKnown : Type 0) (IsReport : ℤ → ℤ → List ℕ → Type 0) (IsFault : ReportFault → Type 0) (answer : Result (List ℕ) ReportFault) : Type 0 where
+  pub known : OnOk answer IsKnown
+  pub report : (from to : ℤ) → IsMonth month from to → IfOk answer (IsReport from to)
+  pub fault : (from to : ℤ) → IsMonth month from to → IfErr answer IsFault
+
+-- the answer to an owner's month, by the registry's facts
+abbrev pub IsOwnerAnswer : State → List ℕ → List ℕ → Result (List ℕ) ReportFault → Type 0
+IsOwnerAnswer s owner month = IsMonthAnswer month (IsTrue (is_owner s owner)) (IsOwnerReport s owner) (IsOwnerFault s owner)
+
+-- the answer to the receptions of a device in a month
+abbrev pub IsReceptionAnswer : State → List ℕ → List ℕ → Result (List ℕ) ReportFault → Type 0
+IsReceptionAnswer s dev_eui month = IsMonthAnswer month (IsTrue (is_device s dev_eui)) (IsReceptionReportOf s dev_eui) (IsDeviceFault s dev_eui)
+
+-- the answer to the downlinks of a gateway in a month
+abbrev pub IsDownlinkAnswer : State → List ℕ → List ℕ → Result (List ℕ) ReportFault → Type 0
+IsDownlinkAnswer s gateway month = IsMonthAnswer month (IsTrue (is_gateway s gateway)) (IsDownlinkReport s gateway) (IsGatewayFault s gateway)
 
 -- the report if the gateway is known, and else why not
 pub record IsBandAnswer (s : State) (gateway : List ℕ) (answer : Result (List ℕ) ReportFault) : Type 0 where
@@ -72,10 +87,18 @@ IsAnswer c heard (room_report gateway time) answer = IsRoomAnswer (state_of c he
 IsAnswer c heard (log_part which from) answer = IsLogAnswer c heard which from answer
 IsAnswer c heard (list_of of) answer = IsListAnswer of c heard answer
 IsAnswer c heard (device_report dev_eui) answer = IsDeviceAnswer c heard dev_eui answer
+IsAnswer c heard (reception_report dev_eui month) answer = IsReceptionAnswer (state_of c heard) dev_eui month answer
+IsAnswer c heard (downlink_report gateway month) answer = IsDownlinkAnswer (state_of c heard) gateway month answer
 
--- Whatever was heard: an owner's report is refused for its month if and only if that is not a month, and a room's for its time if and only
--- if that is not a time.
+-- the report is refused for its month if and only if that is not a month
+abbrev pub RefusesMonth : List ℕ → Result (List ℕ) ReportFault → Type 0
+RefusesMonth month answer = (answer ≡ Err Month) ↔ ((from to : ℤ) → ¬ (IsMonth month from to))
+
+-- Whatever was heard: a report of a month is refused for it if and only if that is not a month, and a room's for its time if and only if
+-- that is not a time.
 abbrev pub RefusesTime : Report → Result (List ℕ) ReportFault → Type 0
-RefusesTime (owner_report owner month) answer = (answer ≡ Err Month) ↔ ((from to : ℤ) → ¬ (IsMonth month from to))
+RefusesTime (owner_report owner month) answer = RefusesMonth month answer
+RefusesTime (reception_report dev_eui month) answer = RefusesMonth month answer
+RefusesTime (downlink_report gateway month) answer = RefusesMonth month answer
 RefusesTime (room_report gateway time) answer = (answer ≡ Err Time) ↔ (time_in time ≡ None)
 RefusesTime _ answer = Unit {0}

@@ -11,9 +11,9 @@ use Rattle.desk_http.specs.declared.fields.BodyLength.{BodyLength}
 use Rattle.desk_http.specs.declared.fields.BodyLength.TheVariants.{Absent, Number, TooLong, Bad}
 use Rattle.desk_http.specs.Fields.{NamedValue, has_origin, has_transfer_encoding, body_length}
 use Rattle.desk_http.specs.Heads.{IsNoHead, IsWithinLimits}
-use Rattle.desk_http.specs.Reports.{Report, owner_report, band_report, room_report, log_part, list_of, device_report}
+use Rattle.desk_http.specs.Reports.{Report, owner_report, band_report, room_report, log_part, list_of, device_report, reception_report, downlink_report}
 use Rattle.desk_http.specs.Responses.{Response, no_head, cross_origin, no_number, no_route, other_method, no_length, too_long}
-use Rattle.desk_http.specs.Targets.{Resource, messages, reports, bands, room, log, answers, lists, device, Names, method_of, path_of}
+use Rattle.desk_http.specs.Targets.{Resource, messages, reports, bands, room, log, answers, lists, device, receptions, downlinks, Names, method_of, path_of}
 
 -- what is asked for: the delivery of a message of `count` octets, or a text; or nothing that is served, and this response refuses it
 pub data Request : Type 0 where
@@ -47,6 +47,8 @@ asked_by_resource (log from) fields = asked_by_number Message (message_number fr
 asked_by_resource (answers from) fields = asked_by_number Answer (message_number from)
 asked_by_resource (lists of) fields = report (list_of of)
 asked_by_resource (device dev_eui) fields = report (device_report dev_eui)
+asked_by_resource (receptions dev_eui month) fields = report (reception_report dev_eui month)
+asked_by_resource (downlinks gateway month) fields = report (downlink_report gateway month)
 
 -- first the resource is checked, then its method, then what is asked of it
 abbrev pub asked_of_named : Option Resource → List ℕ → List NamedValue → Request

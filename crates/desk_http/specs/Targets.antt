@@ -29,6 +29,8 @@ pub data Resource : Type 0 where
   answers : (from : List ℕ) → Resource
   lists : (of : ListOf) → Resource
   device : (dev_eui : List ℕ) → Resource
+  receptions : (dev_eui month : List ℕ) → Resource
+  downlinks : (gateway month : List ℕ) → Resource
 
 -- the path of a list
 abbrev pub list_path : ListOf → List ℕ
@@ -47,6 +49,8 @@ path_to (log from) = codes "/v1/log/" ++ from
 path_to (answers from) = codes "/v1/answers/" ++ from
 path_to (lists of) = list_path of
 path_to (device dev_eui) = codes "/v1/devices/" ++ dev_eui
+path_to (receptions dev_eui month) = codes "/v1/receptions/" ++ dev_eui ++ codes "/" ++ month
+path_to (downlinks gateway month) = codes "/v1/downlinks/" ++ gateway ++ codes "/" ++ month
 
 -- each name in it can be a part of a path
 abbrev pub HasParts : Resource → Type 0
@@ -58,6 +62,8 @@ HasParts (log from) = IsTrue (is_part from)
 HasParts (answers from) = IsTrue (is_part from)
 HasParts (lists of) = Unit {0}
 HasParts (device dev_eui) = IsTrue (is_part dev_eui)
+HasParts (receptions dev_eui month) = IsTrue (is_part dev_eui) × IsTrue (is_part month)
+HasParts (downlinks gateway month) = IsTrue (is_part gateway) × IsTrue (is_part month)
 
 -- the path is that of the resource
 abbrev pub IsPathTo : List ℕ → Resource → Type 0

@@ -38,6 +38,8 @@ pub(crate) enum Asked {
     Log(LogText, Whole),
     Listing(ListOf),
     Device,
+    Receptions,
+    Downlinks,
     /// The path has no message number where the log needs one.
     BadNumber,
 }
@@ -100,6 +102,8 @@ fn asked_by_route(route: Route, path: &str, octets: &[u8], headers: &[HeaderSpan
         Route::Answers => asked_of_log(LogText::Answer, names_of(path)),
         Route::Listing(of) => Asked::Listing(of),
         Route::Device => Asked::Device,
+        Route::Receptions => Asked::Receptions,
+        Route::Downlinks => Asked::Downlinks,
     }
 }
 

@@ -28,6 +28,10 @@ pub(crate) enum Route {
     Listing(ListOf),
     /// One device.
     Device,
+    /// The receptions of a device in a month.
+    Receptions,
+    /// The downlinks of a gateway in a month.
+    Downlinks,
 }
 
 /// Returns the method of a route.
@@ -39,6 +43,7 @@ pub(crate) fn method_of(route: Route) -> &'static str
         Route::OwnerReport | Route::BandReport | Route::Room => "GET",
         Route::Log | Route::Answers => "GET",
         Route::Listing(_) | Route::Device => "GET",
+        Route::Receptions | Route::Downlinks => "GET",
     }
 }
 
@@ -103,10 +108,12 @@ pub(crate) fn route_of(alloc: Global, path: &str) -> Result<Option<Route>, Inser
     router.insert("/v1/bands/{gateway}", Route::BandReport)?;
     router.insert("/v1/devices", Route::Listing(ListOf::Devices))?;
     router.insert("/v1/devices/{deveui}", Route::Device)?;
+    router.insert("/v1/downlinks/{gateway}/{month}", Route::Downlinks)?;
     router.insert("/v1/gateways", Route::Listing(ListOf::Gateways))?;
     router.insert("/v1/log/{from}", Route::Log)?;
     router.insert("/v1/messages", Route::Messages)?;
     router.insert("/v1/owners", Route::Listing(ListOf::Owners))?;
+    router.insert("/v1/receptions/{deveui}/{month}", Route::Receptions)?;
     router.insert("/v1/reports/{owner}/{month}", Route::OwnerReport)?;
     router.insert("/v1/room/{gateway}/{time}", Route::Room)?;
     router.insert("/v1/senders", Route::Listing(ListOf::Senders))?;

@@ -1,13 +1,14 @@
 -- A report, or why there is none, as it is printed.
 use Rattle.std.proofs.Common.{subst}
-use Rattle.std.specs.Prelude.{◌≡◌, ℕ, List, Option, Result, Ok, Err}
+use Rattle.std.specs.Prelude.{◌≡◌, ℕ, ℤ, List, Option, Result, Ok, Err}
 use Rattle.std.specs.Io.KnownBytes.{Appends, Keeps}
 use Rattle.desk_store.specs.declared.faults.StoreFault.TheVariants.{Memory}
 use Rattle.desk_engine.specs.declared.report_faults.ReportFault.{ReportFault}
 use Rattle.desk_engine.specs.declared.report_faults.ReportFault.TheVariants.{Unavailable}
 use Rattle.registry_core.specs.State.{State}
 use Rattle.desk_cli.specs.Faults.{fault_of_report}
-use Rattle.desk_cli.specs.Printing.{IsGatewaysRoom, IsOwnersMonth}
+use Rattle.desk_http.specs.Reports.{IsMonthAnswer}
+use Rattle.desk_cli.specs.Printing.{IsGatewaysRoom, IsOfMonth}
 use Rattle.desk_cli.specs.declared.faults.Fault.{Fault}
 use Rattle.desk_cli.specs.declared.faults.Fault.TheVariants.{File}
 
@@ -24,10 +25,11 @@ abbrev IsUnasked : Result (List ℕ) ReportFault → Type 0
 IsUnasked (Err (Unavailable fault)) = Unit {0}
 IsUnasked _ = ⊥
 
--- that may be answered for any owner's month
-pub unasked_month : (s : State) (owner month : List ℕ) → IsOwnersMonth s owner month unasked
-unasked_month s owner month = record {
-  answer_is = record { known = tt; report = λ from to is. tt; fault = λ from to is. tt };
+-- that may be answered for any month
+pub unasked_month : {month : List ℕ} {IsKnown : Type 0} {IsReport : ℤ → ℤ → List ℕ → Type 0} {IsFault : ReportFault → Type 0} → IsFault (Unavailable Memory)
+    → IsOfMonth month (IsMonthAnswer month IsKnown IsReport IsFault) unasked
+unasked_month fault = record {
+  answer_is = record { known = tt; report = λ from to is. tt; fault = λ from to is. fault };
   bad_month = λ is. absurd (subst IsUnasked is tt);
   no_month = λ none. tt;
 }

@@ -134,7 +134,7 @@ struct OwnersMonth<'a> {
 impl Report for OwnersMonth<'_> {
     ghost is_answer = { λ report c heard answer. IsOwnersMonth (state_of c heard) report.owner.now report.month.now answer };
 
-    ghost unopened = { λ report c heard. unasked_month (state_of c heard) report.owner.now report.month.now };
+    ghost unopened = { λ report c heard. unasked_month tt };
 
     fn ask<K: Keeper>(&self, alloc: Global, keeper: &mut K) -> Result<Vec<u8>, ReportFault> {
         owner_report(alloc, keeper, self.owner, self.month)

@@ -3,8 +3,8 @@ use Rattle.std.specs.Prelude.{ℕ, List, [], ◌∷◌, Bool, true, false, ◌&&
 use Rattle.std.specs.List.{after_first, before_first}
 use Rattle.desk_engine.specs.declared.lists.ListOf.TheVariants.{Senders, Owners, Gateways, Devices}
 use Rattle.desk_http.specs.declared.targets.Route.{Route}
-use Rattle.desk_http.specs.declared.targets.Route.TheVariants.{Messages, OwnerReport, BandReport, Room, Log, Answers, Listing, Device}
-use Rattle.desk_http.specs.Targets.{Resource, messages, reports, bands, room, log, answers, lists, device, is_part, is_slash, list_path}
+use Rattle.desk_http.specs.declared.targets.Route.TheVariants.{Messages, OwnerReport, BandReport, Room, Log, Answers, Listing, Device, Receptions, Downlinks}
+use Rattle.desk_http.specs.Targets.{Resource, messages, reports, bands, room, log, answers, lists, device, receptions, downlinks, is_part, is_slash, list_path}
 
 -- what precedes the first slash, and what follows it
 abbrev pub before_slash : List ℕ → List ℕ
@@ -57,6 +57,8 @@ form_of Log = (codes "/v1/log/", one_part)
 form_of Answers = (codes "/v1/answers/", one_part)
 form_of (Listing of) = (list_path of, nothing)
 form_of Device = (codes "/v1/devices/", one_part)
+form_of Receptions = (codes "/v1/receptions/", two_parts)
+form_of Downlinks = (codes "/v1/downlinks/", two_parts)
 
 abbrev pub forms_of : List Route → List (Form Route)
 forms_of routes = map (λ route. ((form_of route).0, (form_of route).1, route)) routes
@@ -64,8 +66,8 @@ forms_of routes = map (λ route. ((form_of route).0, (form_of route).1, route)) 
 -- all of them, in the order of their paths; a path comes after those that it begins
 abbrev pub all_routes : List Route
 all_routes =
-    Answers ∷ BandReport ∷ Device ∷ Listing Devices ∷ Listing Gateways ∷ Log ∷ Messages ∷ Listing Owners ∷ OwnerReport ∷ Room
-    ∷ Listing Senders ∷ []
+    Answers ∷ BandReport ∷ Device ∷ Listing Devices ∷ Downlinks ∷ Listing Gateways ∷ Log ∷ Messages ∷ Listing Owners ∷ Receptions
+    ∷ OwnerReport ∷ Room ∷ Listing Senders ∷ []
 
 unfoldable pub route_of : List ℕ → Option Route
 route_of path = led (forms_of all_routes) path
@@ -80,6 +82,8 @@ resource_of path Log = log (names_of path)
 resource_of path Answers = answers (names_of path)
 resource_of path (Listing of) = lists of
 resource_of path Device = device (names_of path)
+resource_of path Receptions = receptions (before_slash (names_of path)) (after_slash (names_of path))
+resource_of path Downlinks = downlinks (before_slash (names_of path)) (after_slash (names_of path))
 
 abbrev pub named_in_path : List ℕ → Option Resource
 named_in_path path = option_map (resource_of path) (route_of path)

@@ -9,6 +9,8 @@ returns c =
     let four = c.added-desk-4.ensures _ _ three c.room_app.ensures in
     let five = c.added-desk-5.ensures _ _ four c.list_app.ensures in
     let six = c.added-desk-6.ensures _ _ five c.device_app.ensures in
-    let seven = c.added-desk-7.ensures _ _ six c.log_app.ensures in
-    let eight = c.added-desk-8.ensures _ _ seven c.check_app.ensures in
-    c.added.ensures _ _ eight c.audit_app.ensures
+    let seven = c.added-desk-7.ensures _ _ six c.receptions_app.ensures in
+    let eight = c.added-desk-8.ensures _ _ seven c.downlinks_app.ensures in
+    let nine = c.added-desk-9.ensures _ _ eight c.log_app.ensures in
+    let ten = c.added-desk-10.ensures _ _ nine c.check_app.ensures in
+    c.added.ensures _ _ ten c.audit_app.ensures

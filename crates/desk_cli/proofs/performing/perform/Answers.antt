@@ -60,6 +60,18 @@ returns-in-Device g c = rw c.in-Device.is (ends_so c.device_file.ensures (λ r d
   Keeps-refl _,
 )))
 
+pub returns-in-Receptions : goal.returns-in-Receptions
+returns-in-Receptions g c = rw c.in-Receptions.is (ends_so c.receptions_file.ensures (λ r done. (
+  by_rules _ (g.N.Files.paths c.args.files) _ _ _ _ _ (λ back config heard. prints_by_rules c.rules_are_kept.ensures _ back config heard _ _ _ _) done,
+  Keeps-refl _,
+)))
+
+pub returns-in-Downlinks : goal.returns-in-Downlinks
+returns-in-Downlinks g c = rw c.in-Downlinks.is (ends_so c.downlinks_file.ensures (λ r done. (
+  by_rules _ (g.N.Files.paths c.args.files) _ _ _ _ _ (λ back config heard. prints_by_rules c.rules_are_kept.ensures _ back config heard _ _ _ _) done,
+  Keeps-refl _,
+)))
+
 pub returns-in-Log : goal.returns-in-Log
 returns-in-Log g c = rw c.in-Log.is (ends_so c.log_file.ensures (λ r done. (
   by_rules _ (g.N.Files.paths c.args.files) _ _ _ _ _ (λ back config heard. logs_by_rules c.rules_are_kept.ensures _ back config heard _ _ _ _) done,

@@ -70,7 +70,7 @@ const LOG: &str = "\
 /// Arguments, standard input, and standard output if nothing fails.
 pub(super) type Row = (&'static [&'static [u8]], &'static str, &'static str);
 
-pub(super) static ROWS: [Row; 8] = [
+pub(super) static ROWS: [Row; 10] = [
     (&[b"desk", b"hear", b"f.db"], ADD_OWNER, OWNER_ADDED),
     (
         &[b"desk", b"import", b"f.db", b"--sender", b"bridge"],
@@ -89,6 +89,22 @@ pub(super) static ROWS: [Row; 8] = [
         ROOM,
     ),
     (&[b"desk", b"list", b"f.db", b"devices"], "", DEVICES),
+    (
+        &[
+            b"desk",
+            b"receptions",
+            b"f.db",
+            b"0004a30b001a2b3c",
+            b"2024-02",
+        ],
+        "",
+        "uplink,session,kind,counter,gateway,end_us,freq_hz,dr,start_us,airtime_us,band,phy\n",
+    ),
+    (
+        &[b"desk", b"downlinks", b"f.db", b"gw-b", b"2024-02"],
+        "",
+        "booking,uplink,kind,band,start_us,airtime_us,state\n",
+    ),
     (&[b"desk", b"log", b"f.db"], "", LOG),
     (&[b"desk", b"check", b"f.db"], "", HOLDS),
 ];

@@ -55,7 +55,7 @@ type Row = (
     &'static str,
 );
 
-static ROWS: [Row; 26] = [
+static ROWS: [Row; 30] = [
     (
         &[b"desk", b"import", b"f.db", b"--sender", b"office"],
         WORKED,
@@ -182,6 +182,46 @@ static ROWS: [Row; 26] = [
         Ending::Refused,
         "",
         "desk: device\n",
+    ),
+    (
+        &[
+            b"desk",
+            b"receptions",
+            b"f.db",
+            b"0004a30b001a2b3c",
+            b"2024-13",
+        ],
+        "",
+        Ending::Refused,
+        "",
+        "desk: month\n",
+    ),
+    (
+        &[
+            b"desk",
+            b"receptions",
+            b"f.db",
+            b"0004a30b001a2b3c",
+            b"2024-02",
+        ],
+        "",
+        Ending::Refused,
+        "",
+        "desk: device\n",
+    ),
+    (
+        &[b"desk", b"downlinks", b"f.db", b"gw-a", b"2024-13"],
+        "",
+        Ending::Refused,
+        "",
+        "desk: month\n",
+    ),
+    (
+        &[b"desk", b"downlinks", b"f.db", b"gw-a", b"2024-02"],
+        "",
+        Ending::Refused,
+        "",
+        "desk: gateway\n",
     ),
     // the worked report with a fourth record, cut after its fourth field
     (

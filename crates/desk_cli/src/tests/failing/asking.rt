@@ -4,7 +4,8 @@ use crate::tests::fuses::rows_after_each;
 use crate::tests::holding::{holds, holds_at};
 use crate::tests::reports::{BANDS_BOOKED, OWNER_HEADER, WORKED_LINE, is_wanted};
 use crate::tests::requests::responses::{
-    BAND_REPORT, DEVICES, GATEWAYS, NINTH_OF_LOG, OWNER_REPORT, OWNERS, SENDERS, UNAVAILABLE,
+    BAND_REPORT, DEVICES, DOWNLINKS, GATEWAYS, NINTH_OF_LOG, OWNER_REPORT, OWNERS, RECEPTIONS,
+    SENDERS, UNAVAILABLE,
 };
 use crate::tests::stops::deliveries;
 use crate::tests::switched::{Failure, Switched};
@@ -26,7 +27,7 @@ enum Asked {
     Get(&'static str, &'static str),
 }
 
-static ASKED: [Asked; 10] = [
+static ASKED: [Asked; 12] = [
     Asked::Owner,
     Asked::Bands,
     Asked::Get(
@@ -40,6 +41,11 @@ static ASKED: [Asked; 10] = [
     Asked::Get("GET /v1/gateways HTTP/1.1\r\n\r\n", GATEWAYS),
     Asked::Get("GET /v1/devices HTTP/1.1\r\n\r\n", DEVICES),
     Asked::Get("GET /v1/devices/0004a30b001a2b3c HTTP/1.1\r\n\r\n", DEVICES),
+    Asked::Get(
+        "GET /v1/receptions/0004a30b001a2b3c/2024-02 HTTP/1.1\r\n\r\n",
+        RECEPTIONS,
+    ),
+    Asked::Get("GET /v1/downlinks/gw-a/2024-02 HTTP/1.1\r\n\r\n", DOWNLINKS),
 ];
 
 /// Whether the report is there, as it is to be; if not, the store failed by this fault.

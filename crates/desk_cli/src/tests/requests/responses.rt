@@ -113,3 +113,15 @@ pub(super) const NEW_GATEWAYS: &str =
 
 pub(super) const NEW_DEVICES: &str =
     "HTTP/1.1 200 OK\r\ncontent-type: text/csv\r\ncontent-length: 101\r\nconnection: close\r\n\r\ndev_eui,join_eui,owner,sessions,dev_addr,last_nonce,last_counter,next_downlink_counter,last_start_us\n";
+
+pub(crate) const RECEPTIONS: &str =
+    "HTTP/1.1 200 OK\r\ncontent-type: text/csv\r\ncontent-length: 393\r\nconnection: close\r\n\r\nuplink,session,kind,counter,gateway,end_us,freq_hz,dr,start_us,airtime_us,band,phy\n1,1,join,0,gw-a,1706745600061696,868100000,5,1706745600000000,61696,B3,00010000d07ed5b3703c2b1a000ba304000000a1b2c3d4\n2,1,data,0,gw-a,1706745700041216,868300000,5,1706745700000000,41216,B3,400000a00100000011223344\n2,1,data,0,gw-b,1706745700041220,868300000,5,1706745700000000,41216,B3,400000a00100000011223344\n";
+
+pub(crate) const DOWNLINKS: &str =
+    "HTTP/1.1 200 OK\r\ncontent-type: text/csv\r\ncontent-length: 93\r\nconnection: close\r\n\r\nbooking,uplink,kind,band,start_us,airtime_us,state\n1,1,join,B3,1706745605061696,46336,booked\n";
+
+pub(super) const NO_RECEPTIONS: &str =
+    "HTTP/1.1 200 OK\r\ncontent-type: text/csv\r\ncontent-length: 83\r\nconnection: close\r\n\r\nuplink,session,kind,counter,gateway,end_us,freq_hz,dr,start_us,airtime_us,band,phy\n";
+
+pub(super) const NO_DOWNLINKS: &str =
+    "HTTP/1.1 200 OK\r\ncontent-type: text/csv\r\ncontent-length: 51\r\nconnection: close\r\n\r\nbooking,uplink,kind,band,start_us,airtime_us,state\n";

@@ -18,3 +18,13 @@ pub returns-in-Room-clause-ends : goal.returns-in-Room-clause-ends
 returns-in-Room-clause-ends g c =
     let served = rw (c.before_slash-first.ensures, c.after_slash-second.ensures, c.names_of-names.ensures, c.path_of.ensures) at c.serve_room_report.ensures.ends in
     rw c.in-Room.is (ends-more _ _ _ _ _ _ _ _ c.serve_room_report.result (λ r s. ([], Consumes-nil _, refl, s)) (λ a. a) served)
+
+pub returns-in-Receptions-clause-ends : goal.returns-in-Receptions-clause-ends
+returns-in-Receptions-clause-ends g c =
+    let served = rw (c.before_slash-first.ensures, c.after_slash-second.ensures, c.names_of-names.ensures, c.path_of.ensures) at c.serve_reception_report.ensures.ends in
+    rw c.in-Receptions.is (ends-more _ _ _ _ _ _ _ _ c.serve_reception_report.result (λ r s. ([], Consumes-nil _, refl, s)) (λ a. a) served)
+
+pub returns-in-Downlinks-clause-ends : goal.returns-in-Downlinks-clause-ends
+returns-in-Downlinks-clause-ends g c =
+    let served = rw (c.before_slash-first.ensures, c.after_slash-second.ensures, c.names_of-names.ensures, c.path_of.ensures) at c.serve_downlink_report.ensures.ends in
+    rw c.in-Downlinks.is (ends-more _ _ _ _ _ _ _ _ c.serve_downlink_report.result (λ r s. ([], Consumes-nil _, refl, s)) (λ a. a) served)

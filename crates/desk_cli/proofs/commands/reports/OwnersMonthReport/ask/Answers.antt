@@ -1,11 +1,10 @@
-use Rattle.registry_core.specs.Heard.{state_of}
 use Rattle.desk_engine.specs.InOrder.{kept_after}
-use Rattle.desk_cli.proofs.Printed.{owners_month}
+use Rattle.desk_cli.proofs.Printed.{of_month}
 use Rattle.desk_cli.proofs.commands.reports.OwnersMonthReport.ask.Goals as goal
 
 pub returns-clause-told : goal.returns-clause-told
 unfolding kept_after
 returns-clause-told g c = λ config heard was.
     let told = c.owner_report.ensures in
-    owners_month (λ text. text.items) (state_of config heard) c.args.self.now.owner.now c.args.self.now.month.now c.owner_report.result told.month (told.known (kept_after config heard) was.sound was.order.kept)
+    of_month (λ text. text.items) c.args.self.now.month.now _ _ _ c.owner_report.result told.month (told.known (kept_after config heard) was.sound was.order.kept)
     (told.report (kept_after config heard) was.sound was.order.kept) (told.fault (kept_after config heard) was.sound was.order.kept)
