@@ -6,7 +6,6 @@ pub mod CountLemmas
 pub mod EffectLemmas
 pub mod Entries
 pub mod HaveItLemmas
-pub mod KnownLemmas
 pub mod LimitLemmas
 pub mod LookUps
 pub mod MigratingLemmas

@@ -1,19 +1,13 @@
-use Rattle.std.proofs.Common.{◌∙◌, pos, sym, subst, true≢false}
-use Rattle.desk_tables.proofs.LookUps.{down_read, answered_by_kept, answered_by_rows}
+use Rattle.std.proofs.Common.{pos, sym, subst}
+use Rattle.desk_tables.proofs.LookUps.{answered_by_kept, answered_by_rows}
 use Rattle.registry_core.specs.Near.{AreByStart, bookings_near}
 use Rattle.desk_rows.specs.Rows.{BookingRow}
 use Rattle.desk_rows.specs.order.Arranged.{booking_span, by_start}
 use Rattle.desk_tables.proofs.Reading.{says_also}
 use Rattle.desk_tables.proofs.looks.TablesLooks.near.Goals as goal
 
-pub returns-then-self-clause-read : goal.returns-then-self-clause-read
-returns-then-self-clause-read g c = down_read _ _ c.if-self.true
-
 pub returns-clause-read : goal.returns-clause-read
 returns-clause-read g c = answered_by_rows _ _ _ _ _ _ _ c.if-self.false c.near-answer.ensures c.tell.ensures
-
-pub returns-clause-down : goal.returns-clause-down
-returns-clause-down g c down = absurd (true≢false (sym down ∙ c.if-self.false))
 
 pub returns-clause-told : goal.returns-clause-told
 returns-clause-told g c = answered_by_kept _ _ _ _ _ _ _ c.if-self.false (says_also _ _ _ _ _ (λ r near is config kept tell.

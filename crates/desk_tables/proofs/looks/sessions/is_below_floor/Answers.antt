@@ -1,9 +1,8 @@
-use Rattle.std.proofs.Common.{◌∙◌, ap, find, option_map}
+use Rattle.std.proofs.Common.{◌∙◌, ap, find}
 use Rattle.std.specs.Prelude.{option_and_then}
 use Rattle.registry_core.specs.Derived.{is_below}
-use Rattle.desk_rows.specs.Rows.{DeviceRow, is_device}
+use Rattle.desk_rows.specs.Rows.{is_device}
 use Rattle.desk_tables.proofs.Reading.{shows}
-use Rattle.desk_tables.proofs.SeenLemmas.{some_found}
 use Rattle.desk_tables.proofs.Telling.{floor_joined}
 use Rattle.desk_tables.proofs.looks.sessions.is_below_floor.Goals as goal
 
@@ -12,7 +11,3 @@ returns-clause-kept g c = shows _ _ _ _ _ _ (λ r is config kept tell.
     c.is_below.ensures ∙ ap (λ floor. is_below c.args.session (option_and_then (λ f. f) floor)) is
     ∙ ap (is_below c.args.session) (floor_joined (find (is_device c.args.device) r.devices))
     ∙ (c.look_ups_tell.ensures config kept.facts r tell.are).1.floor c.args.device c.args.session) c.in_ok-floor.ensures
-
-pub returns-clause-shows : goal.returns-clause-shows
-returns-clause-shows g c = shows _ _ _ _ _ _ (λ r is.
-    some_found c.in_ok-floor.floor (option_map (λ (row : DeviceRow). row.floor) (find (is_device c.args.device) r.devices)) is) c.in_ok-floor.ensures
