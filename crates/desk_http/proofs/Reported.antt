@@ -8,20 +8,19 @@ use Rattle.registry_core.specs.State.{State}
 use Rattle.desk_store.specs.declared.faults.StoreFault.{StoreFault}
 use Rattle.desk_store.specs.Calls.{ForHeld, IsRead}
 use Rattle.desk_store.specs.Meaning.{Meaning}
-use Rattle.desk_engine.specs.declared.lists.ListOf.{ListOf}
 use Rattle.desk_engine.specs.declared.log.LogText.{LogText}
 use Rattle.desk_engine.specs.declared.report_faults.ReportFault.{ReportFault}
 use Rattle.desk_engine.specs.declared.report_faults.ReportFault.TheVariants.{Month, Time, Owner, Gateway, Device, Unavailable}
 use Rattle.desk_engine.specs.InOrder.{IsInOrder, WasInOrder, kept_after}
 use Rattle.desk_engine.specs.Lines.{input_of}
-use Rattle.desk_engine.specs.Listing.{IsDeviceFault, IsList, IsListFault, device_text, is_device}
+use Rattle.desk_engine.specs.Listing.{IsDeviceFault, is_device}
 use Rattle.desk_engine.specs.Log.{log_of}
 use Rattle.desk_engine.specs.MonthReports.{IsDownlinkReport, IsReceptionReportOf}
 use Rattle.desk_engine.specs.Months.{IsMonth}
 use Rattle.desk_engine.specs.Reporting.{IsGatewayFault, IsOwnerFault, store_fault_in}
 use Rattle.desk_engine.specs.Reports.{IsBandReport, IsOwnerReport, is_gateway, is_owner}
 use Rattle.desk_engine.specs.Rooms.{IsRoomReport, time_in}
-use Rattle.desk_http.specs.Reports.{IsAnswer, IsBandAnswer, IsLogFault, IsMonthAnswer, IsRoomAnswer, RefusesMonth, RefusesTime, Report, band_report, device_report, downlink_report, kind_of, list_of, log_part, most_lines, owner_report, reception_report, room_report}
+use Rattle.desk_http.specs.Reports.{IsAnswer, IsBandAnswer, IsLogFault, IsMonthAnswer, IsRoomAnswer, RefusesMonth, RefusesTime, Report, band_report, downlink_report, kind_of, log_part, most_lines, owner_report, reception_report, room_report}
 use Rattle.desk_http.specs.steps.Answering.{answer_shown}
 use Rattle.desk_http.specs.Responses.{report_response}
 use Rattle.desk_http.specs.Serving.{ServesReport}
@@ -149,22 +148,3 @@ module _ {T : Type 0} (octets : T → List ℕ) where
         reported (log_part which from) (Ok text) read tt (λ c heard was. record { lines = lines c heard was; fault = tt })
     log_served which from (Err why) read lines fault =
         reported (log_part which from) (Err why) read tt (λ c heard was. record { lines = tt; fault = fault c heard was })
-
-    pub list_served : (of : ListOf) (r : Result T ReportFault) → IsRead m old new (store_fault_in r)
-        → ((c : Settings) (heard : List Envelope) → WasInOrder m c heard old new → IfOk r (λ text. IsList of c heard (octets text)))
-        → ((c : Settings) (heard : List Envelope) → WasInOrder m c heard old new → IfErr r IsListFault)
-        → ServesReport m old new (list_of of) (report_response (codes "text/csv") (answer_shown octets r))
-    list_served of (Ok text) read told fault =
-        reported (list_of of) (Ok text) read tt (λ c heard was. record { text = told c heard was; fault = tt })
-    list_served of (Err why) read told fault =
-        reported (list_of of) (Err why) read tt (λ c heard was. record { text = tt; fault = fault c heard was })
-
-    pub device_served : (dev_eui : List ℕ) (r : Result T ReportFault) → IsRead m old new (store_fault_in r)
-        → ((c : Settings) (heard : List Envelope) → WasInOrder m c heard old new → OnOk r (IsTrue (is_device (state_of c heard) dev_eui)))
-        → ((c : Settings) (heard : List Envelope) → WasInOrder m c heard old new → IfOk r (λ text. octets text ≡ device_text c (state_of c heard) dev_eui))
-        → ((c : Settings) (heard : List Envelope) → WasInOrder m c heard old new → IfErr r (IsDeviceFault (state_of c heard) dev_eui))
-        → ServesReport m old new (device_report dev_eui) (report_response (codes "text/csv") (answer_shown octets r))
-    device_served dev_eui (Ok text) read known report fault =
-        reported (device_report dev_eui) (Ok text) read tt (λ c heard was. record { known = known c heard was; report = report c heard was; fault = tt })
-    device_served dev_eui (Err why) read known report fault =
-        reported (device_report dev_eui) (Err why) read tt (λ c heard was. record { known = tt; report = tt; fault = fault c heard was })

@@ -14,11 +14,6 @@ returns-in-OwnerReport-clause-ends g c =
     let served = rw (c.before_slash-first.ensures, c.after_slash-second.ensures, c.names_of-names.ensures, c.path_of.ensures) at c.serve_owner_report.ensures.ends in
     rw c.in-OwnerReport.is (ends-more _ _ _ _ _ _ _ _ c.serve_owner_report.result (λ r s. ([], Consumes-nil _, refl, s)) (λ a. a) served)
 
-pub returns-in-Room-clause-ends : goal.returns-in-Room-clause-ends
-returns-in-Room-clause-ends g c =
-    let served = rw (c.before_slash-first.ensures, c.after_slash-second.ensures, c.names_of-names.ensures, c.path_of.ensures) at c.serve_room_report.ensures.ends in
-    rw c.in-Room.is (ends-more _ _ _ _ _ _ _ _ c.serve_room_report.result (λ r s. ([], Consumes-nil _, refl, s)) (λ a. a) served)
-
 pub returns-in-Receptions-clause-ends : goal.returns-in-Receptions-clause-ends
 returns-in-Receptions-clause-ends g c =
     let served = rw (c.before_slash-first.ensures, c.after_slash-second.ensures, c.names_of-names.ensures, c.path_of.ensures) at c.serve_reception_report.ensures.ends in
