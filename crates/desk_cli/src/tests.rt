@@ -20,7 +20,7 @@ mod lines;
 mod lists;
 pub(crate) mod log;
 mod many;
-mod migrating;
+pub(crate) mod migrating;
 mod radio_rules;
 mod reports;
 pub(crate) mod requests;

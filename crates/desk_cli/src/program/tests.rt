@@ -4,6 +4,7 @@ ghost use Rattle.desk_cli.specs.Doing.{known_alike};
 ghost use Rattle.desk_http.specs.Served.{unknown};
 
 mod audits;
+mod damaged;
 mod fused;
 mod held;
 mod host_files;

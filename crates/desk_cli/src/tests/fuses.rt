@@ -77,6 +77,25 @@ pub(crate) fn empty(alloc: Global) -> Files<Memory> {
     }
 }
 
+/// The connection's files, the log moved into the first.
+fn moved_files<D: Disk + Drop>(conn: Connection<FileStore<D>>) -> Result<Files<D>, Fail> {
+    match conn.close_files() {
+        Ok(files) => Ok(files),
+        Err((error, _)) => Err(error.into()),
+    }
+}
+
+/// Files that the step fills. The log is moved into the first, so that opening them takes few calls.
+pub(crate) fn filled<R: Abort + AllocGlobal, T: Step>(
+    rt: &R,
+    step: &mut T,
+) -> Result<Files<Memory>, Fail> {
+    match connected(rt.alloc(), empty(rt.alloc())) {
+        Ok(conn) => moved_files(step.take(rt, conn)?),
+        Err(_) => Err("they aren't opened".into()),
+    }
+}
+
 /// Copies of the files, of which the log passes so many calls on, or the first file does.
 pub(crate) fn fused(
     alloc: Global,
@@ -105,7 +124,7 @@ fn unfused(alloc: Global, files: &Files<Fuse<Memory>>) -> Result<Files<Memory>, 
 
 /// The step is taken with copies of the files, as a process leaves them that has ended, and as a machine does that has lost all that
 /// wasn't synced.
-fn expect_left<R: Abort + AllocGlobal, T: Step>(
+pub(crate) fn expect_left<R: Abort + AllocGlobal, T: Step>(
     rt: &R,
     files: Files<Fuse<Memory>>,
     step: &mut T,

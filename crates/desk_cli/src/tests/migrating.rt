@@ -61,7 +61,7 @@ fn copy_rows<S: Alter>(
 }
 
 /// The tables of schema 1 go into a database that has nothing, with the rows of a desk that has heard the ten messages.
-pub(super) fn make_first<R: Abort + AllocGlobal, S: Alter>(
+pub(crate) fn make_first<R: Abort + AllocGlobal, S: Alter>(
     rt: &R,
     conn: &mut Connection<S>,
 ) -> Result<(), Fail> {
