@@ -1,3 +1,4 @@
+-- The lemmas about the commands: arguments, what a command reads, prints and leaves of its file, the audit, and crashes.
 pub mod Asked
 pub mod Audited
 pub mod AuditPrinted

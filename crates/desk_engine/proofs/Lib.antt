@@ -1,3 +1,4 @@
+-- The lemmas about hearing messages, lines of an input, imports, the log, and the texts of lists and reports.
 pub mod Addresses
 pub mod AirUse
 pub mod BookedUplinks

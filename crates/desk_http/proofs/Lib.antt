@@ -1,3 +1,4 @@
+-- The lemmas about HTTP: where a head ends, what its fields and its path mean, routes, responses, and served connections.
 pub mod Digits
 pub mod Ended
 pub mod Ends

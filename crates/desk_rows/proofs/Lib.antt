@@ -1,3 +1,4 @@
+-- The lemmas about statements, the rows that they read and change, the making of a desk's schema, and its migration.
 pub mod AllRows
 pub mod BatchLemmas
 pub mod Beside

@@ -1,3 +1,4 @@
+-- The lemmas about rows and facts: what the rows represent, in which orders they are listed, and what each effect changes.
 pub mod Arranging
 pub mod Counters
 pub mod Counting

@@ -1,3 +1,4 @@
+-- The lemmas about the store over a database: making, opening and migrating it, its look-ups, its cache and its commits.
 pub mod Absent
 pub mod AdoptingLemmas
 pub mod CallLemmas

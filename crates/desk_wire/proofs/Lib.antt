@@ -1,3 +1,4 @@
+-- The lemmas about texts that are read and written: messages and answers in JSON, numbers, EUIs, and gateway reports in CSV.
 pub mod CsvRows
 pub mod DataRateNumbers
 pub mod DecimalDigits

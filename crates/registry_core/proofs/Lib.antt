@@ -1,3 +1,4 @@
+-- The lemmas about decisions by a view, and the laws about what is true after every log.
 pub mod AdministrationLaws
 pub mod BandNumbers
 pub mod BookedDownlinks

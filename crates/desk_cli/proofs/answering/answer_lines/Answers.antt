@@ -1,3 +1,4 @@
+-- Three ways out: all lines answered and flushed, a flush that failed, and a store that was unavailable at a line.
 use Rattle.std.proofs.Common.{refl}
 use Rattle.std.proofs.KnownBytes.{Appends-kept}
 use Rattle.desk_engine.specs.Lines.{all_lines}

@@ -1,3 +1,4 @@
+-- The connection over the store that the comparison returned has the tables that it began with, so the finding is about them.
 use Rattle.std.proofs.Common.{◌≡◌, arith}
 use Rattle.sqlite.specs.Held.{state}
 use Rattle.sqlite_trees.specs.View.{IsClean}

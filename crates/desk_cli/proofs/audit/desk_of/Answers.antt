@@ -1,3 +1,4 @@
+-- What the audit makes of each result of `open_desk`: a desk's configuration, or an error with the database as it was.
 use Rattle.std.proofs.Common.{◌∙◌, subst, sym}
 use Rattle.desk_rows.specs.Meta.{IsConfig}
 use Rattle.desk_cli.proofs.Opened.{is_unavailable, not_a_desk_of, says_opening, says_schema}

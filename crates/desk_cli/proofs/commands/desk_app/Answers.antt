@@ -1,3 +1,4 @@
+-- Eleven commands, `serve` to `audit`, are added one after another to those of `with_readers`, each after the ones before.
 use Rattle.desk_cli.proofs.commands.desk_app.Goals as goal
 
 pub returns : goal.returns

@@ -1,3 +1,4 @@
+-- The arguments of `desk` without a command: the flag `version` alone.
 use Rattle.desk_cli.proofs.commands.top_app.Goals as goal
 
 pub returns : goal.returns

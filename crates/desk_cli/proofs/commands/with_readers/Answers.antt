@@ -1,3 +1,4 @@
+-- Five commands, `lines` to `import`, are added one after another, each after the ones before.
 use Rattle.desk_cli.proofs.commands.with_readers.Goals as goal
 
 pub returns : goal.returns

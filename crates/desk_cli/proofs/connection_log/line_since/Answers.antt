@@ -1,3 +1,4 @@
+-- The parts of the line, each by the definition: method, target, both counts, the time, and the status and refusal of the answer.
 use Rattle.std.proofs.Common.{◌∙◌, ap, refl}
 use Rattle.desk_cli.specs.ConnectionLog.{after_word, first_word}
 use Rattle.desk_cli.proofs.connection_log.line_since.Goals as goal

@@ -1,3 +1,4 @@
+-- Writing the line takes several calls, which together append the definition's line to an empty text.
 use Rattle.std.proofs.Common.{◌++◌, ap, ◌∙◌}
 use Rattle.desk_cli.specs.Faults.{fault_line}
 use Rattle.desk_cli.proofs.FaultLines.{written_in_calls}

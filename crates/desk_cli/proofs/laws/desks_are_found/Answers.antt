@@ -1,3 +1,4 @@
+-- What a connection shows of its files when they are opened is all committed, so the desk in them is the connection's.
 use Rattle.sqlite_store.specs.Laws.{settled_at}
 use Rattle.desk_cli.proofs.InFiles.{found}
 use Rattle.desk_cli.proofs.laws.desks_are_found.Goals as goal

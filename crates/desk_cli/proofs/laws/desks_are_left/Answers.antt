@@ -1,3 +1,4 @@
+-- The files after a crash contain what the connection could leave, which is a desk with the log, maybe with the in-flight message.
 use Rattle.desk_cli.proofs.InFiles.{left}
 use Rattle.desk_cli.proofs.laws.desks_are_left.Goals as goal
 

@@ -1,3 +1,4 @@
+-- A database in memory has no disk that fails, so what `run_on_tables` promises for a good disk is true here without a condition.
 use Rattle.std.proofs.Common.{refl}
 use Rattle.sqlite.proofs.Callers.{memory_is_clean}
 use Rattle.desk_cli.proofs.on_tables.run_in_memory.Goals as goal

@@ -1,3 +1,4 @@
+-- The new desk represents the empty log, and closing it leaves the log after the deliveries, or what a crash may leave.
 use Rattle.std.proofs.Common.{[], None}
 use Rattle.desk_cli.proofs.OnTables.{closed, keeps_rules, leaves_rules, left, survives, unshut_by, was_in_order, was_new}
 use Rattle.desk_cli.proofs.on_tables.run_on_tables.Goals as goal

@@ -1,3 +1,4 @@
+-- What the program makes of each result of `Tables::open`: a store that represents the log, or an error with the file as it was.
 use Rattle.std.proofs.Common.{◌∙◌}
 use Rattle.desk_engine.specs.InOrder.{kept_after}
 use Rattle.desk_cli.proofs.Opened.{is_unavailable, left_as_it_was, not_a_desk_of, says_opening, says_schema}

@@ -1,3 +1,4 @@
+-- The command without arguments gets one: the file.
 use Rattle.desk_cli.proofs.options.command_on_file.Goals as goal
 
 pub returns : goal.returns

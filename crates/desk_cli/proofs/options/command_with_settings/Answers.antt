@@ -1,3 +1,4 @@
+-- The four options are added one after another: receiver, operator, base and addresses.
 use Rattle.desk_cli.proofs.options.command_with_settings.Goals as goal
 
 pub returns : goal.returns

@@ -1,3 +1,4 @@
+-- The value that clap returns for an option is the first in the rows of the parsed arguments.
 use Rattle.std.proofs.Common.{◌∙◌}
 use Rattle.clap.specs.Matches.{found_of}
 use Rattle.clap.proofs.WalkLemmas.{first_value-rows}

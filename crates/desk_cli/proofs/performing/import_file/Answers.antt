@@ -1,3 +1,4 @@
+-- The file is opened and the records of a gateway report heard, or it can't be opened.
 use Rattle.std.proofs.Common.{Err, ap, inl, inr, refl}
 use Rattle.std.proofs.KnownBytes.{Keeps-refl}
 use Rattle.desk_cli.proofs.performing.import_file.Goals as goal

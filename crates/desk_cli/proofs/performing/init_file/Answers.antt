@@ -1,3 +1,4 @@
+-- The file is made and a new desk in it, or it can't be made.
 use Rattle.std.proofs.Common.{Err, ap, inl, inr, refl}
 use Rattle.desk_cli.proofs.performing.init_file.Goals as goal
 

@@ -1,3 +1,4 @@
+-- The file is opened and the log printed, or it can't be opened.
 use Rattle.std.proofs.Common.{Err, ap, inl, inr, refl}
 use Rattle.std.proofs.KnownBytes.{Keeps-refl}
 use Rattle.desk_cli.proofs.performing.log_file.Goals as goal

@@ -1,3 +1,4 @@
+-- The file is opened and its desk moved to schema 2, or it can't be opened.
 use Rattle.std.proofs.Common.{Err, ap, inl, inr, refl}
 use Rattle.desk_cli.proofs.performing.migrate_file.Goals as goal
 

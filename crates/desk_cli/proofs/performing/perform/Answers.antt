@@ -1,3 +1,4 @@
+-- Command by command: what its function promises, and that the log of its desk satisfies the registry's rules.
 use Rattle.std.proofs.Common.{refl}
 use Rattle.std.proofs.KnownBytes.{Keeps-refl}
 use Rattle.desk_cli.proofs.ByRules.{answers_by_rules, audits_by_rules, by_rules, imports_by_rules, logs_by_rules, prints_by_rules, serves_by_rules}

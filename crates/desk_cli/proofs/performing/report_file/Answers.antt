@@ -1,3 +1,4 @@
+-- The file is opened and the report of an owner's month printed, or it can't be opened.
 use Rattle.std.proofs.Common.{Err, ap, inl, inr, refl}
 use Rattle.std.proofs.KnownBytes.{Keeps-refl}
 use Rattle.desk_cli.proofs.performing.report_file.Goals as goal

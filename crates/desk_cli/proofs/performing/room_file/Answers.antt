@@ -1,3 +1,4 @@
+-- The file is opened and the room of a gateway printed, or it can't be opened.
 use Rattle.std.proofs.Common.{Err, ap, inl, inr, refl}
 use Rattle.std.proofs.KnownBytes.{Keeps-refl}
 use Rattle.desk_cli.proofs.performing.room_file.Goals as goal

@@ -1,3 +1,4 @@
+-- The file is opened and connections served, or it can't be opened.
 use Rattle.std.proofs.Common.{Err, ap, inl, inr, refl}
 use Rattle.std.proofs.KnownBytes.{Keeps-refl}
 use Rattle.desk_cli.proofs.performing.serve_file.Goals as goal

@@ -1,3 +1,4 @@
+-- Either the desk opened and printed the report, or it was unavailable and nothing was printed.
 use Rattle.std.proofs.Common.{None, refl}
 use Rattle.std.proofs.KnownBytes.{Keeps-refl}
 use Rattle.desk_cli.proofs.ByStore.{either, kept_by, left_by}

@@ -1,3 +1,4 @@
+-- How `print_by_store` ended is reported on standard error; the report that it printed is the command's.
 use Rattle.desk_cli.proofs.printing.print_report.Goals as goal
 
 pub returns : goal.returns

@@ -1,3 +1,4 @@
+-- `run_given` with the arguments of the process; if it ended with status 0, they named a command, and that was done.
 use Rattle.desk_cli.proofs.Asked.{done_asked, some_words}
 use Rattle.desk_cli.proofs.program.run.Goals as goal
 

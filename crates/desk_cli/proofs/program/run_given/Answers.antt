@@ -1,3 +1,4 @@
+-- If the arguments can't be read, no command was named; how the run ended decides whether standard error has a line.
 use Rattle.desk_cli.proofs.Asked.{is_quiet, runs_not, tells_ending}
 use Rattle.desk_cli.proofs.program.run_given.Goals as goal
 

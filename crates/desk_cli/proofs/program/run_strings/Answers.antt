@@ -1,3 +1,4 @@
+-- If the arguments name no command, the reason is reported and nothing is done.
 use Rattle.std.proofs.Common.{Err, ap, map, string_bytes, subst, ◌∙◌}
 use Rattle.clap.specs.Walk.{texts}
 use Rattle.desk_cli.specs.CommandLine.{named_by}

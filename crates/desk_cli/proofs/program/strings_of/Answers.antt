@@ -1,3 +1,4 @@
+-- `collect` takes every argument, in order.
 use Rattle.std.proofs.Common.{refl}
 use Rattle.std.proofs.lemmas.Iterator.Adapters.{YieldsList-from_vec}
 use Rattle.std.proofs.lemmas.Iterator.{items_from_collect}

@@ -1,3 +1,4 @@
+-- `collect` takes the text of each argument, in order.
 use Rattle.std.proofs.Common.{rules, string_bytes}
 use Rattle.std.proofs.lemmas.Iterator.{YieldsList-from_map_by, YieldsList-from_slice}
 use Rattle.std.proofs.lemmas.Iterator.Consumers.{map_from_collect}

@@ -1,3 +1,4 @@
+-- What a crash leaves of both files is among what the store may leave, so opening finds one of the states that the log allows.
 use Rattle.std.proofs.Common.{subst}
 use Rattle.sqlite_disk.specs.declared.Files.{Files}
 use Rattle.desk_cli.proofs.FoundAgain.{found_again, is_clean, may_be_left}

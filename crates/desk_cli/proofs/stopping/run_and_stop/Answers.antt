@@ -1,3 +1,4 @@
+-- On disks that return what was written, the outcomes are those of the run, and what is found is what its crash may leave.
 use Rattle.desk_cli.proofs.FoundAgain.{is_clean}
 use Rattle.desk_cli.proofs.stopping.run_and_stop.Goals as goal
 

@@ -1,3 +1,4 @@
+-- The matches that clap returns name the command of the definition, and its error is the refusal or the help of the definition.
 use Rattle.clap.specs.Walk.{texts}
 use Rattle.desk_cli.proofs.Tellings.{tells_command, tells_usage}
 use Rattle.desk_cli.proofs.words.read_words.Goals as goal

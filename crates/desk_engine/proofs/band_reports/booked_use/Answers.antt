@@ -1,3 +1,4 @@
+-- The use of a band doesn't depend on the order of the spans, so the store's list by start gives the use of all bookings.
 use Rattle.std.proofs.Common.{◌∙◌, ap}
 use Rattle.desk_engine.specs.steps.Uses.{use_computed}
 use Rattle.desk_engine.proofs.AirUse.{use_ignores_order}

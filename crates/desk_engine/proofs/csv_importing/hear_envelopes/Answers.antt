@@ -1,3 +1,4 @@
+-- Three ways out: the answers couldn't be written, the import ended with an error, or every record has its answer.
 use Rattle.std.proofs.Common.{refl, subst}
 use Rattle.std.specs.Io.KnownBytes.{Appends}
 use Rattle.std.specs.List.{flat_map}

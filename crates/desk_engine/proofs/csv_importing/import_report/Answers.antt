@@ -1,3 +1,4 @@
+-- If the input can't be read, or memory runs out while it is parsed, no record is heard and the log stays.
 use Rattle.desk_engine.proofs.CsvImports.{no_text, unread}
 use Rattle.desk_engine.specs.Stays.{stays}
 use Rattle.desk_engine.proofs.csv_importing.import_report.Goals as goal

@@ -1,3 +1,4 @@
+-- If memory runs out, the octets so far and the chunk that was read last are what was taken from the input.
 use Rattle.std.proofs.Common.{inr, refl}
 use Rattle.std.proofs.KnownBytes.{Consumes-trans}
 use Rattle.desk_engine.proofs.csv_importing.report_text.Goals as goal

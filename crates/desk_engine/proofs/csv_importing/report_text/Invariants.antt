@@ -1,3 +1,4 @@
+-- The loop of `report_text`: the octets so far are those that were read, and fewer are allowed each time.
 use Rattle.std.proofs.Common.{◌-◌, ◌+◌}
 use Rattle.std.specs.Io.KnownBytes.{Consumes}
 use Rattle.desk_wire.specs.CsvReports.{longest_report}

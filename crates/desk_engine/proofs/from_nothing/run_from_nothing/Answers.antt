@@ -1,3 +1,4 @@
+-- A new store represents the empty log, so what `run` promises of a log is true of the empty one.
 use Rattle.std.proofs.Common.{[], sym, ap, ◌∙◌, subst, map, take}
 use Rattle.registry_core.specs.Rules.{GoesByRules}
 use Rattle.desk_store.specs.Lists.{kept_of, lists_meaning}

@@ -1,3 +1,4 @@
+-- The decision by the view is the state's, its effect fits the state, and both texts are those of the definitions.
 use Rattle.std.proofs.Common.{◌∙◌, ap, refl, List, ℕ}
 use Rattle.registry_core.specs.Decision.{Decision}
 use Rattle.desk_wire.specs.Answers.{answer_text, head_of_envelope}

@@ -1,3 +1,4 @@
+-- Three cases of what calls add to the log: one call after another, calls that only read, and no call.
 use Rattle.desk_engine.proofs.Hearings.{hears_then, no_call_hears_nothing, reads_hear_nothing}
 use Rattle.desk_engine.proofs.laws.calls_hear_in_order.Goals as goal
 

@@ -1,3 +1,4 @@
+-- The text of a message is read back as its envelope, and no text is longer than a delivery may be.
 use Rattle.desk_engine.proofs.OwnTexts.{messages_are_delivered}
 use Rattle.desk_engine.proofs.laws.messages_are_delivered.Goals as goal
 

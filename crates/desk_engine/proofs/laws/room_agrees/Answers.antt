@@ -1,3 +1,4 @@
+-- A downlink has room exactly if it is clear of all bookings and every hour stays within the limit, as a DownBook checks.
 use Rattle.desk_engine.proofs.RoomLaws.{room_agrees, room_passes_checks}
 use Rattle.desk_engine.proofs.laws.room_agrees.Goals as goal
 

@@ -1,3 +1,4 @@
+-- What a store represents is unique, so it is the registry after the log, which satisfies the rules.
 use Rattle.desk_engine.proofs.KeptAfter.{holds_rules}
 use Rattle.desk_engine.proofs.laws.stores_keep_rules.Goals as goal
 

@@ -1,3 +1,4 @@
+-- The octets are split at the place of the first LF; if there is no such place, they have no LF.
 use Rattle.std.proofs.Common.{◌+◌, ◌-◌, ◌++◌, ◌∷◌, length, take, drop, sym, ap, ◌∙◌, arith}
 use Rattle.std.proofs.lemmas.List.{length-drop, take_all}
 use Rattle.desk_engine.specs.Lines.{line_feed}

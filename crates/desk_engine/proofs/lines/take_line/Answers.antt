@@ -1,3 +1,4 @@
+-- The buffer with these octets is a line that ends now: it is answered and the buffer emptied, or an error ends the input there.
 use Rattle.std.proofs.Common.{◌++◌, ◌∷◌}
 use Rattle.desk_engine.specs.Lines.{heard_lines, line_feed, whole_lines}
 use Rattle.desk_engine.proofs.LineRuns as runs

@@ -1,3 +1,4 @@
+-- Each LF ends one line more, and what follows the last one is buffered; an error leaves the rest of the octets unanswered.
 use Rattle.std.proofs.Common.{◌++◌, [], ◌∷◌, sym, ◌∙◌, false}
 use Rattle.desk_engine.specs.Lines.{line_feed}
 use Rattle.desk_engine.proofs.Hearings.{call_then}

@@ -1,3 +1,4 @@
+-- One entry that is loaded is one line more; an error, a failed write and the end leave the lines that were written before.
 use Rattle.std.proofs.Common.{◌∙◌, arith, sym}
 use Rattle.desk_engine.specs.steps.Logs.{log_lines}
 use Rattle.desk_engine.proofs.LogEnds.{line_written, next_line, of_err, of_ok, part_written, whole_written}

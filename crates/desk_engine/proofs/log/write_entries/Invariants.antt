@@ -1,3 +1,4 @@
+-- The loop of `write_entries`: the lines so far are written, and fewer are still to come.
 use Rattle.std.proofs.Common.{◌≤◌, ◌-◌, None}
 use Rattle.desk_store.specs.Calls.{ForHeld, IsRead}
 use Rattle.desk_engine.specs.steps.Logs.{HasWritten, log_lines}

@@ -1,3 +1,4 @@
+-- The lines of the entries that the store represents are those of the messages in the log.
 use Rattle.std.proofs.Common.{subst}
 use Rattle.desk_engine.specs.Log.{LogEndBy}
 use Rattle.desk_engine.specs.InOrder.{kept_after}

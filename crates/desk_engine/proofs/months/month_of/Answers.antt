@@ -1,3 +1,4 @@
+-- If a year and a month are read, the text is a month with their bounds, so a text that is no month gives `None`.
 use Rattle.std.proofs.Common.{◌≡◌, true, false, rules}
 use Rattle.desk_engine.proofs.months.month_of.Goals as goal
 

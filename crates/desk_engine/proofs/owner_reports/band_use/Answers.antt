@@ -1,3 +1,4 @@
+-- The use of a band doesn't depend on the order of the spans, and the month's bounds fit 64 bits, so it is that of the uplinks.
 use Rattle.std.proofs.Common.{◌∙◌, ap, rules, FitsSigned, w64}
 use Rattle.std.proofs.lemmas.Int.{to_z-of_z}
 use Rattle.desk_engine.specs.steps.Uses.{use_computed}

@@ -1,3 +1,4 @@
+-- The month is checked first, then whether there is such an owner; the report is that of the owner's name and the month's bounds.
 use Rattle.std.proofs.Common.{◌≡◌, ◌∙◌, ap, refl, sym, rules, Bool, false}
 use Rattle.std.specs.Prelude.{◌&&◌}
 use Rattle.radio_core.specs.Names.{is_name}

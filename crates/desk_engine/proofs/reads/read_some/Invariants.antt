@@ -1,3 +1,4 @@
+-- The loop of `read_some`: nothing is taken from the input by the interrupted reads so far.
 use Rattle.std.specs.Io.KnownBytes.{Keeps}
 use Rattle.desk_engine.proofs.reads.read_some.Given as goal
 

@@ -1,3 +1,4 @@
+-- The bookings near the time decide the use of the hour before it and the room; the times of both fit 64 bits.
 use Rattle.std.proofs.Common.{◌≡◌, ◌∙◌, ap, arith, of_z, to_z}
 use mir.Syntax.{w64}
 use Rattle.std.specs.Prelude.{◌-ℤ◌, pos}

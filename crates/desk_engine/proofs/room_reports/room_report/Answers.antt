@@ -1,3 +1,4 @@
+-- After any log bookings are short and within the limits, as `rooms_text` needs, and its report is that of the gateway's name.
 use Rattle.std.proofs.Common.{◌≡◌, ◌∙◌, rules}
 use Rattle.std.proofs.lemmas.Option.{same_Some}
 use Rattle.desk_engine.specs.InOrder.{kept_after}

@@ -1,3 +1,4 @@
+-- One band more is one line more, by the same near bookings; after the loop all bands have theirs.
 use Rattle.std.proofs.Common.{◌∙◌, ◌++◌, ap, sym, refl, subst, ℕ, List, get_or, take}
 use Rattle.std.proofs.lemmas.List.{take_all, take_more}
 use Rattle.std.specs.List.{flat_map}

@@ -1,3 +1,4 @@
+-- The loop of `rooms_text`: the lines of the bands so far are written, and the near bookings are still those of the store.
 use Rattle.std.proofs.Common.{◌≡◌, None, take}
 use Rattle.radio_core.specs.Bands.{bands}
 use Rattle.desk_store.specs.Calls.{ForHeld, IsRead}

@@ -1,3 +1,4 @@
+-- What is written is always a beginning of the octets: a write of some adds them, and an error adds none.
 use Rattle.std.proofs.Common.{◌≡◌, ℕ, List, ◌++◌, take, sym, subst}
 use Rattle.std.specs.Borrow.{Bor}
 use Rattle.std.specs.Io.KnownBytes.{Appends}

@@ -1,3 +1,4 @@
+-- The loop of `write_octets`: exactly the octets before the rest are written.
 use Rattle.std.proofs.Common.{◌≡◌, ◌++◌, ℕ, List}
 use Rattle.std.specs.Io.KnownBytes.{Appends}
 use Rattle.desk_engine.proofs.writes.write_octets.Given as goal

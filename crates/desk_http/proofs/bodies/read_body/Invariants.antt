@@ -1,3 +1,4 @@
+-- The loop of `read_body`: the octets so far are those that were read, and no more than the body has.
 use Rattle.std.proofs.Common.{◌-◌, ◌≤◌, length}
 use Rattle.std.specs.Io.KnownBytes.{Consumes}
 use Rattle.desk_http.proofs.bodies.read_body.Given as goal

@@ -1,3 +1,4 @@
+-- The loop of `accept_next`: each accept so far failed.
 use Rattle.desk_http.specs.Served.{FailsEach}
 use Rattle.desk_http.proofs.connections.accept_next.Given as goal
 

@@ -1,3 +1,4 @@
+-- The loop of `serve_each`: this many connections are served, each with the store that the one before left.
 use Rattle.desk_http.specs.Serving.{ServesRequest}
 use Rattle.desk_http.specs.Served.{ServesEach}
 use Rattle.desk_http.proofs.connections.serve_each.Given as goal

@@ -1,3 +1,4 @@
+-- The loop of `body_length`: the length that the fields so far give.
 use Rattle.std.proofs.Common.{◌≡◌, map, take}
 use Rattle.httparse.specs.Spans.{header_bytes}
 use Rattle.desk_http.specs.steps.Fields.{length_so_far}

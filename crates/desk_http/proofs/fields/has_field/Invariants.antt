@@ -1,3 +1,4 @@
+-- The loop of `has_field`: whether one of the fields so far has the name.
 use Rattle.std.proofs.Common.{◌≡◌, map, take}
 use Rattle.httparse.specs.Spans.{header_bytes}
 use Rattle.desk_http.specs.steps.Fields.{named_so_far}

@@ -1,3 +1,4 @@
+-- The head decides the request, the path the names in it, and an origin in the head is refused before a body is read.
 use Rattle.desk_http.proofs.OneRequest.{named_is_one, origins_are_refused, requests_are_one}
 use Rattle.desk_http.proofs.laws.requests_are_one.Goals as goal
 

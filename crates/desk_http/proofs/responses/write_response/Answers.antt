@@ -1,3 +1,4 @@
+-- The first lines, the field `allow` if there is one, the last field and the body are appended one after another.
 use Rattle.std.proofs.KnownBytes.{Appends-trans}
 use Rattle.desk_http.specs.Responses.{response_text}
 use Rattle.desk_http.proofs.Written.{on_ok}

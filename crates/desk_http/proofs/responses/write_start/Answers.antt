@@ -1,3 +1,4 @@
+-- The text that `write!` formats is the definition's, with the status's number and its phrase.
 use Rattle.std.proofs.Common.{append_assoc, subst}
 use Rattle.std.specs.Io.KnownBytes.{Appends}
 use Rattle.desk_http.proofs.Written.{on_ok}

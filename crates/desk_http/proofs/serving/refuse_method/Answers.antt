@@ -1,3 +1,4 @@
+-- The method that is named is that of the resource, whatever names the path has.
 use Rattle.desk_http.proofs.serving.refuse_method.Goals as goal
 
 pub returns : goal.returns

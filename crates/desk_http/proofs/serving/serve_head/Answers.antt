@@ -1,3 +1,4 @@
+-- A wrong method is refused by its resource, and for the reports of two names both are taken from the path and no body is read.
 use Rattle.std.proofs.Common.{[], refl}
 use Rattle.std.proofs.KnownBytes.{Consumes-nil}
 use Rattle.desk_http.specs.Responses.{other_method}

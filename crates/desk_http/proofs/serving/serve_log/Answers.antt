@@ -1,3 +1,4 @@
+-- The messages or answers from a number on are served as the log has them, or an error is answered.
 use Rattle.desk_http.proofs.Ended.{ends-written}
 use Rattle.desk_http.proofs.Reported.{log_served}
 use Rattle.desk_http.proofs.serving.serve_log.Goals as goal

@@ -1,3 +1,4 @@
+-- The room of a gateway at a time is served as the engine answers it.
 use Rattle.desk_http.proofs.Ended.{ends-written}
 use Rattle.desk_http.proofs.Reported.{room_served}
 use Rattle.desk_http.proofs.serving.serve_room_report.Goals as goal

@@ -1,3 +1,4 @@
+-- The router has the thirteen forms of paths, and finds the first that the path has, or that it has none.
 use Rattle.std.proofs.Common.{refl}
 use Rattle.matchit.proofs.OnLiterals.{matchit_on_literals}
 use Rattle.matchit.specs.Router.{RouteOf}

@@ -1,3 +1,4 @@
+-- The row with this number, read from its columns without the session and the kind of the uplink, is the booking.
 use Rattle.std.proofs.Common.{[], ◌∷◌}
 use Rattle.desk_rows.proofs.DeskTables.{bookings, everything, finds_number, refl, understood}
 use Rattle.desk_rows.proofs.bookings.booking.Goals as goal

@@ -1,3 +1,4 @@
+-- The row with this number is changed in the column of its state alone, since the number is the table's primary key.
 use Rattle.std.proofs.Common.{[], ◌∷◌, ◌∙◌, arith}
 use Rattle.registry_core.specs.Wholes.{IsWhole}
 use Rattle.desk_rows.specs.Rows.{number, standing_number}

@@ -1,3 +1,4 @@
+-- The booking's row comes last; the uplink's and the session's numbers are stored exactly if they are below 2^63.
 use Rattle.std.proofs.Common.{ap, ap₂, ◌<◌, ◌^◌, ◌∷◌, drop}
 use Rattle.sqlite_value.specs.declared.value.Value.TheVariants.{Text}
 use Rattle.sqlite.specs.Values.{bound_value}

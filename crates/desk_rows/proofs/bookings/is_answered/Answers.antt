@@ -1,3 +1,4 @@
+-- A row comes back exactly if a booking that isn't dropped names the uplink.
 use Rattle.desk_rows.proofs.AnsweredUplinks.{reads_answer}
 use Rattle.desk_rows.proofs.bookings.is_answered.Goals as goal
 

@@ -1,3 +1,4 @@
+-- The greatest number in the table is the number of bookings, in the tables of schema 1 too.
 use Rattle.desk_rows.proofs.DeskTables.{bookings, everything, reads_first, reads_number, refl, understood}
 use Rattle.desk_rows.proofs.bookings.last_booking.Goals as goal
 

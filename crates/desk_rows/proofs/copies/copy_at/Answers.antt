@@ -1,3 +1,4 @@
+-- The uplink and the gateway are a unique key, so the row that is found has the only reception of that uplink there.
 use Rattle.std.proofs.Common.{[], ◌∷◌}
 use Rattle.desk_rows.proofs.DeskTables.{copies, copy_key, everything, finds_plain, refl, understood}
 use Rattle.desk_rows.proofs.copies.copy_at.Goals as goal

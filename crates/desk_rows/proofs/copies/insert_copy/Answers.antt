@@ -1,3 +1,4 @@
+-- The reception's row comes last if the uplink has none at this gateway; the uplink's number is stored exactly if it is below 2^63.
 use Rattle.std.proofs.Common.{ap, ◌<◌, ◌^◌, ◌∷◌, drop}
 use Rattle.sqlite_value.specs.Order.{Row}
 use Rattle.sqlite.specs.Values.{bound_value}

@@ -1,3 +1,4 @@
+-- The DevEUI's eight octets are a unique key, so the row that is found has that device's JoinEUI and owner.
 use Rattle.std.proofs.Common.{[], ◌∷◌}
 use Rattle.desk_rows.proofs.DeskTables.{device_key, devices, everything, finds_plain, refl, understood}
 use Rattle.desk_rows.proofs.devices.device.Goals as goal

@@ -1,3 +1,4 @@
+-- The owner's devices above a DevEUI, ordered by the octets, begin with the least of them.
 use Rattle.desk_rows.proofs.NextDevice.{reads_after}
 use Rattle.desk_rows.proofs.devices.device_after.Goals as goal
 

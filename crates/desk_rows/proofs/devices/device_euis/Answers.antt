@@ -1,3 +1,4 @@
+-- The rows ordered by the octets of their DevEUIs are ordered by DevEUI.
 use Rattle.desk_rows.proofs.ListedQueries.{reads_devices}
 use Rattle.desk_rows.proofs.devices.device_euis.Goals as goal
 

@@ -1,3 +1,4 @@
+-- The owner's devices ordered by the octets of their DevEUIs begin with the least of them.
 use Rattle.desk_rows.proofs.NextDevice.{reads_first}
 use Rattle.desk_rows.proofs.devices.first_device.Goals as goal
 

@@ -1,3 +1,4 @@
+-- The floor is read from the row with this DevEUI, which is a unique key; a null there is no floor.
 use Rattle.std.proofs.Common.{[], ◌∷◌}
 use Rattle.desk_rows.proofs.DeskTables.{device_key, devices, everything, finds_plain, refl, understood}
 use Rattle.desk_rows.proofs.devices.floor_of.Goals as goal

@@ -1,3 +1,4 @@
+-- The device's row comes last if the DevEUI isn't there yet; its floor isn't given, so it is null.
 use Rattle.std.proofs.Common.{None}
 use Rattle.desk_rows.specs.Schema.{device_table}
 use Rattle.desk_rows.proofs.DeskTables.{adds, device_key, devices, everything, insert_is, refl, understood}

@@ -1,3 +1,4 @@
+-- The one row with this DevEUI gets the new owner; its JoinEUI and its floor don't change.
 use Rattle.std.proofs.Common.{[], ◌∷◌, eqb-true}
 use Rattle.sqlite_value.specs.declared.value.Value.TheVariants.{Text}
 use Rattle.desk_rows.specs.Schema.{device_table}

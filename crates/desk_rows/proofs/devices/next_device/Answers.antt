@@ -1,3 +1,4 @@
+-- With a DevEUI given, what `above` lets through is the next device, because the query returns nothing that isn't above it.
 use Rattle.std.proofs.Common.{Some}
 use Rattle.desk_rows.proofs.NextDevice.{reads_above}
 use Rattle.desk_rows.proofs.devices.next_device.Goals as goal

@@ -1,3 +1,4 @@
+-- The one row with this DevEUI gets the new floor; its JoinEUI and its owner don't change.
 use Rattle.std.proofs.Common.{[], ◌∷◌, eqb-true}
 use Rattle.desk_rows.specs.Rows.{number}
 use Rattle.desk_rows.specs.Schema.{device_table}

@@ -1,3 +1,4 @@
+-- A row comes back exactly if there is a gateway of this name; the name is a unique key.
 use Rattle.desk_rows.proofs.DeskTables.{everything, gateway_key, gateways, knows_key, refl, understood}
 use Rattle.desk_rows.proofs.gateways.gateway_is_known.Goals as goal
 

@@ -1,3 +1,4 @@
+-- The rows of the gateways ordered by name are the names ordered by octets.
 use Rattle.desk_rows.proofs.ListedQueries.{reads_gateways}
 use Rattle.desk_rows.proofs.gateways.gateway_names.Goals as goal
 

@@ -1,3 +1,4 @@
+-- The gateway's row comes last if its name isn't there yet.
 use Rattle.desk_rows.specs.Schema.{gateway_table}
 use Rattle.desk_rows.proofs.DeskTables.{adds, everything, gateway_key, gateways, insert_is, refl, understood}
 use Rattle.desk_rows.proofs.gateways.insert_gateway.Goals as goal

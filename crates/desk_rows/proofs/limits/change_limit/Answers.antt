@@ -1,3 +1,4 @@
+-- The one row of the gateway and the band gets the new limit, which is small enough to be stored exactly.
 use Rattle.std.proofs.Common.{[], ◌∷◌}
 use Rattle.radio_core.specs.Bands.{band_number}
 use Rattle.desk_rows.specs.Rows.{number}

@@ -1,3 +1,4 @@
+-- The limit's row comes last if the gateway's band has none; the limit is small enough to be stored exactly.
 use Rattle.desk_rows.specs.Schema.{limit_table}
 use Rattle.desk_rows.proofs.LimitUpdates.{storable}
 use Rattle.desk_rows.proofs.DeskTables.{adds, everything, insert_is, limit_key, limits, refl, understood}

@@ -1,3 +1,4 @@
+-- The greatest rowid among the limits is their number.
 use Rattle.desk_rows.proofs.DeskTables.{everything, limits, reads_number, refl, understood}
 use Rattle.desk_rows.proofs.limits.last_limit.Goals as goal
 

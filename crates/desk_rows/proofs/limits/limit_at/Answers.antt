@@ -1,3 +1,4 @@
+-- The gateway and the band are a unique key, so the row that is found has the band's only limit.
 use Rattle.std.proofs.Common.{[], ◌∷◌}
 use Rattle.radio_core.specs.Bands.{band_number}
 use Rattle.desk_rows.proofs.DeskTables.{everything, finds_plain, limit_key, limits, refl, understood}

@@ -1,3 +1,4 @@
+-- The batch makes all eleven tables in an empty schema; if it fails there, the error is `Memory`, `Disk` or `Size`.
 use Rattle.desk_rows.proofs.MakingLemmas.{tables_made, tables_refused}
 use Rattle.desk_rows.proofs.making.create_tables.Goals as goal
 

@@ -1,3 +1,4 @@
+-- The row of meta makes the first rows of a desk in bare tables; without a step limit an error is `Memory`, `Disk` or `Size`.
 use Rattle.sqlite.specs.Held.{state}
 use Rattle.desk_rows.proofs.MakingLemmas.{settings_made, settings_in_order}
 use Rattle.desk_rows.proofs.making.insert_settings.Goals as goal

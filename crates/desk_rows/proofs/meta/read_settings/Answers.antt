@@ -1,3 +1,4 @@
+-- Only the schema of meta decides what is read; a query that succeeds changes nothing, and one that fails leaves all or rolls back.
 use Rattle.std.proofs.Common.{◌∙◌, inl, sym}
 use Rattle.std.proofs.lemmas.Result.{IfErr-weaker, IfOk-weaker}
 use Rattle.sqlite.specs.Held.{state}

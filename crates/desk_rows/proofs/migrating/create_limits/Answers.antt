@@ -1,3 +1,4 @@
+-- The new table takes the ten tables to the state between the versions; a name that is used makes the statement fail.
 use Rattle.sqlite.specs.Held.{state}
 use Rattle.desk_rows.proofs.MigratingLemmas.{limits_in_order, limits_made, name_taken}
 use Rattle.desk_rows.proofs.migrating.create_limits.Goals as goal

@@ -1,3 +1,4 @@
+-- The version in the one row of meta becomes 2, which takes the state between the versions to that of the schema.
 use Rattle.sqlite.specs.Held.{state}
 use Rattle.desk_rows.proofs.MigratingLemmas.{version_in_order, version_raised}
 use Rattle.desk_rows.proofs.migrating.raise_version.Goals as goal

@@ -1,3 +1,4 @@
+-- The owner's row comes last if its name isn't there yet.
 use Rattle.desk_rows.specs.Schema.{owner_table}
 use Rattle.desk_rows.proofs.DeskTables.{adds, everything, insert_is, owner_key, owners, refl, understood}
 use Rattle.desk_rows.proofs.owners.insert_owner.Goals as goal

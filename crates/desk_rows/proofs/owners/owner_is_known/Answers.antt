@@ -1,3 +1,4 @@
+-- A row comes back exactly if there is an owner of this name; the name is a unique key.
 use Rattle.desk_rows.proofs.DeskTables.{everything, knows_key, owner_key, owners, refl, understood}
 use Rattle.desk_rows.proofs.owners.owner_is_known.Goals as goal
 

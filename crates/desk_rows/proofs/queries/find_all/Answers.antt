@@ -1,3 +1,4 @@
+-- Each row that is read is one value more; the last row ends the list, and a row that fails ends it with an error.
 use Rattle.std.proofs.Common.{◌∙◌, refl, rules}
 use Rattle.std.proofs.lemmas.Result.{err_from_is_err_and}
 use Rattle.sqlite.specs.Values.{bound}

@@ -1,3 +1,4 @@
+-- The loop over the rows of a query: the values so far are those of the rows that were read.
 use Rattle.std.proofs.Common.{◌≡◌}
 use Rattle.sqlite.specs.Values.{bound}
 use Rattle.desk_rows.specs.steps.Queries.{AreRead, IsGiving}

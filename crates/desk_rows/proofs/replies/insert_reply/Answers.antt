@@ -1,3 +1,4 @@
+-- The message's row comes last if its sender and transaction number aren't there yet.
 use Rattle.desk_rows.specs.Schema.{reply_table}
 use Rattle.desk_rows.proofs.DeskTables.{adds, everything, insert_is, refl, replies, reply_key, understood}
 use Rattle.desk_rows.proofs.replies.insert_reply.Goals as goal

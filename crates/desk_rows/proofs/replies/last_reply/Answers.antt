@@ -1,3 +1,4 @@
+-- The greatest number in the log is its length, in the tables of schema 1 too.
 use Rattle.desk_rows.proofs.DeskTables.{everything, reads_first, reads_number, refl, replies, understood}
 use Rattle.desk_rows.proofs.replies.last_reply.Goals as goal
 

@@ -1,3 +1,4 @@
+-- The first of the sender's rows in falling order of transaction numbers has the greatest one.
 use Rattle.desk_rows.proofs.LastOnes.{reads_last_transaction}
 use Rattle.desk_rows.proofs.replies.last_transaction.Goals as goal
 

@@ -1,3 +1,4 @@
+-- The row with this number has the message and the answer at that place of the log.
 use Rattle.desk_rows.proofs.NumberedReplies.{finds_reply}
 use Rattle.desk_rows.proofs.replies.texts_at.Goals as goal
 

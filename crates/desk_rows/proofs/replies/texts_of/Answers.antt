@@ -1,3 +1,4 @@
+-- The sender and the transaction number are a unique key, so the row that is found has that message and its answer.
 use Rattle.std.proofs.Common.{[], ◌∷◌}
 use Rattle.desk_rows.specs.Replies.{reply_texts}
 use Rattle.desk_rows.proofs.DeskTables.{finds_asked_key, refl, replies, reply_key}

@@ -1,3 +1,4 @@
+-- The sender's row, with its role as a number, comes last if its name isn't there yet.
 use Rattle.desk_rows.specs.Schema.{sender_table}
 use Rattle.desk_rows.proofs.DeskTables.{adds, everything, insert_is, refl, sender_key, senders, understood}
 use Rattle.desk_rows.proofs.senders.insert_sender.Goals as goal

@@ -1,3 +1,4 @@
+-- The name is a unique key, so the row that is found has that sender's only role.
 use Rattle.std.proofs.Common.{[], ◌∷◌}
 use Rattle.desk_rows.proofs.DeskTables.{finds_asked_plain, refl, sender_key, senders}
 use Rattle.desk_rows.proofs.senders.role_of.Goals as goal

@@ -1,3 +1,4 @@
+-- The rows of the senders ordered by name are the names ordered by octets.
 use Rattle.desk_rows.proofs.ListedQueries.{reads_senders}
 use Rattle.desk_rows.proofs.senders.sender_names.Goals as goal
 

@@ -1,3 +1,4 @@
+-- The session's row comes last, with the literal 0 for the next downlink, if the device has no session with this nonce.
 use Rattle.std.proofs.Common.{codes, arith, pos, [], ◌∷◌}
 use Rattle.sqlite_value.specs.declared.value.Value.TheVariants.{Int, Null}
 use Rattle.sqlite_sql.specs.Term.{lit, col}

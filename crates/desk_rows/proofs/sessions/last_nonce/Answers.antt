@@ -1,3 +1,4 @@
+-- The first of the device's sessions in falling order of nonces has the greatest nonce.
 use Rattle.desk_rows.proofs.Latest.{reads_last_nonce}
 use Rattle.desk_rows.proofs.sessions.last_nonce.Goals as goal
 

@@ -1,3 +1,4 @@
+-- The greatest number in the table is the number of sessions, in the tables of schema 1 too.
 use Rattle.desk_rows.proofs.DeskTables.{everything, reads_first, reads_number, refl, sessions, understood}
 use Rattle.desk_rows.proofs.sessions.last_session.Goals as goal
 

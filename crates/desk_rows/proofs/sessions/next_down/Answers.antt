@@ -1,3 +1,4 @@
+-- The counter of the next downlink is read from the row with this number.
 use Rattle.std.proofs.Common.{[], ◌∷◌}
 use Rattle.desk_rows.proofs.DeskTables.{finds_asked, refl, sessions}
 use Rattle.desk_rows.proofs.sessions.next_down.Goals as goal

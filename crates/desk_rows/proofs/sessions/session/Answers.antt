@@ -1,3 +1,4 @@
+-- The row with this number has the session's DevEUI and nonce.
 use Rattle.std.proofs.Common.{[], ◌∷◌}
 use Rattle.desk_rows.proofs.DeskTables.{everything, finds_number, refl, sessions, understood}
 use Rattle.desk_rows.proofs.sessions.session.Goals as goal

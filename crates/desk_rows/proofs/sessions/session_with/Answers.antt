@@ -1,3 +1,4 @@
+-- The DevEUI and the nonce are a unique key, so the number that is found is that of the only such session.
 use Rattle.std.proofs.Common.{[], ◌∷◌}
 use Rattle.desk_rows.proofs.DeskTables.{everything, finds_first, refl, session_key, sessions, understood}
 use Rattle.desk_rows.proofs.sessions.session_with.Goals as goal

@@ -1,3 +1,4 @@
+-- The rows with this DevEUI, ordered by number, give the device's sessions from the oldest to the latest.
 use Rattle.desk_rows.proofs.SessionNumbers.{reads_sessions}
 use Rattle.desk_rows.proofs.sessions.sessions_of.Goals as goal
 

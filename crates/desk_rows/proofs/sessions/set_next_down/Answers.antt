@@ -1,3 +1,4 @@
+-- The row with this number gets the counter; the number is the table's primary key, so no other row changes.
 use Rattle.std.proofs.Common.{[], ◌∷◌, ◌∙◌, arith}
 use Rattle.registry_core.specs.Wholes.{IsWhole}
 use Rattle.desk_rows.specs.Rows.{number}

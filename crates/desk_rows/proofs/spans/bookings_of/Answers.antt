@@ -1,3 +1,4 @@
+-- The gateway's rows in the band that aren't dropped, ordered by start and then by number, give the spans.
 use Rattle.desk_rows.proofs.SpanQueries.{reads_band}
 use Rattle.desk_rows.proofs.spans.bookings_of.Goals as goal
 

@@ -1,3 +1,4 @@
+-- The bounds that the statement compares with, as signed numbers, are those of the near range around the start.
 use Rattle.std.proofs.Common.{◌≡◌, pos, rules}
 use Rattle.sqlite_value.specs.Value.{owned}
 use Rattle.sqlite_value.specs.declared.value.Value.TheVariants.{Int}

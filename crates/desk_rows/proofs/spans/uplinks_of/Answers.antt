@@ -1,3 +1,4 @@
+-- Joined with the sessions of the device, the uplinks in the band and the period come ordered by start and then by number.
 use Rattle.std.proofs.Common.{◌≡◌, rules}
 use Rattle.sqlite_value.specs.Value.{owned}
 use Rattle.sqlite_value.specs.declared.value.Value.TheVariants.{Int}

@@ -1,3 +1,4 @@
+-- The uplink's row comes last if its session, kind and counter aren't there yet; the session's number is stored exactly below 2^63.
 use Rattle.std.proofs.Common.{ap, ◌<◌, ◌^◌, ◌∷◌, drop}
 use Rattle.sqlite.specs.Values.{bound_value}
 use Rattle.desk_rows.specs.Schema.{uplink_table}

@@ -1,3 +1,4 @@
+-- The first of the session's uplinks in falling order of starts has the greatest start.
 use Rattle.desk_rows.proofs.LastOnes.{reads_last_start}
 use Rattle.desk_rows.proofs.uplinks.last_start.Goals as goal
 

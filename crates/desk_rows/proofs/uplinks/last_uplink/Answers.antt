@@ -1,3 +1,4 @@
+-- The greatest number in the table is the number of uplinks, in the tables of schema 1 too.
 use Rattle.desk_rows.proofs.DeskTables.{everything, reads_first, reads_number, refl, understood, uplinks}
 use Rattle.desk_rows.proofs.uplinks.last_uplink.Goals as goal
 

@@ -1,3 +1,4 @@
+-- The row with this number, read from all its columns, is the uplink.
 use Rattle.std.proofs.Common.{[], ◌∷◌}
 use Rattle.desk_rows.proofs.DeskTables.{everything, finds_number, refl, understood, uplinks}
 use Rattle.desk_rows.proofs.uplinks.uplink.Goals as goal

@@ -1,3 +1,4 @@
+-- The session, the kind and the counter are a unique key, so the first row that is found is the only such uplink.
 use Rattle.std.proofs.Common.{[], ◌∷◌, ◌∙◌}
 use Rattle.desk_rows.proofs.Lookups.{says_so}
 use Rattle.desk_rows.proofs.Ordered.{map_same}

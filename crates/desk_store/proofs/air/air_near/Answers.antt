@@ -1,3 +1,4 @@
+-- The near spans and those of the band are taken from the gateway's bookings near the start, in the order of their starts.
 use Rattle.std.proofs.Common.{◌∙◌, ap, map, []}
 use Rattle.std.specs.Option.{option_map_or}
 use Rattle.registry_core.specs.Bookings.{limit_standing}

@@ -1,3 +1,4 @@
+-- If the number is in the list, that booking is marked; the number 0, or one past the end, changes nothing.
 use Rattle.std.proofs.Common.{◌≡◌, sym, if◌then◌else◌}
 use Rattle.registry_core.specs.declared.facts.Standing.TheVariants.{Sent, Dropped}
 use Rattle.registry_core.specs.State.{ended}

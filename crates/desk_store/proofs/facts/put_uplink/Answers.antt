@@ -1,3 +1,4 @@
+-- The reception is stored under the number of uplinks before, plus one, and room that is reserved changes no entry.
 use Rattle.std.proofs.Common.{◌≡◌, ◌∙◌, ◌+◌, ap, length}
 use Rattle.std.specs.Map.{lookup}
 use Rattle.registry_core.specs.State.{copies_with}

@@ -1,3 +1,4 @@
+-- The keys of the map differ, and the sorted keys are a permutation of them, so they are all DevEUIs, each once and ascending.
 use Rattle.std.proofs.Common.{◌≡◌, List, ℕ, rules, subst}
 use Rattle.std.specs.List.Sorted.{IsPermutation}
 use Rattle.std.specs.Map.{keys_of}

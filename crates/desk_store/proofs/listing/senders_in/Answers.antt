@@ -1,3 +1,4 @@
+-- The names are the keys of the map, sorted, and the role that is stored with a name doesn't matter.
 use Rattle.std.proofs.Common.{rules}
 use Rattle.std.specs.Prelude.{bytes_eq}
 use Rattle.std.specs.List.{list_any}

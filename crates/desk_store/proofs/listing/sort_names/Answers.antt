@@ -1,3 +1,4 @@
+-- `by_octets` is a total order, and names that differ come out strictly ascending and with none lost.
 use Rattle.std.specs.Cmp.Lexicographic.{nat_list_cmp_total, slice_cmp}
 use Rattle.std.specs.Ordering.{is_lt, nat_cmp}
 use Rattle.std.proofs.Common.{rules}

@@ -1,3 +1,4 @@
+-- A new key comes last in the map, so the entry is the last of the log.
 use Rattle.desk_store.proofs.Entries.{entry_put}
 use Rattle.desk_store.proofs.lists.put_entry.Goals as goal
 

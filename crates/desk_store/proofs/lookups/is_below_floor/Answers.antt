@@ -1,3 +1,4 @@
+-- The walk from the device's latest session back: after each step no session that was passed has a data uplink.
 use Rattle.std.proofs.Common.{◌≡◌, ◌<◌, ◌∙◌, sym, ap, true, false, is_some, arith}
 use Rattle.std.specs.List.{list_any}
 use Rattle.std.proofs.lemmas.Bool.{or_from}

@@ -1,3 +1,4 @@
+-- The walk over a device's sessions is at one of them, and no later one has a data uplink; the number falls.
 use Rattle.std.proofs.Common.{◌≡◌, ◌<◌, true, false}
 use Rattle.registry_core.specs.Derived.{is_below_floor, is_of_device}
 use Rattle.desk_store.proofs.lookups.is_below_floor.Given as goal

@@ -1,3 +1,4 @@
+-- The walk from the device's latest session back: after each step the join is the first in the sessions that were passed.
 use Rattle.std.proofs.Common.{◌∙◌, sym, ap}
 use Rattle.desk_store.specs.steps.Uplinks.{join_of, earlier_of}
 use Rattle.desk_store.proofs.Joins.{join_none, join_step}

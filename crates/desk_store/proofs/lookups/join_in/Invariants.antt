@@ -1,3 +1,4 @@
+-- The walk over a device's sessions is at one of them, with the first join of the later ones found; the number falls.
 use Rattle.std.proofs.Common.{◌≡◌, ◌<◌, true}
 use Rattle.registry_core.specs.Derived.{is_of_device}
 use Rattle.registry_core.specs.Numbered.{first_that}

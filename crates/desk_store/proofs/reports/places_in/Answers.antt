@@ -1,3 +1,4 @@
+-- Session by session, the places that are collected are a permutation of those in the sessions that were passed.
 use Rattle.std.proofs.Common.{[], List, subst, sym}
 use Rattle.std.specs.Prelude.{IsPermutation}
 use Rattle.std.proofs.lemmas.List.Sorted.{IsPermutation-refl}

@@ -1,3 +1,4 @@
+-- The walk over a device's sessions is at one of them, with the places of the later ones collected; the number falls.
 use Rattle.std.proofs.Common.{◌≡◌, ◌<◌, true}
 use Rattle.std.specs.Prelude.{IsPermutation}
 use Rattle.registry_core.specs.Derived.{is_of_device}

@@ -1,3 +1,4 @@
+-- Sorted, the places are those of a search of all uplinks, in the order of their starts, so the spans there are too.
 use Rattle.std.proofs.Common.{◌≡◌, ◌∙◌, ap}
 use Rattle.std.specs.Prelude.{pos}
 use Rattle.std.specs.List.{filter_map}

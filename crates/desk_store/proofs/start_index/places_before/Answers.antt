@@ -1,3 +1,4 @@
+-- The starts rise, so what is in front of the partition point is what begins before the moment.
 use Rattle.std.proofs.Common.{sym, rules}
 use Rattle.std.specs.Prelude.{int_lt}
 use Rattle.std.proofs.lemmas.List.Sorted.{IsPartitionPoint-from_clause}

@@ -1,3 +1,4 @@
+-- Two cuts, from `from` on and before `to`, leave what one test for the period leaves.
 use Rattle.std.proofs.Common.{◌≡◌, ◌∙◌, ap, subst, sym, List, rules, FitsSigned}
 use Rattle.std.specs.Prelude.{int_le, int_lt, filter}
 use Rattle.std.specs.Int.{w128}

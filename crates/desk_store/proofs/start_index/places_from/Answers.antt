@@ -1,3 +1,4 @@
+-- The starts rise, so what is behind the partition point is what begins at the moment or later.
 use Rattle.std.proofs.Common.{◌∙◌, sym, rules}
 use Rattle.std.specs.Prelude.{int_le, int_lt}
 use Rattle.std.proofs.lemmas.List.{take_rest}

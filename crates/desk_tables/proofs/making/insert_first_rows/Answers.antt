@@ -1,3 +1,4 @@
+-- The row of meta and then the operator's make the opening rows; errors of both are `Memory`, `Disk` or `Size`.
 use Rattle.std.proofs.Common.{arith, refl, ◌∙◌}
 use Rattle.sqlite.specs.Held.{state}
 use Rattle.sqlite.specs.State.{HasCleanDisk}

@@ -1,3 +1,4 @@
+-- Each error of `config_at` has the same meaning for the desk of schema 1, in which the new table's name is free.
 use Rattle.std.proofs.Common.{◌≡◌, ◌⊎◌, ◌∙◌, inr, rules, IsTrue, ap}
 use Rattle.sqlite_catalog.specs.Change.{is_used}
 use Rattle.sqlite.specs.Effect.{Database}

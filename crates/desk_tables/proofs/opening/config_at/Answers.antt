@@ -1,3 +1,4 @@
+-- If the schema has meta, an error of reading its row means the row isn't in form, or `Memory`, `Disk` or `Size`.
 use Rattle.std.proofs.Common.{◌≡◌, ◌∙◌, true, refl, sym, subst}
 use Rattle.desk_store.specs.Calls.{IsUnavailability}
 use Rattle.desk_store.specs.declared.faults.StoreFault.TheVariants.{NotADesk}

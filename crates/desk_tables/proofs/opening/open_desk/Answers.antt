@@ -1,3 +1,4 @@
+-- For the rows of a desk `config_at` fails only with `Memory`, `Disk` or `Size`, and for another version never with `NotADesk`.
 use Rattle.std.proofs.Common.{◌≡◌, pos}
 use Rattle.sqlite.specs.Held.{state}
 use Rattle.desk_store.specs.Calls.{IsUnavailability}

@@ -1,3 +1,4 @@
+-- `zip` pairs each table with its shape, so if the lengths agree and all pairs match, the lists are equal.
 use Rattle.std.proofs.Common.{rules, tests, sym, ◌∙◌}
 use Rattle.std.proofs.lemmas.List.{length-map}
 use Rattle.std.proofs.lemmas.Iterator.{YieldsList-from_slice, YieldsList-from_zip, same_from_all}

@@ -1,3 +1,4 @@
+-- The last row numbers of senders, owners and gateways are how many of each the registry has.
 use Rattle.desk_tables.proofs.CallLemmas.{asks_also, asks_as, asks_one}
 use Rattle.desk_tables.proofs.HaveItLemmas.{gateways_many, owners_many, senders_many}
 use Rattle.desk_tables.proofs.totals.named_in.Goals as goal

@@ -1,3 +1,4 @@
+-- The numbers of devices and limits are read as those of names are; the other counts are the store's own.
 use Rattle.desk_tables.proofs.CallLemmas.{asks_also, asks_as, asks_one}
 use Rattle.desk_tables.proofs.HaveItLemmas.{devices_many, limits_many}
 use Rattle.desk_tables.proofs.totals.totals_in.Goals as goal

@@ -1,3 +1,4 @@
+-- The ways out of the loop: no more records, a record out of form with its number, and one record too many.
 use Rattle.std.proofs.Common.{ℕ, ◌≡◌, ◌≤◌, ◌∙◌, sym, arith}
 use Rattle.csv.specs.Records.{fields_of}
 use Rattle.desk_wire.specs.CsvReports.{envelopes_from}

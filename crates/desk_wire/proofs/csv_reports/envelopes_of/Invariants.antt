@@ -1,3 +1,4 @@
+-- The loop of `envelopes_of`: the envelopes so far, and then those of the records that are left, are all envelopes.
 use Rattle.std.proofs.Common.{◌≡◌, ◌≤◌, ◌-◌}
 use Rattle.desk_wire.specs.CsvReports.{envelopes_from}
 use Rattle.desk_wire.specs.steps.CsvReports.{IsReading, rows_left}

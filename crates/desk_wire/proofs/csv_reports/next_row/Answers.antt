@@ -1,3 +1,4 @@
+-- A record that is read is the first of those that were left, and after it the reader has the others.
 use Rattle.desk_wire.proofs.CsvRows.{left_step, still_reading}
 use Rattle.desk_wire.proofs.csv_reports.next_row.Goals as goal
 

@@ -1,3 +1,4 @@
+-- A text of one to sixteen digits is UTF-8, and `from_str_radix` reads the number that the definition computes.
 use Rattle.std.proofs.Common.{◌∙◌, sym}
 use Rattle.desk_wire.proofs.DecimalDigits.{decimal_parses, reads_utf8, text_read}
 use Rattle.desk_wire.proofs.decimals.decimal_of.Goals as goal

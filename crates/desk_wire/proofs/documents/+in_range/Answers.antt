@@ -1,3 +1,4 @@
+-- Each item and each member has fewer tokens than the list that it is in, so the three functions end.
 use Rattle.std.proofs.Common.{◌<◌, length, sym, subst, arith, rules}
 use Rattle.json.specs.Tree.{json_tokens, items_tokens, members_tokens}
 use Rattle.json.specs.Value.{value_view, items_view, members_view}

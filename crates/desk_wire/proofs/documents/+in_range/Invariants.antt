@@ -1,3 +1,4 @@
+-- The measures of three functions that call each other, by tokens; in each loop all items so far are in range.
 use Rattle.std.proofs.Common.{◌≡◌, length, drop}
 use Rattle.json.specs.Tree.{json_tokens, items_tokens, members_tokens}
 use Rattle.json.specs.Value.{value_view, items_view, members_view}

@@ -1,3 +1,4 @@
+-- Octets that aren't UTF-8 are no JSON text.
 use Rattle.desk_wire.proofs.TreeData.{of_octets}
 use Rattle.desk_wire.proofs.documents.value_of.Goals as goal
 

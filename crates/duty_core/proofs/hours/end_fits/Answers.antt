@@ -1,3 +1,4 @@
+-- The hour that ends with the edge begins at a time that fits 64 bits, so the use compared is that of the definition.
 use Rattle.std.proofs.Common.{arith, to_z, of_z, ◌++◌, ◌∷◌, [], pos, ◌-ℤ◌}
 use mir.Syntax.{w64}
 use Rattle.std.proofs.lemmas.Int.{ints}

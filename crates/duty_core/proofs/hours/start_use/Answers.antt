@@ -1,3 +1,4 @@
+-- The edge's start fits 64 bits, so the use of the hour from it is that of the definition.
 use Rattle.std.proofs.Common.{arith, to_z, of_z}
 use mir.Syntax.{w64}
 use Rattle.std.proofs.lemmas.Int.{ints}

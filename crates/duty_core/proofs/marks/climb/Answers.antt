@@ -1,3 +1,4 @@
+-- x fits 64 bits, so the height that is computed is the definition's at x.
 use Rattle.std.proofs.lemmas.Int.{to_z-of_z}
 use Rattle.duty_core.proofs.marks.climb.Goals as goal
 

@@ -1,3 +1,4 @@
+-- One more edge adds its place, which is below 2^64, to the sum, so the sum fits 128 bits and the mark stays right.
 use Rattle.std.proofs.Common.{◌*◌, ◌^◌, ◌≤◌, arith, rules, ◌∙◌, to_z, of_z, ℤ}
 use mir.Syntax.{w64}
 use mir.Val.{SFits}

@@ -1,3 +1,4 @@
+-- The loop of `forward`: the mark has the edges passed so far and the sum of their places, and fewer are left each time.
 use Rattle.std.proofs.Common.{length, ◌-◌}
 use Rattle.duty_core.specs.steps.Marks.{IsMark}
 use Rattle.duty_core.proofs.marks.forward.Given as goal

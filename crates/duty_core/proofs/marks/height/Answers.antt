@@ -1,3 +1,4 @@
+-- No passed edge is after x, so the sum of their places is at most their number times x's, and the subtraction succeeds.
 use Rattle.std.proofs.Common.{◌*◌, arith, ap}
 use Rattle.std.proofs.lemmas.Int.{to_z-of_z}
 use Rattle.duty_core.proofs.Heights.{height_from_mark}

@@ -1,3 +1,4 @@
+-- The loop of `rises`: no edge so far is less than the one before it.
 use Rattle.std.proofs.Common.{ℕ, ◌+◌, ◌<◌, get_or}
 use Rattle.std.specs.Prelude.{◌≤ℤ◌}
 use Rattle.duty_core.specs.Use.{Interval}

@@ -1,3 +1,4 @@
+-- A start that is too near the end of 64 bits is moved inward, which leaves the same spans near it.
 use Rattle.std.proofs.Common.{◌≡◌, ◌-◌, ◌^◌, ◌&&◌, Bool, true, false, ℤ, pos, ◌+ℤ◌, ◌-ℤ◌, ◌<ℤ◌, int_lt, refl, arith, ap₂, rules, FitsSigned, w64}
 use Rattle.std.specs.Int.{int_min, int_max}
 use Rattle.std.proofs.lemmas.Int.{ints, clamps, to_z-of_z}

@@ -1,3 +1,4 @@
+-- A binary search: if a length doesn't fit, no longer one does, so the last length left is the greatest that fits.
 use Rattle.std.proofs.Common.{◌≡◌, ℕ, ◌-◌, ◌≤◌, ◌/◌, IsTrue, true≢false, arith, sym, ◌∙◌, subst, ℤ, to_z, of_z}
 use mir.Syntax.{w64}
 use Rattle.std.proofs.lemmas.Int.{to_z-of_z}

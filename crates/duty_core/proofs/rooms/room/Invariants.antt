@@ -1,3 +1,4 @@
+-- The loop of `room`: `least` is 0 or has room, no length above `greatest` has room, and the two come closer.
 use Rattle.std.proofs.Common.{ℕ, ◌≤◌, ◌<◌, ◌-◌}
 use Rattle.std.specs.Prelude.{IsTrue}
 use Rattle.duty_core.specs.InOrder.{StartsAscend}

@@ -1,3 +1,4 @@
+-- The starts and the ends rise, so both windows only move on from span to span, and the greatest use so far is right.
 use Rattle.std.proofs.Common.{◌++◌, ◌∷◌, [], arith, ap, subst, sym}
 use Rattle.std.specs.Prelude.{pos, ◌-ℤ◌}
 use Rattle.std.proofs.lemmas.Int.{ints}

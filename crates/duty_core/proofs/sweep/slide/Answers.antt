@@ -1,3 +1,4 @@
+-- The four heights at the hour's ends give its use, so what is subtracted isn't more than what it is subtracted from.
 use Rattle.std.proofs.Common.{◌≡◌, arith, to_z, of_z, ℤ, ◌+ℤ◌, pos}
 use mir.Syntax.{w64}
 use Rattle.std.proofs.lemmas.Int.{ints}

@@ -1,3 +1,4 @@
+-- The use with the new span is that of the others and what the new one shares with the hour, whose beginning fits 64 bits.
 use Rattle.std.proofs.Common.{arith, to_z, of_z}
 use mir.Syntax.{w64}
 use Rattle.std.proofs.lemmas.Int.{ints}

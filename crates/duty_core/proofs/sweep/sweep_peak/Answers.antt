@@ -1,3 +1,4 @@
+-- What the sweep returns is the computed peak, which is the greatest use of any hour.
 use Rattle.duty_core.proofs.Edges.{peak_is_computed}
 use Rattle.duty_core.proofs.sweep.sweep_peak.Goals as goal
 

@@ -1,3 +1,4 @@
+-- `find` returns the first band of the table in which the transmission lies, and no other band has it.
 use Rattle.std.proofs.Common.{◌≡◌, Option, Some, ◌∙◌, subst, sym, rules, tests}
 use Rattle.std.proofs.lemmas.Iterator.{YieldsList-from_slice}
 use Rattle.std.proofs.lemmas.Iterator.Search.{find_from_yields_List}

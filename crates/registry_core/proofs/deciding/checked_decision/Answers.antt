@@ -1,3 +1,4 @@
+-- For JoinHeard and FrameHeard the view's numbers have space for one more after every log; the search proves the other messages.
 use Rattle.std.proofs.Common.{◌∙◌}
 use Rattle.registry_core.specs.steps.Checked.{IsChecked}
 use Rattle.registry_core.proofs.ViewBounds.{frame_checked, join_checked}

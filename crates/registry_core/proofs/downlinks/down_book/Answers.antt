@@ -1,3 +1,4 @@
+-- The bookings near the downlink decide, because no booking is longer than 3,000,000 microseconds and no hour is above its limit.
 use Rattle.registry_core.specs.steps.Checked.{IsChecked}
 use Rattle.registry_core.proofs.ViewBounds.{book_checked}
 use Rattle.registry_core.proofs.downlinks.down_book.Goals as goal

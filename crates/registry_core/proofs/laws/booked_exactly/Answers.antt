@@ -1,3 +1,4 @@
+-- The tests of a DownBook compute whether microseconds are shared and whether every hour is within the limit.
 use Rattle.registry_core.proofs.DownlinkLaws.{booked_exactly}
 use Rattle.registry_core.proofs.laws.booked_exactly.Goals as goal
 

@@ -1,3 +1,4 @@
+-- When the step of a DeviceMove is answered Success, and that then only the device's owner changes.
 use Rattle.registry_core.proofs.AdministrationLaws.{devices_moved_alone, devices_moved_exactly}
 use Rattle.registry_core.proofs.laws.devices_are_moved_exactly.Goals as goal
 

@@ -1,3 +1,4 @@
+-- The checks of a join request and of a data frame, one by one, against what the laws ask of a frame that is booked.
 use Rattle.registry_core.proofs.BookedUplinks.{frames_booked_exactly, joined_exactly}
 use Rattle.registry_core.proofs.laws.frames_are_booked_exactly.Goals as goal
 

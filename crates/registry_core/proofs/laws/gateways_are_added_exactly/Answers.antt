@@ -1,3 +1,4 @@
+-- When the step of a GatewayAdd is answered Success, and that then only the new gateway is added.
 use Rattle.registry_core.proofs.AdministrationLaws.{gateways_added_alone, gateways_added_exactly}
 use Rattle.registry_core.proofs.laws.gateways_are_added_exactly.Goals as goal
 

@@ -1,3 +1,4 @@
+-- Three laws by induction over a list: the greatest of its numbers, its first item that passes a test, and a changed item.
 use Rattle.registry_core.proofs.NumberedLaws.{first_is_first, greatest_is_most, one_is_changed}
 use Rattle.registry_core.proofs.laws.numbered_items_are_meant.Goals as goal
 

@@ -1,3 +1,4 @@
+-- When the step of an OwnerAdd is answered Success, and that then only the new owner is added.
 use Rattle.registry_core.proofs.AdministrationLaws.{owners_added_alone, owners_added_exactly}
 use Rattle.registry_core.proofs.laws.owners_are_added_exactly.Goals as goal
 

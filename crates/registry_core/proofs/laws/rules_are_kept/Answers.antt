@@ -1,3 +1,4 @@
+-- Nonces rise from session to session, a counter is used once in a session, and a booking is made only if every hour has room.
 use Rattle.std.proofs.lemmas.Bool.{cases_order}
 use Rattle.registry_core.specs.Heard.{state_of}
 use Rattle.registry_core.proofs.BookedHours.{kept_of}

@@ -1,3 +1,4 @@
+-- When the step of a SenderAdd is answered Success, and that then only the new sender is added.
 use Rattle.registry_core.proofs.AdministrationLaws.{senders_added_alone, senders_added_exactly}
 use Rattle.registry_core.proofs.laws.senders_are_added_exactly.Goals as goal
 

@@ -1,3 +1,4 @@
+-- The replies are the same in both, so the first place where later tables differ, or none, is the finding of all.
 use Rattle.std.proofs.Common.{arith}
 use Rattle.desk_cli.proofs.Compared.{then_later}
 use Rattle.desk_cli.proofs.audit.comparing.compared.Goals as goal

@@ -1,3 +1,4 @@
+-- Both databases have committed everything and neither store is broken, so the compared rows are those of the databases.
 use Rattle.std.proofs.Common.{◌≡◌, ◌∙◌, refl, sym, ap, subst₂, arith, IsTrue, false}
 use Rattle.sqlite.specs.Held.{state}
 use Rattle.sqlite_trees.specs.View.{View, IsClean}

@@ -1,3 +1,4 @@
+-- The loop of `compared_tables`: the tables so far have the same rows in both stores, which are only read.
 use Rattle.std.proofs.Common.{true, take}
 use Rattle.std.specs.Prelude.{All}
 use Rattle.sqlite_trees.specs.View.{IsClean}

@@ -1,3 +1,4 @@
+-- One message more is heard and its row read; the loop begins with nothing heard, and ends after a wrong answer too.
 use Rattle.std.proofs.Common.{true}
 use Rattle.sqlite.specs.Held.{state}
 use Rattle.desk_rows.specs.CallLaws.{reads_then}

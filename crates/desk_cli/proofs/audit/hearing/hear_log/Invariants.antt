@@ -1,3 +1,4 @@
+-- The loop of `hear_log`: the keeper has heard some messages, and the file is only read.
 use Rattle.std.proofs.Common.{true}
 use Rattle.sqlite.specs.Held.{state}
 use Rattle.desk_rows.specs.Calls.{IsReadingCall}

@@ -1,3 +1,4 @@
+-- If there is no reply with this number, nothing is delivered, so nothing is heard.
 use Rattle.desk_cli.proofs.HeardAnew.{hears_none}
 use Rattle.desk_cli.proofs.audit.hearing.hear_reply.Goals as goal
 

@@ -1,3 +1,4 @@
+-- The loop of `compared_tree`: both stores are at the same place of the tree, and the rows before it are the same.
 use Rattle.std.proofs.Common.{◌≡◌, take}
 use Rattle.sqlite_trees.specs.View.{IsClean}
 use Rattle.desk_cli.proofs.Walked.{IsAt}

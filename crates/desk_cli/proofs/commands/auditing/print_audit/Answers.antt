@@ -1,3 +1,4 @@
+-- What `audited` promises of its finding, with the line that is printed for it, is what the command promises.
 use Rattle.desk_cli.proofs.AuditPrinted.{audits_by}
 use Rattle.desk_cli.proofs.commands.auditing.print_audit.Goals as goal
 

@@ -1,3 +1,4 @@
+-- How `print_check` ended is reported on standard error, and what it promises of the file is handed on.
 use Rattle.desk_cli.proofs.commands.checking.check_command.Goals as goal
 
 pub returns : goal.returns

@@ -1,3 +1,4 @@
+-- The totals are those of what the store represents, and the configuration is still the same after they are read.
 use Rattle.std.proofs.Common.{◌∙◌, ap}
 use Rattle.desk_cli.specs.commands.Checking.{check_text}
 use Rattle.desk_cli.proofs.commands.checking.checked.Goals as goal

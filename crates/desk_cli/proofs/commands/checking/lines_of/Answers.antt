@@ -1,3 +1,4 @@
+-- The text is made from its end: the lines of numbered things, before them those of names, then the configuration.
 use Rattle.std.proofs.Common.{◌∙◌, ap}
 use Rattle.std.proofs.lemmas.Result.{IfOk-weaker}
 use Rattle.desk_cli.specs.commands.Checking.{named_lines, settings_lines}

@@ -1,3 +1,4 @@
+-- A desk that opened is closed with the log that it had; one that didn't open prints nothing, and its file is as it was.
 use Rattle.std.proofs.Common.{None, arith}
 use Rattle.std.proofs.KnownBytes.{Keeps-refl}
 use Rattle.desk_engine.specs.InOrder.{kept_after}

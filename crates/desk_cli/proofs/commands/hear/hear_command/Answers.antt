@@ -1,3 +1,4 @@
+-- How `hear_lines` ended is reported on standard error; what it read, heard and wrote is the command's.
 use Rattle.desk_cli.proofs.commands.hear.hear_command.Goals as goal
 
 pub returns : goal.returns

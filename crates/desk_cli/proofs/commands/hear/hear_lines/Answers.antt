@@ -1,3 +1,4 @@
+-- Either the desk opened and answered the lines, or it was unavailable and nothing was read or written.
 use Rattle.desk_cli.proofs.ByStore.{either, kept_by, left_by}
 use Rattle.desk_cli.proofs.LinesAnswered.{answers_unopened, carried}
 use Rattle.desk_cli.specs.Answering.{AnswersBy}

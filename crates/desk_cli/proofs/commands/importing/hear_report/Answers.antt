@@ -1,3 +1,4 @@
+-- Either the desk opened and imported the records, or it was unavailable and nothing was read or written.
 use Rattle.std.proofs.Common.{refl}
 use Rattle.desk_cli.proofs.Imported.{carried, imports_unopened}
 use Rattle.desk_cli.proofs.ByStore.{either, kept_by, left_by}

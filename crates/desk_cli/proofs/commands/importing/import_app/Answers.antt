@@ -1,3 +1,4 @@
+-- The arguments of `desk import`: the file, and then the sender.
 use Rattle.desk_cli.proofs.commands.importing.import_app.Goals as goal
 
 pub returns : goal.returns

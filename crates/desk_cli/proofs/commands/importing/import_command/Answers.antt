@@ -1,3 +1,4 @@
+-- How `hear_report` ended is reported on standard error; the records that it heard and answered are the command's.
 use Rattle.desk_cli.proofs.commands.importing.import_command.Goals as goal
 
 pub returns : goal.returns

@@ -1,3 +1,4 @@
+-- The arguments of `desk init`: the four options of the configuration, and then the file.
 use Rattle.desk_cli.proofs.commands.init.init_app.Goals as goal
 
 pub returns : goal.returns

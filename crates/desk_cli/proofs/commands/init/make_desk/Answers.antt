@@ -1,3 +1,4 @@
+-- A desk that was made is closed with an empty log; if none was made, the error is the command's, and the database as it was.
 use Rattle.std.proofs.Common.{[], Err, refl, ap, ◌∙◌}
 use Rattle.desk_cli.proofs.Inited.{says_exists, says_not_a_desk}
 use Rattle.desk_cli.proofs.OnTables.{keeps, was_in_order, was_new}

@@ -1,3 +1,4 @@
+-- New lists represent the empty log, so the lines are answered from there; without memory for them nothing is read.
 use Rattle.std.proofs.Common.{[], refl}
 use Rattle.desk_engine.proofs.NewLists.{was_made}
 use Rattle.desk_cli.proofs.LinesAnswered.{answers_unopened, carried}

@@ -1,3 +1,4 @@
+-- The arguments of `desk log`: the file, the first message, how many, and whether it prints answers.
 use Rattle.desk_cli.proofs.commands.log.log_app.Goals as goal
 
 pub returns : goal.returns

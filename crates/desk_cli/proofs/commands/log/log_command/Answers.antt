@@ -1,3 +1,4 @@
+-- How `print_log` ended is reported on standard error; the lines that it printed are the command's.
 use Rattle.desk_cli.proofs.commands.log.log_command.Goals as goal
 
 pub returns : goal.returns

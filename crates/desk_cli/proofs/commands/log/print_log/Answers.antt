@@ -1,3 +1,4 @@
+-- Either the desk opened and printed lines of its log, or it was unavailable and nothing was printed.
 use Rattle.std.proofs.Common.{None}
 use Rattle.desk_engine.specs.Log.{log_of}
 use Rattle.desk_cli.proofs.ByStore.{either, kept_by, left_by}

@@ -1,3 +1,4 @@
+-- A desk that was moved is closed with the log that it had; an error of `migrate` is the command's, with what the file has then.
 use Rattle.std.proofs.Common.{◌≡◌, Err, refl, ap, sym, subst, ◌∙◌}
 use Rattle.desk_store.specs.declared.faults.StoreFault.TheVariants as store
 use Rattle.desk_tables.specs.Store.{meaning_of}

@@ -1,3 +1,4 @@
+-- The arguments of `desk bands`: the file, and then the gateway.
 use Rattle.desk_cli.proofs.commands.reports.bands_app.Goals as goal
 
 pub returns : goal.returns

@@ -1,3 +1,4 @@
+-- The arguments of `desk report`: the file, the owner and the month, one after another.
 use Rattle.desk_cli.proofs.commands.reports.report_app.Goals as goal
 
 pub returns : goal.returns

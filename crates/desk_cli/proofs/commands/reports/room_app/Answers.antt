@@ -1,3 +1,4 @@
+-- The arguments of `desk room`: the file, the gateway and the time, one after another.
 use Rattle.desk_cli.proofs.commands.reports.room_app.Goals as goal
 
 pub returns : goal.returns

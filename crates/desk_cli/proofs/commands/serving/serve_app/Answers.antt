@@ -1,3 +1,4 @@
+-- The arguments of `desk serve`: the file, the port, how many connections, and whether they are logged.
 use Rattle.desk_cli.proofs.commands.serving.serve_app.Goals as goal
 
 pub returns : goal.returns

@@ -1,3 +1,4 @@
+-- How `serve_desk` ended is reported on standard error; the connections that it served are the command's.
 use Rattle.desk_cli.proofs.commands.serving.serve_command.Goals as goal
 
 pub returns : goal.returns

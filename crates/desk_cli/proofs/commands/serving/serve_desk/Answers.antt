@@ -1,3 +1,4 @@
+-- Either the desk opened and served connections, or it was unavailable and nothing was served or written.
 use Rattle.std.proofs.Common.{refl}
 use Rattle.desk_cli.proofs.ByStore.{either, kept_by, left_by}
 use Rattle.desk_cli.proofs.Serving.{carried, serves_unopened}

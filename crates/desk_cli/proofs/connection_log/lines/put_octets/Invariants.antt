@@ -1,3 +1,4 @@
+-- The loop of `put_octets`: the octets so far are appended, each as the definition writes it.
 use Rattle.std.proofs.Common.{◌≡◌, ◌++◌, take}
 use Rattle.std.specs.List.{flat_map}
 use Rattle.desk_cli.specs.ConnectionLog.{octet_field}

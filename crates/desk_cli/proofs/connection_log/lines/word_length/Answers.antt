@@ -1,3 +1,4 @@
+-- `position` finds the first space or end of a line; if it finds none, all octets are the word.
 use Rattle.std.proofs.Common.{rules, tests}
 use Rattle.std.proofs.lemmas.Iterator.{YieldsList-from_slice}
 use Rattle.std.proofs.lemmas.Iterator.Search.{position_from_yields_List}

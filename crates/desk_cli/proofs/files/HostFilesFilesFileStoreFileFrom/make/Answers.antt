@@ -1,3 +1,4 @@
+-- What the connection shows is what the files contain, on a disk that has returned what was written to it.
 use Rattle.desk_cli.proofs.files.HostFilesFilesFileStoreFileFrom.make.Goals as goal
 
 pub returns-in-Ok-clause-made : goal.returns-in-Ok-clause-made

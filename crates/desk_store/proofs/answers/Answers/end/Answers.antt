@@ -1,3 +1,4 @@
+-- The uplink's bookings that aren't dropped, counted without this one and with it again if it was sent, are those after the change.
 use Rattle.std.proofs.Common.{◌≡◌, ◌∙◌, ℕ, cond, refl, ap}
 use Rattle.std.specs.Prelude.{◌==◌, ◌-◌}
 use Rattle.std.proofs.lemmas.Result.{on_ok_weaker}

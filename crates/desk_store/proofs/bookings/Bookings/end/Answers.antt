@@ -1,3 +1,4 @@
+-- Marking a booking as sent or dropped leaves each place in the index valid; if there is no such booking, the list stays as it is.
 use Rattle.std.proofs.Common.{◌≡◌, ◌<◌, ◌^◌, ◌∙◌, ap, length, refl, subst, sym, List, Some, None, arith}
 use Rattle.std.specs.Prelude.{bytes_eq}
 use Rattle.std.proofs.lemmas.List.{take_at}

@@ -1,3 +1,4 @@
+-- The gateway's places in the index rise by start, so those near the start give its near bookings among all.
 use Rattle.std.proofs.Common.{◌≡◌, ◌∙◌, List, ap, pos, sym, subst}
 use Rattle.std.specs.Prelude.{filter, bytes_eq}
 use Rattle.std.specs.List.{filter_map}

@@ -1,3 +1,4 @@
+-- The index has the places of all the gateway's bookings, so the spans in the band that it gives are all that there are.
 use Rattle.std.proofs.Common.{◌≡◌, ◌∙◌, List, subst}
 use Rattle.std.specs.List.{filter_map}
 use Rattle.std.proofs.lemmas.Result.{IfOk-weaker}

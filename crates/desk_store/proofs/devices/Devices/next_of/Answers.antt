@@ -1,3 +1,4 @@
+-- The first pair from the bound on is the owner's next device, or belongs to another owner; after the last pair there is none.
 use Rattle.std.proofs.Common.{sym, ◌∙◌, ap, subst}
 use Rattle.registry_core.specs.Reports.{IsNextDevice}
 use Rattle.desk_store.specs.Devices.{devices_of}

@@ -1,3 +1,4 @@
+-- The ordered pairs of owner and device match the map in each case: a new device, one with the same owner, one whose owner changes.
 use Rattle.std.proofs.Common.{◌≡◌, ◌∙◌, Some, cond, false, nat_eq, sym, ap, rules}
 use Rattle.std.specs.BTreeSet.{contains}
 use Rattle.std.specs.Ordering.{is_eq}

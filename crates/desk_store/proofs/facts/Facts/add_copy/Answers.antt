@@ -1,3 +1,4 @@
+-- The map of receptions with one more entry is the state after `AddsCopy`; its other members don't change.
 use Rattle.std.proofs.Common.{ap}
 use Rattle.desk_store.specs.Facts.{facts_of}
 use Rattle.desk_store.proofs.Keyed.{copies_with-updated}

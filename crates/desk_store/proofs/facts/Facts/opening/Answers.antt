@@ -1,3 +1,4 @@
+-- Each empty collection is an empty member of the opening state, and the senders are the operator alone.
 use Rattle.std.specs.Prelude.{bytes_eq}
 use Rattle.std.specs.List.{list_any}
 use Rattle.std.specs.Map.{lookup}

@@ -1,3 +1,4 @@
+-- The key in the map is the band's number and the gateway, as `same_key` compares them, so the state is the one after `SetsLimit`.
 use Rattle.std.proofs.Common.{◌≡◌, ◌∙◌, Some, ap, subst}
 use Rattle.indexmap.specs.IndexMap.{Updates}
 use Rattle.radio_core.specs.Bands.{band_number}

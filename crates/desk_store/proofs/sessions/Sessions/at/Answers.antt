@@ -1,3 +1,4 @@
+-- The links with their sessions alone are the list of sessions, so the item at a number is that link's session.
 use Rattle.std.proofs.Common.{◌∙◌, sym, ap}
 use Rattle.registry_core.specs.Numbered.{item_at}
 use Rattle.desk_store.specs.declared.sessions.Link.{Link}

@@ -1,3 +1,4 @@
+-- The new link names the device's session before it, and the maps of the latest session and the greatest DevNonce follow.
 use Rattle.std.proofs.Common.{◌≡◌, ◌+◌, ◌∙◌, Some, ap, cond, length, nat_eq, sym}
 use Rattle.std.specs.Prelude.{max}
 use Rattle.std.specs.Option.{option_map_or, unwrap_or}

@@ -1,3 +1,4 @@
+-- The bookings that name the new uplink's number already are counted for its session; if `push` fails, each count stays.
 use Rattle.std.proofs.Common.{◌∙◌, ◌+◌, ap, refl}
 use Rattle.std.specs.Prelude.{count_by}
 use Rattle.desk_store.specs.steps.Answers.{is_naming}

@@ -1,3 +1,4 @@
+-- A join is noted among the first joins, and a data uplink among the first frames and the last counters.
 use Rattle.std.proofs.Common.{refl}
 use Rattle.std.proofs.lemmas.Result.{on_ok_weaker}
 use Rattle.desk_store.proofs.Indexed.{join_noted, data_noted}

@@ -1,3 +1,4 @@
+-- The index has the number of the first data uplink with this counter, and the uplink at that number is the one that a search finds.
 use Rattle.std.proofs.Common.{◌∙◌, ap}
 use Rattle.registry_core.specs.Derived.{is_data_with, data_with}
 use Rattle.desk_store.specs.steps.Uplinks.{number_of}

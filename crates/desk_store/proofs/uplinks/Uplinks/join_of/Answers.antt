@@ -1,3 +1,4 @@
+-- The index has the number of the first join with this counter, and the uplink at that number is the one that a search finds.
 use Rattle.std.proofs.Common.{◌∙◌, ap}
 use Rattle.desk_store.specs.steps.Uplinks.{is_join_of, join_of, number_of}
 use Rattle.desk_store.proofs.FirstThat.{numbered_first}

@@ -1,3 +1,4 @@
+-- An empty list has empty indexes.
 use Rattle.std.proofs.Common.{◌≡◌, List, [], subst, sym, rules}
 use Rattle.registry_core.specs.declared.facts.Uplink.{Uplink}
 use Rattle.desk_store.specs.steps.UplinkPlaces.{AreStarts}

@@ -1,3 +1,4 @@
+-- The session's places in the band rise by start, so the cut for the period takes all of them that start in it.
 use Rattle.std.proofs.Common.{◌≡◌, ◌∙◌, ap, subst, sym, List}
 use Rattle.std.specs.Prelude.{filter, pos}
 use Rattle.registry_core.specs.declared.facts.Uplink.{Uplink}

@@ -1,3 +1,4 @@
+-- The index of first uplinks and that of starts are right for the longer list, and after a failed note for the list as it was.
 use Rattle.std.proofs.Common.{◌≡◌, ◌+◌, ◌∙◌, length, subst, sym, List, [], ◌∷◌, ◌++◌, arith, rules}
 use Rattle.std.specs.Prelude.{pos}
 use Rattle.registry_core.specs.declared.facts.Uplink.{Uplink}

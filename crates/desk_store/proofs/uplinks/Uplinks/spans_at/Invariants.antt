@@ -1,3 +1,4 @@
+-- The spans so far, with those at the places still to come, are the spans at all places.
 use Rattle.std.proofs.Common.{◌≡◌, ◌++◌, drop}
 use Rattle.std.specs.List.{filter_map}
 use Rattle.desk_store.specs.steps.UplinkPlaces.{uplink_span_at}

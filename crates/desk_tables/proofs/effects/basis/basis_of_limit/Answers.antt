@@ -1,3 +1,4 @@
+-- A limit is found exactly if the gateway's band has a row, so `is_set` decides whether the effect changes a row or adds one.
 use Rattle.std.proofs.Common.{◌∙◌, Ok, ap, is_some}
 use Rattle.radio_core.specs.Bands.{band_number}
 use Rattle.desk_rows.specs.order.Changes.{has_limit}

@@ -1,3 +1,4 @@
+-- If exactly one row has the DevEUI, its floor is found, so the error `Row` comes only from rows that aren't a desk's.
 use Rattle.std.proofs.Common.{Err}
 use Rattle.desk_rows.specs.Rows.{is_device}
 use Rattle.desk_rows.specs.declared.faults.RowFault.TheVariants.{Row}

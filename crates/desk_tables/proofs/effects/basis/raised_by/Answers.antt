@@ -1,3 +1,4 @@
+-- The session's device and that device's floor, cached or read, decide whether the uplink raises the floor.
 use Rattle.std.proofs.Common.{Ok, Some, None, sym}
 use Rattle.desk_tables.proofs.CallLemmas.{asks_as}
 use Rattle.desk_tables.proofs.EffectLemmas.{raised_asked}

@@ -1,3 +1,4 @@
+-- The session's counter and then the booking's row make the effect; the uplink's number is below 2^53, so it is stored exactly.
 use Rattle.std.proofs.Common.{◌∷◌, ◌++◌, [], ap, refl, sym, subst, arith, ◌∙◌}
 use Rattle.registry_core.specs.Wholes.{IsWhole}
 use Rattle.desk_rows.specs.Rows.{Rows, BookingRow}

@@ -1,3 +1,4 @@
+-- The session's row, then the join uplink's and the reception's make the effect, under the uplink's number that was read before.
 use Rattle.std.proofs.Common.{refl, sym, subst}
 use Rattle.registry_core.specs.Wholes.{IsWhole}
 use Rattle.desk_rows.specs.Rows.{is_copy}

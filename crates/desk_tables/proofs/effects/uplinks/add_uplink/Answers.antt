@@ -1,3 +1,4 @@
+-- The device's floor and then the uplink with its reception make the effect; if setting the floor fails, nothing else is written.
 use Rattle.std.proofs.Common.{ap, sym, subst}
 use Rattle.registry_core.specs.Wholes.{IsWhole}
 use Rattle.desk_rows.specs.Rows.{Rows, is_copy}

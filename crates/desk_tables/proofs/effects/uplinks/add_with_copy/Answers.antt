@@ -1,3 +1,4 @@
+-- The uplink's row and then the reception's, under a number that is one more than the number of uplinks before.
 use Rattle.std.proofs.Common.{◌∷◌, ◌++◌, [], ap, refl, arith, subst, sym, ◌∙◌}
 use Rattle.desk_rows.specs.Rows.{Rows, is_copy}
 use Rattle.desk_rows.specs.order.Changes.{copy_row}

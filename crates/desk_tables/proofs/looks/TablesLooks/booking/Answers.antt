@@ -1,3 +1,4 @@
+-- Reading one booking leaves what the store represents, and an error of the statement is the look-up's.
 use Rattle.desk_tables.proofs.LookUps.{answered_by_rows}
 use Rattle.desk_tables.proofs.looks.TablesLooks.booking.Goals as goal
 

@@ -1,3 +1,4 @@
+-- The gateway's rows in the band, ordered by start, are its downlinks as the registry lists them.
 use Rattle.std.proofs.Common.{sym, subst}
 use Rattle.desk_tables.proofs.LookUps.{answered_by_kept, answered_by_rows}
 use Rattle.duty_core.specs.InOrder.{IsByStart}

@@ -1,3 +1,4 @@
+-- Reading one reception leaves what the store represents; for an uplink number from 2^53 on nothing is read at all.
 use Rattle.desk_tables.proofs.LookUps.{answered_by_rows}
 use Rattle.desk_tables.proofs.looks.TablesLooks.copy_at.Goals as goal
 

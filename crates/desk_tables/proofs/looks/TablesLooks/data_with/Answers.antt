@@ -1,3 +1,4 @@
+-- If the cache doesn't rule the uplink out, its row is read, and what the store represents stays.
 use Rattle.desk_tables.proofs.LookUps.{answered_by_rows}
 use Rattle.desk_tables.proofs.looks.TablesLooks.data_with.Goals as goal
 

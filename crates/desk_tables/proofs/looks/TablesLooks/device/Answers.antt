@@ -1,3 +1,4 @@
+-- Reading one device by its DevEUI leaves what the store represents, whether there is one or not.
 use Rattle.desk_tables.proofs.LookUps.{answered_by_rows}
 use Rattle.desk_tables.proofs.looks.TablesLooks.device.Goals as goal
 

@@ -1,3 +1,4 @@
+-- The DevEUIs of all rows, ordered by their octets, are the registry's list of devices, because each is in its range.
 use Rattle.std.proofs.Common.{sym, subst}
 use Rattle.desk_tables.proofs.LookUps.{answered_by_kept, answered_by_rows}
 use Rattle.registry_core.specs.Listing.{AreDevices, has_device}

@@ -1,3 +1,4 @@
+-- Reading one message of the log by its number leaves the log and the facts as they were.
 use Rattle.desk_tables.proofs.LookUps.{answered_by_rows}
 use Rattle.desk_tables.proofs.looks.TablesLooks.entry.Goals as goal
 

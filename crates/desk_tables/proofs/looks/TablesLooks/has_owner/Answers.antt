@@ -1,3 +1,4 @@
+-- Looking for an owner's row leaves what the store represents, whether there is one or not.
 use Rattle.desk_tables.proofs.LookUps.{answered_by_rows}
 use Rattle.desk_tables.proofs.looks.TablesLooks.has_owner.Goals as goal
 

@@ -1,3 +1,4 @@
+-- Looking for a booking that answers the uplink leaves what the store represents.
 use Rattle.desk_tables.proofs.LookUps.{answered_by_rows}
 use Rattle.desk_tables.proofs.looks.TablesLooks.is_answered.Goals as goal
 

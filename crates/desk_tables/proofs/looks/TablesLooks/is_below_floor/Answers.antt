@@ -1,3 +1,4 @@
+-- If reading the device's floor fails, the cached floor stays, and so does what the store represents, unless the disk failed.
 use Rattle.desk_tables.proofs.LookUps.{answered_by_rows}
 use Rattle.desk_tables.proofs.looks.TablesLooks.is_below_floor.Goals as goal
 

@@ -1,3 +1,4 @@
+-- Two statements in a row, one for the session and one for its join uplink, leave what the store represents.
 use Rattle.desk_tables.proofs.LookUps.{read_asked}
 use Rattle.desk_tables.proofs.looks.TablesLooks.join_with.Goals as goal
 

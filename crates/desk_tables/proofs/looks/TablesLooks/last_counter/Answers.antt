@@ -1,3 +1,4 @@
+-- If reading the last counter fails, the cached one stays, and so does what the store represents, unless the disk failed.
 use Rattle.desk_tables.proofs.LookUps.{answered_by_rows}
 use Rattle.desk_tables.proofs.looks.TablesLooks.last_counter.Goals as goal
 

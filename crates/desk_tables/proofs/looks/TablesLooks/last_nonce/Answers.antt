@@ -1,3 +1,4 @@
+-- The greatest nonce in the rows of the device's sessions is the last nonce of the registry's sessions.
 use Rattle.std.proofs.Common.{◌∙◌, sym, ap}
 use Rattle.desk_tables.proofs.LookUps.{answered_by_kept, answered_by_rows}
 use Rattle.registry_core.specs.State.{State}

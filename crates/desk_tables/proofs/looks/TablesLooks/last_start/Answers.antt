@@ -1,3 +1,4 @@
+-- Reading the greatest start of a session's uplinks leaves what the store represents.
 use Rattle.desk_tables.proofs.LookUps.{answered_by_rows}
 use Rattle.desk_tables.proofs.looks.TablesLooks.last_start.Goals as goal
 

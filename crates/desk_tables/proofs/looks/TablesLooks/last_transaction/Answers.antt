@@ -1,3 +1,4 @@
+-- The greatest transaction number in the sender's rows is the greatest among its entries in the log.
 use Rattle.std.proofs.Common.{◌∙◌, sym, ap}
 use Rattle.desk_store.specs.Looks.{last_transaction}
 use Rattle.desk_tables.proofs.Entries.{last_entry}

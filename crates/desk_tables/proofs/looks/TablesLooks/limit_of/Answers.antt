@@ -1,3 +1,4 @@
+-- Reading the limit of a gateway's band leaves what the store represents, also if the band's own limit is returned.
 use Rattle.desk_tables.proofs.LookUps.{answered_by_rows}
 use Rattle.desk_tables.proofs.looks.TablesLooks.limit_of.Goals as goal
 

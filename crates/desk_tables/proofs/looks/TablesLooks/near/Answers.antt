@@ -1,3 +1,4 @@
+-- The gateway's rows near the start, ordered by start, are its near bookings as the registry lists them.
 use Rattle.std.proofs.Common.{pos, sym, subst}
 use Rattle.desk_tables.proofs.LookUps.{answered_by_kept, answered_by_rows}
 use Rattle.registry_core.specs.Near.{AreByStart, bookings_near}

@@ -1,3 +1,4 @@
+-- The first of the owner's rows by DevEUI is the registry's next device, because each DevEUI is in its range.
 use Rattle.std.proofs.Common.{sym, subst}
 use Rattle.desk_tables.proofs.LookUps.{answered_by_kept, answered_by_rows}
 use Rattle.registry_core.specs.Reports.{IsNextDevice}

@@ -1,3 +1,4 @@
+-- Reading a session's downlink counter leaves what the store represents, also if there is no such session.
 use Rattle.desk_tables.proofs.LookUps.{answered_by_rows}
 use Rattle.desk_tables.proofs.looks.TablesLooks.next_down.Goals as goal
 

@@ -1,3 +1,4 @@
+-- The names in the owners' rows, ordered by octets, are the registry's list of owners.
 use Rattle.std.proofs.Common.{sym, subst}
 use Rattle.desk_tables.proofs.LookUps.{answered_by_kept, answered_by_rows}
 use Rattle.registry_core.specs.Listing.{AreNames}

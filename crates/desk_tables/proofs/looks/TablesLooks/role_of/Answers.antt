@@ -1,3 +1,4 @@
+-- If reading the sender's role fails, the cached one stays, and so does what the store represents, unless the disk failed.
 use Rattle.desk_tables.proofs.LookUps.{answered_by_rows}
 use Rattle.desk_tables.proofs.looks.TablesLooks.role_of.Goals as goal
 

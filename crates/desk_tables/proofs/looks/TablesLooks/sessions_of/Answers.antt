@@ -1,3 +1,4 @@
+-- Reading the numbers of a device's sessions leaves what the store represents; an error gives no part of the list.
 use Rattle.desk_tables.proofs.LookUps.{answered_by_rows}
 use Rattle.desk_tables.proofs.looks.TablesLooks.sessions_of.Goals as goal
 

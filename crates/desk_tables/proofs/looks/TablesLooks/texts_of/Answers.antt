@@ -1,3 +1,4 @@
+-- Looking for the message with an envelope's sender and transaction number leaves the log and the facts as they were.
 use Rattle.desk_tables.proofs.LookUps.{answered_by_rows}
 use Rattle.desk_tables.proofs.looks.TablesLooks.texts_of.Goals as goal
 

@@ -1,3 +1,4 @@
+-- Reading one uplink by its number leaves what the store represents.
 use Rattle.desk_tables.proofs.LookUps.{answered_by_rows}
 use Rattle.desk_tables.proofs.looks.TablesLooks.uplink.Goals as goal
 

@@ -1,3 +1,4 @@
+-- The device's rows in the band and the period, ordered by start, are its uplinks as the registry lists them; the bounds fit i64.
 use Rattle.std.proofs.Common.{FitsSigned, rules, sym, subst, w64}
 use Rattle.std.proofs.lemmas.Int.{to_z-of_z}
 use Rattle.desk_tables.proofs.LookUps.{answered_by_kept, answered_by_rows}

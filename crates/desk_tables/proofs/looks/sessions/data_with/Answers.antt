@@ -1,3 +1,4 @@
+-- The first row with the session, the kind and the counter is the registry's uplink; a session number from 2^53 on has none.
 use Rattle.std.proofs.Common.{◌∙◌, sym, ap}
 use Rattle.registry_core.specs.declared.facts.Kind.TheVariants.{Data}
 use Rattle.registry_core.specs.Derived.{data_with}

@@ -1,3 +1,4 @@
+-- The floor in the device's row is its greatest session that has a data uplink, so the comparison is the registry's.
 use Rattle.std.proofs.Common.{◌∙◌, ap, find}
 use Rattle.std.specs.Prelude.{option_and_then}
 use Rattle.registry_core.specs.Derived.{is_below}

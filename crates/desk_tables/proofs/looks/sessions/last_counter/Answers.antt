@@ -1,3 +1,4 @@
+-- A session number from 2^53 on has no data uplink, so there is no last counter.
 use Rattle.std.proofs.Common.{sym}
 use Rattle.desk_tables.proofs.Absent.{no_counter}
 use Rattle.desk_tables.proofs.Reading.{unasked}

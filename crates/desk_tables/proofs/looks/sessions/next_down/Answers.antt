@@ -1,3 +1,4 @@
+-- The counter in the session's row is the number of bookings that the registry counts; without such a session both are 0.
 use Rattle.std.proofs.Common.{◌∙◌, sym, ap}
 use Rattle.std.specs.Prelude.{unwrap_or}
 use Rattle.std.specs.Option.{option_map_or}

@@ -1,3 +1,4 @@
+-- The texts in the row of a message are those of its entry in the log.
 use Rattle.std.proofs.Common.{◌∙◌, sym, ap, option_map}
 use Rattle.desk_store.specs.Kept.{entry_of, texts_of}
 use Rattle.desk_tables.proofs.Entries.{heard_texts}

@@ -1,3 +1,4 @@
+-- An uplink number from 2^53 on has no reception at any gateway.
 use Rattle.std.proofs.Common.{sym}
 use Rattle.desk_tables.proofs.Absent.{no_copy}
 use Rattle.desk_tables.proofs.Reading.{unasked}

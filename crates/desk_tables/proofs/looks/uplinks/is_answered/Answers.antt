@@ -1,3 +1,4 @@
+-- A row of a booking that isn't dropped answers the uplink in the registry too; an uplink number from 2^53 on has no answer.
 use Rattle.std.proofs.Common.{◌∙◌, sym, ap}
 use Rattle.registry_core.specs.Bookings.{is_answered}
 use Rattle.desk_tables.proofs.Absent.{no_answer}

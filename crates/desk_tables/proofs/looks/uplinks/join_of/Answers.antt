@@ -1,3 +1,4 @@
+-- A session number from 2^53 on has no join uplink.
 use Rattle.std.proofs.Common.{sym}
 use Rattle.desk_tables.proofs.Absent.{no_join}
 use Rattle.desk_tables.proofs.Reading.{unasked}

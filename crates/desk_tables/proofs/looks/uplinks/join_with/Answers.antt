@@ -1,3 +1,4 @@
+-- The session with the nonce and then that session's join uplink are the registry's first join of the device with the nonce.
 use Rattle.std.proofs.Common.{◌∙◌, sym, ap}
 use Rattle.std.specs.Prelude.{option_and_then}
 use Rattle.registry_core.specs.declared.facts.Kind.TheVariants.{Join}

@@ -1,3 +1,4 @@
+-- The one session of the device with the nonce is where the registry finds the join uplink.
 use Rattle.std.proofs.Common.{◌∙◌, sym, ap, option_map}
 use Rattle.std.specs.Prelude.{option_and_then}
 use Rattle.registry_core.specs.declared.facts.Kind.TheVariants.{Join}

@@ -1,3 +1,4 @@
+-- The cached counter is the session's last, and no data uplink of the session has a greater one.
 use Rattle.std.proofs.Common.{◌≡◌, ◌∙◌, Some, ap}
 use Rattle.registry_core.specs.Derived.{is_above, last_counter}
 use Rattle.desk_tables.proofs.SeenLemmas.{none_above}

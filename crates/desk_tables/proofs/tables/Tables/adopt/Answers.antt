@@ -1,3 +1,4 @@
+-- The store over counted rows has these counts and nothing cached, and everything in its connection is committed.
 use Rattle.std.proofs.Common.{refl}
 use Rattle.desk_tables.proofs.AdoptingLemmas.{settled_read, stands}
 use Rattle.desk_tables.proofs.tables.Tables.adopt.Goals as goal

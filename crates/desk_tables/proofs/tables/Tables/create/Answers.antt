@@ -1,3 +1,4 @@
+-- A new desk has the opening rows, an empty log and counts of 0; if the schema isn't empty and no name is taken, it is `NotADesk`.
 use Rattle.std.proofs.Common.{◌∙◌, refl, rules, arith}
 use Rattle.desk_rows.specs.order.Changes.{opening_rows}
 use Rattle.sqlite.specs.Held.{state}

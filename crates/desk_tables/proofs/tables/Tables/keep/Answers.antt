@@ -1,3 +1,4 @@
+-- Three ways out: the store is failed, the log is full, or the transaction ended and its result is noted.
 use Rattle.std.proofs.Common.{arith}
 use Rattle.desk_tables.proofs.NotedCommits.{commit_noted}
 use Rattle.desk_tables.proofs.RefusedCommits.{commit_down, commit_full}

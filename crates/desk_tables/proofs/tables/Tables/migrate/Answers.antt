@@ -1,3 +1,4 @@
+-- The error of each of the three parts, with what the database has after it; the moved rows represent the log that they did.
 use Rattle.std.proofs.Common.{◌∙◌, inl, inr, true≢false, ap, refl, sym, subst, arith}
 use Rattle.sqlite.specs.Effect.{Database}
 use Rattle.sqlite.specs.Held.{state}

@@ -1,3 +1,4 @@
+-- Reading meta changed nothing, so what `adopt` shows about its connection is true of the one that was passed.
 use Rattle.std.proofs.Common.{◌∙◌, inl, inr, sym, subst, arith}
 use Rattle.sqlite.specs.Held.{state}
 use Rattle.sqlite.specs.State.{HasCleanDisk}

@@ -1,3 +1,4 @@
+-- The counts are read in statements one after another, and the store represents the same after them.
 use Rattle.desk_tables.proofs.LookUps.{read_asked}
 use Rattle.desk_tables.proofs.tables.Tables.totals.Goals as goal
 

@@ -1,3 +1,4 @@
+-- A name is ASCII, so its octets are UTF-8 and `unwrap` doesn't fail.
 use Rattle.radio_core.proofs.NameTexts.{IsUtf8-name, ok_where}
 use Rattle.std.proofs.Common.{IsUtf8, subst, sym}
 use Rattle.radio_core.proofs.names.Name.as_str.Goals as goal

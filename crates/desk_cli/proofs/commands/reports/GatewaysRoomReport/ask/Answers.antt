@@ -1,3 +1,4 @@
+-- The room of a gateway at a time is what the engine answers for the state after the log.
 use Rattle.registry_core.specs.Heard.{state_of}
 use Rattle.desk_engine.specs.InOrder.{kept_after}
 use Rattle.desk_cli.proofs.Printed.{gateways_room}

@@ -1,3 +1,4 @@
+-- The report of an owner's month is what the engine answers for the state after the log.
 use Rattle.desk_engine.specs.InOrder.{kept_after}
 use Rattle.desk_cli.proofs.Printed.{of_month}
 use Rattle.desk_cli.proofs.commands.reports.OwnersMonthReport.ask.Goals as goal

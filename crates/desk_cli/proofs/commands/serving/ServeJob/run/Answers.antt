@@ -1,3 +1,4 @@
+-- Once the port is bound and its line written, connections are served in turn, and the log has what each of them delivered.
 use Rattle.std.proofs.Common.{◌∙◌, subst}
 use Rattle.std.specs.Io.KnownBytes.{Appends}
 use Rattle.desk_cli.proofs.OnTables.{opened_in_order}
