@@ -1,4 +1,4 @@
--- What is asked, where the arguments are given, and how a run of it ends.
+-- A run by its arguments: with a command that they name, its ending and its line on standard error; without one, nothing was done.
 use Rattle.std.proofs.Common.{◌≡◌, ℕ, Bool, List, Option, None, Result, Ok, Err, inl, inr, refl, sym, subst, ◌∙◌}
 use Rattle.std.proofs.KnownBytes.{Keeps-refl}
 use Rattle.std.specs.Prelude.{◌⊎◌, String}

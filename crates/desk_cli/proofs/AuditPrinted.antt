@@ -27,7 +27,7 @@ is_no_error is = subst IsFound is tt
     IsFound (Ok finding) = Unit {0}
     IsFound (Err why) = ⊥
 
--- a file that is refused is no desk's, or memory or the disk failed
+-- a file that is refused is not a desk, or memory or the disk failed
 refused_by : {S : Type 0} (g : Ghosts S) (conn back : Held S) (why : Fault) → IsRefused g conn back why → IsAuditFault why
 refused_by g conn back why refused = elim refused.told [
   | inl is ↦ subst IsAuditFault (sym is) tt

@@ -152,7 +152,7 @@ module _ {S : Type 0} (law : RulesAreKept) (g : Ghosts S) where
   audited_by_rules conn (Some back) kept = λ clean c heard keeps. left_by_rules law g back c heard None (left_as_it_was g conn back c heard kept clean keeps)
   audited_by_rules conn None kept = tt
 
-  -- what is said of an audited file, with what follows of the rules
+  -- what is stated of an audited file, and that it satisfies the rules
   pub audits_by_rules : {T : Type 0} (paths : AtPaths S) (given_back : Option (Held S)) (before after : Option (List ℕ)) (result : Result T Fault) (file : Text) (Untouched : Type 0)
       → OnAuditedFile paths given_back result file Untouched (λ conn. AuditsBy g conn given_back before after result)
       → OnAuditedByRules g paths given_back result file Untouched (λ conn. AuditsBy g conn given_back before after result)

@@ -1,4 +1,4 @@
--- How a command ended, where more follows from its result.
+-- If a command ended with a result, and a second statement about that result follows from the first, it ended with the second too.
 use Rattle.std.proofs.Common.{ℕ, List, Option, Result}
 use Rattle.desk_cli.specs.Faults.{Ends}
 use Rattle.desk_cli.specs.declared.endings.Ending.{Ending}

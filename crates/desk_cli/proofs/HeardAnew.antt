@@ -1,4 +1,4 @@
--- Messages that are heard one after another.
+-- Messages that the audit's new desk hears one after another: what its store represents after none, one more, and all of them.
 use Rattle.std.proofs.Common.{◌≡◌, ◌∙◌, true, false, Bool, List, [], None, Option, refl, sym, subst, arith, inl}
 use Rattle.sqlite_trees.specs.declared.store.Store.{Ghosts}
 use Rattle.sqlite.specs.Held.{Held, state}

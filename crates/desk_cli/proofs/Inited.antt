@@ -1,4 +1,4 @@
--- The error for which a desk isn't made.
+-- The command's error for the store's error, where no desk is made: `Exists`, or `NotADesk`.
 use Rattle.std.proofs.Common.{◌≡◌, ◌↔◌, Err, refl, ap, ◌∙◌}
 use Rattle.desk_store.specs.declared.faults.StoreFault.{StoreFault}
 use Rattle.desk_store.specs.declared.faults.StoreFault.TheVariants as store

@@ -1,4 +1,4 @@
--- The error for which a desk isn't moved.
+-- The command's error for the store's error, where no desk is moved to schema 2: one of four.
 use Rattle.std.proofs.Common.{◌≡◌, Err, inl, inr, refl, ap, ◌∙◌}
 use Rattle.std.specs.Prelude.{◌⊎◌}
 use Rattle.desk_store.specs.Calls.{IsUnavailability}

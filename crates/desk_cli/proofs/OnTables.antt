@@ -1,4 +1,4 @@
--- A desk on tables before a command and after it.
+-- A store on tables and the connection that it is closed to: what both represent before and after a command, and after a crash.
 use Rattle.std.proofs.Common.{◌≡◌, ◌||◌, Bool, false, List, [], ◌∷◌, ◌++◌, Option, Some, None, IsTrue, inl, inr, sym, ap, ◌∙◌, subst}
 use Rattle.sqlite_trees.specs.Tree.{Trees}
 use Rattle.sqlite_trees.specs.declared.store.Store.{Ghosts}

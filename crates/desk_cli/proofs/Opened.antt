@@ -1,4 +1,4 @@
--- A desk that couldn't be opened.
+-- The command's error for the store's error, where no desk opens: one of three, and the file is as it was.
 use Rattle.std.proofs.Common.{◌≡◌, ◌≢◌, List, None, Result, Err, inl, inr, refl}
 use Rattle.std.specs.Prelude.{◌⊎◌}
 use Rattle.sqlite.specs.Held.{Held, state}

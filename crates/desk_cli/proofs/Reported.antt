@@ -1,4 +1,4 @@
--- What a desk represents after a report of it was made.
+-- Reading a report leaves the store with the log that it represented, unless the disk failed.
 use Rattle.std.proofs.Common.{◌≡◌, ◌||◌, false, List, Option, None, inl, inr, ap, sym, ◌∙◌}
 use Rattle.std.proofs.lemmas.Bool.{true≢false}
 use Rattle.registry_core.specs.declared.messages.Envelope.{Envelope}

@@ -1,4 +1,4 @@
--- A desk that has heard another one's log.
+-- A desk that hears the printed log of another one has the same tables and gives the same answers.
 use Rattle.std.proofs.Common.{◌≡◌, ◌+◌, ◌-◌, ◌≤◌, ℕ, List, max, min, length, take, ap, subst, ◌∙◌, arith}
 use Rattle.std.proofs.Math.Seq.{take-length}
 use Rattle.sqlite_trees.specs.declared.store.Store.{Ghosts}

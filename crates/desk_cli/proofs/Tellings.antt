@@ -1,4 +1,4 @@
--- Results that are what the arguments name.
+-- clap's matches, or its error, for the command line are what the definition of named commands gives for the arguments.
 use Rattle.std.proofs.Common.{◌≡◌, true, [], ◌∷◌, List, Option, Result, Err, inl, inr, refl, subst, sym}
 use Rattle.clap.specs.Faults.{fault_of, is_simple_and_free}
 use Rattle.clap.specs.Kinds.{Kinds, HasKind, IsAmong}

@@ -1,4 +1,4 @@
--- What is printed of a desk that was opened.
+-- The lines of `desk check` have the totals of what the store represents; if reading them fails, no lines are printed.
 use Rattle.std.proofs.Common.{◌≡◌, ℕ, List, Some, Result, Ok, Err, ap, ◌∙◌}
 use Rattle.registry_core.specs.declared.messages.Envelope.{Envelope}
 use Rattle.registry_core.specs.Settings.{Settings}

@@ -1,4 +1,4 @@
--- A cursor that gives the rows of a tree one after another, and two trees beside each other.
+-- A cursor that gives the rows of a tree one after another, and two such cursors in step that compare two trees.
 use Rattle.std.proofs.Common.{◌≡◌, ℕ, zero, suc, ◌+◌, ◌≤◌, List, [], ◌∷◌, ◌++◌, length, take, drop, slice_get, Some, None, Option, true, false, Bool, refl, sym, ap, ap₂, subst, ◌∙◌, arith, IsTrue}
 use Rattle.std.specs.Prelude.{IsSome}
 use Rattle.sqlite_value.specs.Order.{Row}
@@ -8,7 +8,7 @@ use Rattle.sqlite_trees.specs.Tree.{Trees, from_key, sought}
 use Rattle.sqlite_trees.specs.View.{View, IsClean, Advances, Moves, StayLive, doubt, with_cursor}
 use Rattle.desk_cli.specs.steps.Audit.{DifferFirst, OnlyMoves}
 
--- the cursor has given so many rows of the tree, and nothing but cursors has moved
+-- the cursor has given `n` rows of the tree, and nothing but cursors has moved
 pub record IsAt (old now : View) (tree n : ℕ) : Type 0 where
   pub clean : doubt old.is_clean ≤ doubt now.is_clean
   pub live : IsSome (now.cursors 0)

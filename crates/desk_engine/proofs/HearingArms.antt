@@ -1,4 +1,4 @@
--- What hearing a message owes, by what the store knew of the message.
+-- What `hear` promises, for each of the things that the store may have found of the message.
 use Rattle.std.proofs.Common.{◌≡◌, ◌∙◌, ℕ, false, Bool, List, Some, None, Result, Ok, is_ok, is_some, refl, ap, sym, subst}
 use Rattle.std.specs.Prelude.{◌||◌}
 use Rattle.std.specs.Global.{Vec}

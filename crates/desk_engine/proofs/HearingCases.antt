@@ -1,4 +1,4 @@
--- What each arm of hearing makes of the clauses, over plain variables.
+-- The clauses of `hear` for an unknown sender, a repeated number and a new one, stated over values and not over the code.
 use Rattle.std.proofs.Common.{◌≡◌, ℕ, ◌<◌, ◌≤◌, true, false, List, [], ◌∷◌, ◌++◌, length, Option, Some, None, Result, Ok, is_ok, refl, ap, sym, ◌∙◌, subst, inl, inr, arith}
 use Rattle.std.specs.Prelude.{◌⊎◌, option_map, is_some}
 use Rattle.std.proofs.lemmas.Bool.{cases_Bool, cases_lt}

@@ -1,4 +1,4 @@
--- An import goes on by one envelope, or stops.
+-- An import over one envelope more: it continues with the answer, or ends with the first error.
 use Rattle.std.proofs.Common.{◌≡◌, ◌∙◌, ℕ, false, List, [], ◌∷◌, ◌++◌, Option, Some, None, refl, ap, sym, ◌<◌, length, take, get_or, arith}
 use Rattle.std.specs.Prelude.{if◌then◌else◌}
 use Rattle.registry_core.specs.declared.messages.Envelope.{Envelope}

@@ -1,4 +1,4 @@
--- How the cut of an input goes on.
+-- The lines of an input with octets added at its end: an LF ends the last line, other octets extend it, and earlier lines stay.
 use Rattle.std.proofs.Common.{◌≡◌, ◌==◌, ℕ, List, [], ◌∷◌, ◌++◌, Bool, true, false, cond, refl, sym, ap, ◌∙◌, subst, append_assoc, append-nil}
 use Rattle.desk_engine.specs.Lines.{line_feed, has_line_feed, with_octet, cut, whole_lines, last_line, all_lines, IsBeginning}
 use Rattle.desk_engine.proofs.InputCuts.{cut-rest}

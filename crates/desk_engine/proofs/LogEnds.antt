@@ -1,4 +1,4 @@
--- The lines of a log as they are written.
+-- Lines of a log that are written one after another: how much is written when a write fails, and when there are no more.
 use Rattle.std.proofs.Common.{◌≡◌, ℕ, zero, suc, ◌+◌, ◌-◌, ◌≤◌, ◌<◌, List, [], ◌∷◌, ◌++◌, length, map, take, drop, Option, Some, None, option_map, refl, ap, sym, subst, ◌∙◌, arith, append_assoc, append-nil, take-append-drop}
 use Rattle.std.specs.List.{slice_get}
 use Rattle.std.specs.Prelude.{true, false, OnErr, OnOk, Result, Ok, Err}

@@ -51,7 +51,7 @@ no_line_feed : (lines : List (List ℕ)) → AreLines lines → list_any has_lin
 no_line_feed [] h = refl
 no_line_feed (line ∷ lines) h = rw h.1 (no_line_feed lines h.2)
 
--- what stands after the last LF is empty, and isn't heard
+-- what follows the last LF is empty, and isn't heard
 heard_by_lines : (c : Settings) (heard : List Envelope) (lines : List (List ℕ)) → AreLines lines
     → heard_lines c heard (lines ++ [] ∷ []) ≡ heard_all c heard (map delivered lines)
 heard_by_lines c heard [] h = refl

@@ -1,4 +1,4 @@
--- Lists as they are made.
+-- New lists represent the empty log.
 use Rattle.std.proofs.Common.{[], ap, sym, ◌≡◌, ◌∙◌}
 use Rattle.registry_core.specs.Heard.{IsHeard}
 use Rattle.registry_core.specs.Settings.{Settings}

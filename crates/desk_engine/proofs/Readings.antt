@@ -1,4 +1,4 @@
--- Reading calls one after another.
+-- Two calls in a row that only read are together one that only reads.
 use Rattle.std.proofs.Common.{◌∙◌, Option, None, ap}
 use Rattle.std.specs.Prelude.{◌||◌}
 use Rattle.desk_store.specs.declared.faults.StoreFault.{StoreFault}

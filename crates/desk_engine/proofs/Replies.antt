@@ -1,4 +1,4 @@
--- What an envelope is replied, and what is heard of it, case by case.
+-- How an envelope is answered and what it adds to the log: an unknown sender, a pair in the log, a new pair.
 use Rattle.std.proofs.Common.{◌≡◌, Bool, true, false, cond, List, [], ◌∷◌, ◌++◌, refl}
 use Rattle.std.specs.Prelude.{◌&&◌}
 use Rattle.registry_core.specs.declared.messages.Envelope.{Envelope}

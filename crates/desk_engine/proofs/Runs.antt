@@ -1,4 +1,4 @@
--- A run goes on by one text.
+-- A run over one text more: the log, the outcomes, and which message is in flight after a disk error.
 use Rattle.std.proofs.Common.{◌≡◌, ℕ, true, false, cond, List, [], ◌∷◌, ◌++◌, Option, Some, None, refl, ap, subst, sym, inl, inr, ◌∙◌, ◌<◌, ◌≤◌, ◌+◌, map, take, length, get_or, Bor}
 use Rattle.std.specs.Prelude.{◌||◌, Result, Ok, Err}
 use Rattle.std.proofs.lemmas.List.{take_more, map-append, take_all}

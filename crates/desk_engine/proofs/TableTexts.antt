@@ -1,4 +1,4 @@
--- Tables: one text after another.
+-- The text of a table with one item more is the text so far and that item's line.
 use Rattle.std.proofs.Common.{◌≡◌, ◌∙◌, ◌+◌, ◌<◌, ℕ, List, ◌++◌, ap, sym, length, get_or, take}
 use Rattle.std.specs.List.{flat_map}
 use Rattle.std.proofs.lemmas.List.{append_assoc, take_more}

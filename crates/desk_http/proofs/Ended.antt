@@ -1,4 +1,4 @@
--- How a connection was served, from how its parts were.
+-- How serving a request ended: a response was written, the write failed, or the request was refused by its head.
 use Rattle.std.proofs.Common.{◌≡◌, ℕ, List, [], ◌∷◌, ◌++◌, Option, length, take, drop, map, refl, ap, sym, ◌∙◌, subst, append-nil}
 use Rattle.std.proofs.KnownBytes.{Consumes-nil, Consumes-trans}
 use Rattle.std.specs.List.{All}

@@ -1,4 +1,4 @@
--- What the fields state, from a loop over them.
+-- Whether fields have a name, and the length that they give, computed field by field.
 use Rattle.std.proofs.Common.{◌≡◌, ◌≤◌, ℕ, Bool, true, false, cond, List, [], ◌∷◌, ◌||◌, codes, length, map, take, refl, ap, ◌∙◌}
 use Rattle.std.proofs.lemmas.List.{take_all}
 use Rattle.std.specs.Prelude.{filter, fold, nat_lt, if◌then◌else◌}

@@ -1,4 +1,4 @@
--- A CREATE whose parts fit its schema is not turned down.
+-- A CREATE whose parts fit its schema is not refused.
 use Rattle.std.proofs.Common.{◌≡◌, ◌⊎◌, inl, inr, ℕ, ◌+◌, ◌<◌, ◌≤◌, ◌^◌, List, [], ◌∷◌, length, Bool, true, false, not, ◌&&◌, Option, Some, None, Ok, Err, Result, IsUtf8, codes, slice_get, sym, ap, subst, ◌∙◌, arith}
 use Rattle.std.specs.Prelude.{nat_lt}
 use Rattle.std.specs.List.{list_all, AllByRecursion}

@@ -1,4 +1,4 @@
--- A query that runs on where nothing has changed since it began.
+-- What a query shows after calls that changed nothing, and how it fails, is what it would have been before them.
 use Rattle.std.proofs.Common.{◌≡◌, ◌≤◌, inl, inr, ℕ, List, Ok, true≢false, sym, subst, ◌∙◌, arith, None}
 use Rattle.sqlite_value.specs.Order.{Row}
 use Rattle.sqlite_trees.specs.declared.error.StoreError.{StoreError}

@@ -1,4 +1,4 @@
--- The tables after the batch, and after the first row.
+-- The database after the batch that makes a desk's tables, and after the row of meta is added; and with which errors both can fail.
 use Rattle.std.proofs.Common.{◌≡◌, ◌∙◌, ℕ, pos, List, [], ◌∷◌, codes, length, None, Ok, Err, Result, OnOk, IfErr, refl, sym, subst, arith, inl}
 use Rattle.std.specs.List.{AllByRecursion}
 use Rattle.sqlite_value.specs.declared.value.Value.TheVariants.{Null, Int, Text}

@@ -1,4 +1,4 @@
--- Rows that have their rowids in order.
+-- Rows with the rowids 1, 2, 3 and so on: the next rowid is one more than their number, and a row with it comes last.
 use Rattle.std.proofs.Common.{◌≡◌, ℕ, ◌+◌, ◌<◌, pos, ◌+ℤ◌, List, [], ◌∷◌, ◌++◌, length, fold, true, refl, ap, ◌∙◌, Less, arith, rules}
 use Rattle.std.specs.Ordering.{match_ordering}
 use Rattle.std.specs.Prelude.{nat_lt}

@@ -1,4 +1,4 @@
--- One row has a number: the row at that place.
+-- If a list has an item with a number, only that one of its numbered items passes the test for the number.
 use Rattle.std.proofs.Common.{◌≡◌, inl, inr, ℕ, ◌==◌, List, [], ◌∷◌, filter, option_map, Some, sym, ap, ◌∙◌}
 use Rattle.registry_core.specs.Numbered.{item_at}
 use Rattle.desk_rows.proofs.Ordered.{zip_from, find_head, found_number, head}

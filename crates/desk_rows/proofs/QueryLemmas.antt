@@ -1,4 +1,4 @@
--- What a query leaves, and when it shows no row.
+-- A query that shows rows or none leaves the database as it was, and one that fails leaves it or rolls it back.
 use Rattle.std.proofs.Common.{◌≡◌, ◌⊎◌, inl, inr, ℕ, List, [], Option, Ok, Err, Result, OnOk, subst}
 use Rattle.sqlite_value.specs.Order.{Row}
 use Rattle.sqlite_trees.specs.declared.error.StoreError.{StoreError}

@@ -1,4 +1,4 @@
--- What a query over one table shows.
+-- A query over one table shows the rows that pass its test, as the terms that it selects.
 use Rattle.std.proofs.Common.{◌≡◌, ℕ, pos, negsuc, List, [], ◌∷◌, ◌++◌, map, length, filter, flat_map, Bool, true, false, cond, Some, None, refl, ap, ◌∙◌}
 use Rattle.std.specs.List.{list_all}
 use Rattle.std.specs.Ordering.{is_eq}

@@ -1,4 +1,4 @@
--- What is at a place of a row, and what is returned for a row whatever it is.
+-- A value read from a place of a row: at most one value fits what is stored there, and none fits a null.
 use Rattle.std.proofs.Common.{◌≡◌, ◌<◌, inl, inr, ℕ, ℤ, pos, List, length, Result, Ok, Err, OnErr, true≢false, sym, ◌∙◌}
 use Rattle.std.specs.Prelude.{OnOk}
 use Rattle.std.specs.Result.{IsErr}

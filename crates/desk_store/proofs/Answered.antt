@@ -1,4 +1,4 @@
--- A booking that ends is counted anew among those that answer its uplink.
+-- The counts of an uplink's bookings that aren't dropped, after one of the bookings is marked as sent or dropped.
 use Rattle.std.proofs.Common.{◌≡◌, ℕ, ◌+◌, ◌-◌, ◌^◌, ◌<◌, ◌≤◌, Bool, true, false, cond, List, length, Some, refl, sym, ◌∙◌, ap, arith}
 use Rattle.std.specs.Prelude.{◌==◌, ◌&&◌, not, count_by, min}
 use Rattle.std.proofs.lemmas.Bool.{eq-eqb}

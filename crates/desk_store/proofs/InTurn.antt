@@ -1,4 +1,4 @@
--- Look-ups one after another; the last may fail.
+-- Two look-ups in a row only read, and the error of the second is returned.
 use Rattle.std.proofs.Common.{◌≡◌, ◌∙◌, Option, None, Some, Result, Ok, Err, sym, ap, subst}
 use Rattle.std.specs.Prelude.{◌||◌, IfOk}
 use Rattle.std.specs.Result.{IsErrAnd}

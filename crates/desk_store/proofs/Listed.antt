@@ -1,5 +1,5 @@
--- What lists of the store in memory say: keys in order, the numbers of a device's sessions, the greatest of some numbers, and an uplink's
--- gateways.
+-- What is in lists of the store in memory: keys in order, the numbers of a device's sessions, the greatest of some numbers, and an
+-- uplink's gateways.
 use Rattle.std.proofs.Common.{◌≡◌, ◌∙◌, ℕ, suc, ◌+◌, Bool, true, false, cond, List, [], ◌∷◌, get_or, length, map, slice_get, Option, Some, None, refl, sym, ap, subst, arith}
 use Rattle.std.specs.Prelude.{◌==◌, ◌&&◌, ◌||◌, bytes_eq, filter, is_some, max, nat_eq}
 use Rattle.std.specs.Cmp.{nat_eq_equiv}

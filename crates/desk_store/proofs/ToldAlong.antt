@@ -1,4 +1,4 @@
--- What is found of items one after another, skipping those that have nothing.
+-- What a loop collects of a list whose items have a value or none: one value more, one item skipped, all items.
 use Rattle.std.proofs.Common.{◌≡◌, ◌∙◌, ◌<◌, ◌+◌, ◌≤◌, ℕ, List, [], ◌∷◌, ◌++◌, Option, Some, None, length, get_or, drop, refl, sym, ap, append_assoc, append-nil, add-one, drop-cons}
 use Rattle.std.specs.List.{filter_map}
 use Rattle.std.proofs.lemmas.List.{at_drop_all}

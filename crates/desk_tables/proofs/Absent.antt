@@ -1,4 +1,4 @@
--- What isn't there: numbers above the greatest whole one.
+-- A number from 2^53 on is that of no message, session, uplink or booking, so look-ups by it find nothing.
 use Rattle.std.proofs.Common.{◌≡◌, ℕ, zero, suc, ◌+◌, ◌<◌, ◌==◌, ◌&&◌, ◌||◌, not, Bool, true, false, cond, List, [], ◌∷◌, map, filter, find, length, Option, Some, None, option_map, refl, sym, ap, ap₂, ◌∙◌, arith}
 use Rattle.std.specs.Prelude.{bytes_eq, is_some}
 use Rattle.std.specs.List.{AllByRecursion, list_any}
@@ -56,7 +56,7 @@ differs : {X : Type 0} (xs : List X) (n m : ℕ) (x : X) → length xs < n → i
 differs xs n zero x past at = let no : None ≡ Some x = at in cc
 differs xs n (suc m) x past at = ne_eqb (suc m) n (λ is. let within = slice_get_within xs m x at in omega arith)
 
--- ---- numbers that aren't whole
+-- ---- numbers from 2^53 on
 
 and_false : (b : Bool) → (b && false) ≡ false
 and_false true = refl

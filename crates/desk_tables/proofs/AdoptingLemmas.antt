@@ -1,4 +1,4 @@
--- What follows where a connection is adopted, and where it isn't.
+-- A connection whose rows are counted becomes a store, or comes back with an error: what is true of it in each case.
 use Rattle.std.proofs.Common.{◌≡◌, ◌∙◌, false, true, None, Result, Ok, Err, IfErr, IfOk, ap, length, refl, subst, sym}
 use Rattle.std.proofs.lemmas.List.{length-map}
 use Rattle.registry_core.specs.Settings.{Settings}

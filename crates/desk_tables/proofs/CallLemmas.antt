@@ -1,4 +1,4 @@
--- Look-ups in a row, and statements that write.
+-- Look-ups one after another are one look-up, and statements that write one after another make one change.
 use Rattle.std.proofs.Common.{◌≡◌, true, Result, Ok, Err, IfOk, IfErr, OnOk, refl, arith, sym, ap, subst, ◌∙◌}
 use Rattle.std.specs.Result.{is_ok, IsErrAnd}
 use Rattle.std.proofs.lemmas.Result.{err_from_is_err_and}

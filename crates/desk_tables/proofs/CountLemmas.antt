@@ -1,4 +1,4 @@
--- Counts with an effect.
+-- One item more is one more in a count, and with few messages there are few sessions, uplinks and bookings.
 use Rattle.std.proofs.Common.{◌≡◌, ℕ, ◌+◌, ◌≤◌, List, [], ◌∷◌, ◌++◌, length, length-append, map, ap, ◌∙◌, arith}
 use Rattle.std.proofs.lemmas.List.{length-map}
 use Rattle.registry_core.specs.Heard.{most_heard}

@@ -1,4 +1,4 @@
--- What was read of the rows, and what is written with it.
+-- Rows that an effect changes are found before it is written: the device of a session, and whether its floor rises.
 use Rattle.std.proofs.Common.{◌≡◌, ℕ, Bool, true, false, List, [], ◌∷◌, filter, find, Option, Some, None, Result, Ok, option_map, refl, sym, ap, subst, ◌∙◌}
 use Rattle.registry_core.specs.declared.effects.Effect.{Effect}
 use Rattle.registry_core.specs.declared.facts.Session.{Session}

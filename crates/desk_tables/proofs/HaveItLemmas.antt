@@ -1,4 +1,4 @@
--- As many have it as there are rows.
+-- A table of senders, owners, gateways, devices or limits has as many rows as the registry has of them.
 use Rattle.std.proofs.Common.{◌≡◌, ℕ, ◌||◌, Bool, true, false, cond, List, [], ◌∷◌, map, find, length, Option, Some, is_some, option_map, refl, ap, ◌∙◌, sym, arith}
 use Rattle.std.specs.Prelude.{bytes_eq, nat_eq, unwrap_or}
 use Rattle.std.specs.List.{list_any}

@@ -1,4 +1,4 @@
--- A commit whose transaction was made, or failed.
+-- The store after a commit: with the effect and the entry if the transaction succeeded, else as before or failed.
 use Rattle.std.proofs.Common.{◌≡◌, inl, inr, ℕ, ◌+◌, ◌<◌, Bool, true, false, true≢false, List, [], ◌∷◌, length, None, Some, Result, Ok, Err, IsTrue, refl, sym, ap, subst, ◌∙◌, arith}
 use Rattle.std.specs.Prelude.{◌||◌}
 use Rattle.registry_core.specs.declared.effects.Effect.{Effect}

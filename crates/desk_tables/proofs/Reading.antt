@@ -1,4 +1,4 @@
--- Look-ups whose statements are put in other words.
+-- What a look-up returns, stated of the log and the facts in place of the rows, or of another value; and of no look-up at all.
 use Rattle.std.proofs.Common.{◌≡◌, inl, Result, Ok, Err, refl, sym, subst, arith}
 use Rattle.sqlite.specs.State.{State, Survives}
 use Rattle.desk_rows.specs.declared.faults.RowFault.{RowFault}

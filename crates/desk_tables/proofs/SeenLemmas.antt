@@ -1,4 +1,4 @@
--- What was seen of rows: nothing, what is still so after a commit, something more, and that no frame has a counter above the last one.
+-- The store's cache is right: when it is empty, after a commit, with something more, and for a counter above the last.
 use Rattle.std.proofs.Common.{◌≡◌, ◌<◌, ℕ, ◌+◌, ◌==◌, max, Bool, true, false, cond, List, [], ◌∷◌, ◌++◌, map, filter, find, Option, Some, None, option_map, IfSome, refl, sym, subst, ◌∙◌, arith}
 use Rattle.std.proofs.lemmas.Bool.Decides.{nat_tests}
 use Rattle.std.specs.Option.{option_map_or}

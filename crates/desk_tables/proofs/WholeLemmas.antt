@@ -1,4 +1,4 @@
--- Of an effect that fits, while there is room for a message more: its numbers are whole.
+-- The numbers in an effect that fits are below 2^53, while the log has space for one more message.
 use Rattle.std.proofs.Common.{◌≡◌, ℕ, zero, suc, ◌+◌, ◌≤◌, ◌<◌, List, length, Option, Some, None, is_some, IsTrue, refl, arith, subst}
 use Rattle.std.proofs.lemmas.List.{length-map}
 use Rattle.std.proofs.lemmas.List.Sums.{count_by-le-length}

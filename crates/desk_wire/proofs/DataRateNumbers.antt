@@ -1,4 +1,4 @@
--- A data rate is the one of its number, and its number is small.
+-- Each data rate is found by its own number, which is below 8.
 use Rattle.std.proofs.Common.{◌≡◌, ◌<◌, Some, refl, arith}
 use Rattle.radio_core.specs.DataRates.{dr_number}
 use Rattle.radio_core.specs.declared.data_rates.DataRate.{DataRate}

@@ -1,4 +1,4 @@
--- A fact of all that may be found, carried along steps that may find nothing and along results.
+-- If every value that a step can find satisfies a property, then so does each that later steps find from it.
 use Rattle.std.proofs.Common.{◌≡◌, Bool, true, false, Option, Some, None, Result, Ok, Err, option_map, ok_or, refl, subst, if◌then◌else◌}
 use Rattle.std.specs.Prelude.{⊤}
 use Rattle.desk_wire.specs.Optional.{◌>>=◌, only_if}

@@ -1,4 +1,4 @@
--- How the tokens of a text lead to the text.
+-- The tokens of a value print as its compact text.
 use Rattle.std.proofs.Common.{◌≡◌, List, ap, ◌∙◌}
 use Rattle.std.specs.Prelude.{⊤}
 use Rattle.json.specs.Print.{print}

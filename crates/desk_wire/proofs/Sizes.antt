@@ -1,4 +1,4 @@
--- How long the text of a value is.
+-- Bounds on the length of a quoted text, and of an object whose members are short.
 use Rattle.std.proofs.Common.{◌≡◌, ℕ, ◌+◌, ◌*◌, ◌≤◌, Bool, true, false, cond, List, [], ◌∷◌, ◌++◌, length, arith}
 use Rattle.std.proofs.lemmas.List.{length-append}
 use Rattle.json.specs.Print.{escape, escape_byte, quoted}

@@ -1,4 +1,4 @@
--- There is no more than messages were heard: each adds at most one key to a look-up, and one uplink or booking.
+-- There are no more facts than messages: each message adds at most one key to a look-up, and one uplink or booking.
 use Rattle.std.proofs.Common.{◌≡◌, ℕ, ◌+◌, ◌≤◌, List, [], ◌∷◌, ◌++◌, length, Bool, true, false, Option, Some, None, Decides, refl, sym, ap, subst, arith, inl, inr, if◌then◌else◌}
 use Rattle.std.specs.Prelude.{◌⊎◌, ◌==◌, ◌&&◌, bytes_eq, is_some, option_map, Contains, IsTrue}
 use Rattle.std.specs.Cmp.{IsEquivalence}

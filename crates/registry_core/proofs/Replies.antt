@@ -1,4 +1,4 @@
--- What a message is replied, where its pair was heard and where it wasn't.
+-- How a message is answered: with the answer of its step if its pair is in the log, refused if another has the pair, or decided.
 use Rattle.std.proofs.Common.{◌≡◌, ℕ, List, [], ◌∷◌, ◌++◌, Bool, true, false, cond, Some, None, refl, sym, ap, ◌∙◌, subst, append_assoc, append-nil, inl, inr}
 use Rattle.std.specs.Prelude.{◌==◌, ◌&&◌, bytes_eq, is_some}
 use Rattle.std.specs.List.{find, list_any}

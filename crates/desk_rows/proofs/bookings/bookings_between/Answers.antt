@@ -1,4 +1,4 @@
--- By hand: `using` hands no lemma to the search for a record about a statement.
+-- The gateway's rows from one start to another, dropped ones too, give their numbers by start; both bounds are bound as integers.
 use Rattle.std.proofs.Common.{◌≡◌, rules}
 use Rattle.sqlite_value.specs.Value.{owned}
 use Rattle.sqlite_value.specs.declared.value.Value.TheVariants.{Int}

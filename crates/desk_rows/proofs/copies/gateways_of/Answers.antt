@@ -1,4 +1,4 @@
--- By hand: `using` hands no lemma to the search for a record about a statement.
+-- The gateways in the rows of the uplink's receptions come ordered by their octets, because the statement orders by name.
 use Rattle.desk_rows.proofs.ListedQueries.{reads_receptions}
 use Rattle.desk_rows.proofs.copies.gateways_of.Goals as goal
 

@@ -1,4 +1,4 @@
--- By hand: `using` hands no lemma to the search for a record about a statement.
+-- Joined with the sessions of the device, the uplinks in the period, of every band, give their numbers by start.
 use Rattle.std.proofs.Common.{◌≡◌, rules}
 use Rattle.sqlite_value.specs.Value.{owned}
 use Rattle.sqlite_value.specs.declared.value.Value.TheVariants.{Int}

@@ -1,4 +1,4 @@
--- The index gives the places of the gateway's bookings, of which those in the period are taken.
+-- The index gives the places of the gateway's bookings, and those in the period are taken.
 use Rattle.std.proofs.Common.{◌≡◌, ◌∙◌, ap, subst, sym, List}
 use Rattle.std.specs.Prelude.{bytes_eq, filter}
 use Rattle.registry_core.specs.declared.facts.Booking.{Booking}

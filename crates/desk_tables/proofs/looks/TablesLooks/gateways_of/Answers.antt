@@ -1,4 +1,4 @@
--- By hand: the search doesn't find that the look-up only reads.
+-- Reading the gateways of an uplink's receptions leaves what the store represents; what is returned is shown by the search.
 use Rattle.desk_tables.proofs.LookUps.{answered_by_rows}
 use Rattle.desk_tables.proofs.looks.TablesLooks.gateways_of.Goals as goal
 

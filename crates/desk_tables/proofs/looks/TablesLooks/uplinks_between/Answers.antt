@@ -1,4 +1,4 @@
--- By hand: the search doesn't find the law of the rows for what the statement returned.
+-- The numbers of the device's rows in the period, by start, are those of its uplinks in the registry; the bounds fit i64.
 use Rattle.std.proofs.Common.{FitsSigned, rules, sym, subst, w64}
 use Rattle.std.proofs.lemmas.Int.{to_z-of_z}
 use Rattle.registry_core.specs.Listing.{AreUplinksFrom}

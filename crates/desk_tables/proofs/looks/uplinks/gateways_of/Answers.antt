@@ -1,4 +1,4 @@
--- By hand: the search doesn't find the law of the rows, nor that a number that isn't whole has no receptions.
+-- The gateways in the rows of an uplink are those of its receptions in the registry; an uplink number from 2^53 on has none.
 use Rattle.std.proofs.Common.{sym, subst}
 use Rattle.registry_core.specs.Listing.{AreNames, has_reception}
 use Rattle.desk_tables.proofs.Absent.{no_gateway}
