@@ -65,7 +65,7 @@ class Copy:
 def wrong_arguments(copy):
     cases = [
         [], ["nothing"], ["check"], ["check", "no_crate"], ["check", "radio_core", "no_function"], ["check", "radio_core", "a", "b"],
-        ["mutants"], ["mutants", "no_crate"], ["mutants", "radio_core", "no_function"], ["test", "a", "b"], ["format", "a"], ["lint", "a"],
+        ["mutants"], ["mutants", "no_crate"], ["mutants", "radio_core", "no_function"], ["find"], ["find", "no_function"], ["test", "a", "b"], ["format", "a"], ["lint", "a"],
         ["quick", "a"], ["gate", "a"], ["scripts", "a"], ["scripts", "--only", "no script"], ["scripts", "--program", "/nowhere", "--only", "day"],
     ]  # fmt: skip
     for words in cases:
@@ -139,6 +139,21 @@ def mutants(copy):
     holds(sorted(ran.stdout.splitlines()) == sorted(it.relative_to(copy.folder).as_posix() for it in files), f"mutants of radio_core are {ran.stdout}")
 
 
+def found(copy):
+    """A function's place, proof by hand, mutants, and the tests that call it; a method whose type is in another file too."""
+    of_deliver = [
+        "desk_engine::delivering::deliver: crates/desk_engine/src/delivering.rt:",
+        "proof by hand crates/desk_engine/proofs/delivering/deliver/Answers.antt",
+        "mutant checks/wrong-bodies/desk_engine/a_text_delivered_twice.edit",
+        "called by the test crates/desk_cli/src/tests/room.rt:",
+    ]
+    of_near = ["crates/desk_tables/src/looks.rt:", "proof by hand crates/desk_tables/proofs/looks/TablesLooks/near/Answers.antt"]
+    for function, parts in (("deliver", of_deliver), ("TablesLooks::near", of_near)):
+        ran = copy.run("find", function)
+        for part in parts:
+            holds(part in ran.stdout, f"find {function} prints {ran.stdout}, without {part}")
+
+
 def scripts(copy):
     """The scripts of a release are those of checks/, but for those that measure."""
     ran = copy.run("scripts", "--list")
@@ -172,7 +187,7 @@ def main():
     argparse.ArgumentParser(description=__doc__, formatter_class=argparse.RawDescriptionHelpFormatter).parse_args()
     with tempfile.TemporaryDirectory(prefix="dev-") as folder:
         copy = Copy(Path(folder))
-        for part in (wrong_arguments, commands_of_rt, changed_sources, mutants, scripts):
+        for part in (wrong_arguments, commands_of_rt, changed_sources, mutants, found, scripts):
             part(copy)
     in_the_repository()
     print(f"dev: {tried} cases are as they should be")
