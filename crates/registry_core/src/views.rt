@@ -6,6 +6,18 @@ use radio_core::{Band, Eui};
 
 /// The part of the registry's state that one message needs. The sender's role, the block and the three counts are set for each message.
 /// What the message doesn't need of the rest is false, 0, absent or empty.
+///
+/// | Message | What it reads besides the role |
+/// |---|---|
+/// | SenderAdd | `sender_known` |
+/// | OwnerAdd | `owner_known` |
+/// | GatewayAdd | `gateway_known` |
+/// | DeviceAdd, DeviceMove | `owner_known`, `device` |
+/// | LimitSet | `gateway_known`, `in_band` at any time |
+/// | JoinHeard | `gateway_known`, `device`, `last_nonce`, `uplink`, the block, `sessions`, `uplinks` |
+/// | FrameHeard | `gateway_known`, `session`, `uplink`, `uplinks` |
+/// | DownBook | `gateway_known`, `uplink`, `base`, `answered`, `next_down`, `near`, `in_band` near it, `limit`, `bookings` |
+/// | DownDone | `booking` |
 #[derive(Drop)]
 pub struct View {
     /// The sender's role.
