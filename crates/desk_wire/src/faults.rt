@@ -1,22 +1,29 @@
 //! The errors of a message's text.
 use crate::heads::Head;
 use registry_core::Refusal;
+use thiserror::Error;
 
 /// Why a text is no envelope for the receiver, checked in this order, or that memory ran out. Each but `Malformed` and `Memory` has the
 /// head of the request.
-#[derive(Clone, Copy)]
+#[derive(Clone, Copy, Debug, Error)]
 pub enum WireFault {
     /// Not JSON, or a member that every message has is missing or not in its form: refusal 1.
+    #[error("the text isn't a message")]
     Malformed,
     /// ProtocolVersion isn't `1.0`: refusal 2.
+    #[error("ProtocolVersion isn't 1.0")]
     InvalidProtocolVersion(Head),
     /// ReceiverID isn't the receiver's: refusal 3.
+    #[error("ReceiverID isn't the receiver's")]
     UnknownReceiver(Head),
     /// MessageType is unknown: refusal 8.
+    #[error("the MessageType is unknown")]
     UnknownType(Head),
     /// A member of the type is missing or not in its form: refusal 7.
+    #[error("a member of the message's type is missing or not in its form")]
     BadBody(Head),
     /// Out of memory: an allocation failed. The text may be an envelope or not.
+    #[error("out of memory")]
     Memory,
 }
 

@@ -7,7 +7,7 @@ use radio_core::Name;
 use registry_core::Envelope;
 
 /// The sender of a request, its transaction number, and its MessageType, which may be unknown.
-#[derive(Clone, Copy)]
+#[derive(Clone, Copy, Debug)]
 pub struct Head {
     pub sender: Name,
     pub transaction: u32,

@@ -9,7 +9,7 @@ use registry_core::Message;
 use std::marker::Model;
 
 /// A MessageType: 1 to 32 ASCII letters (this project's form). Contracts see its octets.
-#[derive(Clone, Copy)]
+#[derive(Clone, Copy, Debug)]
 pub struct TypeName {
     /// A type's name has the form of a name too.
     name: Name,

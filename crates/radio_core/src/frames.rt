@@ -6,6 +6,7 @@ ghost use Rattle.radio_core.specs.declared.frames.Phy.{Phy};
 ghost use Rattle.radio_core.specs.Frames.{IsFault, IsFrame, accept_of, body_of, data_of, fields_of, join_frame, read_of};
 
 use crate::identifiers::{DevAddr, Eui};
+use thiserror::Error;
 
 /// A frame, as far as its octets are read. Fields of several octets are sent with the lowest octet first.
 #[derive(Clone, Copy, PartialEq, Eq)]
@@ -33,15 +34,19 @@ pub enum Phy {
 }
 
 /// Why octets are not a frame. The errors are checked in this order.
-#[derive(Clone, Copy, PartialEq, Eq)]
+#[derive(Clone, Copy, PartialEq, Eq, Debug, Error)]
 pub enum FrameFault {
     /// There are no octets.
+    #[error("the frame is empty")]
     Empty,
     /// The MHDR's Major isn't 0.
+    #[error("the frame's major version isn't 0")]
     Major,
     /// The MHDR's frame type is 6 or 7.
+    #[error("the frame's type is reserved or proprietary")]
     Kind,
     /// No frame of this type has these octets.
+    #[error("no frame of its type has this length")]
     Length,
 }
 

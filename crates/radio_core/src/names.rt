@@ -8,6 +8,7 @@ ghost use Rattle.std.specs.List.{list_all};
 ghost use Rattle.radio_core.specs.Names.{is_name, is_name_octet};
 
 use crate::padding::spread;
+use std::fmt::{self, Debug, Formatter};
 use std::hash::{Hash, Hasher};
 use std::marker::Model;
 use std::str;
@@ -82,6 +83,13 @@ impl Name {
         ensures { result.now ≡ self.now }
     {
         str::from_utf8(self.get()).unwrap()
+    }
+}
+
+/// Shows the name as a text in quotes.
+impl Debug for Name {
+    fn fmt<W: fmt::Write>(&self, f: &mut Formatter<W>) -> fmt::Result {
+        Debug::fmt(self.as_str(), f)
     }
 }
 
