@@ -28,7 +28,7 @@ pub(crate) mod room;
 mod rooms;
 pub(crate) mod rows;
 mod runs;
-mod second_schema;
+pub(crate) mod second_schema;
 pub(crate) mod stops;
 mod stored_lines;
 pub(crate) mod streams;
@@ -39,9 +39,9 @@ mod texts;
 use desk_engine::{Outcome, deliver};
 use desk_store::{Keeper, Lists};
 use desk_tables::Tables;
-use holding::holds;
+use holding::holds_of;
 use radio_core::Name;
-use registry_core::Config;
+use registry_core::{Config, Refusal};
 use rows::{DEVICE_ADDED, Delivery, Row, SETUP, deliveries_of};
 use sqlite::{Alter, Connection, MemStore};
 use std::alloc::Global;
@@ -136,21 +136,25 @@ fn with_device<R: Abort + AllocGlobal, K: Opened>(rt: &R) -> Result<Box<K>, Fail
     Ok(keeper)
 }
 
-/// Checks that the outcome has this number and this text.
-fn expect(rt: &impl Abort, outcome: &Outcome, number: u8, wanted: &str) {
-    let is_so = match outcome {
-        Outcome::Answered(text) => number == 0 && text.as_slice() == wanted.as_bytes(),
-        Outcome::Refused(refusal, text) => {
-            number == refusal.number() && text.as_slice() == wanted.as_bytes()
-        }
-        Outcome::Unavailable(_) => false,
+/// Checks that the outcome of the text in this row has this number and this text.
+fn expect(rt: &impl Abort, row: &str, outcome: &Outcome, number: u8, wanted: &str) {
+    let (told, came) = match outcome {
+        Outcome::Answered(text) => (0, text.as_slice()),
+        Outcome::Refused(refusal, text) => (refusal.number(), text.as_slice()),
+        Outcome::Unavailable(_) => (Refusal::Unavailable.number(), b"unavailable".as_slice()),
     };
-    holds(rt, is_so, wanted);
+    let is_so = told == number && came == wanted.as_bytes();
+    holds_of(rt, is_so, row, wanted, came);
 }
 
 /// Checks that the outcome is the delivery's.
 fn expect_told(rt: &impl Abort, outcome: &Outcome, delivery: &Delivery) {
-    expect(rt, outcome, delivery.number, delivery.wanted.as_str());
+    let Delivery {
+        text,
+        number,
+        wanted,
+    } = delivery;
+    expect(rt, text.as_str(), outcome, *number, wanted.as_str());
 }
 
 /// Delivers each, and checks its outcome.

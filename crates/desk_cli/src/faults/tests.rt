@@ -2,7 +2,7 @@
 //! are.
 use super::{Fault, end};
 use crate::audit::{Place, Table};
-use crate::tests::holding::{holds, holds_at};
+use crate::tests::holding::{holds, holds_at, is_text_at};
 use std::alloc::Global;
 use std::io::{self, ErrorKind, Write};
 use std::test::Fail;
@@ -79,7 +79,7 @@ fn lines_of_faults(rt: HostRuntime) -> Result<(), Fail> {
         let mut faults = Slow::new(rt.alloc(), 100);
         let ending = end(&mut faults, Err(*fault));
         holds_at(&rt, ending == fault.ending(), place);
-        holds_at(&rt, faults.taken.as_slice() == line.as_bytes(), place);
+        is_text_at(&rt, place, line, faults.taken.as_slice());
     }
     Ok(())
 }

@@ -16,7 +16,7 @@ use crate::endings::{Ending, ending_of};
 use crate::faults::Fault;
 use crate::files::Files;
 use crate::network::Network;
-use crate::tests::holding::{holds, holds_at};
+use crate::tests::holding::{holds, holds_at, is_text_at};
 use crate::tests::ready;
 use crate::usage::Usage;
 use desk_engine::NoProgress;
@@ -301,8 +301,8 @@ fn runs_of_words(rt: HostRuntime) -> Result<(), Fail> {
         );
         holds_at(&rt, conn.is_none(), place);
         holds_at(&rt, end == *ending, place);
-        holds_at(&rt, answers.as_slice() == answered.as_bytes(), place);
-        holds_at(&rt, faults.as_slice() == told.as_bytes(), place);
+        is_text_at(&rt, place, answered, answers.as_slice());
+        is_text_at(&rt, place, told, faults.as_slice());
         holds_at(&rt, reader.is_empty() == answered.starts_with("{"), place);
     }
     Ok(())

@@ -1,6 +1,6 @@
 //! What a terminal is shown, by a clock that goes on by 400 milliseconds each time that it is read.
 use super::{CLEAR, Cleared, Counted, Grouped, Heard, clear};
-use crate::tests::holding::holds;
+use crate::tests::holding::{holds, is_text};
 use desk_engine::Progress;
 use std::cell::Cell;
 use std::io::{self, Read, Write};
@@ -77,7 +77,7 @@ fn records_and_messages_are_shown(rt: HostRuntime) -> Result<(), Fail> {
     let mut screen = heard.shown.ok_or("no terminal")?.into_inner().terminal;
     clear(&mut screen, &is_shown);
     let wanted = "\rdesk: 1,003 records\rdesk: 9 messages\r\x1b[K";
-    holds(&rt, screen.as_slice() == wanted.as_bytes(), wanted);
+    is_text(&rt, "the screen", wanted, screen.as_slice());
     Ok(())
 }
 

@@ -1,5 +1,5 @@
 //! Each read of two lines, and of a request, fails in turn, and then each write. Sent once more, what was heard gets its first answer.
-use super::holding::holds_at;
+use super::holding::{holds_at, is_text_at};
 use super::lines::{REUSED, expect_written};
 use super::requests::responses::{self, ADDED};
 use super::requests::{expect, posted};
@@ -137,6 +137,6 @@ fn a_request_that_is_interrupted(rt: HostRuntime) -> Result<(), Fail> {
     let mut written = Vec::new(rt.alloc());
     let end = serve_one(rt.alloc(), &mut *lists, &mut reader, &mut written);
     holds_at(&rt, end == ServeEnd::Done(200), 0);
-    holds_at(&rt, written.as_slice() == ADDED.as_bytes(), 1);
+    is_text_at(&rt, 1, ADDED, written.as_slice());
     Ok(())
 }

@@ -94,8 +94,8 @@ fn expect_imported<R: Abort + AllocGlobal, K: Keeper>(
     let imported = imported(rt.alloc(), keeper, text, sender)?;
     let is_whole = imported.stopped.is_none() && imported.answers.len() == wanted.len();
     holds(rt, is_whole, "that all is imported");
-    for (outcome, (number, text)) in imported.answers.iter().zip(wanted) {
-        expect(rt, outcome, *number, text);
+    for (outcome, (number, told)) in imported.answers.iter().zip(wanted) {
+        expect(rt, "a record of the report", outcome, *number, told);
     }
     Ok(())
 }

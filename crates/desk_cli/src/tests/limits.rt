@@ -3,7 +3,7 @@ use super::downlinks::{
     ACCEPT, DEVICE_EUI, DOWN, DOWN_0, DOWN_1, DOWN_2, DOWN_3, DOWN_4, DUTY, HOUR_BEGUN, HOURS,
     UP_0, UP_1, UP_2, UP_3,
 };
-use super::holding::holds;
+use super::holding::is_text;
 use super::joins::{FIRST, FIRST_ADDED, GATEWAY};
 use super::rows::Row::{Asks, Books, Frames, Joins};
 use super::rows::Told::{Booked, Framed};
@@ -98,7 +98,7 @@ fn expect_bands<R: Abort + AllocGlobal, K: Opened>(
         deliver_each(rt, &mut *keeper, rows)?;
     }
     let text = band_report(rt.alloc(), &mut *keeper, "gw-a").map_err(|_| "no report")?;
-    holds(rt, text.as_slice() == wanted.as_bytes(), wanted);
+    is_text(rt, "the bands of gw-a", wanted, text.as_slice());
     Ok(())
 }
 

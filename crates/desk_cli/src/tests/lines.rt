@@ -1,5 +1,5 @@
 //! Lines: whole outputs, and the limit of a line.
-use super::holding::holds;
+use super::holding::{holds, is_text};
 use super::opening;
 use super::rows::{ADDED, MALFORMED, OTHER_OWNER, REQUEST};
 use super::streams::Slow;
@@ -32,7 +32,7 @@ fn expect_read<R: Abort + AllocGlobal, K: Keeper, I: Read>(
     let mut written = Vec::new(rt.alloc());
     let end = run_lines(rt.alloc(), keeper, reader, &mut written);
     holds(rt, end == LinesEnd::Done, "the end of the lines");
-    holds(rt, written.as_slice() == wanted.as_bytes(), wanted);
+    is_text(rt, "the lines", wanted, written.as_slice());
 }
 
 /// A new desk does.

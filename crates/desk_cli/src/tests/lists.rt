@@ -6,7 +6,7 @@ use super::downlinks::{ACCEPT, DEVICE_EUI, DOWN, DOWN_0, DOWN_1, SENT_1, UP_1};
 use super::holding::holds;
 use super::joins::{FIRST, FIRST_ADDED, NONCE_1};
 use super::limits::HALF_OF_B3;
-use super::reports::is_wanted;
+use super::reports::expect_wanted;
 use super::rows::Row::{Asks, Books, Frames, Joins};
 use super::rows::Told::{Booked, Framed, Joined};
 use super::rows::{
@@ -250,20 +250,19 @@ fn expect_list<R: Abort + AllocGlobal, K: Keeper>(rt: &R, keeper: &mut K, listed
     match listed {
         All(of, wanted) => {
             let report = list(rt.alloc(), keeper, *of);
-            let is_so = is_wanted(&report, header_of(*of), &Ok(*wanted));
-            holds(rt, is_so, wanted);
+            expect_wanted(rt, "a list", &report, header_of(*of), &Ok(*wanted));
         }
         One(dev_eui, wanted) => {
             let report = device_report(rt.alloc(), keeper, dev_eui);
-            holds(rt, is_wanted(&report, header_of(Devices), wanted), dev_eui);
+            expect_wanted(rt, dev_eui, &report, header_of(Devices), wanted);
         }
         Receptions(dev_eui, month, wanted) => {
             let report = reception_report(rt.alloc(), keeper, dev_eui, month);
-            holds(rt, is_wanted(&report, RECEPTION_HEADER, wanted), month);
+            expect_wanted(rt, month, &report, RECEPTION_HEADER, wanted);
         }
         Downlinks(gateway, month, wanted) => {
             let report = downlink_report(rt.alloc(), keeper, gateway, month);
-            holds(rt, is_wanted(&report, DOWNLINK_HEADER, wanted), month);
+            expect_wanted(rt, month, &report, DOWNLINK_HEADER, wanted);
         }
     }
 }

@@ -1,7 +1,7 @@
 //! As many rows as a gateway's band, or a device's month, may well have: all of them are asked, and quickly enough.
 use super::downlinks::DUTY;
 use super::holding::holds;
-use super::reports::{OWNER_HEADER, is_wanted};
+use super::reports::{OWNER_HEADER, expect_wanted, is_wanted};
 use super::rows::Row::Asks;
 use super::rows::{Row, SUCCESS, delivery_of};
 use super::stops::{deliveries, heard};
@@ -79,7 +79,7 @@ fn expect_limits<R: Abort + AllocGlobal, K: Keeper>(rt: &R, keeper: &mut K) -> R
         expect_told(rt, &outcome, &delivery);
     }
     let report = band_report(rt.alloc(), keeper, "gw-a");
-    holds(rt, is_wanted(&report, "", &Ok(BANDS)), BANDS);
+    expect_wanted(rt, "the bands of gw-a", &report, "", &Ok(BANDS));
     Ok(())
 }
 
@@ -93,7 +93,7 @@ fn many_downlinks_of_a_band(rt: HostRuntime) -> Result<(), Fail> {
 
 fn expect_month<R: Abort + AllocGlobal, K: Keeper>(rt: &R, keeper: &mut K) {
     let report = owner_report(rt.alloc(), keeper, "town", "2024-02");
-    holds(rt, is_wanted(&report, OWNER_HEADER, &Ok(MONTH)), MONTH);
+    expect_wanted(rt, "an owner's month", &report, OWNER_HEADER, &Ok(MONTH));
 }
 
 #[test]

@@ -1,7 +1,7 @@
 //! Reports: the worked ones, months and their edges, a device that is moved, devices in order, and what is no report.
 use super::data_frames::HEARD;
 use super::downlinks::{ACCEPT, DEVICE_EUI, DOWN, DOWN_0, UP_0, UP_1, UP_2};
-use super::holding::holds;
+use super::holding::{holds, holds_of};
 use super::joins::{FIRST, FIRST_ADDED, NONCE_1};
 use super::rows::Row::{Asks, Books, Frames, Joins};
 use super::rows::Told::{Booked, Framed, Joined};
@@ -179,6 +179,22 @@ pub(super) fn is_wanted(
     }
 }
 
+/// What is asked in this row has such a report.
+pub(super) fn expect_wanted(
+    rt: &impl Abort,
+    row: &str,
+    report: &Result<Vec<u8>, ReportFault>,
+    header: &str,
+    wanted: &Result<&str, ReportFault>,
+) {
+    let came = match report {
+        Ok(text) => text.as_slice(),
+        Err(_) => b"no report".as_slice(),
+    };
+    let is_so = is_wanted(report, header, wanted);
+    holds_of(rt, is_so, row, wanted.unwrap_or("no report"), came);
+}
+
 pub(super) fn expect_report<R: Abort + AllocGlobal, K: Keeper>(
     rt: &R,
     keeper: &mut K,
@@ -187,15 +203,15 @@ pub(super) fn expect_report<R: Abort + AllocGlobal, K: Keeper>(
     match asked {
         Owner(owner, month, wanted) => {
             let report = owner_report(rt.alloc(), keeper, owner, month);
-            holds(rt, is_wanted(&report, OWNER_HEADER, wanted), month);
+            expect_wanted(rt, month, &report, OWNER_HEADER, wanted);
         }
         Bands(gateway, wanted) => {
             let report = band_report(rt.alloc(), keeper, gateway);
-            holds(rt, is_wanted(&report, "", wanted), gateway);
+            expect_wanted(rt, gateway, &report, "", wanted);
         }
         Room(gateway, time, wanted) => {
             let report = room_report(rt.alloc(), keeper, gateway, time);
-            holds(rt, is_wanted(&report, ROOM_HEADER, wanted), time);
+            expect_wanted(rt, time, &report, ROOM_HEADER, wanted);
         }
     }
 }

@@ -6,7 +6,7 @@ mod log;
 mod reports;
 pub(crate) mod responses;
 
-use super::holding::holds;
+use super::holding::{holds_of, is_text};
 use super::opening;
 use super::rows::{OTHER_OWNER, REQUEST};
 use desk_http::{ServeEnd, serve_one};
@@ -17,6 +17,7 @@ use responses::{
 };
 use std::alloc::Global;
 use std::process::Abort;
+use std::str;
 use std::test::Fail;
 
 pub(crate) const DEVICE_ADD: &str =
@@ -54,9 +55,16 @@ pub(super) fn expect<R: Abort + AllocGlobal, K: Keeper>(
     let mut reader = input;
     let mut written = Vec::new(rt.alloc());
     let end = serve_one(rt.alloc(), keeper, &mut reader, &mut written);
-    holds(rt, end == ServeEnd::Done(status), response);
-    holds(rt, written.as_slice() == response.as_bytes(), response);
-    holds(rt, reader.len() == unread, response);
+    let row = str::from_utf8(input).unwrap_or("octets that are no text");
+    is_text(rt, row, response, written.as_slice());
+    let is_so = end == ServeEnd::Done(status) && reader.len() == unread;
+    holds_of(
+        rt,
+        is_so,
+        row,
+        "its end and what is left unread",
+        response.as_bytes(),
+    );
 }
 
 /// A request, how many octets of it are left unread, the status and the response.

@@ -11,6 +11,10 @@ use sqlite::{Connection, MemStore, params};
 use std::alloc::Global;
 use std::test::Fail;
 
+/// The statement that makes the table of limits, which schema 1 lacks.
+pub(crate) const LIMIT_TABLE: &str =
+    "CREATE TABLE band_limit (gateway TEXT NOT NULL, band INTEGER NOT NULL, value INTEGER NOT NULL, PRIMARY KEY (gateway, band)) STRICT";
+
 /// What made the tables and indexes, letter for letter: files have it.
 #[rattlefmt::skip]
 static SCHEMA: [&str; 15] = [
@@ -28,7 +32,7 @@ static SCHEMA: [&str; 15] = [
     "CREATE INDEX uplink_start ON uplink (session, start)",
     "CREATE INDEX booking_start ON booking (gateway, start)",
     "CREATE INDEX booking_uplink ON booking (uplink)",
-    "CREATE TABLE band_limit (gateway TEXT NOT NULL, band INTEGER NOT NULL, value INTEGER NOT NULL, PRIMARY KEY (gateway, band)) STRICT",
+    LIMIT_TABLE,
 ];
 
 /// The rows of all tables but the replies.

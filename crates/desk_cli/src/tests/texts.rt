@@ -1,5 +1,5 @@
 //! Messages are written in one way, whatever text they were read of: that one is kept.
-use super::holding::holds;
+use super::holding::is_text;
 use super::rows::REQUEST;
 use desk_wire::{read_message, write_message};
 use radio_core::Name;
@@ -92,7 +92,7 @@ fn expect_written<R: Abort + AllocGlobal>(rt: &R, text: &str, wanted: &str) -> R
         return Err("not read".into());
     };
     let written = write_message(rt.alloc(), &envelope, &desk)?;
-    holds(rt, written.as_slice() == wanted.as_bytes(), text);
+    is_text(rt, text, wanted, written.as_slice());
     Ok(())
 }
 

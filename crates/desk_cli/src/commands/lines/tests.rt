@@ -2,7 +2,7 @@
 use super::lines_command;
 use crate::endings::Ending;
 use crate::tests::config;
-use crate::tests::holding::holds;
+use crate::tests::holding::{holds, is_text};
 use crate::tests::rows::{ADDED, MALFORMED, OWNERS, REQUEST, delivery_of};
 use crate::tests::streams::{Failing, Holding, Interrupted, Pieces};
 use std::alloc::Global;
@@ -65,7 +65,7 @@ fn expect_answered<R: Abort + AllocGlobal, I: Read>(
     let (ending, faults) = ran(rt.alloc(), reader, &mut answers)?;
     holds(rt, ending == Ending::Done, wanted);
     holds(rt, faults.is_empty(), "standard error");
-    holds(rt, answers.given.as_slice() == wanted.as_bytes(), wanted);
+    is_text(rt, "the lines", wanted, answers.given.as_slice());
     Ok(())
 }
 

@@ -5,7 +5,7 @@ mod logged;
 mod loopback;
 
 use crate::tests::failing::FAILURES;
-use crate::tests::holding::holds;
+use crate::tests::holding::{holds, is_text};
 use crate::tests::opening;
 use crate::tests::requests::responses::{
     ADDED, DEVICE_ADDED, EMPTY_REPORT, NO_GATEWAY, REUSED, UNAVAILABLE,
@@ -152,7 +152,7 @@ fn expect(rt: &impl Abort, served: &[Served], wanted: &[(ServeEnd, &str)]) {
     holds(rt, served.len() == wanted.len(), "how many were served");
     for (one, (end, response)) in served.iter().zip(wanted) {
         holds(rt, one.end == *end, response);
-        holds(rt, one.written.as_slice() == response.as_bytes(), response);
+        is_text(rt, "a connection", response, one.written.as_slice());
     }
 }
 

@@ -1,7 +1,7 @@
 //! `desk audit` on a desk that has heard messages of each type, as it is and with a changed row.
 use super::{OneFile, ran};
 use crate::endings::Ending;
-use crate::tests::holding::holds_at;
+use crate::tests::holding::{holds_at, is_text_at};
 use crate::tests::stops::{all_deliveries, heard};
 use std::test::Fail;
 
@@ -44,8 +44,8 @@ fn a_changed_row_is_named(rt: HostRuntime) -> Result<(), Fail> {
         let mut answers = Vec::new(rt.alloc());
         let (ending, faults, conn) = ran(&rt, &words, file, &mut b"".as_slice(), &mut answers);
         holds_at(&rt, ending == *wanted && conn.is_some(), place);
-        holds_at(&rt, answers.as_slice() == printed.as_bytes(), place);
-        holds_at(&rt, faults.as_slice() == told.as_bytes(), place);
+        is_text_at(&rt, place, printed, answers.as_slice());
+        is_text_at(&rt, place, told, faults.as_slice());
     }
     Ok(())
 }

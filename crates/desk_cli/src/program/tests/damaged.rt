@@ -5,6 +5,7 @@ use crate::endings::Ending;
 use crate::tests::fuses::{Step, expect_left, filled, fused, in_files};
 use crate::tests::holding::holds;
 use crate::tests::migrating::make_first;
+use crate::tests::second_schema::LIMIT_TABLE;
 use crate::tests::stops::rows_in;
 use sqlite::{Alter, Connection, Files};
 use sqlite_disk::Memory;
@@ -32,10 +33,6 @@ static DAMAGES: [Damage; 2] = [
         line: "",
     },
 ];
-
-/// What makes schema 2 of schema 1, letter for letter.
-const LIMITS: &str =
-    "CREATE TABLE band_limit (gateway TEXT NOT NULL, band INTEGER NOT NULL, value INTEGER NOT NULL, PRIMARY KEY (gateway, band)) STRICT";
 
 /// Makes the damaged desk.
 #[derive(Drop)]
@@ -102,7 +99,7 @@ impl Step for IsWhole<'_> {
         conn: Connection<S>,
     ) -> Result<Connection<S>, Fail> {
         let mut conn = conn;
-        let is_first = conn.execute_batch(LIMITS).is_ok();
+        let is_first = conn.execute_batch(LIMIT_TABLE).is_ok();
         if is_first {
             conn.execute_batch("UPDATE meta SET version = version + 1")?;
         }
@@ -122,7 +119,7 @@ impl Step for IsWhole<'_> {
 fn rows_of<R: Abort + AllocGlobal>(rt: &R, damage: &Damage) -> Result<String, Fail> {
     let conn = Connection::open_in_memory(rt.alloc())?;
     let mut conn = Makes { damage }.take(rt, conn)?;
-    conn.execute_batch(LIMITS)?;
+    conn.execute_batch(LIMIT_TABLE)?;
     conn.execute_batch("UPDATE meta SET version = 2")?;
     rows_in(rt.alloc(), &mut conn)
 }

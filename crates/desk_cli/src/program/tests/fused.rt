@@ -3,7 +3,7 @@ use super::{OneFile, ran};
 use crate::endings::Ending;
 use crate::tests::filling::files_that_fill;
 use crate::tests::fuses::{Step, empty, fused, in_files};
-use crate::tests::holding::{holds, holds_at};
+use crate::tests::holding::{holds, holds_at, is_text};
 use crate::tests::importing::WORKED;
 use crate::tests::rows::Delivery;
 use crate::tests::stops::deliveries;
@@ -154,7 +154,7 @@ impl Step for Runs<'_> {
             holds(rt, are_whole && are_first, wanted);
         } else {
             holds(rt, faults.is_empty(), "standard error");
-            holds(rt, answers.as_slice() == wanted.as_bytes(), wanted);
+            is_text(rt, input, wanted, answers.as_slice());
         }
         Ok(conn.ok_or("no connection")?)
     }

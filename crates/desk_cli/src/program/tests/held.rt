@@ -2,7 +2,7 @@
 use super::fused::{ROWS, Row};
 use super::{OneFile, ran};
 use crate::endings::Ending;
-use crate::tests::holding::{holds, holds_at};
+use crate::tests::holding::{holds, holds_at, is_text_at};
 use crate::tests::room::without_room;
 use crate::tests::stops::{all_deliveries, deliveries, heard};
 use crate::tests::streams::{Holding, Interrupted};
@@ -37,7 +37,7 @@ fn commands_flush_what_they_answer(rt: HostRuntime) -> Result<(), Fail> {
     for (place, row) in ROWS.iter().chain(AUDIT.iter()).enumerate() {
         let (ending, given, faults) = ended(&rt, row, heard(&rt, before)?, false);
         holds_at(&rt, ending == Ending::Done && faults.is_empty(), place);
-        holds_at(&rt, given.as_slice() == row.2.as_bytes(), place);
+        is_text_at(&rt, place, row.2, given.as_slice());
         let (ending, given, faults) = ended(&rt, row, heard(&rt, before)?, true);
         holds_at(&rt, ending == Ending::Failed && given.is_empty(), place);
         holds_at(&rt, faults.as_slice() == b"desk: file\n".as_slice(), place);

@@ -2,7 +2,7 @@
 use super::ran;
 use crate::endings::Ending;
 use crate::files::HostFiles;
-use crate::tests::holding::{holds, holds_at};
+use crate::tests::holding::{holds, holds_at, is_text_at};
 use sqlite::{Start, Unknown};
 use std::cell::Cell;
 use std::path::Path;
@@ -140,7 +140,7 @@ fn files_of_this_machine(rt: HostRuntime) -> Result<(), Fail> {
         let is_answered = answers.starts_with(begins.as_bytes());
         let is_alone = answers.is_empty() == begins.is_empty();
         holds_at(&rt, is_answered && is_alone, place);
-        holds_at(&rt, faults.as_slice() == line.as_bytes(), place);
+        is_text_at(&rt, place, line, faults.as_slice());
     }
     holds(
         &rt,

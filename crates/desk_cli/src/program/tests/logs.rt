@@ -1,7 +1,7 @@
 //! `desk log` on a desk that has heard the ten worked messages.
 use super::{OneFile, ran};
 use crate::endings::Ending;
-use crate::tests::holding::{holds, holds_at};
+use crate::tests::holding::{holds, holds_at, is_text_at};
 use crate::tests::log::{DEVICE_ADD, Narrow, all, lines_of};
 use crate::tests::stops::{deliveries, heard, rows_in};
 use desk_engine::LogText;
@@ -94,7 +94,7 @@ fn ends<R: Abort + AllocGlobal, S: Alter + Drop, W: Write>(
     let file = OneFile { conn: Some(conn) };
     let (ending, faults, conn) = ran(rt, words, file, &mut b"".as_slice(), answers);
     holds_at(rt, ending == wanted, place);
-    holds_at(rt, faults.as_slice() == told.as_bytes(), place);
+    is_text_at(rt, place, told, faults.as_slice());
     Ok(conn.ok_or("no connection")?)
 }
 
@@ -153,7 +153,7 @@ fn bad_numbers_of_the_log_are_refused(rt: HostRuntime) -> Result<(), Fail> {
         let mut answers = Vec::new(rt.alloc());
         let (ending, faults, _) = ran(&rt, words, file, &mut b"".as_slice(), &mut answers);
         holds_at(&rt, ending == Ending::Misused && answers.is_empty(), place);
-        holds_at(&rt, faults.as_slice() == told.as_bytes(), place);
+        is_text_at(&rt, place, told, faults.as_slice());
     }
     Ok(())
 }

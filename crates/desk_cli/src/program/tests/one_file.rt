@@ -2,7 +2,7 @@
 use super::{NETWORK, OneFile, Started};
 use crate::endings::Ending;
 use crate::program::run;
-use crate::tests::holding::holds_at;
+use crate::tests::holding::{holds_at, is_text_at};
 use crate::tests::importing::WORKED;
 use desk_engine::NoProgress;
 use sqlite::{Alter, Connection};
@@ -296,8 +296,8 @@ fn ends<R: Abort + AllocGlobal, S: Alter + Drop>(
         &NoProgress,
     );
     holds_at(rt, end == *ending, place);
-    holds_at(rt, answers.as_slice() == answered.as_bytes(), place);
-    holds_at(rt, faults.as_slice() == told.as_bytes(), place);
+    is_text_at(rt, place, answered, answers.as_slice());
+    is_text_at(rt, place, told, faults.as_slice());
     Ok(conn.ok_or("no connection")?)
 }
 

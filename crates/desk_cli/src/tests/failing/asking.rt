@@ -2,7 +2,7 @@
 use super::{FAILURES, MANY};
 use crate::tests::fuses::rows_after_each;
 use crate::tests::holding::{holds, holds_at};
-use crate::tests::reports::{BANDS_BOOKED, OWNER_HEADER, WORKED_LINE, is_wanted};
+use crate::tests::reports::{BANDS_BOOKED, OWNER_HEADER, WORKED_LINE, expect_wanted};
 use crate::tests::requests::responses::{
     BAND_REPORT, DEVICES, DOWNLINKS, GATEWAYS, NINTH_OF_LOG, OWNER_REPORT, OWNERS, RECEPTIONS,
     SENDERS, UNAVAILABLE,
@@ -76,11 +76,11 @@ fn is_report(
     fault: StoreFault,
 ) -> bool {
     if report.is_ok() {
-        holds(rt, is_wanted(report, header, &Ok(rest)), rest);
+        expect_wanted(rt, "a report", report, header, &Ok(rest));
         return true;
     }
     let wanted = Err(ReportFault::Unavailable(fault));
-    holds(rt, is_wanted(report, "", &wanted), rest);
+    expect_wanted(rt, "a report", report, "", &wanted);
     false
 }
 
