@@ -154,7 +154,7 @@ def missing(desk):
     desk.ends(3, "desk: file\n", "init", "nowhere/town.db")
 
 
-def strangers(desk):
+def not_desks(desk):
     """Files that are not a desk are refused, and left as they are."""
     Path("text.db").write_text("no database at all\n" * 1000)
     execute("other.db", "CREATE TABLE note (id INTEGER PRIMARY KEY)")
@@ -579,7 +579,7 @@ PARTS = [
     making,
     options,
     missing,
-    strangers,
+    not_desks,
     earlier,
     migrating,
     links,

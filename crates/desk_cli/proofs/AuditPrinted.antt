@@ -9,7 +9,7 @@ use Rattle.registry_core.specs.declared.messages.Envelope.{Envelope}
 use Rattle.registry_core.specs.Settings.{Settings}
 use Rattle.desk_tables.specs.Adopting.{IsGivenBack}
 use Rattle.desk_cli.specs.Audit.{IsFinding}
-use Rattle.desk_cli.specs.NoDesk.{HoldsNoDesk, IsRefused, RefusesFile}
+use Rattle.desk_cli.specs.RefusedFiles.{IsNotADesk, IsRefused, RefusesFile}
 use Rattle.desk_cli.specs.OnTables.{KeepsHeard}
 use Rattle.desk_cli.specs.commands.Auditing.{AuditsBy, IsAuditFault, IsPassed, OfBack}
 use Rattle.desk_cli.specs.declared.audit.Finding.{Finding}
@@ -77,18 +77,18 @@ module _ {T : Type 0} (before after : Option (List ℕ)) where
     of_desk_by (Err why) (Ok x) printed unavailable = absurd printed
     of_desk_by (Err why) (Err fault) printed unavailable = let is = printed.0 in (λ e. cc, λ e. cc)
 
-    no_desk_by : (found : Result Finding Fault) (r : Result T Fault) → PrintsFinding found before after r → IfErr found (IsRefused g conn back)
-        → IfOk found (λ finding. ¬ HoldsNoDesk g conn) → HoldsNoDesk g conn → RefusesFile g conn back (Keeps before after) r
-    no_desk_by (Ok finding) r printed refused never none = absurd (never none)
-    no_desk_by (Err why) (Ok x) printed refused never none = absurd printed
-    no_desk_by (Err why) (Err fault) printed refused never none = (subst (IsRefused g conn back) (sym printed.0) refused, printed.1)
+    not_a_desk_by : (found : Result Finding Fault) (r : Result T Fault) → PrintsFinding found before after r → IfErr found (IsRefused g conn back)
+        → IfOk found (λ finding. ¬ IsNotADesk g conn) → IsNotADesk g conn → RefusesFile g conn back (Keeps before after) r
+    not_a_desk_by (Ok finding) r printed refused never none = absurd (never none)
+    not_a_desk_by (Err why) (Ok x) printed refused never none = absurd printed
+    not_a_desk_by (Err why) (Err fault) printed refused never none = (subst (IsRefused g conn back) (sym printed.0) refused, printed.1)
 
   module _ {S : Type 0} (g : Ghosts S) (conn : Held S) where
     -- what was found is printed, or why not
     pub audits_by : (given_back : Option (Held S)) (found : Result Finding Fault) (r : Result T Fault) → PrintsFinding found before after r
         → IfSome given_back (λ back. HasCleanDisk (state g back) → IfOk found (IsFinding g back))
         → IfSome given_back (λ back. HasCleanDisk (state g back) → IfErr found (IsRefused g conn back))
-        → IfSome given_back (λ back. HasCleanDisk (state g back) → IfOk found (λ finding. ¬ HoldsNoDesk g conn))
+        → IfSome given_back (λ back. HasCleanDisk (state g back) → IfOk found (λ finding. ¬ IsNotADesk g conn))
         → IfSome given_back (λ back. HasCleanDisk (state g back) → (c : Settings) (heard : List Envelope)
         → KeepsHeard g conn c heard → IfErr found (λ fault. fault ≡ Unavailable))
         → IfSome given_back (λ back. IsGivenBack (state g conn) (state g back) (λ trees. ⊥))
@@ -98,7 +98,7 @@ module _ {T : Type 0} (before after : Option (List ℕ)) where
       quiet = quiet_by found r printed;
       told = λ clean. told_by g conn back found r printed (refused clean);
       desk = λ clean c heard keeps. of_desk_by g conn back found r printed (unavailable clean c heard keeps);
-      no_desk = λ clean none. no_desk_by g conn back found r printed (refused clean) (never clean) none;
+      not_a_desk = λ clean none. not_a_desk_by g conn back found r printed (refused clean) (never clean) none;
       kept = kept;
       gone = λ is. gone_by found r printed (gone is);
     }
@@ -107,7 +107,7 @@ module _ {T : Type 0} (before after : Option (List ℕ)) where
       quiet = quiet_by found r printed;
       told = tt;
       desk = tt;
-      no_desk = tt;
+      not_a_desk = tt;
       kept = tt;
       gone = λ is. gone_by found r printed (gone is);
     }

@@ -16,7 +16,7 @@ use Rattle.desk_tables.specs.InOrder.{AreOfDesk, IsOfDesk}
 use Rattle.desk_tables.proofs.OneSchema.{one_schema}
 use Rattle.desk_cli.proofs.Compared.{at_ok, became_store_too}
 use Rattle.desk_cli.specs.Audit.{IsFinding, PassesAudit}
-use Rattle.desk_cli.specs.NoDesk.{HoldsNoDesk}
+use Rattle.desk_cli.specs.RefusedFiles.{IsNotADesk}
 use Rattle.desk_cli.specs.OnTables.{HasHeard, KeepsHeard}
 use Rattle.desk_cli.specs.declared.audit.Finding.{Finding}
 use Rattle.desk_cli.specs.declared.audit.Finding.TheVariants.{InOrder, Differs}
@@ -125,12 +125,12 @@ module _ {S R : Type 0} (g : Ghosts S) (back : Option (Held S)) (found : Result 
 
 module _ {S R : Type 0} (g : Ghosts S) (conn : Held S) (back : Option (Held S)) (found : Result (Finding × R) Fault) (result : Result Finding Fault × Option (Held S)) where
   abbrev Never : Result Finding Fault × Option (Held S) → Type 0
-  Never r = IfSome r.1 (λ b. HasCleanDisk (state g b) → IfOk r.0 (λ _. ¬ HoldsNoDesk g conn))
+  Never r = IfSome r.1 (λ b. HasCleanDisk (state g b) → IfOk r.0 (λ _. ¬ IsNotADesk g conn))
 
   pub never_alone : (finding : Finding) (scratch : R) → found ≡ Ok (finding, scratch) → result ≡ (Ok finding, back)
-      → IfSome back (λ b. HasCleanDisk (state g b) → IfOk found (λ _. ¬ HoldsNoDesk g conn)) → Never result
+      → IfSome back (λ b. HasCleanDisk (state g b) → IfOk found (λ _. ¬ IsNotADesk g conn)) → Never result
   never_alone finding scratch is e h =
-      subst Never (sym e) (if_some back (λ b all sure. at_ok (λ _. ¬ HoldsNoDesk g conn) found (finding, scratch) is (all sure)) h)
+      subst Never (sym e) (if_some back (λ b all sure. at_ok (λ _. ¬ IsNotADesk g conn) found (finding, scratch) is (all sure)) h)
 
   pub never_none : (fault : Fault) → result ≡ (Err fault, back) → Never result
   never_none fault e = subst Never (sym e) (if_some_all back (λ b sure. tt))

@@ -36,7 +36,7 @@ by_rules g paths given_back result file Untouched Does rules on = elim on [
     done.3,
     record {
       desk = λ clean c heard kept. let does = done.4.desk clean c heard kept in (does, rules done.1 c heard does);
-      no_desk = done.4.no_desk;
+      not_a_desk = done.4.not_a_desk;
       clean = done.4.clean;
     },
   )

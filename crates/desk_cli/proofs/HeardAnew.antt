@@ -7,7 +7,7 @@ use Rattle.desk_rows.specs.Calls.{IsReadingCall}
 use Rattle.registry_core.specs.declared.messages.Envelope.{Envelope}
 use Rattle.registry_core.specs.Heard.{IsHeard}
 use Rattle.registry_core.specs.Settings.{Settings}
-use Rattle.desk_store.specs.Calls.{is_disk, is_foreign}
+use Rattle.desk_store.specs.Calls.{is_disk, is_not_a_desk}
 use Rattle.desk_store.specs.Kept.{Kept}
 use Rattle.desk_store.specs.Meaning.{Meaning}
 use Rattle.desk_tables.specs.Adopting.{IsStore, opening_kept}
@@ -34,7 +34,7 @@ module _ {K : Type 0} (m : Meaning K) where
 
   -- a delivery that isn't answered Unavailable
   pub hears_it : (old new : K) (outcome : Outcome) (after : Settings → List Envelope → List Envelope) (doubtful : Settings → Option Envelope) → outcome_fault outcome ≡ None
-      → Hears m old new (is_disk (outcome_fault outcome)) (is_foreign (outcome_fault outcome)) after doubtful → HearsSome m old new
+      → Hears m old new (is_disk (outcome_fault outcome)) (is_not_a_desk (outcome_fault outcome)) after doubtful → HearsSome m old new
   hears_it old new outcome after doubtful none hears = record {
     after = after;
     doubtful = doubtful;

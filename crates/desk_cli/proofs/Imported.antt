@@ -31,7 +31,7 @@ none_answered c heard [] is = refl
 none_answered c heard (e ∷ es) is = absurd (some_octets _ _ _ is)
 
 -- A store that hasn't failed has no in-flight message.
-pub undoubted : {K : Type 0} (m : Meaning K) (c : Settings) (heard : List Envelope) (old new : K) → WasOpened m old c heard → {foreign : Bool} → IsCall m old new false foreign
+pub undoubted : {K : Type 0} (m : Meaning K) (c : Settings) (heard : List Envelope) (old new : K) → WasOpened m old c heard → {not_a_desk : Bool} → IsCall m old new false not_a_desk
     → (all : List Envelope) (doubt : Option Envelope) → StoreLeaves m c heard old new all doubt → StoreKeeps m c heard old new all
 undoubted m c heard old new was call all doubt leaves = record {
   leaves = record {

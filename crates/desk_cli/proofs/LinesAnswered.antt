@@ -19,23 +19,23 @@ use Rattle.desk_cli.specs.declared.faults.Fault.TheVariants.{Exists, NotADesk, S
 
 module _ {K : Type 0} (m : Meaning K) (c : Settings) (heard : List Envelope) (old new : K) where
   -- the store represents what was heard, unless a call returned `Disk`
-  pub keeps_lines : {disk foreign : Bool} → IsCall m old new disk foreign → disk ≡ false → (lines : List (List ℕ)) → HasHeardLines m c heard old new lines None
+  pub keeps_lines : {disk not_a_desk : Bool} → IsCall m old new disk not_a_desk → disk ≡ false → (lines : List (List ℕ)) → HasHeardLines m c heard old new lines None
       → StoreKeeps m c heard old new (heard_lines c heard lines)
   keeps_lines call is lines hears = record { leaves = hears; still = unshut_by m old new call is }
 
   module _ (left rest before after : Option (List ℕ)) (input : List ℕ) (read : Consumes left rest input) where
     -- all lines were heard, and handing the answers on failed
-    pub hears_all : {foreign : Bool} → IsCall m old new false foreign → HasHeardLines m c heard old new (all_lines input) None
+    pub hears_all : {not_a_desk : Bool} → IsCall m old new false not_a_desk → HasHeardLines m c heard old new (all_lines input) None
         → HearsFirst c heard (StoreKeeps m c heard old new) (StoreLeaves m c heard old new) left rest before after
     hears_all call hears = record { input = input; read = read; lines = all_lines input; beginning = ([], sym (append-nil (all_lines input))); kept = keeps_lines call refl (all_lines input) hears }
 
     -- a read failed after the lines that are ended
-    pub hears_ended : {foreign : Bool} → IsCall m old new false foreign → HasHeardLines m c heard old new (whole_lines input) None
+    pub hears_ended : {not_a_desk : Bool} → IsCall m old new false not_a_desk → HasHeardLines m c heard old new (whole_lines input) None
         → HearsFirst c heard (StoreKeeps m c heard old new) (StoreLeaves m c heard old new) left rest before after
     hears_ended call hears = record { input = input; read = read; lines = whole_lines input; beginning = (last_line input ∷ [], refl); kept = keeps_lines call refl (whole_lines input) hears }
 
     -- a write failed after the line
-    pub hears_unwritten : {foreign : Bool} → IsCall m old new false foreign → FailsToWrite m c heard old new input
+    pub hears_unwritten : {not_a_desk : Bool} → IsCall m old new false not_a_desk → FailsToWrite m c heard old new input
         → HearsFirst c heard (StoreKeeps m c heard old new) (StoreLeaves m c heard old new) left rest before after
     hears_unwritten call fails = record { input = input; read = read; lines = fails.lines ++ fails.line ∷ []; beginning = fails.beginning; kept = keeps_lines call refl (fails.lines ++ fails.line ∷ []) fails.hears }
 

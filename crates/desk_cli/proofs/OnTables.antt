@@ -51,7 +51,7 @@ pub opened_in_order : {K : Type 0} (m : Meaning K) (c : Settings) (heard : List 
 opened_in_order m c heard old new was sound = record { its = sym was.store.configuration; sound = sound; order = record { list = was.list; kept = was.store.holds } }
 
 -- it is failed only by a disk error
-pub unshut_by : {K : Type 0} (m : Meaning K) (old new : K) {disk foreign : Bool} → IsCall m old new disk foreign → disk ≡ false → m.down new ≡ m.down old
+pub unshut_by : {K : Type 0} (m : Meaning K) (old new : K) {disk not_a_desk : Bool} → IsCall m old new disk not_a_desk → disk ≡ false → m.down new ≡ m.down old
 unshut_by m old new call is = call.shut ∙ ap (λ disk. disk || m.down old) is
 
 module _ {S : Type 0} (g : Ghosts S) (c : Settings) (before : List Envelope) (old new : Tables S) (was : WasOpened (meaning_of g) old c before) where

@@ -14,7 +14,7 @@ use Rattle.desk_engine.specs.Log.{log_of}
 use Rattle.desk_http.specs.Reports.{IsBandAnswer}
 use Rattle.desk_cli.specs.Ports.{AtPorts}
 use Rattle.desk_cli.specs.Named.{Asked, version, lines, init, migrate, hear, import, serve, report, bands, room, list, device, receptions, downlinks, log, check, audit}
-use Rattle.desk_cli.specs.NoDesk.{HoldsNoDesk, RefusesFile}
+use Rattle.desk_cli.specs.RefusedFiles.{IsNotADesk, RefusesFile}
 use Rattle.desk_cli.specs.OnTables.{IsLeft, KeepsHeard, LeavesRules}
 use Rattle.desk_cli.specs.Printing.{IsDevicesMonth, IsGatewaysMonth, IsGatewaysRoom, IsOwnersMonth, PrintsBy}
 use Rattle.desk_cli.specs.commands.Auditing.{AuditsBy}
@@ -34,7 +34,7 @@ use Rattle.desk_cli.specs.declared.faults.Fault.TheVariants.{File}
 -- its configuration and log. If it isn't a desk, the command refuses it. The disk then was clean before the command too.
 pub record OnDesk {S T : Type 0} (g : Ghosts S) (conn back : Held S) (result : Result T Fault) (Untouched : Type 0) (Does : Settings → List Envelope → Type 0) : Type 0 where
   pub desk : HasCleanDisk (state g back) → (c : Settings) (heard : List Envelope) → KeepsHeard g conn c heard → Does c heard
-  pub no_desk : HasCleanDisk (state g back) → HoldsNoDesk g conn → RefusesFile g conn back Untouched result
+  pub not_a_desk : HasCleanDisk (state g back) → IsNotADesk g conn → RefusesFile g conn back Untouched result
   pub clean : HasCleanDisk (state g back) → HasCleanDisk (state g conn)
 
 -- What is known of files by their paths: of a connection to a file that was opened or made, and of files that can't be opened or made.

@@ -7,12 +7,12 @@ pub mod Endings
 pub mod Faults
 pub mod InFiles
 pub mod Named
-pub mod NoDesk
 pub mod Numbers
 pub mod OnTables
 pub mod Options
 pub mod Ports
 pub mod Printing
+pub mod RefusedFiles
 pub mod Runs
 pub mod Standby
 pub mod commands

@@ -10,7 +10,7 @@ ghost use Rattle.sqlite_trees.specs.View.{IsClean, doubt};
 ghost use Rattle.desk_rows.specs.Schema.{desk_schema};
 ghost use Rattle.desk_tables.specs.Adopting.{IsGivenBack};
 ghost use Rattle.desk_cli.specs.Audit.{IsFinding};
-ghost use Rattle.desk_cli.specs.NoDesk.{HoldsNoDesk, IsRefused};
+ghost use Rattle.desk_cli.specs.RefusedFiles.{IsNotADesk, IsRefused};
 ghost use Rattle.desk_cli.specs.OnTables.{KeepsHeard};
 ghost use Rattle.desk_cli.specs.steps.Audit.{BecameStore, IsDeskIf};
 
@@ -89,7 +89,7 @@ pub(crate) fn audited_beside<S: Alter + Drop, R: Alter + Drop, P: Progress>(
     ensures passes { IfSome result.1 (λ back. HasCleanDisk (state S.Store back)
         → IfOk result.0 (λ found. IsClean (R.Store.view found.1) → IsFinding S.Store back found.0)) }
     ensures refused { IfSome result.1 (λ back. HasCleanDisk (state S.Store back) → IfErr result.0 (IsRefused S.Store conn back)) }
-    ensures never { IfSome result.1 (λ back. HasCleanDisk (state S.Store back) → IfOk result.0 (λ _. ¬ HoldsNoDesk S.Store conn)) }
+    ensures never { IfSome result.1 (λ back. HasCleanDisk (state S.Store back) → IfOk result.0 (λ _. ¬ IsNotADesk S.Store conn)) }
     ensures unavailable { IfSome result.1 (λ back. HasCleanDisk (state S.Store back) → (c : Settings) (heard : List Envelope)
         → KeepsHeard S.Store conn c heard → IfErr result.0 (λ fault. fault ≡ Fault.Unavailable)) }
     ensures kept { IfSome result.1 (λ back. IsGivenBack (state S.Store conn) (state S.Store back) (λ _. ⊥)) }
@@ -118,7 +118,7 @@ fn desk_of<S: Alter>(conn: Connection<S>) -> Result<(Config, Connection<S>), (Fa
     requires unlimited { conn.step_limit ≡ None }
     ensures desk { IfOk result (λ found. HasCleanDisk (state S.Store found.1) → (conn.schema ≡ desk_schema) × IsUnchanged (state S.Store conn) (state S.Store found.1)) }
     ensures idle { IfOk result (λ found. found.1.in_transaction ≡ false) }
-    ensures never { IfOk result (λ found. HasCleanDisk (state S.Store found.1) → ¬ HoldsNoDesk S.Store conn) }
+    ensures never { IfOk result (λ found. HasCleanDisk (state S.Store found.1) → ¬ IsNotADesk S.Store conn) }
     ensures clean { IfOk result (λ found. doubt (S.Store.view conn.store).is_clean ≤ doubt (S.Store.view found.1.store).is_clean) }
     ensures unavailable { IfErr result (λ back. HasCleanDisk (state S.Store back.1) → (c : Settings) (heard : List Envelope)
         → KeepsHeard S.Store conn c heard → back.0 ≡ Fault.Unavailable) }
@@ -144,7 +144,7 @@ pub(crate) fn audited<S: Alter + Drop, P: Progress>(
     requires unlimited { conn.step_limit ≡ None }
     ensures passes { IfSome result.1 (λ back. HasCleanDisk (state S.Store back) → IfOk result.0 (IsFinding S.Store back)) }
     ensures refused { IfSome result.1 (λ back. HasCleanDisk (state S.Store back) → IfErr result.0 (IsRefused S.Store conn back)) }
-    ensures never { IfSome result.1 (λ back. HasCleanDisk (state S.Store back) → IfOk result.0 (λ _. ¬ HoldsNoDesk S.Store conn)) }
+    ensures never { IfSome result.1 (λ back. HasCleanDisk (state S.Store back) → IfOk result.0 (λ _. ¬ IsNotADesk S.Store conn)) }
     ensures unavailable { IfSome result.1 (λ back. HasCleanDisk (state S.Store back) → (c : Settings) (heard : List Envelope)
         → KeepsHeard S.Store conn c heard → IfErr result.0 (λ fault. fault ≡ Fault.Unavailable)) }
     ensures kept { IfSome result.1 (λ back. IsGivenBack (state S.Store conn) (state S.Store back) (λ _. ⊥)) }
@@ -170,7 +170,7 @@ fn audited_over<S: Alter + Drop, R: Alter + Drop, P: Progress>(
     requires sure { (store : R) → IsClean (R.Store.view store) }
     ensures passes { IfSome result.1 (λ back. HasCleanDisk (state S.Store back) → IfOk result.0 (IsFinding S.Store back)) }
     ensures refused { IfSome result.1 (λ back. HasCleanDisk (state S.Store back) → IfErr result.0 (IsRefused S.Store conn back)) }
-    ensures never { IfSome result.1 (λ back. HasCleanDisk (state S.Store back) → IfOk result.0 (λ _. ¬ HoldsNoDesk S.Store conn)) }
+    ensures never { IfSome result.1 (λ back. HasCleanDisk (state S.Store back) → IfOk result.0 (λ _. ¬ IsNotADesk S.Store conn)) }
     ensures unavailable { IfSome result.1 (λ back. HasCleanDisk (state S.Store back) → (c : Settings) (heard : List Envelope)
         → KeepsHeard S.Store conn c heard → IfErr result.0 (λ fault. fault ≡ Fault.Unavailable)) }
     ensures kept { IfSome result.1 (λ back. IsGivenBack (state S.Store conn) (state S.Store back) (λ _. ⊥)) }

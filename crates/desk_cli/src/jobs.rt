@@ -5,7 +5,7 @@ ghost use Rattle.sqlite.specs.Held.{state};
 ghost use Rattle.sqlite.specs.State.{HasCleanDisk};
 ghost use Rattle.registry_core.specs.declared.messages.Envelope.{Envelope};
 ghost use Rattle.registry_core.specs.Settings.{Settings};
-ghost use Rattle.desk_cli.specs.NoDesk.{HoldsNoDesk, RefusesFile};
+ghost use Rattle.desk_cli.specs.RefusedFiles.{IsNotADesk, RefusesFile};
 ghost use Rattle.desk_cli.specs.OnTables.{KeepsHeard, WasOpened};
 ghost use Rattle.desk_cli.specs.steps.Jobs.{Done, DoesByStore};
 
@@ -54,7 +54,7 @@ pub(crate) fn by_store<S: Alter, J: Job, R: Read, W: Write>(
     ensures does { HasCleanDisk (state S.Store result.1) → (c : Settings) (heard : List Envelope) → KeepsHeard S.Store conn c heard
         → DoesByStore S.Store c heard result.1 (J.does job.now) (R.remaining reader.old) (R.remaining reader.new)
         (W.contents answers.old) (W.contents answers.new) result.0 }
-    ensures no_desk { HasCleanDisk (state S.Store result.1) → HoldsNoDesk S.Store conn
+    ensures not_a_desk { HasCleanDisk (state S.Store result.1) → IsNotADesk S.Store conn
         → RefusesFile S.Store conn result.1 (Keeps (R.remaining reader.old) (R.remaining reader.new) × Keeps (W.contents answers.old) (W.contents answers.new)) result.0 }
     ensures clean { HasCleanDisk (state S.Store result.1) → HasCleanDisk (state S.Store conn) }
 {

@@ -9,7 +9,7 @@ ghost use Rattle.registry_core.specs.Settings.{Settings};
 ghost use Rattle.desk_engine.specs.Deliveries.{heard_all};
 ghost use Rattle.desk_engine.specs.Hearing.{Hears};
 ghost use Rattle.desk_engine.specs.InOrder.{WasInOrder};
-ghost use Rattle.desk_engine.specs.Outcomes.{AreOutcomes, deliveries_of, first_doubt, has_disk, has_foreign};
+ghost use Rattle.desk_engine.specs.Outcomes.{AreOutcomes, deliveries_of, first_doubt, has_disk, has_not_a_desk};
 ghost use Rattle.desk_cli.specs.OnTables.{HasHeard, KeepsRules, LeavesRules, LeftHeard};
 
 use desk_engine::{Outcome, run};
@@ -108,7 +108,7 @@ fn deliver_all<K: Keeper>(
     texts: &[&[u8]],
 ) -> Result<Vec<Outcome>, StoreFault>
     ensures store { IfOk result (λ outcomes. Hears K.meaning keeper.old keeper.new
-        (has_disk outcomes.items) (has_foreign outcomes.items)
+        (has_disk outcomes.items) (has_not_a_desk outcomes.items)
         (λ c heard. heard_all c heard (deliveries_of (map (λ t. t.now) texts.now) outcomes.items))
         (λ c. first_doubt c (map (λ t. t.now) texts.now) outcomes.items)) }
     ensures outcomes { (c : Settings) (heard : List Envelope) → WasInOrder K.meaning c heard keeper.old keeper.new

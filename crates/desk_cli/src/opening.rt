@@ -5,7 +5,7 @@ ghost use Rattle.sqlite.specs.State.{HasCleanDisk};
 ghost use Rattle.registry_core.specs.declared.messages.Envelope.{Envelope};
 ghost use Rattle.registry_core.specs.Settings.{Settings};
 ghost use Rattle.desk_tables.specs.Store.{meaning_of};
-ghost use Rattle.desk_cli.specs.NoDesk.{HoldsNoDesk, IsRefused};
+ghost use Rattle.desk_cli.specs.RefusedFiles.{IsNotADesk, IsRefused};
 ghost use Rattle.desk_cli.specs.OnTables.{IsLeft, KeepsHeard, WasOpened};
 
 use crate::faults::Fault;
@@ -29,7 +29,7 @@ pub(crate) fn opened<S: Alter>(
     ensures unavailable { IfErr result (λ back. HasCleanDisk (state S.Store back.1) → (c : Settings) (heard : List Envelope)
         → KeepsHeard S.Store conn c heard → (back.0 ≡ Fault.Unavailable) × IsLeft S.Store back.1 c heard None) }
     ensures refused { IfErr result (λ back. HasCleanDisk (state S.Store back.1) → IsRefused S.Store conn back.1 back.0) }
-    ensures never { IfOk result (λ t. (meaning_of S.Store).sound t → ¬ HoldsNoDesk S.Store conn) }
+    ensures never { IfOk result (λ t. (meaning_of S.Store).sound t → ¬ IsNotADesk S.Store conn) }
     ensures clean { IfOk result (λ t. (meaning_of S.Store).sound t → HasCleanDisk (state S.Store conn)) }
 {
     match Tables::open(alloc, conn) {

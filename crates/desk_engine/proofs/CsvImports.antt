@@ -66,7 +66,7 @@ no_doubt (e ∷ es) (o ∷ os) stopped is = no_doubt es os stopped is
 -- ---- envelopes that a store heard in order
 
 module _ {K : Type 0} (m : Meaning K) (c : Settings) (heard : List Envelope) (old new : K) (es : List Envelope) (os : List Outcome) (stopped : Option StoreFault) (before after : Option (List ℕ))
-    {foreign : Bool} (store : Hears m old new (is_disk stopped) foreign (λ d all. heard_in_order d all (take (length os) es)) (λ d. doubt_at_stop es os stopped))
+    {not_a_desk : Bool} (store : Hears m old new (is_disk stopped) not_a_desk (λ d all. heard_in_order d all (take (length os) es)) (λ d. doubt_at_stop es os stopped))
     (was : WasInOrder m c heard old new) where
   leaves_first : StoreLeaves m c heard old new (heard_in_order c heard (take (length os) es)) (doubt_at_stop es os stopped)
   leaves_first = record { order = store.order c heard was; crash = λ doubt. store.crash c heard doubt was }

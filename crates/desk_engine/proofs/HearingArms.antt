@@ -12,7 +12,7 @@ use Rattle.desk_store.specs.declared.faults.StoreFault.{StoreFault}
 use Rattle.desk_store.specs.declared.faults.StoreFault.TheVariants.{Size}
 use Rattle.desk_store.specs.declared.keeper.Loaded.{Loaded}
 use Rattle.desk_store.specs.declared.keeper.Loaded.TheVariants.{Stranger, Heard, Fresh}
-use Rattle.desk_store.specs.Calls.{ForHeld, IsOfCalls, IsRead, TellsDown, is_disk, is_foreign}
+use Rattle.desk_store.specs.Calls.{ForHeld, IsOfCalls, IsRead, TellsDown, is_disk, is_not_a_desk}
 use Rattle.desk_store.specs.Looks.{Loads}
 use Rattle.desk_store.specs.Meaning.{Meaning}
 use Rattle.desk_wire.specs.Answers.{head_of_envelope}
@@ -55,17 +55,17 @@ module _ {K : Type 0} (m : Meaning K) where
   -- ---- the store is unavailable
 
   pub untold_store : KeepsRules m → (old new : K) (e : Envelope) (fault : StoreFault) → IsRead m old new (Some fault)
-      → Hears m old new (is_disk (Some fault)) (is_foreign (Some fault)) (λ c heard. heard) (λ c. doubt_of e (Unavailable fault))
+      → Hears m old new (is_disk (Some fault)) (is_not_a_desk (Some fault)) (λ c heard. heard) (λ c. doubt_of e (Unavailable fault))
   untold_store rules old new e fault read = reading_hears m rules old new (Some fault) _ _ _ _ read refl refl (λ c heard was. refl)
 
   -- ---- nothing was called after it
 
   abbrev HearsStore : K → K → Envelope → Outcome → Type 0
-  HearsStore old new e o = Hears m old new (is_disk (outcome_fault o)) (is_foreign (outcome_fault o)) (λ c heard. heard_unless (is_unavailable o) c heard e) (λ c. doubt_of e o)
+  HearsStore old new e o = Hears m old new (is_disk (outcome_fault o)) (is_not_a_desk (outcome_fault o)) (λ c heard. heard_unless (is_unavailable o) c heard e) (λ c. doubt_of e o)
 
   quiet_store : KeepsRules m → (old new : K) (e : Envelope) (o : Outcome) → IsRead m old new None → IsQuiet o
       → ((c : Settings) (heard : List Envelope) → WasInOrder m c heard old new → heard_unless (is_unavailable o) c heard e ≡ heard) → HearsStore old new e o
-  quiet_store rules old new e o read quiet same = reading_hears m rules old new None _ _ _ _ read quiet.disk quiet.foreign same
+  quiet_store rules old new e o read quiet same = reading_hears m rules old new None _ _ _ _ read quiet.disk quiet.not_a_desk same
 
   stranger_stays : (old new : K) (e : Envelope) (o : Outcome) → WasAsked m old new e Stranger → (c : Settings) (heard : List Envelope) → WasInOrder m c heard old new
       → heard_unless (is_unavailable o) c heard e ≡ heard
@@ -116,7 +116,7 @@ module _ {K : Type 0} (m : Meaning K) where
           same = call.same ∙ asked.read.same;
           was_sound = λ sound. asked.read.was_sound (call.was_sound sound);
           shut = call.shut ∙ ap (λ (b : Bool). is_disk (outcome_fault o) || b) asked.read.shut;
-          strange = call.strange ∙ ap (λ (b : Bool). is_foreign (outcome_fault o) || b) asked.read.strange;
+          not_a_desk_now = call.not_a_desk_now ∙ ap (λ (b : Bool). is_not_a_desk (outcome_fault o) || b) asked.read.not_a_desk_now;
         };
         order = λ c heard was. (after c heard was).order;
         crash = λ c heard doubt was survived. rw up (after c heard was).crash;

@@ -18,7 +18,7 @@ use Rattle.registry_core.specs.Step.{decision_of, step}
 use Rattle.registry_core.specs.Viewed.{IsView}
 use Rattle.desk_store.specs.declared.faults.StoreFault.{StoreFault}
 use Rattle.desk_store.specs.declared.faults.StoreFault.TheVariants.{Memory, Disk, Size}
-use Rattle.desk_store.specs.Calls.{IsOfCalls, IsUnavailability, TellsDown, is_disk, is_foreign}
+use Rattle.desk_store.specs.Calls.{IsOfCalls, IsUnavailability, TellsDown, is_disk, is_not_a_desk}
 use Rattle.desk_store.specs.Kept.{CanAdd, entry_of, texts_of}
 use Rattle.desk_store.specs.Meaning.{Meaning}
 use Rattle.desk_wire.specs.Answers.{answer_text, head_of_envelope}
@@ -46,21 +46,21 @@ says_outcome told (Unavailable fault) said = subst IsUnavailability (sym said) t
 -- an outcome whose only error may be out of memory
 pub record IsQuiet (o : Outcome) : Type 0 where
   pub disk : is_disk (outcome_fault o) ≡ false
-  pub foreign : is_foreign (outcome_fault o) ≡ false
+  pub not_a_desk : is_not_a_desk (outcome_fault o) ≡ false
   pub size : outcome_fault o ≡ Some Size → ⊥
   pub told : IsOfCalls (outcome_fault o)
 
 quiet_memory : IsQuiet (Unavailable Memory)
-quiet_memory = record { disk = refl; foreign = refl; size = λ e. cc; told = tt }
+quiet_memory = record { disk = refl; not_a_desk = refl; size = λ e. cc; told = tt }
 
 pub says_quiet : (told : Told) (o : Outcome) → Says told o → IsQuiet o
-says_quiet told (Answered text) said = record { disk = refl; foreign = refl; size = λ e. cc; told = tt }
-says_quiet told (Refused refusal text) said = record { disk = refl; foreign = refl; size = λ e. cc; told = tt }
+says_quiet told (Answered text) said = record { disk = refl; not_a_desk = refl; size = λ e. cc; told = tt }
+says_quiet told (Refused refusal text) said = record { disk = refl; not_a_desk = refl; size = λ e. cc; told = tt }
 says_quiet told (Unavailable fault) said = subst (λ f. IsQuiet (Unavailable f)) (sym said) quiet_memory
 
 pub repeats_quiet : (c : Settings) (e : Envelope) (message answer : List ℕ) (o : Outcome) → Repeats c e message answer o → IsQuiet o
-repeats_quiet c e message answer (Answered text) said = record { disk = refl; foreign = refl; size = λ e. cc; told = tt }
-repeats_quiet c e message answer (Refused refusal text) said = record { disk = refl; foreign = refl; size = λ e. cc; told = tt }
+repeats_quiet c e message answer (Answered text) said = record { disk = refl; not_a_desk = refl; size = λ e. cc; told = tt }
+repeats_quiet c e message answer (Refused refusal text) said = record { disk = refl; not_a_desk = refl; size = λ e. cc; told = tt }
 repeats_quiet c e message answer (Unavailable fault) said = subst (λ f. IsQuiet (Unavailable f)) (sym said) quiet_memory
 
 -- ---- what is refused

@@ -5,7 +5,7 @@ use Rattle.registry_core.specs.declared.messages.Envelope.{Envelope}
 use Rattle.registry_core.specs.Rules.{RulesAreKept}
 use Rattle.registry_core.specs.Settings.{Settings}
 use Rattle.desk_store.specs.declared.faults.StoreFault.{StoreFault}
-use Rattle.desk_store.specs.Calls.{IsCall, IsRead, is_disk, is_foreign}
+use Rattle.desk_store.specs.Calls.{IsCall, IsRead, is_disk, is_not_a_desk}
 use Rattle.desk_store.specs.Meaning.{Meaning}
 use Rattle.desk_engine.specs.Hearing.{Hears}
 use Rattle.desk_engine.specs.InOrder.{IsInOrder, Survives, WasInOrder, doubt_after, kept_after}
@@ -38,7 +38,7 @@ module _ {K : Type 0} (m : Meaning K) where
     same = refl;
     was_sound = λ sound. sound;
     shut = refl;
-    strange = refl;
+    not_a_desk_now = refl;
     reading = tt;
     held = λ kept sound held. held;
     left = λ kept all sound held left. left;
@@ -63,13 +63,13 @@ module _ {K : Type 0} (m : Meaning K) where
       )
 
   -- reading calls that heard nothing
-  pub reading_hears : KeepsRules m → (old new : K) (fault : Option StoreFault) (disk foreign : Bool)
+  pub reading_hears : KeepsRules m → (old new : K) (fault : Option StoreFault) (disk not_a_desk : Bool)
       (after : Settings → List Envelope → List Envelope) (doubtful : Settings → Option Envelope)
-      → IsRead m old new fault → disk ≡ is_disk fault → foreign ≡ is_foreign fault
+      → IsRead m old new fault → disk ≡ is_disk fault → not_a_desk ≡ is_not_a_desk fault
       → ((c : Settings) (heard : List Envelope) → WasInOrder m c heard old new → after c heard ≡ heard)
-      → Hears m old new disk foreign after doubtful
-  reading_hears keeps old new fault disk foreign after doubtful reads disk_is foreign_is same = record {
-    call = record { same = reads.same; was_sound = reads.was_sound; shut = rw disk_is reads.shut; strange = rw foreign_is reads.strange };
+      → Hears m old new disk not_a_desk after doubtful
+  reading_hears keeps old new fault disk not_a_desk after doubtful reads disk_is not_a_desk_is same = record {
+    call = record { same = reads.same; was_sound = reads.was_sound; shut = rw disk_is reads.shut; not_a_desk_now = rw not_a_desk_is reads.not_a_desk_now };
     order = λ c heard was. subst (λ l. IsInOrder m c new l) (sym (same c heard was)) (stays c heard was);
     crash = λ c heard doubt was s.
         subst (λ l. Survives m c new l (doubt_after (m.down old) doubt (doubtful c))) (sym (same c heard was))
@@ -80,21 +80,21 @@ module _ {K : Type 0} (m : Meaning K) where
       stays : (c : Settings) (heard : List Envelope) → WasInOrder m c heard old new → IsInOrder m c new heard
       stays c heard was = record { list = was.order.list; kept = reads.held _ was.sound was.order.kept }
 
-  pub hears_nothing : HoldsOne m → RulesAreKept → (old new : K) (fault : Option StoreFault) (disk foreign : Bool)
+  pub hears_nothing : HoldsOne m → RulesAreKept → (old new : K) (fault : Option StoreFault) (disk not_a_desk : Bool)
       (after : Settings → List Envelope → List Envelope) (doubtful : Settings → Option Envelope)
-      → IsRead m old new fault → disk ≡ is_disk fault → foreign ≡ is_foreign fault
+      → IsRead m old new fault → disk ≡ is_disk fault → not_a_desk ≡ is_not_a_desk fault
       → ((c : Settings) (heard : List Envelope) → WasInOrder m c heard old new → after c heard ≡ heard)
-      → Hears m old new disk foreign after doubtful
+      → Hears m old new disk not_a_desk after doubtful
   hears_nothing one law = reading_hears (holds_rules m one law)
 
   -- ---- one after another
 
-  pub call_then : (old mid new : K) (disk foreign : Bool) → IsCall m old mid false false → IsCall m mid new disk foreign → IsCall m old new disk foreign
-  call_then old mid new disk foreign first second = record {
+  pub call_then : (old mid new : K) (disk not_a_desk : Bool) → IsCall m old mid false false → IsCall m mid new disk not_a_desk → IsCall m old new disk not_a_desk
+  call_then old mid new disk not_a_desk first second = record {
     same = second.same ∙ first.same;
     was_sound = λ sound. first.was_sound (second.was_sound sound);
     shut = second.shut ∙ ap (λ b. disk || b) first.shut;
-    strange = second.strange ∙ ap (λ b. foreign || b) first.strange;
+    not_a_desk_now = second.not_a_desk_now ∙ ap (λ b. not_a_desk || b) first.not_a_desk_now;
   }
 
   -- the store before the last call was in order
@@ -102,12 +102,12 @@ module _ {K : Type 0} (m : Meaning K) where
   was_before c heard old mid new was_sound was = record { its = was.its; sound = was_sound was.sound; order = was.order }
 
   -- the same in other words
-  pub hears_as : (old new : K) (disk foreign : Bool) (after other : Settings → List Envelope → List Envelope) (doubtful doubted : Settings → Option Envelope)
-      → Hears m old new disk foreign after doubtful
+  pub hears_as : (old new : K) (disk not_a_desk : Bool) (after other : Settings → List Envelope → List Envelope) (doubtful doubted : Settings → Option Envelope)
+      → Hears m old new disk not_a_desk after doubtful
       → ((c : Settings) (heard : List Envelope) → WasInOrder m c heard old new → other c heard ≡ after c heard)
       → ((c : Settings) (heard : List Envelope) → WasInOrder m c heard old new → doubted c ≡ doubtful c)
-      → Hears m old new disk foreign other doubted
-  hears_as old new disk foreign after other doubtful doubted h same in_doubt = record {
+      → Hears m old new disk not_a_desk other doubted
+  hears_as old new disk not_a_desk after other doubtful doubted h same in_doubt = record {
     call = h.call;
     order = λ c heard was. subst (λ l. IsInOrder m c new l) (sym (same c heard was)) (h.order c heard was);
     crash = λ c heard doubt was s.
@@ -116,15 +116,15 @@ module _ {K : Type 0} (m : Meaning K) where
     rules = h.rules;
   }
 
-  pub hears_then : (old mid new : K) (first_disk first_foreign disk foreign : Bool) (first_after after : Settings → List Envelope → List Envelope) (first_doubt doubtful : Settings → Option Envelope)
-      → Hears m old mid first_disk first_foreign first_after first_doubt → Hears m mid new disk foreign after doubtful
-      → Hears m old new (first_disk || disk) (first_foreign || foreign) (λ c heard. after c (first_after c heard)) (λ c. if first_disk then first_doubt c else doubtful c)
-  hears_then old mid new first_disk first_foreign disk foreign first_after after first_doubt doubtful first second = record {
+  pub hears_then : (old mid new : K) (first_disk first_not_a_desk disk not_a_desk : Bool) (first_after after : Settings → List Envelope → List Envelope) (first_doubt doubtful : Settings → Option Envelope)
+      → Hears m old mid first_disk first_not_a_desk first_after first_doubt → Hears m mid new disk not_a_desk after doubtful
+      → Hears m old new (first_disk || disk) (first_not_a_desk || not_a_desk) (λ c heard. after c (first_after c heard)) (λ c. if first_disk then first_doubt c else doubtful c)
+  hears_then old mid new first_disk first_not_a_desk disk not_a_desk first_after after first_doubt doubtful first second = record {
     call = record {
       same = second.call.same ∙ first.call.same;
       was_sound = λ sound. first.call.was_sound (second.call.was_sound sound);
       shut = second.call.shut ∙ ap (λ b. disk || b) first.call.shut ∙ or_after first_disk disk (m.down old);
-      strange = second.call.strange ∙ ap (λ b. foreign || b) first.call.strange ∙ or_after first_foreign foreign (m.foreign old);
+      not_a_desk_now = second.call.not_a_desk_now ∙ ap (λ b. not_a_desk || b) first.call.not_a_desk_now ∙ or_after first_not_a_desk not_a_desk (m.not_a_desk old);
     };
     order = λ c heard was. second.order c (first_after c heard) (there c heard was);
     crash = λ c heard doubt was s.

@@ -5,7 +5,7 @@ use Rattle.registry_core.specs.declared.messages.Envelope.{Envelope}
 use Rattle.registry_core.specs.Heard.{heard_with}
 use Rattle.registry_core.specs.Settings.{Settings}
 use Rattle.desk_store.specs.declared.faults.StoreFault.{StoreFault}
-use Rattle.desk_store.specs.Calls.{is_disk, is_foreign}
+use Rattle.desk_store.specs.Calls.{is_disk, is_not_a_desk}
 use Rattle.desk_store.specs.Meaning.{Meaning}
 use Rattle.desk_engine.specs.declared.outcomes.Outcome.{Outcome}
 use Rattle.desk_engine.specs.declared.outcomes.Outcome.TheVariants.{Answered, Refused, Unavailable}
@@ -60,7 +60,7 @@ no_stop (e ∷ es) (o ∷ os) = no_stop es os
 module _ {K : Type 0} (m : Meaning K) where
   pub import_more : (old mid new : K) (es : List Envelope) (e : Envelope) (o : Outcome) → is_unavailable o ≡ false
       → Hears m old mid false false (λ c heard. heard_in_order c heard es) (λ c. None)
-      → Hears m mid new (is_disk (outcome_fault o)) (is_foreign (outcome_fault o)) (λ c heard. heard_unless (is_unavailable o) c heard e) (λ c. doubt_of e o)
+      → Hears m mid new (is_disk (outcome_fault o)) (is_not_a_desk (outcome_fault o)) (λ c heard. heard_unless (is_unavailable o) c heard e) (λ c. doubt_of e o)
       → Hears m old new false false (λ c heard. heard_in_order c heard (es ++ e ∷ [])) (λ c. None)
   import_more old mid new es e o answered done more =
       let none = no_fault o answered in
@@ -74,8 +74,8 @@ module _ {K : Type 0} (m : Meaning K) where
   pub import_stops : (old mid new : K) (es : List Envelope) (os : List Outcome) (index : ℕ) (e : Envelope) (fault : StoreFault)
       → length os ≡ index → index < length es → e ≡ get_or es index e
       → Hears m old mid false false (λ c heard. heard_in_order c heard (take index es)) (λ c. None)
-      → Hears m mid new (is_disk (Some fault)) (is_foreign (Some fault)) (λ c heard. heard) (λ c. doubt_of e (Unavailable fault))
-      → Hears m old new (is_disk (Some fault)) (is_foreign (Some fault)) (λ c heard. heard_in_order c heard (take index es)) (λ c. doubt_at_stop es os (Some fault))
+      → Hears m mid new (is_disk (Some fault)) (is_not_a_desk (Some fault)) (λ c heard. heard) (λ c. doubt_of e (Unavailable fault))
+      → Hears m old new (is_disk (Some fault)) (is_not_a_desk (Some fault)) (λ c heard. heard_in_order c heard (take index es)) (λ c. doubt_at_stop es os (Some fault))
   import_stops old mid new es os index e fault size within here done stop =
       hears_as m old new _ _ _ (λ c heard. heard_in_order c heard (take index es)) _ (λ c. doubt_at_stop es os (Some fault))
       (hears_then m old mid new false false _ _ _ _ _ _ done stop)

@@ -2,7 +2,7 @@
 use Rattle.std.proofs.Common.{◌∙◌, Option, None, ap}
 use Rattle.std.specs.Prelude.{◌||◌}
 use Rattle.desk_store.specs.declared.faults.StoreFault.{StoreFault}
-use Rattle.desk_store.specs.Calls.{IsRead, is_disk, is_foreign}
+use Rattle.desk_store.specs.Calls.{IsRead, is_disk, is_not_a_desk}
 use Rattle.desk_store.specs.Meaning.{Meaning}
 
 module _ {K : Type 0} (m : Meaning K) where
@@ -11,7 +11,7 @@ module _ {K : Type 0} (m : Meaning K) where
     same = second.same ∙ first.same;
     was_sound = λ sound. first.was_sound (second.was_sound sound);
     shut = second.shut ∙ ap (λ b. is_disk fault || b) first.shut;
-    strange = second.strange ∙ ap (λ b. is_foreign fault || b) first.strange;
+    not_a_desk_now = second.not_a_desk_now ∙ ap (λ b. is_not_a_desk fault || b) first.not_a_desk_now;
     reading = second.reading;
     held = λ kept sound held. second.held kept sound (first.held kept (second.was_sound sound) held);
     left = λ kept all sound held left. second.left kept all sound (first.held kept (second.was_sound sound) held) (first.left kept all (second.was_sound sound) held left);

@@ -5,14 +5,14 @@ use Rattle.std.proofs.lemmas.List.{take_more, map-append, take_all}
 use Rattle.registry_core.specs.declared.messages.Envelope.{Envelope}
 use Rattle.registry_core.specs.Settings.{Settings}
 use Rattle.desk_store.specs.declared.faults.StoreFault.TheVariants.{Size}
-use Rattle.desk_store.specs.Calls.{is_disk, is_foreign}
+use Rattle.desk_store.specs.Calls.{is_disk, is_not_a_desk}
 use Rattle.desk_store.specs.Meaning.{Meaning}
 use Rattle.desk_wire.specs.declared.faults.WireFault.{WireFault}
 use Rattle.desk_engine.specs.declared.outcomes.Outcome.{Outcome}
 use Rattle.desk_engine.specs.Deliveries.{heard_after, heard_all}
 use Rattle.desk_engine.specs.Hearing.{Hears}
 use Rattle.desk_engine.specs.InOrder.{HasNoRoom, WasInOrder}
-use Rattle.desk_engine.specs.Outcomes.{AreOutcomes, IsOutcome, deliveries_of, delivery_of, doubt_of_text, doubt_read, outcome_fault, first_doubt, has_disk, has_foreign}
+use Rattle.desk_engine.specs.Outcomes.{AreOutcomes, IsOutcome, deliveries_of, delivery_of, doubt_of_text, doubt_read, outcome_fault, first_doubt, has_disk, has_not_a_desk}
 use Rattle.desk_engine.specs.Sizes.{AreDelivered, IsDelivered, SizesAreMostHeard}
 use Rattle.desk_engine.specs.Told.{envelope_of_text, told_of_text}
 use Rattle.desk_engine.proofs.Hearings.{hears_as, hears_then, was_before}
@@ -54,22 +54,22 @@ first_doubt-push c heard (x ∷ xs) (y ∷ ys) t o all =
 first_doubt-push c heard [] (y ∷ ys) t o all = absurd all
 first_doubt-push c heard (x ∷ xs) [] t o all = absurd all
 
-has_foreign-push : (os : List Outcome) (o : Outcome) → has_foreign (os ++ o ∷ []) ≡ (has_foreign os || is_foreign (outcome_fault o))
-has_foreign-push [] o = elim (is_foreign (outcome_fault o)) as (λ b. (b || false) ≡ b) [ true ↦ refl | false ↦ refl ]
-has_foreign-push (y ∷ ys) o =
-    elim (is_foreign (outcome_fault y)) as (λ b. (b || has_foreign (ys ++ o ∷ [])) ≡ ((b || has_foreign ys) || is_foreign (outcome_fault o))) [ true ↦ refl | false ↦ has_foreign-push ys o ]
+has_not_a_desk-push : (os : List Outcome) (o : Outcome) → has_not_a_desk (os ++ o ∷ []) ≡ (has_not_a_desk os || is_not_a_desk (outcome_fault o))
+has_not_a_desk-push [] o = elim (is_not_a_desk (outcome_fault o)) as (λ b. (b || false) ≡ b) [ true ↦ refl | false ↦ refl ]
+has_not_a_desk-push (y ∷ ys) o =
+    elim (is_not_a_desk (outcome_fault y)) as (λ b. (b || has_not_a_desk (ys ++ o ∷ [])) ≡ ((b || has_not_a_desk ys) || is_not_a_desk (outcome_fault o))) [ true ↦ refl | false ↦ has_not_a_desk-push ys o ]
 
 -- ---- one more
 
 module _ {K : Type 0} (m : Meaning K) where
   pub run_more : (old mid new : K) (ts : List (List ℕ)) (os : List Outcome) (t : List ℕ) (o : Outcome)
-      → Hears m old mid (has_disk os) (has_foreign os) (λ c heard. heard_all c heard (deliveries_of ts os)) (λ c. first_doubt c ts os)
+      → Hears m old mid (has_disk os) (has_not_a_desk os) (λ c heard. heard_all c heard (deliveries_of ts os)) (λ c. first_doubt c ts os)
       → ((c : Settings) (heard : List Envelope) → WasInOrder m c heard old mid → AreOutcomes c heard ts os)
-      → Hears m mid new (is_disk (outcome_fault o)) (is_foreign (outcome_fault o)) (λ c heard. heard_after c heard (delivery_of t o)) (λ c. doubt_of_text c t o)
-      → Hears m old new (has_disk (os ++ o ∷ [])) (has_foreign (os ++ o ∷ []))
+      → Hears m mid new (is_disk (outcome_fault o)) (is_not_a_desk (outcome_fault o)) (λ c heard. heard_after c heard (delivery_of t o)) (λ c. doubt_of_text c t o)
+      → Hears m old new (has_disk (os ++ o ∷ [])) (has_not_a_desk (os ++ o ∷ []))
       (λ c heard. heard_all c heard (deliveries_of (ts ++ t ∷ []) (os ++ o ∷ []))) (λ c. first_doubt c (ts ++ t ∷ []) (os ++ o ∷ []))
   run_more old mid new ts os t o ran told more =
-      rw (has_disk-push os o, has_foreign-push os o)
+      rw (has_disk-push os o, has_not_a_desk-push os o)
       (hears_as m old new _ _ _ (λ c heard. heard_all c heard (deliveries_of (ts ++ t ∷ []) (os ++ o ∷ []))) _ (λ c. first_doubt c (ts ++ t ∷ []) (os ++ o ∷ []))
       (hears_then m old mid new _ _ _ _ _ _ _ _ ran more)
       (λ c heard was. heard_all-push c heard ts os t o (told c heard (was_before m c heard old mid new more.call.was_sound was)))
@@ -91,7 +91,7 @@ module _ {K : Type 0} (m : Meaning K) where
 
   pub told_more : (c : Settings) (heard : List Envelope) (old mid new : K) (ts : List (List ℕ)) (os : List Outcome) (t : List ℕ) (o : Outcome) → HasTold c heard old mid ts os
       → IsOutcome (told_of_text c (heard_all c heard (deliveries_of ts os)) t) o
-      → Hears m mid new (is_disk (outcome_fault o)) (is_foreign (outcome_fault o)) (λ s list. heard_after s list (delivery_of t o)) (λ s. doubt_of_text s t o)
+      → Hears m mid new (is_disk (outcome_fault o)) (is_not_a_desk (outcome_fault o)) (λ s list. heard_after s list (delivery_of t o)) (λ s. doubt_of_text s t o)
       → (outcome_fault o ≡ Some Size → HasNoRoom m new (heard_all c heard (deliveries_of ts os)))
       → HasTold c heard old new (ts ++ t ∷ []) (os ++ o ∷ [])
   told_more c heard old mid new ts os t o told outcome hears size = record {

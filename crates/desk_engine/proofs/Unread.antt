@@ -50,4 +50,4 @@ refused_text c (InvalidProtocolVersion head) o said = record { quiet = says_quie
 refused_text c (UnknownReceiver head) o said = record { quiet = says_quiet _ o said; refused = says_refused IsUnheard _ _ o tt said }
 refused_text c (UnknownType head) o said = record { quiet = says_quiet _ o said; refused = says_refused IsUnheard _ _ o tt said }
 refused_text c (BadBody head) o said = record { quiet = says_quiet _ o said; refused = says_refused IsUnheard _ _ o tt said }
-refused_text c Memory o said = subst IsRefusedText (sym said) (record { quiet = record { disk = refl; foreign = refl; size = λ e. cc; told = tt }; refused = tt })
+refused_text c Memory o said = subst IsRefusedText (sym said) (record { quiet = record { disk = refl; not_a_desk = refl; size = λ e. cc; told = tt }; refused = tt })

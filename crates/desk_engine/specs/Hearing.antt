@@ -6,11 +6,11 @@ use Rattle.desk_store.specs.Calls.{IsCall}
 use Rattle.desk_store.specs.Meaning.{Meaning}
 use Rattle.desk_engine.specs.InOrder.{HoldsRules, IsInOrder, Survives, WasInOrder, doubt_after}
 
--- `disk` and `foreign` state whether one of the calls returned `Disk` or `NotADesk`. If the store represented a log, it represents the log
+-- `disk` and `not_a_desk` state whether one of the calls returned `Disk` or `NotADesk`. If the store represented a log, it represents the log
 -- that `after` makes of it. A crash then leaves that log, or that log with the in-flight message. What the store represents satisfies the
 -- registry's rules.
-pub record Hears {K : Type 0} (m : Meaning K) (old new : K) (disk foreign : Bool) (after : Settings → List Envelope → List Envelope) (doubtful : Settings → Option Envelope) : Type 0 where
-  pub call : IsCall m old new disk foreign
+pub record Hears {K : Type 0} (m : Meaning K) (old new : K) (disk not_a_desk : Bool) (after : Settings → List Envelope → List Envelope) (doubtful : Settings → Option Envelope) : Type 0 where
+  pub call : IsCall m old new disk not_a_desk
   pub order : (c : Settings) (heard : List Envelope) → WasInOrder m c heard old new → IsInOrder m c new (after c heard)
   pub crash : (c : Settings) (heard : List Envelope) (doubt : Option Envelope) → WasInOrder m c heard old new → Survives m c old heard doubt
       → Survives m c new (after c heard) (doubt_after (m.down old) doubt (doubtful c))

@@ -7,7 +7,7 @@ use Rattle.registry_core.specs.Laws.{adds_sender}
 use Rattle.registry_core.specs.Ranges.{IsEnvelope, IsSettings}
 use Rattle.registry_core.specs.Settings.{Settings}
 use Rattle.desk_store.specs.declared.faults.StoreFault.{StoreFault}
-use Rattle.desk_store.specs.Calls.{IsRead, is_disk, is_foreign}
+use Rattle.desk_store.specs.Calls.{IsRead, is_disk, is_not_a_desk}
 use Rattle.desk_store.specs.Meaning.{Meaning}
 use Rattle.desk_wire.specs.Writing.{message_text}
 use Rattle.desk_engine.specs.Deliveries.{Delivery, heard_after, heard_all}
@@ -29,14 +29,14 @@ module _ {K : Type 0} (m : Meaning K) where
   -- calls, and then more: the log has what the first heard before what the others heard, and the first disk error determines the in-flight
   -- message
   abbrev pub CallsHearInOrder : Type 0
-  CallsHearInOrder = (old mid new : K) (first_disk first_foreign disk foreign : Bool) (first_after after : Settings → List Envelope → List Envelope) (first_doubt doubtful : Settings → Option Envelope)
-      → Hears m old mid first_disk first_foreign first_after first_doubt → Hears m mid new disk foreign after doubtful
-      → Hears m old new (first_disk || disk) (first_foreign || foreign) (λ c heard. after c (first_after c heard)) (λ c. if first_disk then first_doubt c else doubtful c)
+  CallsHearInOrder = (old mid new : K) (first_disk first_not_a_desk disk not_a_desk : Bool) (first_after after : Settings → List Envelope → List Envelope) (first_doubt doubtful : Settings → Option Envelope)
+      → Hears m old mid first_disk first_not_a_desk first_after first_doubt → Hears m mid new disk not_a_desk after doubtful
+      → Hears m old new (first_disk || disk) (first_not_a_desk || not_a_desk) (λ c heard. after c (first_after c heard)) (λ c. if first_disk then first_doubt c else doubtful c)
 
   -- calls that only read hear nothing
   abbrev pub ReadsHearNothing : Type 0
   ReadsHearNothing = (old new : K) (fault : Option StoreFault) → IsRead m old new fault
-      → Hears m old new (is_disk fault) (is_foreign fault) (λ c heard. heard) (λ c. None)
+      → Hears m old new (is_disk fault) (is_not_a_desk fault) (λ c heard. heard) (λ c. None)
 
   -- without a call nothing is heard
   abbrev pub NoCallHearsNothing : Type 0

@@ -5,7 +5,7 @@ use Rattle.registry_core.specs.declared.answers.Refusal.TheVariants.{Malformed, 
 use Rattle.registry_core.specs.declared.messages.Envelope.{Envelope}
 use Rattle.registry_core.specs.Settings.{Settings}
 use Rattle.desk_store.specs.declared.faults.StoreFault.{StoreFault}
-use Rattle.desk_store.specs.Calls.{IsUnavailability, is_disk, is_foreign}
+use Rattle.desk_store.specs.Calls.{IsUnavailability, is_disk, is_not_a_desk}
 use Rattle.desk_wire.specs.declared.faults.WireFault.{WireFault}
 use Rattle.desk_engine.specs.declared.outcomes.Outcome.{Outcome}
 use Rattle.desk_engine.specs.declared.outcomes.Outcome.TheVariants.{Answered, Refused, Unavailable}
@@ -89,9 +89,9 @@ has_disk [] = false
 has_disk (o ∷ os) = is_disk (outcome_fault o) || has_disk os
 
 -- one of them is Unavailable because what is stored is not a desk
-abbrev pub has_foreign : List Outcome → Bool
-has_foreign [] = false
-has_foreign (o ∷ os) = is_foreign (outcome_fault o) || has_foreign os
+abbrev pub has_not_a_desk : List Outcome → Bool
+has_not_a_desk [] = false
+has_not_a_desk (o ∷ os) = is_not_a_desk (outcome_fault o) || has_not_a_desk os
 
 -- the in-flight message: that of the first disk error
 abbrev pub first_doubt : Settings → List (List ℕ) → List Outcome → Option Envelope

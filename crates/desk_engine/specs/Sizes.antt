@@ -4,7 +4,7 @@ use Rattle.registry_core.specs.declared.messages.Envelope.{Envelope}
 use Rattle.registry_core.specs.Heard.{most_heard}
 use Rattle.registry_core.specs.Settings.{Settings}
 use Rattle.desk_store.specs.declared.faults.StoreFault.TheVariants.{Size}
-use Rattle.desk_store.specs.Calls.{is_disk, is_foreign}
+use Rattle.desk_store.specs.Calls.{is_disk, is_not_a_desk}
 use Rattle.desk_store.specs.Meaning.{Meaning}
 use Rattle.desk_engine.specs.declared.outcomes.Outcome.{Outcome}
 use Rattle.desk_engine.specs.Deliveries.{heard_after}
@@ -16,7 +16,7 @@ module _ {K : Type 0} (m : Meaning K) (c : Settings) where
   -- The text was delivered to the store `old`, which represented this log, and the call left the store `new`. If the outcome is Unavailable
   -- with `Size`, the log has as many messages as it may have, or the store's medium named its own size in this call.
   pub record IsDelivered (heard : List Envelope) (old new : K) (text : List ℕ) (o : Outcome) : Type 0 where
-    pub hears : Hears m old new (is_disk (outcome_fault o)) (is_foreign (outcome_fault o))
+    pub hears : Hears m old new (is_disk (outcome_fault o)) (is_not_a_desk (outcome_fault o))
         (λ s list. heard_after s list (delivery_of text o)) (λ s. doubt_of_text s text o)
     pub size : outcome_fault o ≡ Some Size → HasNoRoom m new heard
 

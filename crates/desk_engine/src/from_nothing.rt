@@ -6,7 +6,7 @@ ghost use Rattle.registry_core.specs.State.{opening};
 ghost use Rattle.desk_store.specs.Lists.{kept_of, lists_meaning, settings_of};
 ghost use Rattle.desk_engine.specs.Deliveries.{heard_all};
 ghost use Rattle.desk_engine.specs.InOrder.{kept_after};
-ghost use Rattle.desk_engine.specs.Outcomes.{AreOutcomes, deliveries_of, has_disk, has_foreign};
+ghost use Rattle.desk_engine.specs.Outcomes.{AreOutcomes, deliveries_of, has_disk, has_not_a_desk};
 ghost use Rattle.desk_engine.specs.Repeats.{RepeatsGetFirstAnswers};
 ghost use Rattle.desk_engine.specs.Sizes.{SizesAreMostHeard};
 ghost use Rattle.desk_engine.specs.Uplinks.{UplinksStayBooked};
@@ -45,7 +45,7 @@ pub fn run_from_nothing(
     ensures uplinks { IfOk result (λ ran. UplinksStayBooked config [] (deliveries_of (map (λ t. t.now) texts.now) ran.1.items)) }
 
     // No outcome has `Disk` or `NotADesk`, and `Size` comes only if the log has as many messages as it may have.
-    ensures faults { IfOk result (λ ran. (has_disk ran.1.items ≡ false) × (has_foreign ran.1.items ≡ false)) }
+    ensures faults { IfOk result (λ ran. (has_disk ran.1.items ≡ false) × (has_not_a_desk ran.1.items ≡ false)) }
     ensures sizes { IfOk result (λ ran. SizesAreMostHeard config [] (map (λ t. t.now) texts.now) ran.1.items) }
 {
     rules_are_kept();

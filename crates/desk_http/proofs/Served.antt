@@ -6,7 +6,7 @@ use Rattle.std.specs.Prelude.{◌||◌}
 use Rattle.registry_core.specs.declared.messages.Envelope.{Envelope}
 use Rattle.registry_core.specs.Settings.{Settings}
 use Rattle.desk_store.specs.declared.faults.StoreFault.{StoreFault}
-use Rattle.desk_store.specs.Calls.{IsRead, is_disk, is_foreign}
+use Rattle.desk_store.specs.Calls.{IsRead, is_disk, is_not_a_desk}
 use Rattle.desk_store.specs.Meaning.{Meaning}
 use Rattle.desk_engine.specs.declared.outcomes.Outcome.{Outcome}
 use Rattle.desk_engine.specs.Deliveries.{Delivery, heard_after, heard_all}
@@ -61,7 +61,7 @@ module _ {K : Type 0} (m : Meaning K) (in_order : CallsHearInOrder m) (reads : R
   hears_none old new is = record {
     deliveries = [];
     disk = false;
-    foreign = false;
+    not_a_desk = false;
     doubtful = λ c. None;
     undoubted = λ up c. refl;
     hears = subst (λ k. Hears m old k false false (λ c heard. heard) (λ c. None)) (sym is) (none old);
@@ -71,7 +71,7 @@ module _ {K : Type 0} (m : Meaning K) (in_order : CallsHearInOrder m) (reads : R
   hears_reads old new fault read = record {
     deliveries = [];
     disk = is_disk fault;
-    foreign = is_foreign fault;
+    not_a_desk = is_not_a_desk fault;
     doubtful = λ c. None;
     undoubted = λ up c. refl;
     hears = reads old new fault read;
@@ -81,7 +81,7 @@ module _ {K : Type 0} (m : Meaning K) (in_order : CallsHearInOrder m) (reads : R
   hears_message old new body outcome delivered = record {
     deliveries = delivery_of body outcome ∷ [];
     disk = is_disk (outcome_fault outcome);
-    foreign = is_foreign (outcome_fault outcome);
+    not_a_desk = is_not_a_desk (outcome_fault outcome);
     doubtful = λ c. doubt_of_text c body outcome;
     undoubted = λ up c. no_doubt c body outcome up;
     hears = delivered.store;
@@ -91,12 +91,12 @@ module _ {K : Type 0} (m : Meaning K) (in_order : CallsHearInOrder m) (reads : R
   hears_more old mid new first second = record {
     deliveries = first.deliveries ++ second.deliveries;
     disk = first.disk || second.disk;
-    foreign = first.foreign || second.foreign;
+    not_a_desk = first.not_a_desk || second.not_a_desk;
     doubtful = λ c. cond first.disk (first.doubtful c) (second.doubtful c);
     undoubted = λ up c. no_doubts first.disk second.disk (first.doubtful c) (second.doubtful c) (λ is. first.undoubted is c) (λ is. second.undoubted is c) up;
-    hears = subst (λ (after : Settings → List Envelope → List Envelope). Hears m old new (first.disk || second.disk) (first.foreign || second.foreign) after (λ c. cond first.disk (first.doubtful c) (second.doubtful c)))
+    hears = subst (λ (after : Settings → List Envelope → List Envelope). Hears m old new (first.disk || second.disk) (first.not_a_desk || second.not_a_desk) after (λ c. cond first.disk (first.doubtful c) (second.doubtful c)))
         (λ i c heard. sym (heard_all-append c heard first.deliveries second.deliveries) i)
-        (in_order old mid new first.disk first.foreign second.disk second.foreign _ _ first.doubtful second.doubtful first.hears second.hears);
+        (in_order old mid new first.disk first.not_a_desk second.disk second.not_a_desk _ _ first.doubtful second.doubtful first.hears second.hears);
   }
 
   -- ---- one connection

@@ -102,11 +102,11 @@ pub record HearsDeliveries {K : Type 0} (m : Meaning K) (old new : K) : Type 0 w
   -- a call returned `Disk`
   pub disk : Bool
   -- a call returned `NotADesk`
-  pub foreign : Bool
+  pub not_a_desk : Bool
   -- the in-flight message
   pub doubtful : Settings → Option Envelope
   pub undoubted : disk ≡ false → (c : Settings) → doubtful c ≡ None
-  pub hears : Hears m old new disk foreign (λ c heard. heard_all c heard deliveries) doubtful
+  pub hears : Hears m old new disk not_a_desk (λ c heard. heard_all c heard deliveries) doubtful
 
 -- what these deliveries are at a desk of this configuration
 abbrev pub delivered_by : {K : Type 0} {m : Meaning K} {old new : K} → HearsDeliveries m old new → Settings → Delivered

@@ -4,7 +4,7 @@ use Rattle.std.specs.Io.KnownBytes.{Appends, Keeps}
 use Rattle.registry_core.specs.declared.messages.Envelope.{Envelope}
 use Rattle.registry_core.specs.Settings.{Settings}
 use Rattle.desk_store.specs.declared.faults.StoreFault.TheVariants.{Size}
-use Rattle.desk_store.specs.Calls.{IsOfCalls, IsRead, is_disk, is_foreign}
+use Rattle.desk_store.specs.Calls.{IsOfCalls, IsRead, is_disk, is_not_a_desk}
 use Rattle.desk_store.specs.Meaning.{Meaning}
 use Rattle.desk_engine.specs.declared.report_faults.ReportFault.{ReportFault}
 use Rattle.desk_engine.specs.declared.outcomes.Outcome.{Outcome}
@@ -23,7 +23,7 @@ use Rattle.desk_http.specs.Responses.{Response, response_text, cut_body, outcome
 module _ {K : Type 0} (m : Meaning K) (old new : K) where
   -- The body was delivered once, with this outcome. The outcome is the answer of the text, and the store represents the log with it.
   pub record IsDelivered (body : List ℕ) (outcome : Outcome) : Type 0 where
-    pub store : Hears m old new (is_disk (outcome_fault outcome)) (is_foreign (outcome_fault outcome))
+    pub store : Hears m old new (is_disk (outcome_fault outcome)) (is_not_a_desk (outcome_fault outcome))
         (λ c heard. heard_after c heard (delivery_of body outcome)) (λ c. doubt_of_text c body outcome)
     pub told : (c : Settings) (heard : List Envelope) → WasInOrder m c heard old new → IsOutcome (told_of_text c heard body) outcome
     pub refused : IfRefused outcome IsUnheard

@@ -3,7 +3,7 @@ use Rattle.std.proofs.Common.{◌≡◌, ◌∙◌, Option, None, Some, Result, 
 use Rattle.std.specs.Prelude.{◌||◌, IfOk}
 use Rattle.std.specs.Result.{IsErrAnd}
 use Rattle.desk_store.specs.declared.faults.StoreFault.{StoreFault}
-use Rattle.desk_store.specs.Calls.{IsRead, fault_in, is_disk, is_foreign}
+use Rattle.desk_store.specs.Calls.{IsRead, fault_in, is_disk, is_not_a_desk}
 use Rattle.desk_store.specs.Meaning.{Meaning}
 
 pub read_then : {K : Type 0} (m : Meaning K) (a b c : K) (fault : Option StoreFault) → IsRead m a b None → IsRead m b c fault → IsRead m a c fault
@@ -11,7 +11,7 @@ read_then m a b c fault one two = record {
   same = two.same ∙ one.same;
   was_sound = λ sound. one.was_sound (two.was_sound sound);
   shut = two.shut ∙ ap (λ down. is_disk fault || down) one.shut;
-  strange = two.strange ∙ ap (λ foreign. is_foreign fault || foreign) one.strange;
+  not_a_desk_now = two.not_a_desk_now ∙ ap (λ not_a_desk. is_not_a_desk fault || not_a_desk) one.not_a_desk_now;
   reading = two.reading;
   held = λ kept sound holds. two.held kept sound (one.held kept (two.was_sound sound) holds);
   left = λ kept all sound holds left. two.left kept all sound (one.held kept (two.was_sound sound) holds) (one.left kept all (two.was_sound sound) holds left);

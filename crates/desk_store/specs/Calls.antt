@@ -17,9 +17,9 @@ is_disk (Some Disk) = true
 is_disk _ = false
 
 -- the error is `NotADesk`
-abbrev pub is_foreign : Option StoreFault → Bool
-is_foreign (Some NotADesk) = true
-is_foreign _ = false
+abbrev pub is_not_a_desk : Option StoreFault → Bool
+is_not_a_desk (Some NotADesk) = true
+is_not_a_desk _ = false
 
 -- out of memory, a disk error or out of space: the delivery is answered Unavailable
 abbrev pub IsUnavailability : StoreFault → Type 0
@@ -46,13 +46,13 @@ IsOfReading _ = Unit {0}
 -- ---- calls
 
 module _ {K : Type 0} where
-  -- One or more calls in a row, or none. `disk`: one of them returned `Disk`. `foreign`: one of them returned `NotADesk`. The configuration
+  -- One or more calls in a row, or none. `disk`: one of them returned `Disk`. `not_a_desk`: one of them returned `NotADesk`. The configuration
   -- is the same. If the store is sound now, it was sound before. The store is failed now if it was before or if `disk`, and not otherwise.
-  pub record IsCall (m : Meaning K) (old new : K) (disk foreign : Bool) : Type 0 where
+  pub record IsCall (m : Meaning K) (old new : K) (disk not_a_desk : Bool) : Type 0 where
     pub same : m.configuration new ≡ m.configuration old
     pub was_sound : m.sound new → m.sound old
     pub shut : m.down new ≡ disk || m.down old
-    pub strange : m.foreign new ≡ foreign || m.foreign old
+    pub not_a_desk_now : m.not_a_desk new ≡ not_a_desk || m.not_a_desk old
 
   -- One or more reading calls in a row, or none, which ended with this error or with none. What the store represents, what a crash leaves
   -- and what the medium stores, a desk or not, are the same.
@@ -60,7 +60,7 @@ module _ {K : Type 0} where
     pub same : m.configuration new ≡ m.configuration old
     pub was_sound : m.sound new → m.sound old
     pub shut : m.down new ≡ is_disk fault || m.down old
-    pub strange : m.foreign new ≡ is_foreign fault || m.foreign old
+    pub not_a_desk_now : m.not_a_desk new ≡ is_not_a_desk fault || m.not_a_desk old
     pub reading : IsOfReading fault
     pub held : (kept : Kept) → m.sound new → m.holds old kept → m.holds new kept
     pub left : (kept : Kept) (all : List Kept) → m.sound new → m.holds old kept → m.leaves old all → m.leaves new all

@@ -8,7 +8,7 @@ use Rattle.sqlite.specs.Held.{Held, state}
 use Rattle.sqlite.proofs.StateLemmas.{survives_then}
 use Rattle.desk_store.specs.declared.faults.StoreFault.{StoreFault}
 use Rattle.desk_store.specs.declared.faults.StoreFault.TheVariants as told_as
-use Rattle.desk_store.specs.Calls.{IsOfReading, IsUnavailability, Tells, fault_in, is_disk, is_foreign}
+use Rattle.desk_store.specs.Calls.{IsOfReading, IsUnavailability, Tells, fault_in, is_disk, is_not_a_desk}
 use Rattle.desk_store.specs.Calls as calls
 use Rattle.desk_store.specs.Kept.{Kept}
 use Rattle.desk_rows.specs.declared.faults.RowFault.{RowFault}
@@ -87,9 +87,9 @@ rests_on old new db same it = record { settled = settled_on old new same it.sett
 
 -- ---- a store after a look-up
 
-module _ {S : Type 0} (g : Ghosts S) (old : Tables S) (conn : Held S) (down foreign : Bool) where
+module _ {S : Type 0} (g : Ghosts S) (old : Tables S) (conn : Held S) (down not_a_desk : Bool) where
   abbrev later : Tables S
-  later = record old { conn = conn; down = down; foreign = foreign }
+  later = record old { conn = conn; down = down; not_a_desk = not_a_desk }
 
   stands_on : (kept : Kept) → IsAsBefore (state g old.conn) (state g conn) → Stands g old kept → Stands g later kept
   stands_on kept same it = record {
@@ -138,17 +138,17 @@ module _ {S : Type 0} (g : Ghosts S) (old : Tables S) (mid : Held S) (up : old.d
     same = refl;
     was_sound = λ clean. omega (arith, read.clean, clean);
     shut = refl;
-    strange = refl;
+    not_a_desk_now = refl;
     reading = tt;
     held = λ kept clean holds _.
         let stands = holds up in
         let has = stands.desk.in_order.held.ten.schema in
         let open_was = stands.settled.open_still in
-        stands_on g old mid old.down old.foreign kept
+        stands_on g old mid old.down old.not_a_desk kept
         (unchanged_before (state g old.conn) (state g mid) stands.settled (read.survives has open_was clean) (read.leaves has open_was clean)) stands;
     left = λ kept all clean holds left.
         let stands = holds up in
-        leaves_on g old mid old.down old.foreign all clean (read.survives stands.desk.in_order.held.ten.schema stands.settled.open_still clean) left;
+        leaves_on g old mid old.down old.not_a_desk all clean (read.survives stands.desk.in_order.held.ten.schema stands.settled.open_still clean) left;
     unavailable = λ kept clean holds. tt;
     rests = λ db clean rests still.
         let was = rests up in
@@ -163,7 +163,7 @@ module _ {S : Type 0} (g : Ghosts S) (old : Tables S) (mid : Held S) (up : old.d
       (in_order : HasCleanDisk (state g mid) → IsTrue (state g old.conn).is_open → (state g old.conn).step_limit ≡ None
       → (r : Rows) → Holds (state g old.conn).now r → IsEven fault) where
     abbrev after : Tables S
-    after = record old { conn = new; down = is_disk (Some told) || old.down; foreign = is_foreign (Some told) || old.foreign }
+    after = record old { conn = new; down = is_disk (Some told) || old.down; not_a_desk = is_not_a_desk (Some told) || old.not_a_desk }
 
     early : HasCleanDisk (state g new) → HasCleanDisk (state g mid)
     early clean = omega (arith, settles.survives.clean, clean)
@@ -180,19 +180,19 @@ module _ {S : Type 0} (g : Ghosts S) (old : Tables S) (mid : Held S) (up : old.d
       same = refl;
       was_sound = λ clean. omega (arith, read.clean, settles.survives.clean, clean);
       shut = refl;
-      strange = refl;
+      not_a_desk_now = refl;
       reading = disk_or_as told (store_fault (reading_fault fault)) (λ f. IsOfReading (Some f)) tt (of_reading fault) settles.same;
       held = λ kept clean holds still.
           let stands = holds up in
           let has = stands.desk.in_order.held.ten.schema in
           let open_was = stands.settled.open_still in
-          stands_on g old new (is_disk (Some told) || old.down) (is_foreign (Some told) || old.foreign) kept
+          stands_on g old new (is_disk (Some told) || old.down) (is_not_a_desk (Some told) || old.not_a_desk) kept
           (failed_before (state g old.conn) (state g mid) (state g new) (reading_fault fault) told stands.settled read
           (read.survives has open_was (early clean)) (read.leaves has open_was (early clean)) settles clean (not_disk still)) stands;
       left = λ kept all clean holds left.
           let stands = holds up in
           let first = read.survives stands.desk.in_order.held.ten.schema stands.settled.open_still (early clean) in
-          leaves_on g old new (is_disk (Some told) || old.down) (is_foreign (Some told) || old.foreign) all clean
+          leaves_on g old new (is_disk (Some told) || old.down) (is_not_a_desk (Some told) || old.not_a_desk) all clean
           (survives_then (state g old.conn) (state g mid) (state g new) (λ _. ⊥) (λ _. ⊥) (λ _. ⊥) (λ _ db none. none) (λ _ db none. none) first settles.survives) left;
       unavailable = λ kept clean holds.
           let stands = holds up in
@@ -271,7 +271,7 @@ module _ {S T : Type 0} (g : Ghosts S) (old : Tables S) (mid : Held S) (up : old
         same = read.same;
         was_sound = read.was_sound;
         shut = read.shut;
-        strange = read.strange;
+        not_a_desk_now = read.not_a_desk_now;
         reading = read.reading;
         held = λ kept clean holds still. seen_held kept clean (holds up) (read.held kept clean holds still);
         left = read.left;
@@ -295,7 +295,7 @@ unread g s = record {
   same = refl;
   was_sound = λ sound. sound;
   shut = refl;
-  strange = refl;
+  not_a_desk_now = refl;
   reading = tt;
   held = λ kept sound holds. holds;
   left = λ kept all sound holds left. left;
@@ -310,7 +310,7 @@ down_read g s down = record {
   same = refl;
   was_sound = λ sound. sound;
   shut = down;
-  strange = refl;
+  not_a_desk_now = refl;
   reading = tt;
   held = λ kept sound holds. holds;
   left = λ kept all sound holds left. left;

@@ -14,7 +14,7 @@ use Rattle.sqlite.specs.State.{HasCleanDisk}
 use Rattle.desk_store.specs.declared.faults.StoreFault.{StoreFault}
 use Rattle.desk_store.specs.declared.faults.StoreFault.TheVariants.{Size as NoRoom}
 use Rattle.desk_store.specs.declared.looks.Counts.{Counts}
-use Rattle.desk_store.specs.Calls.{IsOfCalls, IsUnavailability, is_disk, is_foreign}
+use Rattle.desk_store.specs.Calls.{IsOfCalls, IsUnavailability, is_disk, is_not_a_desk}
 use Rattle.desk_store.specs.Kept.{CanAdd, Kept, entry_with, with_entry}
 use Rattle.desk_rows.specs.declared.faults.RowFault.{RowFault}
 use Rattle.desk_rows.specs.declared.faults.RowFault.TheVariants.{Memory, Disk, Size, Row as OutOfRange, Refused}
@@ -143,7 +143,7 @@ module _ {S : Type 0} (g : Ghosts S) (old : Tables S) (e : Envelope) (message : 
 
     commit_made : IsCommit (meaning_of g) old after e message effect answer (Ok done)
     commit_made = record {
-      call = record { same = refl; was_sound = λ clean. omega (arith, commits.clean, clean); shut = refl; strange = refl };
+      call = record { same = refl; was_sound = λ clean. omega (arith, commits.clean, clean); shut = refl; not_a_desk_now = refl };
       told = tt;
       down = λ is. absurd (true≢false (sym is ∙ up));
       added = λ kept clean holds can still. stands_after kept clean (holds up) can;
@@ -161,7 +161,7 @@ module _ {S : Type 0} (g : Ghosts S) (old : Tables S) (e : Envelope) (message : 
 
   module _ (mid new : Held S) (fault : RowFault) (told : StoreFault) (commits : CommitsTo mid (Err fault)) (settles : Settles (state g mid) (state g new) fault told) where
     abbrev undone : Tables S
-    undone = record old { conn = new; down = is_disk (Some told) || old.down; foreign = is_foreign (Some told) || old.foreign; sized = is_size told }
+    undone = record old { conn = new; down = is_disk (Some told) || old.down; not_a_desk = is_not_a_desk (Some told) || old.not_a_desk; sized = is_size told }
 
     early : HasCleanDisk (state g new) → HasCleanDisk (state g mid)
     early clean = omega (arith, settles.survives.clean, clean)
@@ -224,7 +224,7 @@ module _ {S : Type 0} (g : Ghosts S) (old : Tables S) (e : Envelope) (message : 
 
     commit_undone : IsCommit (meaning_of g) old undone e message effect answer (Err told)
     commit_undone = record {
-      call = record { same = refl; was_sound = first; shut = refl; strange = refl };
+      call = record { same = refl; was_sound = first; shut = refl; not_a_desk_now = refl };
       told = disk_or_as told (store_fault fault) (λ f. IsOfCalls (Some f)) tt (of_calls fault) settles.same;
       down = λ is. absurd (true≢false (sym is ∙ up));
       added = λ kept clean holds can. tt;

@@ -21,12 +21,12 @@ use Rattle.desk_tables.specs.steps.Faults.{store_fault}
 
 -- ---- errors
 
-pub odd_from_stranger : (fault : RowFault) → store_fault fault ≡ NotADesk → is_odd fault ≡ true
-odd_from_stranger Memory told = cc
-odd_from_stranger Disk told = cc
-odd_from_stranger Size told = cc
-odd_from_stranger Row told = refl
-odd_from_stranger Refused told = refl
+pub odd_from_not_a_desk : (fault : RowFault) → store_fault fault ≡ NotADesk → is_odd fault ≡ true
+odd_from_not_a_desk Memory told = cc
+odd_from_not_a_desk Disk told = cc
+odd_from_not_a_desk Size told = cc
+odd_from_not_a_desk Row told = refl
+odd_from_not_a_desk Refused told = refl
 
 pub unavailable_from_even : (fault : RowFault) → is_odd fault ≢ true → IsUnavailability (store_fault fault)
 unavailable_from_even Memory even = tt

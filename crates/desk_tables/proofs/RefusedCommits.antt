@@ -9,7 +9,7 @@ use Rattle.sqlite_trees.specs.Tree.{Trees}
 use Rattle.sqlite.specs.Held.{Held, state}
 use Rattle.desk_store.specs.declared.faults.StoreFault.{StoreFault}
 use Rattle.desk_store.specs.declared.faults.StoreFault.TheVariants.{Disk, Size}
-use Rattle.desk_store.specs.Calls.{IsOfCalls, is_disk, is_foreign}
+use Rattle.desk_store.specs.Calls.{IsOfCalls, is_disk, is_not_a_desk}
 use Rattle.desk_store.specs.Kept.{Kept}
 use Rattle.desk_rows.specs.declared.faults.RowFault.TheVariants.{Refused}
 use Rattle.desk_tables.specs.Store.{HoldsKept, meaning_of, own_law}
@@ -23,7 +23,7 @@ module _ {S : Type 0} (g : Ghosts S) (old : Tables S) (e : Envelope) (message : 
   -- it is failed
   pub commit_down : old.down ≡ true → IsCommit (meaning_of g) old old e message effect answer (Err Disk)
   commit_down down = record {
-    call = record { same = refl; was_sound = λ clean. clean; shut = down; strange = refl };
+    call = record { same = refl; was_sound = λ clean. clean; shut = down; not_a_desk_now = refl };
     told = tt;
     down = λ is. refl;
     added = λ kept clean holds can. tt;
@@ -41,12 +41,12 @@ module _ {S : Type 0} (g : Ghosts S) (old : Tables S) (e : Envelope) (message : 
     -- it is in a transaction: it represents nothing
     commit_inside : (new : Held S) (told : StoreFault) → (state g old.conn).in_transaction ≡ true → Settles (state g old.conn) (state g new) Refused told
         → IsCommit (meaning_of g) old
-        (record old { conn = new; down = is_disk (Some told) || old.down; foreign = is_foreign (Some told) || old.foreign })
+        (record old { conn = new; down = is_disk (Some told) || old.down; not_a_desk = is_not_a_desk (Some told) || old.not_a_desk })
         e message effect answer (Err told)
     commit_inside new told inside settles =
         let never = λ (kept : Kept) (holds : HoldsKept g old kept). let e : ⊥ = true≢false (sym inside ∙ (holds up).settled.autocommit) in e in
         record {
-          call = record { same = refl; was_sound = λ clean. omega (arith, settles.survives.clean, clean); shut = refl; strange = refl };
+          call = record { same = refl; was_sound = λ clean. omega (arith, settles.survives.clean, clean); shut = refl; not_a_desk_now = refl };
           told = disk_or_as told (store_fault Refused) (λ f. IsOfCalls (Some f)) tt tt settles.same;
           down = λ is. absurd (true≢false (sym is ∙ up));
           added = λ kept clean holds can. tt;
@@ -69,7 +69,7 @@ module _ {S : Type 0} (g : Ghosts S) (old : Tables S) (e : Envelope) (message : 
     pub commit_full : ((s : S) (db : Trees) → IsTrue (g.view s).is_open → g.recovers s db → db ≡ (g.view s).committed) → most_heard ≤ old.heard
         → IsCommit (meaning_of g) old old e message effect answer (Err Size)
     commit_full settled full = record {
-      call = record { same = refl; was_sound = λ clean. clean; shut = refl; strange = refl };
+      call = record { same = refl; was_sound = λ clean. clean; shut = refl; not_a_desk_now = refl };
       told = tt;
       down = λ is. absurd (true≢false (sym is ∙ up));
       added = λ kept clean holds can. tt;

@@ -12,7 +12,7 @@ use Rattle.desk_store.specs.Meaning.{Meaning}
 pub record IsStore {K : Type 0} (m : Meaning K) (k : K) (c : Settings) (kept : Kept) : Type 0 where
   pub configuration : m.configuration k ≡ c
   pub up : m.down k ≡ false
-  pub known : m.foreign k ≡ false
+  pub known : m.not_a_desk k ≡ false
   pub holds : m.holds k kept
   pub rests : (stored : m.Stored) × m.rests k stored
 

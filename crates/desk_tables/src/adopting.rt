@@ -52,7 +52,7 @@ impl<S: Alter> Tables<S> {
         ensures config { IsConfig config }
         ensures blank { IfOk result (λ t. conn.schema ≡ no_schema) }
         ensures exists { IfErr result (λ back. (back.0 ≡ Exists) ↔ IsTaken conn.schema) }
-        ensures stranger { conn.schema ≢ no_schema → ¬ IsTaken conn.schema → IfErr result (λ back. back.0 ≡ NotADesk) }
+        ensures not_a_desk { conn.schema ≢ no_schema → ¬ IsTaken conn.schema → IfErr result (λ back. back.0 ≡ NotADesk) }
         ensures unavailable { conn.schema ≡ no_schema → IfErr result (λ back. HasCleanDisk (state S.Store back.1) → IsUnavailability back.0) }
         ensures given_back { IfErr result (λ back. IsGivenBack (state S.Store conn) (state S.Store back.1) (λ trees. TreesHold trees (opening_rows config))) }
     {
@@ -64,7 +64,7 @@ impl<S: Alter> Tables<S> {
                 alloc,
                 config,
                 down: false,
-                foreign: false,
+                not_a_desk: false,
                 sized: false,
                 heard: 0,
                 counts: Counts {
@@ -99,7 +99,7 @@ impl<S: Alter> Tables<S> {
             → IfOk result (λ t. (meaning_of S.Store).sound t → IsStore (meaning_of S.Store) t c kept) }
         ensures unavailable { (c : Settings) (kept : Kept) → IsOfDesk c kept (state S.Store conn).now
             → IfErr result (λ back. HasCleanDisk (state S.Store back.1) → IsUnavailability back.0) }
-        ensures stranger { IfErr result (λ back. HasCleanDisk (state S.Store back.1) → back.0 ≡ NotADesk → conn.schema ≡ desk_schema
+        ensures not_a_desk { IfErr result (λ back. HasCleanDisk (state S.Store back.1) → back.0 ≡ NotADesk → conn.schema ≡ desk_schema
             → (c : Settings) → TellsMeta (state S.Store conn).now.trees (pos 2) c → (r : Rows) → ¬ Holds (state S.Store conn).now r) }
         ensures version { IfErr result (λ back. HasCleanDisk (state S.Store back.1) → back.0 ≡ SchemaVersion → HasMeta conn.schema
             × ((version : ℤ) × (c : Settings) × TellsMeta (state S.Store conn).now.trees version c × (version ≢ pos 2))) }
@@ -141,7 +141,7 @@ impl<S: Alter> Tables<S> {
         config: Config,
         counted: (u64, Counts),
     ) -> Tables<S>
-        ensures { result ≡ record { conn = conn; alloc = alloc; config = config; down = false; foreign = false; sized = false; heard = counted.0; counts = counted.1; seen = nothing } }
+        ensures { result ≡ record { conn = conn; alloc = alloc; config = config; down = false; not_a_desk = false; sized = false; heard = counted.0; counts = counted.1; seen = nothing } }
     {
         let (heard, counts) = counted;
         Tables {
@@ -149,7 +149,7 @@ impl<S: Alter> Tables<S> {
             alloc,
             config,
             down: false,
-            foreign: false,
+            not_a_desk: false,
             sized: false,
             heard,
             counts,

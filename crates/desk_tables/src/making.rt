@@ -90,7 +90,7 @@ pub(crate) fn make_desk<S: Alter>(
     requires unlimited { conn.old.step_limit ≡ None }
     ensures blank { OnOk result (conn.old.schema ≡ no_schema) }
     ensures exists { (result ≡ Err Exists) ↔ IsTaken conn.old.schema }
-    ensures stranger { conn.old.schema ≢ no_schema → ¬ IsTaken conn.old.schema → result ≡ Err NotADesk }
+    ensures not_a_desk { conn.old.schema ≢ no_schema → ¬ IsTaken conn.old.schema → result ≡ Err NotADesk }
     ensures made { HasCleanDisk (state S.Store conn.new) → OnOk result (Holds (state S.Store conn.new).now (opening_rows config.now)) }
     ensures open { HasCleanDisk (state S.Store conn.new) → OnOk result (IsTrue (state S.Store conn.new).is_open) }
     ensures left { HasCleanDisk (state S.Store conn.new) → OnOk result ((trees : Trees) → (state S.Store conn.new).may_leave trees → TreesHold trees (opening_rows config.now)) }

@@ -108,7 +108,7 @@ impl<S: Alter> Tables<S> {
             → IfOk result (λ t. (meaning_of S.Store).sound t → IsStore (meaning_of S.Store) t c kept) }
         ensures unavailable { (c : Settings) (kept : Kept) → IsOfFirstSchema c kept (state S.Store conn).now
             → IfErr result (λ back. HasCleanDisk (state S.Store back.1) → IsUnavailability back.0) }
-        ensures stranger { IfErr result (λ back. HasCleanDisk (state S.Store back.1) → back.0 ≡ NotADesk → conn.schema ≡ first_schema
+        ensures not_a_desk { IfErr result (λ back. HasCleanDisk (state S.Store back.1) → back.0 ≡ NotADesk → conn.schema ≡ first_schema
             → (c : Settings) → TellsMeta (state S.Store conn).now.trees (pos 1) c → (r : Rows) → ¬ HoldsFirst (state S.Store conn).now r) }
         ensures version { IfErr result (λ back. HasCleanDisk (state S.Store back.1) → back.0 ≡ SchemaVersion → HasMeta conn.schema
             × ((version : ℤ) × (c : Settings) × TellsMeta (state S.Store conn).now.trees version c × (version ≢ pos 1))) }

@@ -27,7 +27,7 @@ pub(crate) fn config_at<S: Alter>(
     ensures told { HasCleanDisk (state S.Store conn.new) → IfOk result (λ c. HasMeta conn.old.schema × TellsMeta (state S.Store conn.old).now.trees version c) }
     ensures in_order { HasCleanDisk (state S.Store conn.new) → HasMeta conn.old.schema → (c : Settings) → TellsMeta (state S.Store conn.old).now.trees version c
         → IfErr result IsUnavailability }
-    ensures stranger { HasCleanDisk (state S.Store conn.new) → result ≡ Err NotADesk → HasMeta conn.old.schema
+    ensures not_a_desk { HasCleanDisk (state S.Store conn.new) → result ≡ Err NotADesk → HasMeta conn.old.schema
         → (told : ℤ) (c : Settings) → ¬ TellsMeta (state S.Store conn.old).now.trees told c }
     ensures other_version { HasCleanDisk (state S.Store conn.new) → result ≡ Err SchemaVersion
         → HasMeta conn.old.schema × ((told : ℤ) × (c : Settings) × TellsMeta (state S.Store conn.old).now.trees told c × (told ≢ version)) }
@@ -62,7 +62,7 @@ pub fn open_desk<S: Alter>(conn: &mut Connection<S>) -> Result<Config, StoreFaul
     ensures desk { HasCleanDisk (state S.Store conn.new) → IfOk result (λ c. (conn.old.schema ≡ desk_schema) × TellsMeta (state S.Store conn.old).now.trees (pos 2) c) }
     ensures in_order { HasCleanDisk (state S.Store conn.new) → (r : Rows) → Holds (state S.Store conn.old).now r → IfOk result (λ c. c ≡ r.settings) }
     ensures unavailable { HasCleanDisk (state S.Store conn.new) → (r : Rows) → Holds (state S.Store conn.old).now r → IsConfig r.settings → IfErr result IsUnavailability }
-    ensures stranger { HasCleanDisk (state S.Store conn.new) → result ≡ Err NotADesk → conn.old.schema ≡ desk_schema → (c : Settings) → ¬ TellsMeta (state S.Store conn.old).now.trees (pos 2) c }
+    ensures not_a_desk { HasCleanDisk (state S.Store conn.new) → result ≡ Err NotADesk → conn.old.schema ≡ desk_schema → (c : Settings) → ¬ TellsMeta (state S.Store conn.old).now.trees (pos 2) c }
     ensures version { HasCleanDisk (state S.Store conn.new) → result ≡ Err SchemaVersion
         → HasMeta conn.old.schema × ((version : ℤ) × (c : Settings) × TellsMeta (state S.Store conn.old).now.trees version c × (version ≢ pos 2)) }
     ensures other_version { HasCleanDisk (state S.Store conn.new) → HasMeta conn.old.schema → (version : ℤ) (c : Settings)

@@ -1,7 +1,7 @@
 //! What an error of the connection is to the store.
 ghost use Rattle.std.specs.Prelude.{◌≡◌, Some};
 ghost use Rattle.sqlite.specs.Held.{state};
-ghost use Rattle.desk_store.specs.Calls.{is_disk, is_foreign};
+ghost use Rattle.desk_store.specs.Calls.{is_disk, is_not_a_desk};
 ghost use Rattle.desk_tables.specs.steps.Settling.{Settles, is_size, reading_fault};
 
 use crate::faults::store_fault;
@@ -36,8 +36,8 @@ pub(crate) fn is_disk(fault: StoreFault) -> bool
     matches!(fault, StoreFault::Disk)
 }
 
-pub(crate) fn is_foreign(fault: StoreFault) -> bool
-    ensures { result ≡ is_foreign (Some fault) }
+pub(crate) fn is_not_a_desk(fault: StoreFault) -> bool
+    ensures { result ≡ is_not_a_desk (Some fault) }
 {
     matches!(fault, StoreFault::NotADesk)
 }

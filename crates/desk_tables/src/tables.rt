@@ -4,7 +4,7 @@ ghost use Rattle.desk_store.specs.declared.faults.StoreFault.TheVariants.{Disk};
 ghost use Rattle.desk_tables.specs.steps.Settling.{Fails, IsTold};
 
 use crate::seen::Seen;
-use crate::settle::{is_disk, is_foreign, reading_fault, settle};
+use crate::settle::{is_disk, is_not_a_desk, reading_fault, settle};
 use desk_rows::RowFault;
 use desk_store::{Counts, StoreFault};
 use registry_core::Config;
@@ -20,7 +20,7 @@ pub struct Tables<S: Alter> {
     /// A call returned `Disk`.
     pub(crate) down: bool,
     /// A call returned `NotADesk`.
-    pub(crate) foreign: bool,
+    pub(crate) not_a_desk: bool,
     /// The medium named its own size in the last call that wrote.
     pub(crate) sized: bool,
     /// The number of messages that were heard.
@@ -37,7 +37,7 @@ impl<S: Alter> Tables<S> {
     {
         let told = settle(&mut self.conn, fault);
         self.down = is_disk(told) || self.down;
-        self.foreign = is_foreign(told) || self.foreign;
+        self.not_a_desk = is_not_a_desk(told) || self.not_a_desk;
         told
     }
 

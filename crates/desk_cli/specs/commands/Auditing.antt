@@ -13,7 +13,7 @@ use Rattle.desk_engine.specs.Lines.{line_feed}
 use Rattle.desk_tables.specs.Adopting.{IsGivenBack}
 use Rattle.desk_cli.specs.Audit.{PassesAudit}
 use Rattle.desk_cli.specs.Named.{Named, audit, named_as}
-use Rattle.desk_cli.specs.NoDesk.{HoldsNoDesk, RefusesFile}
+use Rattle.desk_cli.specs.RefusedFiles.{IsNotADesk, RefusesFile}
 use Rattle.desk_cli.specs.OnTables.{KeepsHeard}
 use Rattle.desk_cli.specs.Options.{◌>>=◌, place_rule, placed}
 use Rattle.desk_cli.specs.commands.Checking.{value_line}
@@ -70,6 +70,6 @@ module _ {S : Type 0} (g : Ghosts S) (conn : Held S) (given_back : Option (Held 
     pub told : OfBack (λ back. IfErr result IsAuditFault)
     -- the file of a desk isn't refused by `NotADesk` or `Schema`
     pub desk : OfBack (λ back. (c : Settings) (heard : List Envelope) → KeepsHeard g conn c heard → IfErr result (λ fault. (fault ≢ NotADesk) × (fault ≢ Schema)))
-    pub no_desk : OfBack (λ back. HoldsNoDesk g conn → RefusesFile g conn back (Keeps before after) result)
+    pub not_a_desk : OfBack (λ back. IsNotADesk g conn → RefusesFile g conn back (Keeps before after) result)
     pub kept : IfSome given_back (λ back. IsGivenBack (state g conn) (state g back) (λ _. ⊥))
     pub gone : given_back ≡ None → result ≡ Err Unavailable

@@ -35,6 +35,6 @@ pub record InitsBy {S : Type 0} (g : Ghosts S) (conn back : Held S) (c : Setting
   pub made : OnOk result (HasCleanDisk (state g back) → KeepsHeard g back c [])
   pub blank : OnOk result (conn.schema ≡ no_schema)
   pub exists : OnErr result ((result ≡ Err Exists) ↔ IsTaken conn.schema)
-  pub stranger : conn.schema ≢ no_schema → ¬ IsTaken conn.schema → OnErr result (result ≡ Err NotADesk)
+  pub not_a_desk : conn.schema ≢ no_schema → ¬ IsTaken conn.schema → OnErr result (result ≡ Err NotADesk)
   pub unavailable : conn.schema ≡ no_schema → OnErr result (HasCleanDisk (state g back) → result ≡ Err Unavailable)
   pub given_back : OnErr result (IsGivenBack (state g conn) (state g back) (λ trees. TreesHold trees (opening_rows c)))

@@ -4,11 +4,11 @@ use Rattle.registry_core.specs.Settings.{Settings}
 use Rattle.desk_store.specs.Meaning.{Meaning}
 
 abbrev pub unsound : {K : Type 0} → (K → Settings) → (K → Bool) → (K → Bool) → Meaning K
-unsound configuration down foreign = record {
+unsound configuration down not_a_desk = record {
   configuration = configuration;
   sound = λ k. ⊥;
   down = down;
-  foreign = foreign;
+  not_a_desk = not_a_desk;
   sized = λ k. ⊥;
   holds = λ k kept. ⊥;
   leaves = λ k all. ⊥;

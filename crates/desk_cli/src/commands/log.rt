@@ -11,7 +11,7 @@ ghost use Rattle.desk_engine.specs.Log.{log_of};
 ghost use Rattle.desk_cli.specs.Doing.{OnDesk};
 ghost use Rattle.desk_cli.specs.Faults.{Ends};
 ghost use Rattle.desk_cli.specs.Named.{TellsNamed};
-ghost use Rattle.desk_cli.specs.NoDesk.{HoldsNoDesk, RefusesFile};
+ghost use Rattle.desk_cli.specs.RefusedFiles.{IsNotADesk, RefusesFile};
 ghost use Rattle.desk_cli.specs.OnTables.{IsLeft, KeepsHeard};
 ghost use Rattle.desk_cli.specs.commands.Log.{LogsBy, log_app, log_named, which_text};
 ghost use Rattle.desk_cli.specs.steps.CommandLine.{IsCommand};
@@ -127,7 +127,7 @@ fn print_log<S: Alter, W: Write>(
     ensures logs { HasCleanDisk (state S.Store result.1) → (c : Settings) (heard : List Envelope) → KeepsHeard S.Store conn c heard
         → LogsBy (log_of which c heard from count) (KeepsHeard S.Store result.1 c heard) (IsLeft S.Store result.1 c heard None)
         (W.contents answers.old) (W.contents answers.new) result.0 }
-    ensures no_desk { HasCleanDisk (state S.Store result.1) → HoldsNoDesk S.Store conn
+    ensures not_a_desk { HasCleanDisk (state S.Store result.1) → IsNotADesk S.Store conn
         → RefusesFile S.Store conn result.1 (Keeps (W.contents answers.old) (W.contents answers.new)) result.0 }
     ensures clean { HasCleanDisk (state S.Store result.1) → HasCleanDisk (state S.Store conn) }
 {

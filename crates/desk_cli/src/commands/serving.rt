@@ -16,7 +16,7 @@ ghost use Rattle.desk_cli.specs.Named.{TellsNamed};
 ghost use Rattle.desk_cli.specs.steps.CommandLine.{IsCommand};
 ghost use Rattle.desk_cli.specs.steps.Jobs.{serves};
 ghost use Rattle.desk_cli.specs.steps.Serving.{ended};
-ghost use Rattle.desk_cli.specs.NoDesk.{HoldsNoDesk, RefusesFile};
+ghost use Rattle.desk_cli.specs.RefusedFiles.{IsNotADesk, RefusesFile};
 ghost use Rattle.desk_cli.specs.OnTables.{IsLeft, KeepsHeard};
 ghost use Rattle.desk_cli.specs.Ports.{at_ports};
 ghost use Rattle.desk_cli.specs.commands.Serving.{ServesBy, listening_line, serve_app, serve_named};
@@ -127,7 +127,7 @@ fn serve_desk<S: Alter, B: Network, W: Write>(
         → ServesBy c heard (KeepsHeard S.Store result.1 c) (IsLeft S.Store result.1 c)
         (at_ports B.ports network.now B.Port.meaning B.Port.Reader.remaining B.Port.Writer.contents log)
         port connections (W.contents answers.old) (W.contents answers.new) result.0 }
-    ensures no_desk { HasCleanDisk (state S.Store result.1) → HoldsNoDesk S.Store conn
+    ensures not_a_desk { HasCleanDisk (state S.Store result.1) → IsNotADesk S.Store conn
         → RefusesFile S.Store conn result.1 (Keeps (W.contents answers.old) (W.contents answers.new)) result.0 }
     ensures clean { HasCleanDisk (state S.Store result.1) → HasCleanDisk (state S.Store conn) }
 {

@@ -1,6 +1,6 @@
 //! A store behind a switch that makes one of its calls fail. Nothing is proved of what it holds: tests read that from the store behind.
 ghost use Rattle.std.specs.Prelude.{◌≡◌, ◌||◌, true, Err};
-ghost use Rattle.desk_store.specs.Calls.{IsOfCalls, IsOfReading, fault_in, is_disk, is_foreign};
+ghost use Rattle.desk_store.specs.Calls.{IsOfCalls, IsOfReading, fault_in, is_disk, is_not_a_desk};
 ghost use Rattle.desk_cli.specs.steps.Unsound.{unsound};
 
 use desk_store::{Counts, Keeper, Looks, StoreFault, Texts};
@@ -49,7 +49,7 @@ pub(crate) struct Switched<K: Keeper> {
     /// This many calls pass before the one that fails; none where it has failed.
     calls: Option<u64>,
     is_down: bool,
-    is_foreign: bool,
+    is_not_a_desk: bool,
     /// Whether the call that failed had committed a message.
     pub(crate) has_committed: bool,
 }
@@ -62,7 +62,7 @@ impl<K: Keeper> Switched<K> {
             failure,
             calls: Some(calls),
             is_down: false,
-            is_foreign: false,
+            is_not_a_desk: false,
             has_committed: false,
         }
     }
@@ -76,7 +76,7 @@ impl<K: Keeper> Switched<K> {
     fn turn(&mut self) -> Result<(), StoreFault>
         ensures inner { self.new.inner ≡ self.old.inner }
         ensures shut { self.new.is_down ≡ is_disk (fault_in result) || self.old.is_down }
-        ensures strange { self.new.is_foreign ≡ is_foreign (fault_in result) || self.old.is_foreign }
+        ensures not_a_desk_now { self.new.is_not_a_desk ≡ is_not_a_desk (fault_in result) || self.old.is_not_a_desk }
         ensures reading { IsOfReading (fault_in result) }
         ensures told { IsOfCalls (fault_in result) }
         ensures down { self.old.is_down ≡ true → result ≡ Err StoreFault.Disk }
@@ -98,7 +98,7 @@ impl<K: Keeper> Switched<K> {
     fn fail(&mut self) -> Result<(), StoreFault>
         ensures inner { self.new.inner ≡ self.old.inner }
         ensures shut { self.new.is_down ≡ is_disk (fault_in result) || self.old.is_down }
-        ensures strange { self.new.is_foreign ≡ is_foreign (fault_in result) || self.old.is_foreign }
+        ensures not_a_desk_now { self.new.is_not_a_desk ≡ is_not_a_desk (fault_in result) || self.old.is_not_a_desk }
         ensures reading { IsOfReading (fault_in result) }
         ensures told { IsOfCalls (fault_in result) }
     {
@@ -110,7 +110,7 @@ impl<K: Keeper> Switched<K> {
                 Err(StoreFault::Disk)
             }
             Failure::NotADesk => {
-                self.is_foreign = true;
+                self.is_not_a_desk = true;
                 Err(StoreFault::NotADesk)
             }
         }
@@ -121,11 +121,11 @@ impl<K: Keeper> Switched<K> {
         ensures answer { result ≡ answer }
         ensures inner { self.new.inner ≡ self.old.inner }
         ensures shut { self.new.is_down ≡ is_disk (fault_in answer) || self.old.is_down }
-        ensures strange { self.new.is_foreign ≡ is_foreign (fault_in answer) || self.old.is_foreign }
+        ensures not_a_desk_now { self.new.is_not_a_desk ≡ is_not_a_desk (fault_in answer) || self.old.is_not_a_desk }
     {
         match &answer {
             Err(StoreFault::Disk) => self.is_down = true,
-            Err(StoreFault::NotADesk) => self.is_foreign = true,
+            Err(StoreFault::NotADesk) => self.is_not_a_desk = true,
             _ => {}
         }
         answer
@@ -143,7 +143,7 @@ macro_rules! in_turn {
 
 impl<K: Keeper> Looks for Switched<K> {
     // It is never sound, so that no clause on values speaks of it.
-    ghost meaning = { unsound (λ k. K.meaning.configuration k.inner.value) (λ k. k.is_down) (λ k. k.is_foreign) };
+    ghost meaning = { unsound (λ k. K.meaning.configuration k.inner.value) (λ k. k.is_down) (λ k. k.is_not_a_desk) };
 
     fn config(&self) -> &Config {
         self.inner.config()

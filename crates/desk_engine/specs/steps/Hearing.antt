@@ -11,7 +11,7 @@ use Rattle.registry_core.specs.Viewed.{IsView}
 use Rattle.desk_store.specs.declared.faults.StoreFault.TheVariants.{Memory, Size}
 use Rattle.desk_store.specs.declared.keeper.Loaded.{Loaded}
 use Rattle.desk_store.specs.declared.keeper.Loaded.TheVariants.{Stranger, Heard, Fresh}
-use Rattle.desk_store.specs.Calls.{IsCall, IsOfCalls, IsUnavailability, is_disk, is_foreign}
+use Rattle.desk_store.specs.Calls.{IsCall, IsOfCalls, IsUnavailability, is_disk, is_not_a_desk}
 use Rattle.desk_store.specs.Kept.{CanAdd, entry_of, with_entry}
 use Rattle.desk_store.specs.Meaning.{Meaning}
 use Rattle.desk_wire.specs.Answers.{answer_text, head_of_envelope}
@@ -64,7 +64,7 @@ HearsNew m c heard e new (Unavailable fault) =
 module _ {K : Type 0} (m : Meaning K) (old new : K) (e : Envelope) where
   -- a message with a new transaction number was decided from this view and committed, or the store was unavailable
   pub record HearsFresh (view : View) (o : Outcome) : Type 0 where
-    pub call : IsCall m old new (is_disk (outcome_fault o)) (is_foreign (outcome_fault o))
+    pub call : IsCall m old new (is_disk (outcome_fault o)) (is_not_a_desk (outcome_fault o))
     pub told : IsOfCalls (outcome_fault o)
     pub refused : IfRefused o (λ refusal. ⊥)
     pub size : (c : Settings) (heard : List Envelope) → WasInOrder m c heard old new → outcome_fault o ≡ Some Size → HasNoRoom m new heard

@@ -9,7 +9,7 @@ use Rattle.sqlite.specs.Held.{state}
 use Rattle.desk_store.specs.declared.faults.StoreFault.{StoreFault}
 use Rattle.desk_store.specs.declared.faults.StoreFault.TheVariants.{Disk, Size}
 use Rattle.desk_store.specs.declared.looks.Counts.{Counts}
-use Rattle.desk_store.specs.Calls.{ForHeld, IsCall, IsOfCalls, IsUnavailability, TellsDown, fault_in, is_disk, is_foreign}
+use Rattle.desk_store.specs.Calls.{ForHeld, IsCall, IsOfCalls, IsUnavailability, TellsDown, fault_in, is_disk, is_not_a_desk}
 use Rattle.desk_store.specs.Kept.{CanAdd, Kept, with_entry}
 use Rattle.desk_store.specs.Meaning.{Meaning}
 use Rattle.desk_store.specs.Parts.{AreCounts}
@@ -37,7 +37,7 @@ module _ {S : Type 0} (g : Ghosts S) where
   pub record KeepsFault (old new : Tables S) (fault : RowFault) (told : StoreFault) : Type 0 where
     pub settles : Settles (state g old.conn) (state g new.conn) fault told
     pub same : new
-        ≡ record old { conn = new.conn; down = is_disk (Some told) || old.down; foreign = is_foreign (Some told) || old.foreign; sized = is_size told }
+        ≡ record old { conn = new.conn; down = is_disk (Some told) || old.down; not_a_desk = is_not_a_desk (Some told) || old.not_a_desk; sized = is_size told }
 
   -- the store counts one more message and what the effect adds, and its cache has what is still so; or it notes the error for which there
   -- is none
@@ -51,7 +51,7 @@ module _ {S : Type 0} (g : Ghosts S) where
 -- the clauses of a store's commit
 pub record IsCommit {K : Type 0} (m : Meaning K) (old new : K) (e : Envelope) (message : List ℕ) (effect : Effect) (answer : List ℕ)
     (result : Result (Unit {0}) StoreFault) : Type 0 where
-  pub call : IsCall m old new (is_disk (fault_in result)) (is_foreign (fault_in result))
+  pub call : IsCall m old new (is_disk (fault_in result)) (is_not_a_desk (fault_in result))
   pub told : IsOfCalls (fault_in result)
   pub down : TellsDown m old result
   pub added : ForHeld m old new (λ kept. CanAdd kept e effect → OnOk result (m.holds new (with_entry kept e message effect answer)))

@@ -5,7 +5,7 @@ use Rattle.sqlite.specs.Held.{state}
 use Rattle.sqlite.specs.State.{State, HasCleanDisk, Survives}
 use Rattle.desk_store.specs.declared.faults.StoreFault.{StoreFault}
 use Rattle.desk_store.specs.declared.faults.StoreFault.TheVariants.{Size as NoRoom}
-use Rattle.desk_store.specs.Calls.{is_disk, is_foreign}
+use Rattle.desk_store.specs.Calls.{is_disk, is_not_a_desk}
 use Rattle.desk_rows.specs.declared.faults.RowFault.{RowFault}
 use Rattle.desk_rows.specs.declared.faults.RowFault.TheVariants.{Memory, Size}
 use Rattle.desk_tables.specs.declared.tables.Tables.{Tables}
@@ -38,7 +38,7 @@ module _ {S : Type 0} (g : Ghosts S) where
   -- and the store notes whether it is `Disk` or `NotADesk`
   pub record Fails (old new : Tables S) (fault : RowFault) (told : StoreFault) : Type 0 where
     pub settles : Settles (state g old.conn) (state g new.conn) fault told
-    pub same : new ≡ record old { conn = new.conn; down = is_disk (Some told) || old.down; foreign = is_foreign (Some told) || old.foreign }
+    pub same : new ≡ record old { conn = new.conn; down = is_disk (Some told) || old.down; not_a_desk = is_not_a_desk (Some told) || old.not_a_desk }
 
   -- the result of a look-up for a result of the connection
   abbrev pub IsTold : {T : Type 0} → Tables S → Tables S → Result T RowFault → Result T StoreFault → Type 0

@@ -20,7 +20,7 @@ returns-in-Ok g c = record {
         in_order = c.close.ensures.in_order;
         left = c.close.ensures.left;
       });
-  no_desk = λ clean none. absurd (c.in-Ok.ensures.never (c.run-done.ensures.was_sound (c.close.ensures.sound clean)) none);
+  not_a_desk = λ clean none. absurd (c.in-Ok.ensures.never (c.run-done.ensures.was_sound (c.close.ensures.sound clean)) none);
   clean = λ clean. c.in-Ok.ensures.clean (c.run-done.ensures.was_sound (c.close.ensures.sound clean));
 }
 
@@ -29,6 +29,6 @@ returns-in-Err g c = record {
   does = λ clean config heard kept.
       let back = c.in-Err.ensures.unavailable clean config heard kept in
       inr (ap Err back.0, back.1, refl, refl);
-  no_desk = λ clean none. (c.in-Err.ensures.refused clean, (Keeps-refl _, Keeps-refl _));
+  not_a_desk = λ clean none. (c.in-Err.ensures.refused clean, (Keeps-refl _, Keeps-refl _));
   clean = λ clean. let given = (c.in-Err.ensures.refused clean).given_back in omega (arith, given.clean, clean);
 }

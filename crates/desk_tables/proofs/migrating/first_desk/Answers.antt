@@ -18,7 +18,7 @@ returns-in_err-config-clause-in_order g c clean schema s tells =
 pub returns-in_err-config-clause-other_version : goal.returns-in_err-config-clause-other_version
 returns-in_err-config-clause-other_version g c clean meta version s tells other =
     failed_so (λ (f : StoreFault). (f ≡ SchemaVersion) ⊎ IsUnavailability f) c.in_err-config.field-0.0 c.from_residual.result c.from_residual.ensures.1
-    (version_or_unavailable c.in_err-config.field-0.0 (λ is. c.in_err-config.ensures.stranger clean (cc) meta version s tells) (λ is. c.in_err-config.ensures.never (cc)))
+    (version_or_unavailable c.in_err-config.field-0.0 (λ is. c.in_err-config.ensures.not_a_desk clean (cc) meta version s tells) (λ is. c.in_err-config.ensures.never (cc)))
 
 pub returns-in_err-config-clause-taken : goal.returns-in_err-config-clause-taken
 returns-in_err-config-clause-taken g c clean meta s tells used =

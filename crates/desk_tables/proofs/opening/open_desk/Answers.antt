@@ -13,12 +13,12 @@ returns-in_err-config-clause-unavailable g c clean r has config =
     (c.in_err-config.ensures.in_order clean (desk_has_meta _ has.ten.schema) r.settings
     (meta_tells 2 desk_schema (state g.S.Store c.args.conn.now).now r has.ten config))
 
-pub returns-in_err-config-clause-stranger : goal.returns-in_err-config-clause-stranger
-returns-in_err-config-clause-stranger g c clean is schema s tells =
+pub returns-in_err-config-clause-not_a_desk : goal.returns-in_err-config-clause-not_a_desk
+returns-in_err-config-clause-not_a_desk g c clean is schema s tells =
     let told : c.in_err-config.field-0.0 ≡ NotADesk = fault_is _ NotADesk c.from_residual.result c.from_residual.ensures.1 is in
-    c.in_err-config.ensures.stranger clean (cc) (desk_has_meta _ schema) (pos 2) s tells
+    c.in_err-config.ensures.not_a_desk clean (cc) (desk_has_meta _ schema) (pos 2) s tells
 
 pub returns-in_err-config-clause-other_version : goal.returns-in_err-config-clause-other_version
 returns-in_err-config-clause-other_version g c clean meta version s tells other is =
     let told : c.in_err-config.field-0.0 ≡ NotADesk = fault_is _ NotADesk c.from_residual.result c.from_residual.ensures.1 is in
-    c.in_err-config.ensures.stranger clean (cc) meta version s tells
+    c.in_err-config.ensures.not_a_desk clean (cc) meta version s tells

@@ -21,7 +21,7 @@ returns-in-Ok g c = record {
       (λ still. keeps _ _ _ _ _ was read.same c.close.result g.met.S.Store.settled was_sound sound c.close.ensures.left c.close.ensures.in_order heard (is_kept_as_it_was _ _ _ _ _ was _ read sound still))
       (is_left _ _ _ _ _ was read.same c.close.result g.met.S.Store.settled was_sound sound c.close.ensures.left heard None (is_left_as_it_was _ _ _ _ _ was _ read sound))
       c.print.ensures;
-  no_desk = λ clean none. absurd (c.in-Ok.ensures.never (c.text_of-text.ensures.read.was_sound (c.close.ensures.sound clean)) none);
+  not_a_desk = λ clean none. absurd (c.in-Ok.ensures.never (c.text_of-text.ensures.read.was_sound (c.close.ensures.sound clean)) none);
   clean = λ clean. c.in-Ok.ensures.clean (c.text_of-text.ensures.read.was_sound (c.close.ensures.sound clean));
 }
 
@@ -30,6 +30,6 @@ returns-in-Err g c = record {
   prints = λ clean config heard kept.
       let back = c.in-Err.ensures.unavailable clean config heard kept in
       prints_unopened _ _ _ _ c.in-Err.fault back.0 back.1 (Keeps-refl _) tt;
-  no_desk = λ clean none. (c.in-Err.ensures.refused clean, Keeps-refl _);
+  not_a_desk = λ clean none. (c.in-Err.ensures.refused clean, Keeps-refl _);
   clean = λ clean. let given = (c.in-Err.ensures.refused clean).given_back in omega (arith, given.clean, clean);
 }

@@ -15,7 +15,7 @@ returns-in-Ok g c = record {
       (stays _ _ _ _ (was_in_order _ _ _ c.in-Ok.tables c.in-Ok.tables was sound));
   blank = c.in-Ok.ensures.blank;
   exists = tt;
-  stranger = λ some free. tt;
+  not_a_desk = λ some free. tt;
   unavailable = λ blank. tt;
   given_back = tt;
 }
@@ -25,7 +25,7 @@ returns-in-Err g c = record {
   made = tt;
   blank = tt;
   exists = says_exists c.in-Err.fault c.into.result c.into.ensures c.in-Err.ensures.exists;
-  stranger = λ some free. says_not_a_desk c.in-Err.fault c.into.result c.into.ensures (c.in-Err.ensures.stranger some free);
+  not_a_desk = λ some free. says_not_a_desk c.in-Err.fault c.into.result c.into.ensures (c.in-Err.ensures.not_a_desk some free);
   unavailable = λ blank clean. ap Err (c.into.ensures ∙ is_unavailable c.in-Err.fault (c.in-Err.ensures.unavailable blank clean));
   given_back = c.in-Err.ensures.given_back;
 }

@@ -36,5 +36,5 @@ returns-in-Ok-clause-made g c clean = let settled : IsSettled (state g.S.Store c
   };
 }
 
-pub returns-in-Err-clause-stranger : goal.returns-in-Err-clause-stranger
-returns-in-Err-clause-stranger g c other free = let told = c.in-Err.ensures.stranger other free in cc
+pub returns-in-Err-clause-not_a_desk : goal.returns-in-Err-clause-not_a_desk
+returns-in-Err-clause-not_a_desk g c other free = let told = c.in-Err.ensures.not_a_desk other free in cc

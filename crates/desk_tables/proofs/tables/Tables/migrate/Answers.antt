@@ -10,15 +10,15 @@ use Rattle.desk_tables.specs.steps.Counting.{AreRowsCounted}
 use Rattle.desk_tables.specs.Store.{IsSettled}
 use Rattle.desk_tables.proofs.AdoptingLemmas.{at_rest, stands}
 use Rattle.desk_tables.proofs.MigratingLemmas.{first_tells, free_in_first, looked_before, moved_desk, moved_rows, ready_moved}
-use Rattle.desk_tables.proofs.OpeningLemmas.{odd_from_stranger, told_once}
+use Rattle.desk_tables.proofs.OpeningLemmas.{odd_from_not_a_desk, told_once}
 use Rattle.desk_tables.proofs.tables.Tables.migrate.Goals as goal
 
 pub returns-in-Err-clause-unavailable : goal.returns-in-Err-clause-unavailable
 returns-in-Err-clause-unavailable g c settings kept is clean =
     c.in-Err.ensures.in_order clean is.in_order.held.ten.schema settings (first_tells settings kept _ is)
 
-pub returns-in-Err-clause-stranger : goal.returns-in-Err-clause-stranger
-returns-in-Err-clause-stranger g c clean is schema s tells r has = subst IsUnavailability is (c.in-Err.ensures.in_order clean schema s tells)
+pub returns-in-Err-clause-not_a_desk : goal.returns-in-Err-clause-not_a_desk
+returns-in-Err-clause-not_a_desk g c clean is schema s tells r has = subst IsUnavailability is (c.in-Err.ensures.in_order clean schema s tells)
 
 pub returns-in-Err-clause-other_version : goal.returns-in-Err-clause-other_version
 returns-in-Err-clause-other_version g c meta version s tells other clean = c.in-Err.ensures.other_version clean meta version s tells other
@@ -104,7 +104,7 @@ returns-in-Err-move_tables-clause-given_back g c settings kept is =
 pub returns-in-Err-move_tables-clause-refused : goal.returns-in-Err-move_tables-clause-refused
 returns-in-Err-move_tables-clause-refused g c is =
     let moves = c.in-Err-move_tables.ensures in
-    let odd = odd_from_stranger c.in-Err-move_tables.fault (sym c.store_fault-in-Err-move_tables.ensures ∙ is) in
+    let odd = odd_from_not_a_desk c.in-Err-move_tables.fault (sym c.store_fault-in-Err-move_tables.ensures ∙ is) in
     record {
       clean = omega (arith, c.first_desk.ensures.crash.clean, c.counted.ensures.first.read.clean, c.move_tables.ensures.clean);
       undone = returns-in-Err-move_tables-clause-undone g c;

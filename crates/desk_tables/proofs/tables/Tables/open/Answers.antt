@@ -12,8 +12,8 @@ pub returns-in-Err-clause-other_version : goal.returns-in-Err-clause-other_versi
 returns-in-Err-clause-other_version g c meta version s tells other clean same =
     c.in-Err.ensures.other_version clean meta version s tells other (let e = same in cc)
 
-pub returns-in-Ok-clause-stranger : goal.returns-in-Ok-clause-stranger
-returns-in-Ok-clause-stranger g c = if_not_adopted _ _ _ _ _ c.adopt.ensures (λ back not clean is schema s tells r has.
+pub returns-in-Ok-clause-not_a_desk : goal.returns-in-Ok-clause-not_a_desk
+returns-in-Ok-clause-not_a_desk g c = if_not_adopted _ _ _ _ _ c.adopt.ensures (λ back not clean is schema s tells r has.
     let early : HasCleanDisk (state g.S.Store c.open_desk.new.conn) = omega (arith, not.clean, clean) in
     let same = c.in-Ok.ensures.same early in
     subst IsUnavailability is (not.in_order clean (ready_again _ _ same schema (c.open_desk.ensures.settled early same.0.is_open))

@@ -1,7 +1,7 @@
 #!/usr/bin/env python3
 """Opens files that are not a desk of this version: each is refused, and left as it was, but for an empty one.
 
-    checks/strange_files.py [--program FILE]
+    checks/not_desks.py [--program FILE]
 
 A text, a file of zeros, somebody's database, and a desk's file: of version 7, of schema 1, with the tables of the one
 schema and the version of the other, without its row of meta, with a bad name in it, with a table more, and of version

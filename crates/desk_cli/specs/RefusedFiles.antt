@@ -11,8 +11,8 @@ use Rattle.desk_cli.specs.declared.faults.Fault.TheVariants.{NotADesk, Schema, U
 
 module _ {S : Type 0} (g : Ghosts S) (conn : Held S) where
   -- it has other tables or indexes, or its row of meta is not that of a desk of version 2
-  abbrev pub HoldsNoDesk : Type 0
-  HoldsNoDesk = conn.schema ≡ desk_schema → (c : Settings) → ¬ TellsMeta (state g conn).now.trees (pos 2) c
+  abbrev pub IsNotADesk : Type 0
+  IsNotADesk = conn.schema ≡ desk_schema → (c : Settings) → ¬ TellsMeta (state g conn).now.trees (pos 2) c
 
   -- it has a table meta, whose row is that of a desk of another version
   abbrev pub IsOfOtherVersion : Type 0
