@@ -11,7 +11,7 @@ use std::cell::Cell;
 use std::path::Path;
 
 /// Opens one file as a database, by its path.
-pub trait Files<S: Alter>: Drop + Sized {
+pub trait FileOpener<S: Alter>: Drop + Sized {
     /// What is known of a connection to the file at a path, and which files can't be opened or made.
     ghost paths: { Self → AtPaths S };
 
@@ -49,7 +49,7 @@ pub(crate) struct HostFiles<'a, T: Start> {
     pub why: &'a Cell<Option<String>>,
 }
 
-impl<T: Start> Files<FileStore<FileFrom<T>>> for HostFiles<'_, T> {
+impl<T: Start> FileOpener<FileStore<FileFrom<T>>> for HostFiles<'_, T> {
     // A connection shows what the files contain, on a disk that has returned what was written to it. Std doesn't report why there is none.
     ghost paths = { λ files. known_alike (Shows (image_at T.Start)) };
 

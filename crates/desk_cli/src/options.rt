@@ -174,52 +174,52 @@ fn settings_of(receiver: Name, operator: Name, base: u32, addresses: u32) -> Opt
 pub(crate) fn name_at(options: &ArgMatches<'_>, option: &str) -> Option<Name>
     ensures { result ≡ value_at name_of option.now (rows_of (found_of options.now)) }
 {
-    name_of(text_at(options, option)?)
+    name_of(option_text(options, option)?)
 }
 
 fn base_at(options: &ArgMatches<'_>, option: &str) -> Option<u32>
     ensures { result ≡ value_at addr_in option.now (rows_of (found_of options.now)) }
 {
-    Some(addr_of(text_at(options, option)?)?.get())
+    Some(addr_of(option_text(options, option)?)?.get())
 }
 
 fn count_at(options: &ArgMatches<'_>, option: &str) -> Option<u32>
     ensures { result ≡ value_at count_in option.now (rows_of (found_of options.now)) }
 {
-    count_of(text_at(options, option)?)
+    count_of(option_text(options, option)?)
 }
 
 pub(crate) fn port_at(options: &ArgMatches<'_>, option: &str) -> Option<u16>
     ensures { result ≡ value_at port_of option.now (rows_of (found_of options.now)) }
 {
-    port_of(text_at(options, option)?)
+    port_of(option_text(options, option)?)
 }
 
 pub(crate) fn connections_at(options: &ArgMatches<'_>, option: &str) -> Option<u32>
     ensures { result ≡ value_at connections_of option.now (rows_of (found_of options.now)) }
 {
-    connections_of(text_at(options, option)?)
+    connections_of(option_text(options, option)?)
 }
 
 /// Returns the list that an argument names, or `None` if it isn't there or names none.
 pub(crate) fn list_at(options: &ArgMatches<'_>, place: &str) -> Option<ListOf>
     ensures { result ≡ value_at list_in place.now (rows_of (found_of options.now)) }
 {
-    list_of(text_at(options, place)?)
+    list_of(option_text(options, place)?)
 }
 
 /// Returns the number that an option has, or `None` if it isn't there or isn't a number in the form.
 pub(crate) fn number_at(options: &ArgMatches<'_>, option: &str) -> Option<Whole>
     ensures { result ≡ value_at message_number option.now (rows_of (found_of options.now)) }
 {
-    message_number(text_at(options, option)?)
+    message_number(option_text(options, option)?)
 }
 
 /// Returns the number that an option has, or the greatest if the option is left out.
 pub(crate) fn number_or_greatest(options: &ArgMatches<'_>, option: &str) -> Option<Whole>
     ensures { result ≡ value_or message_number greatest_whole option.now (rows_of (found_of options.now)) }
 {
-    match text_at(options, option) {
+    match option_text(options, option) {
         Some(text) => message_number(text),
         None => Whole::new(GREATEST_WHOLE),
     }
@@ -229,7 +229,7 @@ pub(crate) fn number_or_greatest(options: &ArgMatches<'_>, option: &str) -> Opti
 pub(crate) fn is_set(options: &ArgMatches<'_>, option: &str) -> bool
     ensures { result ≡ is_set option.now (rows_of (found_of options.now)) }
 {
-    match text_at(options, option) {
+    match option_text(options, option) {
         Some(text) => text == "true",
         None => false,
     }
@@ -258,10 +258,10 @@ fn name_of(text: &str) -> Option<Name>
 pub(crate) fn placed<'a>(options: &ArgMatches<'a>, place: &str) -> Result<&'a str, BadValue>
     ensures { behind result ≡ placed place.now (rows_of (found_of options.now)) }
 {
-    text_at(options, place).ok_or(BadValue::Missing)
+    option_text(options, place).ok_or(BadValue::Missing)
 }
 
-fn text_at<'a>(options: &ArgMatches<'a>, option: &str) -> Option<&'a str>
+fn option_text<'a>(options: &ArgMatches<'a>, option: &str) -> Option<&'a str>
     ensures { option_map (λ text. text.now) result ≡ first_of option.now (rows_of (found_of options.now)) }
 {
     options.get_str(option)

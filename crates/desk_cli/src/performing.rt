@@ -28,7 +28,7 @@ use crate::commands::{
 };
 use crate::endings::Ending;
 use crate::faults::end;
-use crate::files::Files;
+use crate::files::FileOpener;
 use crate::network::Network;
 use desk_engine::{ListOf, LogText, Progress};
 use radio_core::Name;
@@ -58,7 +58,7 @@ macro_rules! on_file {
 /// Does what the command asks.
 pub(crate) fn perform<
     S: Alter + Drop,
-    N: Files<S>,
+    N: FileOpener<S>,
     B: Network,
     R: Read,
     W: Write,
@@ -146,7 +146,7 @@ pub(crate) fn perform<
     }
 }
 
-fn init_file<S: Alter, N: Files<S>, F: Write>(
+fn init_file<S: Alter, N: FileOpener<S>, F: Write>(
     alloc: Global,
     files: N,
     file: &str,
@@ -163,7 +163,7 @@ fn init_file<S: Alter, N: Files<S>, F: Write>(
     )
 }
 
-fn migrate_file<S: Alter, N: Files<S>, F: Write>(
+fn migrate_file<S: Alter, N: FileOpener<S>, F: Write>(
     alloc: Global,
     files: N,
     file: &str,
@@ -179,7 +179,7 @@ fn migrate_file<S: Alter, N: Files<S>, F: Write>(
     )
 }
 
-fn hear_file<S: Alter, N: Files<S>, R: Read, W: Write, F: Write>(
+fn hear_file<S: Alter, N: FileOpener<S>, R: Read, W: Write, F: Write>(
     alloc: Global,
     files: N,
     file: &str,
@@ -199,7 +199,7 @@ fn hear_file<S: Alter, N: Files<S>, R: Read, W: Write, F: Write>(
     )
 }
 
-fn import_file<S: Alter, N: Files<S>, R: Read, W: Write, F: Write, P: Progress>(
+fn import_file<S: Alter, N: FileOpener<S>, R: Read, W: Write, F: Write, P: Progress>(
     alloc: Global,
     files: N,
     file: &str,
@@ -221,7 +221,7 @@ fn import_file<S: Alter, N: Files<S>, R: Read, W: Write, F: Write, P: Progress>(
     )
 }
 
-fn serve_file<S: Alter, N: Files<S>, B: Network, W: Write, F: Write>(
+fn serve_file<S: Alter, N: FileOpener<S>, B: Network, W: Write, F: Write>(
     alloc: Global,
     files: N,
     network: &B,
@@ -253,7 +253,7 @@ fn serve_file<S: Alter, N: Files<S>, B: Network, W: Write, F: Write>(
     )
 }
 
-fn report_file<S: Alter, N: Files<S>, W: Write, F: Write>(
+fn report_file<S: Alter, N: FileOpener<S>, W: Write, F: Write>(
     alloc: Global,
     files: N,
     file: &str,
@@ -274,7 +274,7 @@ fn report_file<S: Alter, N: Files<S>, W: Write, F: Write>(
     )
 }
 
-fn bands_file<S: Alter, N: Files<S>, W: Write, F: Write>(
+fn bands_file<S: Alter, N: FileOpener<S>, W: Write, F: Write>(
     alloc: Global,
     files: N,
     file: &str,
@@ -294,7 +294,7 @@ fn bands_file<S: Alter, N: Files<S>, W: Write, F: Write>(
     )
 }
 
-fn room_file<S: Alter, N: Files<S>, W: Write, F: Write>(
+fn room_file<S: Alter, N: FileOpener<S>, W: Write, F: Write>(
     alloc: Global,
     files: N,
     file: &str,
@@ -315,7 +315,7 @@ fn room_file<S: Alter, N: Files<S>, W: Write, F: Write>(
     )
 }
 
-fn list_file<S: Alter, N: Files<S>, W: Write, F: Write>(
+fn list_file<S: Alter, N: FileOpener<S>, W: Write, F: Write>(
     alloc: Global,
     files: N,
     file: &str,
@@ -335,7 +335,7 @@ fn list_file<S: Alter, N: Files<S>, W: Write, F: Write>(
     )
 }
 
-fn device_file<S: Alter, N: Files<S>, W: Write, F: Write>(
+fn device_file<S: Alter, N: FileOpener<S>, W: Write, F: Write>(
     alloc: Global,
     files: N,
     file: &str,
@@ -355,7 +355,7 @@ fn device_file<S: Alter, N: Files<S>, W: Write, F: Write>(
     )
 }
 
-fn receptions_file<S: Alter, N: Files<S>, W: Write, F: Write>(
+fn receptions_file<S: Alter, N: FileOpener<S>, W: Write, F: Write>(
     alloc: Global,
     files: N,
     file: &str,
@@ -376,7 +376,7 @@ fn receptions_file<S: Alter, N: Files<S>, W: Write, F: Write>(
     )
 }
 
-fn downlinks_file<S: Alter, N: Files<S>, W: Write, F: Write>(
+fn downlinks_file<S: Alter, N: FileOpener<S>, W: Write, F: Write>(
     alloc: Global,
     files: N,
     file: &str,
@@ -397,7 +397,7 @@ fn downlinks_file<S: Alter, N: Files<S>, W: Write, F: Write>(
     )
 }
 
-fn log_file<S: Alter, N: Files<S>, W: Write, F: Write>(
+fn log_file<S: Alter, N: FileOpener<S>, W: Write, F: Write>(
     alloc: Global,
     files: N,
     file: &str,
@@ -419,7 +419,7 @@ fn log_file<S: Alter, N: Files<S>, W: Write, F: Write>(
     )
 }
 
-fn check_file<S: Alter, N: Files<S>, W: Write, F: Write>(
+fn check_file<S: Alter, N: FileOpener<S>, W: Write, F: Write>(
     alloc: Global,
     files: N,
     file: &str,
@@ -439,7 +439,7 @@ fn check_file<S: Alter, N: Files<S>, W: Write, F: Write>(
 }
 
 /// Audits the file. Returns its connection, unless the file can't be opened or the audit couldn't be completed.
-fn audit_file<S: Alter + Drop, N: Files<S>, W: Write, F: Write, P: Progress>(
+fn audit_file<S: Alter + Drop, N: FileOpener<S>, W: Write, F: Write, P: Progress>(
     alloc: Global,
     files: N,
     file: &str,

@@ -13,7 +13,7 @@ ghost use Rattle.desk_cli.specs.Ports.{at_ports};
 
 use crate::endings::{Ending, ending_of};
 use crate::faults::{Fault, end};
-use crate::files::Files;
+use crate::files::FileOpener;
 use crate::network::Network;
 use crate::performing::perform;
 use crate::usage::Usage;
@@ -30,7 +30,7 @@ use std::rt::Env;
 pub fn run<
     E: Env + AllocGlobal,
     S: Alter + Drop,
-    N: Files<S>,
+    N: FileOpener<S>,
     B: Network,
     R: Read,
     W: Write,
@@ -74,7 +74,7 @@ pub fn run<
 /// Does what the arguments ask, as std read them. What is wrong with them, or why std has none, is written to `faults`.
 pub fn run_given<
     S: Alter + Drop,
-    N: Files<S>,
+    N: FileOpener<S>,
     B: Network,
     R: Read,
     W: Write,
@@ -108,7 +108,15 @@ pub fn run_given<
 }
 
 /// Does the same for the texts of the arguments, with the program's own name first.
-fn run_strings<S: Alter + Drop, N: Files<S>, B: Network, R: Read, W: Write, F: Write, P: Progress>(
+fn run_strings<
+    S: Alter + Drop,
+    N: FileOpener<S>,
+    B: Network,
+    R: Read,
+    W: Write,
+    F: Write,
+    P: Progress,
+>(
     alloc: Global,
     strings: &[String],
     files: N,

@@ -42,7 +42,7 @@ use desk_tables::Tables;
 use holding::holds_of;
 use radio_core::Name;
 use registry_core::{Config, Refusal};
-use rows::{DEVICE_ADDED, Delivery, Row, SETUP, deliveries_of};
+use rows::{DEVICE_ADDED, Delivery, Exchange, SETUP, deliveries_of};
 use sqlite::{Alter, Connection, MemStore};
 use std::alloc::Global;
 use std::process::Abort;
@@ -140,8 +140,8 @@ fn with_device<R: Abort + AllocGlobal, K: Opened>(rt: &R) -> Result<Box<K>, Fail
 fn expect(rt: &impl Abort, row: &str, outcome: &Outcome, number: u8, wanted: &str) {
     let (told, came) = match outcome {
         Outcome::Answered(text) => (0, text.as_slice()),
-        Outcome::Refused(refusal, text) => (refusal.number(), text.as_slice()),
-        Outcome::Unavailable(_) => (Refusal::Unavailable.number(), b"unavailable".as_slice()),
+        Outcome::Refused(refusal, text) => (refusal.ordinal(), text.as_slice()),
+        Outcome::Unavailable(_) => (Refusal::Unavailable.ordinal(), b"unavailable".as_slice()),
     };
     let is_so = told == number && came == wanted.as_bytes();
     holds_of(rt, is_so, row, wanted, came);
@@ -179,7 +179,7 @@ pub(crate) fn told_each<R: Abort + AllocGlobal, S: Alter + Drop>(
 fn deliver_each<R: Abort + AllocGlobal, K: Keeper>(
     rt: &R,
     keeper: &mut K,
-    rows: &[Row],
+    rows: &[Exchange],
 ) -> Result<(), Fail> {
     hear_each(rt, keeper, &deliveries_of(rt.alloc(), rows)?);
     Ok(())

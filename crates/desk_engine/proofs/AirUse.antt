@@ -18,9 +18,9 @@ use Rattle.registry_core.specs.Reports.{IsUse, Use, in_band, is_in_band, uplinks
 use Rattle.registry_core.specs.State.{State}
 use Rattle.desk_engine.specs.declared.uses.Use.{Use as CountedUse}
 use Rattle.desk_wire.specs.Hexadecimal.{eui_digits}
-use Rattle.desk_engine.specs.Reports.{band_columns, band_line, device_line}
+use Rattle.desk_engine.specs.Reports.{band_columns, band_line, device_use_line}
 use Rattle.desk_engine.specs.Lines.{line_feed}
-use Rattle.desk_engine.specs.steps.Uses.{HasColumns, line_of_device, use_shown, use_computed}
+use Rattle.desk_engine.specs.steps.Uses.{HasColumns, owner_report_line, use_shown, use_computed}
 
 -- ---- the use of intervals
 
@@ -89,8 +89,8 @@ more_bands header f done band text new line is added told =
     added ∙ ap (λ l. text ++ l) told ∙ ap (λ l. l ++ f band) is ∙ append_assoc header (flat_map f done) (f band) ∙ ap (λ l. header ++ l) (sym (flat_push f done band))
 
 pub device_line_is : (s : State) (from to : ℤ) (device : ℕ) (digits columns shown line : List ℕ) (uplinks : ℕ) → HasColumns (uplinks_from s.uplinks s.sessions device from to) bands uplinks columns
-    → digits ≡ eui_digits device → shown ≡ columns → line ≡ digits ++ (codes "," ++ (decimal uplinks ++ (shown ++ line_feed ∷ []))) → line ≡ line_of_device s from to device
-unfolding line_of_device device_line
+    → digits ≡ eui_digits device → shown ≡ columns → line ≡ digits ++ (codes "," ++ (decimal uplinks ++ (shown ++ line_feed ∷ []))) → line ≡ owner_report_line s from to device
+unfolding owner_report_line device_use_line
 device_line_is s from to device digits columns shown line uplinks has digits_are shown_are is =
     let sent = uplinks_from s.uplinks s.sessions device from to in
     let f : List ℕ → ℕ → List ℕ → List ℕ = λ d n c. d ++ (codes "," ++ (decimal n ++ (c ++ line_feed ∷ []))) in

@@ -27,8 +27,8 @@ use Rattle.desk_engine.specs.declared.lists.ListOf.{ListOf}
 use Rattle.desk_engine.specs.declared.lists.ListOf.TheVariants.{Senders, Owners, Gateways, Devices}
 use Rattle.desk_engine.specs.Lines.{line_feed}
 use Rattle.desk_engine.specs.InOrder.{entries_of, entry_at, kept_after}
-use Rattle.desk_engine.specs.Listing.{IsList, IsOwnerList, IsSenderList, device_text, gateway_line, last_heard, latest_of, or_empty, device_line, owner_line, owners_header, table_text}
-use Rattle.desk_engine.specs.steps.Listing.{IsListOf, IsTraffic, device_columns, owner_in, owners_in, session_columns, sessions_text, traffic_columns}
+use Rattle.desk_engine.specs.Listing.{IsList, IsOwnerList, IsSenderList, device_text, gateway_line, last_heard, latest_of, or_empty, device_list_line, owner_line, owners_header, table_text}
+use Rattle.desk_engine.specs.steps.Listing.{IsListOf, IsTraffic, device_list_columns, owner_in, owners_in, session_columns, sessions_text, traffic_columns}
 
 -- ---- owners
 
@@ -94,13 +94,13 @@ next_is : (f : ℕ → ℕ) (o : Option ℕ) → or_empty decimal (option_map f 
 next_is f None = refl
 next_is f (Some n) = refl
 
-pub line_is : (c : Settings) (s : State) (dev_eui : ℕ) (device : Device) (sessions rest text : List ℕ) → rest ≡ sessions_text c s dev_eui sessions → text ≡ device_columns dev_eui device rest
-    → text ≡ device_line c s dev_eui device sessions
-unfolding device_line
+pub line_is : (c : Settings) (s : State) (dev_eui : ℕ) (device : Device) (sessions rest text : List ℕ) → rest ≡ sessions_text c s dev_eui sessions → text ≡ device_list_columns dev_eui device rest
+    → text ≡ device_list_line c s dev_eui device sessions
+unfolding device_list_line
 line_is c s dev_eui device sessions rest text rest_is is =
     let latest : Option ℕ = latest_of sessions in
-    is ∙ ap (device_columns dev_eui device) rest_is
-    ∙ ap (λ l. device_columns dev_eui device (session_columns (length sessions) (or_empty (λ n. addr_digits (address_of c n)) latest) (or_empty decimal (last_nonce s.sessions dev_eui))
+    is ∙ ap (device_list_columns dev_eui device) rest_is
+    ∙ ap (λ l. device_list_columns dev_eui device (session_columns (length sessions) (or_empty (λ n. addr_digits (address_of c n)) latest) (or_empty decimal (last_nonce s.sessions dev_eui))
     (or_empty decimal (option_and_then (last_counter s.uplinks) latest) ++ (codes "," ++ (l ++ (codes "," ++ (or_empty decimal (option_and_then (last_start s.uplinks) latest) ++ line_feed ∷ [])))))))
     (next_is (next_down s.bookings s.uplinks) latest)
 

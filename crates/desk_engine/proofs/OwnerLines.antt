@@ -12,7 +12,7 @@ use Rattle.duty_core.specs.Laws.{PeakIsComputed}
 use Rattle.registry_core.specs.Reports.{IsNextDevice, in_band, is_after, is_owned, uplinks_from}
 use Rattle.registry_core.specs.State.{State}
 use Rattle.desk_engine.specs.Reports.{IsOwnerReport, owner_header}
-use Rattle.desk_engine.specs.steps.Uses.{HasLines, line_of_device, use_computed}
+use Rattle.desk_engine.specs.steps.Uses.{HasLines, owner_report_line, use_computed}
 use Rattle.desk_engine.proofs.AirUse.{flat_push, is_use}
 
 -- ---- rising numbers
@@ -91,7 +91,7 @@ text_more : (header all line text told : List ℕ) → text ≡ header ++ all �
 text_more header all line text told is same = rw (is, same) (append_assoc header all told)
 
 more_lines : (s : State) (owner : List ℕ) (from to : ℤ) (last : Option ℕ) (text line : List ℕ) (n : ℕ) → HasLines s owner from to last text → IsNextDevice s owner last (Some n)
-    → line ≡ line_of_device s from to n → HasLines s owner from to (Some n) (text ++ line)
+    → line ≡ owner_report_line s from to n → HasLines s owner from to (Some n) (text ++ line)
 more_lines s owner from to last text line n has next told =
     let own = and_parts (is_owned s owner n) (is_after last n) (next.owned n refl) in
     record {
@@ -99,13 +99,13 @@ more_lines s owner from to last text line n has next told =
       rising = rising_more has.devices n has.rising
           (λ d among. below_next last d n (and_parts (is_owned s owner d) (not (is_after last d)) (sym (has.owned d) ∙ among)).1 own.1);
       owned = λ d. list_any-append (λ other. other == d) has.devices (n ∷ []) ∙ ap (λ b. b || (n == d || false)) (has.owned d) ∙ owned_more s owner last n d next;
-      text_is = text_more owner_header (flat_map (line_of_device s from to) has.devices) line text (line_of_device s from to n) has.text_is told
-          ∙ ap (λ l. owner_header ++ l) (sym (flat_push (line_of_device s from to) has.devices n));
+      text_is = text_more owner_header (flat_map (owner_report_line s from to) has.devices) line text (owner_report_line s from to n) has.text_is told
+          ∙ ap (λ l. owner_header ++ l) (sym (flat_push (owner_report_line s from to) has.devices n));
     }
 
 pub lines_on : (s : State) (owner : List ℕ) (from to : ℤ) (last : Option ℕ) (text new : List ℕ) (n : ℕ) → HasLines s owner from to last text → IsNextDevice s owner last (Some n)
-    → new ≡ text ++ line_of_device s from to n → HasLines s owner from to (Some n) new
-lines_on s owner from to last text new n has next added = rw added (more_lines s owner from to last text (line_of_device s from to n) n has next refl)
+    → new ≡ text ++ owner_report_line s from to n → HasLines s owner from to (Some n) new
+lines_on s owner from to last text new n has next added = rw added (more_lines s owner from to last text (owner_report_line s from to n) n has next refl)
 
 none_after : (owned after : Bool) → (owned ≡ true → after ≡ true → ⊥) → (owned && not after) ≡ owned
 none_after true true none = absurd (none refl refl)
@@ -115,7 +115,7 @@ none_after false after none = refl
 -- past the last device the text is the report
 all_lines : PeakIsComputed → (s : State) (owner : List ℕ) (from to : ℤ) (last : Option ℕ) (text : List ℕ) → HasLines s owner from to last text → IsNextDevice s owner last None
     → IsOwnerReport s owner from to text
-unfolding line_of_device
+unfolding owner_report_line
 all_lines computed s owner from to last text has next = record {
   devices = has.devices;
   rising = has.rising;

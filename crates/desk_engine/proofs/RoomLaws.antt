@@ -28,7 +28,7 @@ use Rattle.registry_core.specs.Decision.{Decision, decision_or_refusal}
 use Rattle.registry_core.specs.Derived.{address_of}
 use Rattle.registry_core.specs.DownlinkLaws.{DownlinksAreShort, tells_booking}
 use Rattle.registry_core.specs.Downlinks.{down_added, down_book, on_air}
-use Rattle.registry_core.specs.Frames.{counts_as, downlink_to, frame_at, goes_to}
+use Rattle.registry_core.specs.Frames.{counts_as, downlink_to, frame_at_rate, goes_to}
 use Rattle.registry_core.specs.Heard.{state_of}
 use Rattle.registry_core.specs.Numbered.{item_at}
 use Rattle.registry_core.specs.Rules.{RulesAreKept}
@@ -136,7 +136,7 @@ last_two c s number gateway window octets uplink copy band there heard lies =
     let rate : Rate = rate_in window copy.rate in
     let last : Checked Decision = down_added s number gateway band start (on_air start rate octets) in
     after_wants last (s.gateways gateway) UnknownGateway _ refl (after_known last (item_at s.uplinks number) uplink NoUplink _ refl there (after_known last (s.copies number gateway) copy NoUplink _ refl heard
-    (after_needs last (downlink_to uplink.kind (frame_at rate.dr octets)) BadFrame _ refl (λ down _.
+    (after_needs last (downlink_to uplink.kind (frame_at_rate rate.dr octets)) BadFrame _ refl (λ down _.
     after_wants last (goes_to (address_of c uplink.session) down) UnknownDevAddr _ refl (after_wants last (not (is_answered s.bookings number)) Answered _ refl
     (after_wants last (counts_as (next_down s.bookings s.uplinks uplink.session) down) DownCounter _ refl (after_known last (band_at rate.freq rate.dr) band OutOfBand _ refl lies (λ air. refl))))))))
 

@@ -100,8 +100,8 @@ latest_of sessions = slice_get sessions (length sessions - 1)
 -- A device's line, by the numbers of its sessions: its DevEUI, its JoinEUI, its owner, and how many sessions it has; the address of its
 -- latest session; the device's last nonce; and of the latest session the last counter, the next downlink counter, and the greatest start of
 -- its uplinks in microseconds since 1970 UTC.
-unfoldable pub device_line : Settings → State → ℕ → Device → List ℕ → List ℕ
-device_line c s dev_eui device sessions = let latest = latest_of sessions in
+unfoldable pub device_list_line : Settings → State → ℕ → Device → List ℕ → List ℕ
+device_list_line c s dev_eui device sessions = let latest = latest_of sessions in
     eui_digits dev_eui
     ++ (codes "," ++ (eui_digits device.join_eui
     ++ (codes "," ++ (device.owner
@@ -114,14 +114,14 @@ device_line c s dev_eui device sessions = let latest = latest_of sessions in
     ++ line_feed ∷ []))))))))))))))))
 
 -- the line of the device with this DevEUI, if there is one
-abbrev pub line_of_device : Settings → State → ℕ → List ℕ
-line_of_device c s dev_eui = option_map_or (λ device. device_line c s dev_eui device (sessions_of s.sessions dev_eui)) (s.devices dev_eui) []
+abbrev pub listed_device_line : Settings → State → ℕ → List ℕ
+listed_device_line c s dev_eui = option_map_or (λ device. device_list_line c s dev_eui device (sessions_of s.sessions dev_eui)) (s.devices dev_eui) []
 
 pub record IsDeviceList (c : Settings) (s : State) (text : List ℕ) : Type 0 where
   -- the DevEUIs, each once, in order
   pub devices : List ℕ
   pub devices_are : AreDevices (has_device s) devices
-  pub text_is : text ≡ table_text devices_header (line_of_device c s) devices
+  pub text_is : text ≡ table_text devices_header (listed_device_line c s) devices
 
 -- ---- a list
 
@@ -150,7 +150,7 @@ is_device s text = is_some (eui_of_digits text >>= s.devices)
 
 -- the header, and the device's line
 abbrev pub device_text : Settings → State → List ℕ → List ℕ
-device_text c s text = devices_header ++ option_map_or (line_of_device c s) (eui_of_digits text) []
+device_text c s text = devices_header ++ option_map_or (listed_device_line c s) (eui_of_digits text) []
 
 -- why there is no text of a device
 abbrev pub IsDeviceFault : State → List ℕ → ReportFault → Type 0

@@ -23,8 +23,8 @@ abbrev pub band_columns : Use → List ℕ
 band_columns used = codes "," ++ (decimal used.airtime ++ (codes "," ++ decimal used.peak))
 
 -- a device's line: its DevEUI, the number of its uplinks, and its use of each band
-unfoldable pub device_line : ℕ → ℕ → (Band → Use) → List ℕ
-device_line dev_eui uplinks used =
+unfoldable pub device_use_line : ℕ → ℕ → (Band → Use) → List ℕ
+device_use_line dev_eui uplinks used =
     eui_digits dev_eui ++ (codes "," ++ (decimal uplinks ++ (flat_map (λ band. band_columns (used band)) bands ++ line_feed ∷ [])))
 
 -- there is an owner of this name; a text without the form of a name is no owner's
@@ -40,7 +40,7 @@ pub record IsOwnerReport (s : State) (owner : List ℕ) (from to : ℤ) (text : 
   -- each device's use of each band
   pub used : ℕ → Band → Use
   pub used_is : (dev_eui : ℕ) (band : Band) → IsUse (in_band band (uplinks_from s.uplinks s.sessions dev_eui from to)) (used dev_eui band)
-  pub text_is : text ≡ table_text owner_header (λ dev_eui. device_line dev_eui (length (uplinks_from s.uplinks s.sessions dev_eui from to)) (used dev_eui)) devices
+  pub text_is : text ≡ table_text owner_header (λ dev_eui. device_use_line dev_eui (length (uplinks_from s.uplinks s.sessions dev_eui from to)) (used dev_eui)) devices
 
 -- two states agree on an owner, on its devices and on their uplinks
 pub record AgreeOn (owner : List ℕ) (s t : State) : Type 0 where

@@ -5,8 +5,8 @@ ghost use Rattle.std.specs.String.{string_bytes};
 ghost use Rattle.registry_core.specs.Listing.{sessions_of};
 ghost use Rattle.desk_store.specs.Calls.{IsRead, Tells, fault_in};
 ghost use Rattle.desk_wire.specs.Hexadecimal.{addr_digits};
-ghost use Rattle.desk_engine.specs.Listing.{IsDeviceList, device_line, devices_header, latest_of, line_of_device, or_empty};
-ghost use Rattle.desk_engine.specs.steps.Listing.{IsTraffic, device_columns, session_columns, sessions_text, traffic_columns};
+ghost use Rattle.desk_engine.specs.Listing.{IsDeviceList, device_list_line, devices_header, latest_of, listed_device_line, or_empty};
+ghost use Rattle.desk_engine.specs.steps.Listing.{IsTraffic, device_list_columns, session_columns, sessions_text, traffic_columns};
 
 use crate::columns::{counter_or_empty, number_or_empty};
 use crate::tables::{TextOf, table};
@@ -39,7 +39,7 @@ pub(crate) fn device_with_header<K: Keeper>(
 ) -> Result<String, StoreFault>
     ensures read { IsRead K.meaning keeper.old keeper.new (fault_in result) }
     ensures told { Tells K.meaning keeper.old keeper.new result (λ kept text. string_bytes text
-        ≡ devices_header ++ device_line (K.meaning.configuration keeper.old) kept.facts dev_eui device.now (sessions_of kept.facts.sessions dev_eui)) }
+        ≡ devices_header ++ device_list_line (K.meaning.configuration keeper.old) kept.facts dev_eui device.now (sessions_of kept.facts.sessions dev_eui)) }
 {
     let line = line_of(alloc, keeper, dev_eui, device)?;
     let mut text = String::new(alloc);
@@ -52,7 +52,7 @@ pub(crate) fn device_with_header<K: Keeper>(
 struct DeviceLine;
 
 impl TextOf<Eui> for DeviceLine {
-    ghost written = { λ _ c kept dev_eui. line_of_device c kept.facts dev_eui };
+    ghost written = { λ _ c kept dev_eui. listed_device_line c kept.facts dev_eui };
 
     fn text<K: Keeper>(
         &self,
@@ -76,10 +76,10 @@ fn line_of<K: Keeper>(
 ) -> Result<String, StoreFault>
     ensures read { IsRead K.meaning keeper.old keeper.new (fault_in result) }
     ensures told { Tells K.meaning keeper.old keeper.new result (λ kept text. string_bytes text
-        ≡ device_line (K.meaning.configuration keeper.old) kept.facts dev_eui device.now (sessions_of kept.facts.sessions dev_eui)) }
+        ≡ device_list_line (K.meaning.configuration keeper.old) kept.facts dev_eui device.now (sessions_of kept.facts.sessions dev_eui)) }
 {
     let rest = sessions_text(alloc, keeper, dev_eui)?;
-    Ok(device_columns(alloc, dev_eui, device, rest.as_str())?)
+    Ok(device_list_columns(alloc, dev_eui, device, rest.as_str())?)
 }
 
 /// Returns the columns of a device's sessions, the last of its line, with LF.
@@ -199,13 +199,13 @@ fn session_columns(
 }
 
 /// Returns the columns of a device, followed by the rest of the line.
-fn device_columns(
+fn device_list_columns(
     alloc: Global,
     dev_eui: Eui,
     device: &Device,
     rest: &str,
 ) -> Result<String, AllocError>
-    ensures { IfOk result (λ text. string_bytes text ≡ device_columns dev_eui device.now rest.now) }
+    ensures { IfOk result (λ text. string_bytes text ≡ device_list_columns dev_eui device.now rest.now) }
 {
     let dev_eui = eui_digits(alloc, dev_eui)?;
     let join_eui = eui_digits(alloc, device.join_eui)?;

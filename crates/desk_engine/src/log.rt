@@ -9,7 +9,7 @@ ghost use Rattle.desk_engine.specs.Log.{LogEndBy, fault_of_log, log_of, message_
 ghost use Rattle.desk_engine.specs.steps.Logs.{log_line, log_lines};
 
 use crate::writes::write_octets;
-use desk_store::{Keeper, StoreFault, Texts};
+use desk_store::{EntryTexts, Keeper, StoreFault};
 use desk_wire::decimal_of;
 use registry_core::Whole;
 use std::io::Write;
@@ -103,7 +103,7 @@ fn line_at<K: Keeper>(
     ensures told { Tells K.meaning keeper.old keeper.new result
         (λ kept line. option_map (λ line. line.items) line ≡ option_map (log_line which) (item_at kept.entries number)) }
 {
-    let Some(Texts { message, answer }) = keeper.entry(number)? else {
+    let Some(EntryTexts { message, answer }) = keeper.entry(number)? else {
         return Ok(None);
     };
     let mut line = match which {

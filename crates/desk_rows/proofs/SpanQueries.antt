@@ -30,7 +30,7 @@ use Rattle.desk_rows.specs.order.Arranged.{booking_span, by_start, is_near_at, n
 use Rattle.desk_rows.specs.order.Listed.{bookings_listed}
 use Rattle.desk_rows.specs.steps.Queries.{FindsAll}
 use Rattle.desk_rows.specs.steps.Shown.{near_booking_shown, span_shown}
-use Rattle.desk_rows.specs.steps.Texts.{AsksFor, between_asked, bookings_asked, near_asked}
+use Rattle.desk_rows.specs.steps.Texts.{AsksFor, bookings_asked, bookings_between_asked, near_asked}
 use Rattle.desk_rows.specs.declared.faults.RowFault.{RowFault}
 use Rattle.desk_rows.proofs.AnsweredUplinks.{stands}
 use Rattle.desk_rows.proofs.Lookups.{says_so}
@@ -139,7 +139,7 @@ module _ {sql : List ℕ} {names : List (List ℕ)} (means : AsksFor sql 3 near_
 
 -- ---- between two starts
 
-module _ {sql : List ℕ} {names : List (List ℕ)} (means : AsksFor sql 3 between_asked names) {old new : State} (gateway : List ℕ) (from to : ℤ) where
+module _ {sql : List ℕ} {names : List (List ℕ)} (means : AsksFor sql 3 bookings_between_asked names) {old new : State} (gateway : List ℕ) (from to : ℤ) where
   pub reads_between : {result : Result (Vec ℕ Global) RowFault} → FindsAll sql (Text gateway ∷ Int from ∷ Int to ∷ []) old new
       (λ n. n) (λ n. number n ∷ []) (λ n. Unit {0}) result
       → Reads old new result (λ r numbers. numbers.items ≡ bookings_listed gateway from to r)

@@ -8,7 +8,7 @@ ghost use Rattle.registry_core.specs.Bookings.{is_answer_to};
 ghost use Rattle.registry_core.specs.Numbered.{item_at, item_changed};
 ghost use Rattle.registry_core.specs.Ranges.{IsName};
 ghost use Rattle.desk_rows.specs.steps.Shown.{booking_shown};
-ghost use Rattle.desk_rows.specs.steps.Texts.{AsksFor, answer_asked, between_asked};
+ghost use Rattle.desk_rows.specs.steps.Texts.{AsksFor, answer_asked, bookings_between_asked};
 ghost use Rattle.sqlite.specs.Held.{state};
 ghost use Rattle.desk_rows.specs.Rows.{BookingRow, last_number};
 ghost use Rattle.desk_rows.specs.order.Changes.{ended_row};
@@ -18,7 +18,7 @@ ghost use Rattle.desk_rows.specs.Calls.{Changes, Reads, ReadsFirst};
 use crate::columns::{band_at, name_at, number_at, span_at, standing_at};
 use crate::faults::RowFault;
 use crate::queries::{FromRow, find, find_all, is_found};
-use crate::values::{band, integer, kind, len, number, standing, start, text, whole};
+use crate::values::{band, integer, json_integer, kind, len, standing, start, text, unsigned};
 use crate::writes::write;
 use radio_core::Name;
 use registry_core::{Booking, Kind, Standing, Whole};
@@ -60,7 +60,7 @@ pub fn booking<S: Alter>(
     find(
         conn,
         "SELECT uplink, gateway, band, start, airtime, state FROM booking WHERE number = ?1 ORDER BY number",
-        &[whole(number)],
+        &[json_integer(number)],
     )
 }
 
@@ -76,7 +76,7 @@ fn answer_text() -> &'static str
 pub fn is_answered<S: Alter>(conn: &mut Connection<S>, uplink: Whole) -> Result<bool, RowFault>
     ensures { Reads (state S.Store conn.old) (state S.Store conn.new) result (λ r answered. answered ≡ list_any (λ row. is_answer_to uplink row.booking) r.bookings) }
 {
-    is_found(conn, answer_text(), &[whole(uplink)])
+    is_found(conn, answer_text(), &[json_integer(uplink)])
 }
 
 /// Returns the number of the last booking, `None` if there is none.
@@ -94,7 +94,7 @@ pub fn last_booking<S: Alter>(conn: &mut Connection<S>) -> Result<Option<u64>, R
 /// Returns the SQL text of the look-up of the numbers of a gateway's bookings in a range of starts.
 #[tactic(auto, unfolding(sqlite::specs::Listing::understood, sqlite_tied::specs::Compute::everything))]
 fn between_text() -> &'static str
-    ensures { AsksFor result.now 3 between_asked (codes "number" ∷ []) }
+    ensures { AsksFor result.now 3 bookings_between_asked (codes "number" ∷ []) }
 {
     "SELECT number FROM booking WHERE gateway = ?1 AND start >= ?2 AND start < ?3 ORDER BY start, number"
 }
@@ -134,9 +134,9 @@ pub fn insert_booking<S: Alter>(
         tx,
         "INSERT INTO booking (uplink, gateway, session, kind, band, start, airtime, state) VALUES (?1, ?2, ?3, ?4, ?5, ?6, ?7, ?8)",
         &[
-            number(booking.uplink),
+            unsigned(booking.uplink),
             text(&booking.gateway),
-            number(session),
+            unsigned(session),
             kind(answers),
             band(booking.band),
             start(booking.span),
@@ -171,6 +171,6 @@ pub fn end_booking<S: Alter>(
     write(
         tx,
         "UPDATE booking SET state = ?2 WHERE number = ?1",
-        &[whole(number), standing(ended(sent))],
+        &[json_integer(number), standing(ended(sent))],
     )
 }

@@ -97,7 +97,7 @@ pub(crate) fn octets_at(row: &Row, at: usize) -> Result<Vec<u8>, RowFault>
     }
 }
 
-pub(crate) fn frame_at(row: &Row, at: usize) -> Result<Octets, RowFault>
+pub(crate) fn frame_column(row: &Row, at: usize) -> Result<Octets, RowFault>
     ensures reads { ReadsAt Blob (λ octets. length octets ≤ 255) row.now at result }
     ensures stands { StandsAt Blob row.now at result }
 {

@@ -15,7 +15,7 @@ ghost use Rattle.sqlite_value.specs.declared.value.Value.TheVariants.{Null};
 use crate::columns::{data_rate_at, whole_at, word_at};
 use crate::faults::RowFault;
 use crate::queries::{FromRow, find, find_all};
-use crate::values::{data_rate, number, text, whole, word};
+use crate::values::{data_rate, json_integer, text, unsigned, word};
 use crate::writes::write;
 use radio_core::{Name, Rate};
 use registry_core::{Reception, Whole};
@@ -53,7 +53,7 @@ pub fn copy_at<S: Alter>(
     find(
         conn,
         "SELECT ended, freq, dr FROM copy WHERE uplink = ?1 AND gateway = ?2 ORDER BY rowid",
-        &[whole(uplink), text(gateway)],
+        &[json_integer(uplink), text(gateway)],
     )
 }
 
@@ -73,7 +73,7 @@ pub fn gateways_of<S: Alter>(
 ) -> Result<Vec<Name>, RowFault>
     ensures { Reads (state S.Store conn.old) (state S.Store conn.new) result (λ r all. all.items ≡ gateways_listed uplink r.copies) }
 {
-    find_all(alloc, conn, gateways_text(), &[whole(uplink)])
+    find_all(alloc, conn, gateways_text(), &[json_integer(uplink)])
 }
 
 /// The text of the statement that adds a copy.
@@ -100,9 +100,9 @@ pub fn insert_copy<S: Alter>(
         tx,
         copy_text(),
         &[
-            number(uplink),
+            unsigned(uplink),
             text(gateway),
-            whole(copy.end),
+            json_integer(copy.end),
             word(copy.rate.freq),
             data_rate(copy.rate.dr),
         ],

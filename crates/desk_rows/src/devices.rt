@@ -20,7 +20,7 @@ ghost use Rattle.desk_rows.specs.order.Keys.{HasOnly, floor_set};
 use crate::columns::{eui_at, name_at, number_at};
 use crate::faults::RowFault;
 use crate::queries::{FromRow, find, find_all};
-use crate::values::{blob, octets_of, text, whole};
+use crate::values::{blob, json_integer, octets_of, text};
 use crate::writes::write;
 use radio_core::{Eui, Name};
 use registry_core::{Device, Whole};
@@ -258,6 +258,6 @@ pub fn set_floor<S: Alter>(
     write(
         tx,
         "UPDATE device SET floor = ?2 WHERE eui = ?1",
-        &[blob(&eui), whole(session)],
+        &[blob(&eui), json_integer(session)],
     )
 }

@@ -46,10 +46,10 @@ pub use making::{create_tables, insert_settings};
 pub use meta::read_settings;
 pub use migrating::{create_limits, raise_version};
 pub use owners::{insert_owner, last_owner, owner_is_known, owner_names};
-pub use replies::{Texts, insert_reply, last_reply, last_transaction, texts_at, texts_of};
+pub use replies::{ReplyTexts, insert_reply, last_reply, last_transaction, texts_at, texts_of};
 pub use senders::{insert_sender, last_sender, role_of, sender_names};
 pub use sessions::{
-    insert_session, last_nonce, last_session, next_down, session, session_with, sessions_of,
+    insert_session, last_nonce, last_session, next_down, session, session_with_nonce, sessions_of,
     set_next_down,
 };
 pub use spans::{bookings_of, near, uplinks_of};

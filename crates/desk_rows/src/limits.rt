@@ -13,7 +13,7 @@ ghost use Rattle.sqlite_sql.specs.Term.{col};
 
 use crate::faults::RowFault;
 use crate::queries::find;
-use crate::values::{band, number, text};
+use crate::values::{band, text, unsigned};
 use crate::writes::write;
 use radio_core::{Band, Name};
 use registry_core::BandLimit;
@@ -59,7 +59,7 @@ pub fn insert_limit<S: Alter>(
     write(
         tx,
         "INSERT INTO band_limit (gateway, band, value) VALUES (?1, ?2, ?3)",
-        &[text(gateway), band(limit.band()), number(limit.most())],
+        &[text(gateway), band(limit.band()), unsigned(limit.most())],
     )
 }
 
@@ -85,6 +85,6 @@ pub fn change_limit<S: Alter>(
     write(
         tx,
         limit_text(),
-        &[text(gateway), band(limit.band()), number(limit.most())],
+        &[text(gateway), band(limit.band()), unsigned(limit.most())],
     )
 }

@@ -14,7 +14,7 @@ ghost use Rattle.sqlite_sql.specs.Term.{col};
 use crate::columns::octets_at;
 use crate::faults::RowFault;
 use crate::queries::{FromRow, find};
-use crate::values::{blob, text, whole, word};
+use crate::values::{blob, json_integer, text, word};
 use crate::writes::write;
 use radio_core::Name;
 use registry_core::Whole;
@@ -22,12 +22,12 @@ use sqlite::{Alter, Connection, Row, Transaction};
 
 /// The texts of a message that was heard and of its answer.
 #[derive(Drop)]
-pub struct Texts {
+pub struct ReplyTexts {
     pub message: Vec<u8>,
     pub answer: Vec<u8>,
 }
 
-impl FromRow for Texts {
+impl FromRow for ReplyTexts {
     ghost Seen = { List ℕ × List ℕ };
 
     ghost seen = { kept_texts };
@@ -36,10 +36,10 @@ impl FromRow for Texts {
 
     ghost InRange = { λ t. Unit {0} };
 
-    fn from_row(row: &Row) -> Result<Texts, RowFault> {
+    fn from_row(row: &Row) -> Result<ReplyTexts, RowFault> {
         let message = octets_at(row, 0)?;
         let answer = octets_at(row, 1)?;
-        Ok(Texts { message, answer })
+        Ok(ReplyTexts { message, answer })
     }
 }
 
@@ -56,7 +56,7 @@ pub fn texts_of<S: Alter>(
     conn: &mut Connection<S>,
     sender: &Name,
     number: u32,
-) -> Result<Option<Texts>, RowFault>
+) -> Result<Option<ReplyTexts>, RowFault>
     ensures { Reads (state S.Store conn.old) (state S.Store conn.new) result
         (λ r texts. option_map kept_texts texts ≡ option_map reply_texts (find (is_reply sender.now number) r.replies)) }
 {
@@ -75,11 +75,11 @@ fn numbered_reply_text() -> &'static str
 pub fn texts_at<S: Alter>(
     conn: &mut Connection<S>,
     number: Whole,
-) -> Result<Option<Texts>, RowFault>
+) -> Result<Option<ReplyTexts>, RowFault>
     ensures { Reads (state S.Store conn.old) (state S.Store conn.new) result
         (λ r texts. option_map kept_texts texts ≡ option_map reply_texts (item_at r.replies number)) }
 {
-    find(conn, numbered_reply_text(), &[whole(number)])
+    find(conn, numbered_reply_text(), &[json_integer(number)])
 }
 
 /// Returns the number of the last message that was heard, `None` if there is none.

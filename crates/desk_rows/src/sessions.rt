@@ -16,7 +16,7 @@ ghost use Rattle.desk_rows.specs.steps.Texts.{AsksFor, next_down_asked};
 use crate::columns::{eui_at, short_at};
 use crate::faults::RowFault;
 use crate::queries::{FromRow, find, find_all};
-use crate::values::{blob, octets_of, short, whole};
+use crate::values::{blob, json_integer, octets_of, short};
 use crate::writes::write;
 use radio_core::Eui;
 use registry_core::{Session, Whole};
@@ -49,7 +49,7 @@ pub fn session<S: Alter>(
     find(
         conn,
         "SELECT device, nonce FROM session WHERE number = ?1 ORDER BY number",
-        &[whole(number)],
+        &[json_integer(number)],
     )
 }
 
@@ -65,11 +65,11 @@ fn next_down_text() -> &'static str
 pub fn next_down<S: Alter>(conn: &mut Connection<S>, number: Whole) -> Result<Option<u64>, RowFault>
     ensures { Reads (state S.Store conn.old) (state S.Store conn.new) result (λ r counter. counter ≡ option_map (λ row. row.next_down) (item_at r.sessions number)) }
 {
-    find(conn, next_down_text(), &[whole(number)])
+    find(conn, next_down_text(), &[json_integer(number)])
 }
 
 /// Returns the number of the session of the device with this nonce, `None` if there is none.
-pub fn session_with<S: Alter>(
+pub fn session_with_nonce<S: Alter>(
     conn: &mut Connection<S>,
     device: Eui,
     nonce: u16,
@@ -175,6 +175,6 @@ pub fn set_next_down<S: Alter>(
     write(
         tx,
         "UPDATE session SET next_down = ?2 WHERE number = ?1",
-        &[whole(session), whole(next_down)],
+        &[json_integer(session), json_integer(next_down)],
     )
 }

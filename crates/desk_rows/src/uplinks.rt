@@ -13,10 +13,10 @@ ghost use Rattle.desk_rows.specs.steps.Latest.{last_start_asked};
 ghost use Rattle.desk_rows.specs.steps.Shown.{uplink_shown};
 ghost use Rattle.desk_rows.specs.steps.Texts.{AsksFor, uplinks_between_asked};
 
-use crate::columns::{band_at, frame_at, kind_at, number_at, whole_at, word_at};
+use crate::columns::{band_at, frame_column, kind_at, number_at, whole_at, word_at};
 use crate::faults::RowFault;
 use crate::queries::{FromRow, find, find_all};
-use crate::values::{band, blob, frame, integer, kind, number, octets_of, whole, word};
+use crate::values::{band, blob, frame, integer, json_integer, kind, octets_of, unsigned, word};
 use crate::writes::write;
 use radio_core::Eui;
 use registry_core::{Kind, Uplink, Whole};
@@ -37,7 +37,7 @@ impl FromRow for (u64, Uplink) {
         let session = number_at(row, 1)?;
         let kind = kind_at(row, 2)?;
         let counter = word_at(row, 3)?;
-        let octets = frame_at(row, 4)?;
+        let octets = frame_column(row, 4)?;
         let start = whole_at(row, 5)?;
         let airtime = word_at(row, 6)?;
         let band = band_at(row, 7)?;
@@ -64,7 +64,7 @@ pub fn uplink<S: Alter>(
     find(
         conn,
         "SELECT number, session, kind, counter, octets, start, airtime, band FROM uplink WHERE number = ?1 ORDER BY number",
-        &[whole(number)],
+        &[json_integer(number)],
     )
 }
 
@@ -80,7 +80,7 @@ pub fn uplink_with<S: Alter>(
     find(
         conn,
         "SELECT number, session, kind, counter, octets, start, airtime, band FROM uplink WHERE session = ?1 AND kind = ?2 AND counter = ?3 ORDER BY number",
-        &[whole(session), kind(of), word(counter)],
+        &[json_integer(session), kind(of), word(counter)],
     )
 }
 
@@ -120,7 +120,7 @@ pub fn last_counter<S: Alter>(
     find(
         conn,
         "SELECT counter FROM uplink WHERE session = ?1 AND kind = 1 ORDER BY counter DESC, number DESC LIMIT 1",
-        &[whole(session)],
+        &[json_integer(session)],
     )
 }
 
@@ -139,7 +139,7 @@ pub fn last_start<S: Alter>(
 ) -> Result<Option<u64>, RowFault>
     ensures { Reads (state S.Store conn.old) (state S.Store conn.new) result (λ r start. start ≡ last_start r.uplinks session) }
 {
-    find(conn, last_start_text(), &[whole(session)])
+    find(conn, last_start_text(), &[json_integer(session)])
 }
 
 /// Returns the SQL text of the look-up of the numbers of a device's uplinks in a range of starts.
@@ -181,11 +181,11 @@ pub fn insert_uplink<S: Alter>(tx: &mut Transaction<'_, S>, uplink: &Uplink) -> 
         tx,
         "INSERT INTO uplink (session, kind, counter, octets, start, airtime, band) VALUES (?1, ?2, ?3, ?4, ?5, ?6, ?7)",
         &[
-            number(uplink.session),
+            unsigned(uplink.session),
             kind(uplink.kind),
             word(uplink.counter),
             frame(&uplink.octets),
-            whole(uplink.start),
+            json_integer(uplink.start),
             word(uplink.airtime),
             band(uplink.band),
         ],

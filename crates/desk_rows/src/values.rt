@@ -44,7 +44,7 @@ pub(crate) fn octets_of(eui: Eui) -> [u8; 8]
 }
 
 /// Returns the number as SQLite stores it, and NULL if it is 2^63 or more, which no column of numbers accepts.
-pub(crate) fn number(n: u64) -> ValueRef<'static>
+pub(crate) fn unsigned(n: u64) -> ValueRef<'static>
     ensures { n < 2 ^ 63 → owned result ≡ number n }
 {
     match i64::try_from(n) {
@@ -53,7 +53,7 @@ pub(crate) fn number(n: u64) -> ValueRef<'static>
     }
 }
 
-pub(crate) fn whole(n: Whole) -> ValueRef<'static>
+pub(crate) fn json_integer(n: Whole) -> ValueRef<'static>
     ensures same { owned result ≡ number n }
     ensures range { IsWhole n }
 {

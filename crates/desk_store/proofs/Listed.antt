@@ -24,7 +24,7 @@ use Rattle.registry_core.specs.declared.messages.Role.{Role}
 use Rattle.registry_core.specs.Derived.{is_of_device, is_session_of}
 use Rattle.registry_core.specs.Listing.{AreDevices, AreNames, numbers_from, sessions_of}
 use Rattle.registry_core.specs.Numbered.{greatest, item_at}
-use Rattle.desk_store.specs.declared.looks.Texts.{Texts}
+use Rattle.desk_store.specs.declared.looks.EntryTexts.{EntryTexts}
 use Rattle.desk_store.specs.Devices.{devices_of}
 use Rattle.desk_store.specs.Facts.{copies_of, same_key}
 use Rattle.desk_store.specs.Kept.{Entry}
@@ -103,19 +103,19 @@ pub greatest_reduced : (ns : List ℕ) → reduce max ns ≡ greatest ns
 greatest_reduced [] = refl
 greatest_reduced (n ∷ ns) = ap Some (max_reduced n ns)
 
-key_by : (e : (ℕ × List ℕ) × Texts) (b : Bool) (keys : List (ℕ × List ℕ)) (entries : List Entry)
+key_by : (e : (ℕ × List ℕ) × EntryTexts) (b : Bool) (keys : List (ℕ × List ℕ)) (entries : List Entry)
     → map (λ (key : ℕ × List ℕ). key.0) keys ≡ map (λ entry. entry.transaction) entries
     → map (λ (key : ℕ × List ℕ). key.0) (cond b (e.0 ∷ keys) keys) ≡ map (λ entry. entry.transaction) (cond b (entry_shown e ∷ entries) entries)
 key_by e true keys entries same = ap (λ ns. e.0.0 ∷ ns) same
 key_by e false keys entries same = same
 
-keys_shown : (sender : List ℕ) (entries : List ((ℕ × List ℕ) × Texts))
+keys_shown : (sender : List ℕ) (entries : List ((ℕ × List ℕ) × EntryTexts))
     → map (λ (key : ℕ × List ℕ). key.0) (filter (is_key_of sender) (keys_of entries))
     ≡ map (λ entry. entry.transaction) (filter (is_from sender) (map entry_shown entries))
 keys_shown sender [] = refl
 keys_shown sender (e ∷ entries) = key_by e (bytes_eq e.0.1 sender) _ _ (keys_shown sender entries)
 
-pub last_heard : (sender : List ℕ) (entries : List ((ℕ × List ℕ) × Texts))
+pub last_heard : (sender : List ℕ) (entries : List ((ℕ × List ℕ) × EntryTexts))
     → reduce max (map (λ (key : ℕ × List ℕ). key.0) (filter (is_key_of sender) (keys_of entries))) ≡ last_transaction (map entry_shown entries) sender
 last_heard sender entries = greatest_reduced _ ∙ ap greatest (keys_shown sender entries)
 

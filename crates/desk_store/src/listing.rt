@@ -16,7 +16,7 @@ ghost use Rattle.desk_store.specs.Looks.{last_transaction};
 ghost use Rattle.desk_store.specs.steps.Listing.{is_copy_of, is_key_of};
 ghost use Rattle.desk_store.specs.steps.StartIndex.{place_at};
 
-use crate::looks::Texts;
+use crate::looks::EntryTexts;
 use crate::reports::Period;
 use crate::sessions::Sessions;
 use crate::start_index::{Place, numbers_at};
@@ -212,14 +212,17 @@ fn last_start_of(uplinks: &[Uplink], session: u64) -> Option<u64>
 
 /// Returns the greatest transaction number with which a message of the sender was heard.
 #[tactic(auto, using(crate::proofs::Listed::last_heard))]
-pub(crate) fn last_transaction(entries: &IndexMap<(u32, Name), Texts>, sender: &Name) -> Option<u32>
+pub(crate) fn last_transaction(
+    entries: &IndexMap<(u32, Name), EntryTexts>,
+    sender: &Name,
+) -> Option<u32>
     ensures { result ≡ last_transaction (entries_shown entries.now) sender.now }
 {
     last_transaction_of(entries, sender)
 }
 
 /// Returns the greatest transaction number under the sender's name.
-fn last_transaction_of(entries: &IndexMap<(u32, Name), Texts>, sender: &Name) -> Option<u32>
+fn last_transaction_of(entries: &IndexMap<(u32, Name), EntryTexts>, sender: &Name) -> Option<u32>
     ensures { result ≡ reduce max (map (λ key. key.0) (filter (is_key_of sender.now) (keys entries.now))) }
 {
     entries

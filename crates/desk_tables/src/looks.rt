@@ -12,7 +12,7 @@ use desk_rows::order::{arranged_rows_tell, listed_rows_tell, orders_hold};
 use desk_rows::{
     device_euis, gateway_is_known, gateway_names, owner_is_known, owner_names, sender_names,
 };
-use desk_store::{Counts, Looks, StoreFault, Texts};
+use desk_store::{Counts, EntryTexts, Looks, StoreFault};
 use duty_core::Span;
 use radio_core::{Band, Eui, Name};
 use registry_core::{
@@ -50,7 +50,7 @@ impl<S: Alter> Looks for Tables<S> {
         }
     }
 
-    fn texts_of(&mut self, envelope: &Envelope) -> Result<Option<Texts>, StoreFault> {
+    fn texts_of(&mut self, envelope: &Envelope) -> Result<Option<EntryTexts>, StoreFault> {
         if self.down {
             return Err(StoreFault::Disk);
         }
@@ -58,7 +58,7 @@ impl<S: Alter> Looks for Tables<S> {
         self.tell(answer)
     }
 
-    fn entry(&mut self, number: u64) -> Result<Option<Texts>, StoreFault> {
+    fn entry(&mut self, number: u64) -> Result<Option<EntryTexts>, StoreFault> {
         if self.down {
             return Err(StoreFault::Disk);
         }

@@ -27,7 +27,7 @@ use Rattle.registry_core.specs.AirtimeLaws.{BookingsAreDownlinks, HasDownlinkSiz
 use Rattle.registry_core.specs.Bookings.{downlinks, downlinks_in, is_answered, limit_standing, next_down}
 use Rattle.registry_core.specs.Derived.{address_of}
 use Rattle.registry_core.specs.Downlinks.{down_added, down_book, on_air}
-use Rattle.registry_core.specs.Frames.{counts_as, downlink_to, frame_at, goes_to}
+use Rattle.registry_core.specs.Frames.{counts_as, downlink_to, frame_at_rate, goes_to}
 use Rattle.registry_core.specs.Numbered.{item_at}
 use Rattle.registry_core.specs.Settings.{Settings}
 use Rattle.registry_core.specs.State.{State, ended, state_with}
@@ -66,7 +66,7 @@ none_to : (kind : Kind) (down : Downlink) → downlink_to kind None ≡ Some dow
 none_to Join down there = cc
 none_to Data down there = cc
 
-down_size : FrameIsFound → (kind : Kind) (dr : DataRate) (octets : List ℕ) (down : Downlink) → downlink_to kind (frame_at dr octets) ≡ Some down → IsDownlinkSize kind dr (length octets)
+down_size : FrameIsFound → (kind : Kind) (dr : DataRate) (octets : List ℕ) (down : Downlink) → downlink_to kind (frame_at_rate dr octets) ≡ Some down → IsDownlinkSize kind dr (length octets)
 down_size reads kind dr octets down frame = by (nat_le (length octets) (max_length dr)) refl frame
   where
     by : (b : Bool) → nat_le (length octets) (max_length dr) ≡ b → downlink_to kind (if b then frame_of octets else None) ≡ Some down → IsDownlinkSize kind dr (length octets)
@@ -92,7 +92,7 @@ book_downlink computed found reads c s number gateway window octets =
     lets_needs (New c s) tt (item_at s.uplinks number) NoUplink _ (λ uplink there.
     lets_needs (New c s) tt (s.copies number gateway) NoUplink _ (λ copy heard.
     let rate : Rate = rate_in window copy.rate in
-    lets_needs (New c s) tt (downlink_to uplink.kind (frame_at rate.dr octets)) BadFrame _ (λ down frame.
+    lets_needs (New c s) tt (downlink_to uplink.kind (frame_at_rate rate.dr octets)) BadFrame _ (λ down frame.
     lets_wants (New c s) tt (goes_to (address_of c uplink.session) down) UnknownDevAddr _ (λ address.
     lets_wants (New c s) tt (not (is_answered s.bookings number)) Answered _ (λ _.
     lets_wants (New c s) tt (counts_as (next_down s.bookings s.uplinks uplink.session) down) DownCounter _ (λ _.

@@ -22,8 +22,8 @@ use Rattle.registry_core.specs.declared.messages.Report.{Report}
 use Rattle.registry_core.specs.Checks.{Checked, unless}
 use Rattle.registry_core.specs.DataFrames.{data_added, data_copied, frame_heard, original_data}
 use Rattle.registry_core.specs.Decision.{Decision, decision_or_refusal}
-use Rattle.registry_core.specs.Derived.{data_with, is_above, is_below, is_below_floor, is_data, is_data_of, is_data_with, is_join_with, is_of_device, is_session_of, join_with, last_counter, last_nonce, session_with}
-use Rattle.registry_core.specs.Frames.{data_up, frame_at, join_request}
+use Rattle.registry_core.specs.Derived.{data_with, is_above, is_below, is_below_floor, is_data, is_data_of, is_data_with, is_join_with, is_of_device, is_session_of, join_with, last_counter, last_nonce, session_with_address}
+use Rattle.registry_core.specs.Frames.{data_up, frame_at_rate, join_request}
 use Rattle.registry_core.specs.Heard.{state_of}
 use Rattle.registry_core.specs.Joins.{is_good, join_added, join_copied, join_heard, original_join}
 use Rattle.registry_core.specs.Numbered.{first_that, greatest, item_at}
@@ -103,7 +103,7 @@ unfolding join_heard join_added
 joined_of c s report verdict h =
     let time = from_wants tells_join no_join (is_time report.time) Time _ h in
     let gateway = from_wants tells_join no_join (s.gateways report.gateway) UnknownGateway _ time.1 in
-    let frame = from_needs tells_join no_join (join_request (frame_at report.rate.dr report.octets)) BadFrame _ gateway.1 in
+    let frame = from_needs tells_join no_join (join_request (frame_at_rate report.rate.dr report.octets)) BadFrame _ gateway.1 in
     let join : JoinRequest = frame.0 in
     let band = from_needs tells_join no_join (band_at report.rate.freq report.rate.dr) OutOfBand _ frame.2 in
     let device = from_needs tells_join no_join (s.devices join.dev_eui) UnknownDevEui _ band.2 in
@@ -147,7 +147,7 @@ accepted_joins c s report verdict sound a =
     let band = band_there (band_at report.rate.freq report.rate.dr) a.reported.band in
     to_wants tells_join (is_time report.time) Time _ a.reported.time
     (to_wants tells_join (s.gateways report.gateway) UnknownGateway _ a.reported.gateway
-    (to_needs tells_join (join_request (frame_at report.rate.dr report.octets)) BadFrame _ a.join a.frame
+    (to_needs tells_join (join_request (frame_at_rate report.rate.dr report.octets)) BadFrame _ a.join a.frame
     (to_needs tells_join (band_at report.rate.freq report.rate.dr) OutOfBand _ band.0 band.1
     (to_needs tells_join (s.devices a.join.dev_eui) UnknownDevEui _ a.device a.there
     (to_wants tells_join (a.device.join_eui == a.join.join_eui) JoinEui _ (eq-eqb a.device.join_eui a.join.join_eui a.join_eui)
@@ -202,10 +202,10 @@ unfolding frame_heard data_added
 framed_of c s report verdict h =
     let time = from_wants tells_frame no_frame (is_time report.time) Time _ h in
     let gateway = from_wants tells_frame no_frame (s.gateways report.gateway) UnknownGateway _ time.1 in
-    let is_frame = from_needs tells_frame no_frame (data_up (frame_at report.rate.dr report.octets)) BadFrame _ gateway.1 in
+    let is_frame = from_needs tells_frame no_frame (data_up (frame_at_rate report.rate.dr report.octets)) BadFrame _ gateway.1 in
     let frame : DataFrame = is_frame.0 in
     let band = from_needs tells_frame no_frame (band_at report.rate.freq report.rate.dr) OutOfBand _ is_frame.2 in
-    let found = from_needs tells_frame no_frame (session_with s.sessions c.base frame.addr) UnknownDevAddr _ band.2 in
+    let found = from_needs tells_frame no_frame (session_with_address s.sessions c.base frame.addr) UnknownDevAddr _ band.2 in
     let number : ℕ = found.0.0 in
     let session : Session = found.0.1 in
     let at = (sessions_are_found c s frame.addr number session).0 found.1 in
@@ -252,9 +252,9 @@ accepted_frames c s report verdict a =
     let none = no_data c s report verdict a in
     to_wants tells_frame (is_time report.time) Time _ a.reported.time
     (to_wants tells_frame (s.gateways report.gateway) UnknownGateway _ a.reported.gateway
-    (to_needs tells_frame (data_up (frame_at report.rate.dr report.octets)) BadFrame _ a.frame a.is_frame
+    (to_needs tells_frame (data_up (frame_at_rate report.rate.dr report.octets)) BadFrame _ a.frame a.is_frame
     (to_needs tells_frame (band_at report.rate.freq report.rate.dr) OutOfBand _ band.0 band.1
-    (to_needs tells_frame (session_with s.sessions c.base a.frame.addr) UnknownDevAddr _ (a.number, a.session) ((sessions_are_found c s a.frame.addr a.number a.session).1 (a.there, a.address))
+    (to_needs tells_frame (session_with_address s.sessions c.base a.frame.addr) UnknownDevAddr _ (a.number, a.session) ((sessions_are_found c s a.frame.addr a.number a.session).1 (a.there, a.address))
     (to_needs tells_frame verdict MicFailed _ a.counter a.right
     (to_unless tells_frame (original_data s a.number a.counter report.octets) (data_copied s report a.session.device a.counter)
     (data_added s report a.frame a.number a.session.device a.counter band.0) (ap (option_and_then (same_octets report.octets)) none)

@@ -21,7 +21,7 @@ use Rattle.registry_core.specs.Bookings.{downlinks, downlinks_in, is_answer_to, 
 use Rattle.registry_core.specs.Derived.{address_of}
 use Rattle.registry_core.specs.DownlinkLaws.{GatewaysSendOneAtATime, UplinksAreAnsweredOnce}
 use Rattle.registry_core.specs.Downlinks.{down_added, down_book, on_air}
-use Rattle.registry_core.specs.Frames.{counts_as, downlink_to, frame_at, goes_to}
+use Rattle.registry_core.specs.Frames.{counts_as, downlink_to, frame_at_rate, goes_to}
 use Rattle.registry_core.specs.Heard.{state_of}
 use Rattle.registry_core.specs.Numbered.{item_at, item_changed, place_changed}
 use Rattle.registry_core.specs.Settings.{Settings}
@@ -56,7 +56,7 @@ book_books c s number gateway window octets =
     lets_wants (Books s) tt (s.gateways gateway) UnknownGateway _ (λ _.
     lets_needs (Books s) tt (item_at s.uplinks number) NoUplink _ (λ uplink _.
     lets_needs (Books s) tt (s.copies number gateway) NoUplink _ (λ copy _.
-    lets_needs (Books s) tt (downlink_to uplink.kind (frame_at (rate_in window copy.rate).dr octets)) BadFrame _ (λ down _.
+    lets_needs (Books s) tt (downlink_to uplink.kind (frame_at_rate (rate_in window copy.rate).dr octets)) BadFrame _ (λ down _.
     lets_wants (Books s) tt (goes_to (address_of c uplink.session) down) UnknownDevAddr _ (λ _.
     lets_wants (Books s) tt (not (is_answered s.bookings number)) Answered _ (λ unanswered.
     lets_wants (Books s) tt (counts_as (next_down s.bookings s.uplinks uplink.session) down) DownCounter _ (λ _.

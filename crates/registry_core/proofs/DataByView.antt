@@ -22,7 +22,7 @@ use Rattle.registry_core.specs.steps.ByView.{original_by, data_copied_by, data_a
 use Rattle.registry_core.specs.Checks.{Checked, ◌>>=◌, ◌>>◌, wants, needs, unless}
 use Rattle.registry_core.specs.DataFrames.{original_data, data_copied, data_added, frame_heard}
 use Rattle.registry_core.specs.Decision.{Decision}
-use Rattle.registry_core.specs.Derived.{data_with, is_below, is_below_floor, last_counter, session_with}
+use Rattle.registry_core.specs.Derived.{data_with, is_below, is_below_floor, last_counter, session_with_address}
 use Rattle.registry_core.specs.Frames.{data_up}
 use Rattle.registry_core.specs.Settings.{Settings}
 use Rattle.registry_core.specs.State.{State}
@@ -98,7 +98,7 @@ last_same s v report frame (Some session) (Some counter) band n up = ended_same 
 
 -- the session of a frame's fields
 session_of : Settings → State → Option DataFrame → Option (ℕ × Session)
-session_of c s told = option_and_then (λ (frame : DataFrame). session_with s.sessions c.base frame.addr) told
+session_of c s told = option_and_then (λ (frame : DataFrame). session_with_address s.sessions c.base frame.addr) told
 
 -- the checks from the frame on
 tail : (c : Settings) (s : State) (v : View) (report : Report) (verdict : Option ℕ) (told : Option DataFrame) → v.uplinks ≡ length s.uplinks
@@ -112,7 +112,7 @@ tail : (c : Settings) (s : State) (v : View) (report : Report) (verdict : Option
     ≡ (do
       frame ← needs told BadFrame
       band ← needs (band_at report.rate.freq report.rate.dr) OutOfBand
-      session ← needs (session_with s.sessions c.base frame.addr) UnknownDevAddr
+      session ← needs (session_with_address s.sessions c.base frame.addr) UnknownDevAddr
       counter ← needs verdict MicFailed
       unless (original_data s session.0 counter report.octets) (data_copied s report session.1.device counter) (data_added s report frame session.0 session.1.device counter band))
 unfolding session_of
@@ -125,7 +125,7 @@ tail c s v report verdict (Some frame) n at up =
       unless (original_by v.uplink report.octets) (data_copied_by report found counter) (data_added_by v report frame found counter band)) at
     ∙ ap (λ (last : Band → Checked Decision). do
       band ← needs (band_at report.rate.freq report.rate.dr) OutOfBand
-      last band) (λ i band. last_same s v report frame (session_with s.sessions c.base frame.addr) verdict band n up i)
+      last band) (λ i band. last_same s v report frame (session_with_address s.sessions c.base frame.addr) verdict band n up i)
 
 -- if the data rate can carry this many octets, the frame is the one that they are
 heard_same : (c : Settings) (s : State) (v : View) (report : Report) (verdict : Option ℕ) (carried : Bool) → nat_le (length report.octets) (max_length report.rate.dr) ≡ carried

@@ -17,8 +17,8 @@ use Rattle.registry_core.specs.declared.messages.Report.{Report}
 use Rattle.registry_core.specs.Checks.{Checked, unless}
 use Rattle.registry_core.specs.DataFrames.{data_added, data_copied, frame_heard, original_data}
 use Rattle.registry_core.specs.Decision.{Decision}
-use Rattle.registry_core.specs.Derived.{data_with, is_below, is_below_floor, is_data_with, last_counter, session_with}
-use Rattle.registry_core.specs.Frames.{data_up, frame_at}
+use Rattle.registry_core.specs.Derived.{data_with, is_below, is_below_floor, is_data_with, last_counter, session_with_address}
+use Rattle.registry_core.specs.Frames.{data_up, frame_at_rate}
 use Rattle.registry_core.specs.Heard.{state_of}
 use Rattle.registry_core.specs.ReportOrder.{DataInAnyOrder, SameButFirst, is_success}
 use Rattle.registry_core.specs.Settings.{Settings}
@@ -41,16 +41,16 @@ rest_of s report frame session counter band = unless (original_data s session.0 
 -- what those checks find; they pass in a state with the same gateways and sessions too
 record Passes (c : Settings) (s : State) (verdict : Option ℕ) (report : Report) (session : ℕ × Session) (counter : ℕ) : Type 0 where
   frame : DataFrame
-  told : data_up (frame_at report.rate.dr report.octets) ≡ Some frame
+  told : data_up (frame_at_rate report.rate.dr report.octets) ≡ Some frame
   band : Band
-  at : session_with s.sessions c.base frame.addr ≡ Some session
+  at : session_with_address s.sessions c.base frame.addr ≡ Some session
   counted : verdict ≡ Some counter
   success : Succeeds (rest_of s report frame session counter band)
   rest : (t : State) → t.gateways ≡ s.gateways → t.sessions ≡ s.sessions → frame_heard c t report verdict ≡ rest_of t report frame session counter band
 
 decided : (c : Settings) (t : State) (verdict : Option ℕ) (report : Report) (frame : DataFrame) (band : Band) (session : ℕ × Session) (counter : ℕ) → is_time report.time ≡ true
-    → t.gateways report.gateway ≡ true → data_up (frame_at report.rate.dr report.octets) ≡ Some frame → band_at report.rate.freq report.rate.dr ≡ Some band
-    → session_with t.sessions c.base frame.addr ≡ Some session → verdict ≡ Some counter → frame_heard c t report verdict ≡ rest_of t report frame session counter band
+    → t.gateways report.gateway ≡ true → data_up (frame_at_rate report.rate.dr report.octets) ≡ Some frame → band_at report.rate.freq report.rate.dr ≡ Some band
+    → session_with_address t.sessions c.base frame.addr ≡ Some session → verdict ≡ Some counter → frame_heard c t report verdict ≡ rest_of t report frame session counter band
 unfolding frame_heard
 decided c t verdict report frame band session counter time known told lies at counted = rw (time, known, told, lies, at, counted) refl
 
@@ -60,9 +60,9 @@ unfolding frame_heard
 passed c s verdict report h =
     let time = from_wants is_success no_refusal (is_time report.time) Time _ h in
     let known = from_wants is_success no_refusal (s.gateways report.gateway) UnknownGateway _ time.1 in
-    let frame = from_needs is_success no_refusal (data_up (frame_at report.rate.dr report.octets)) BadFrame _ known.1 in
+    let frame = from_needs is_success no_refusal (data_up (frame_at_rate report.rate.dr report.octets)) BadFrame _ known.1 in
     let band = from_needs is_success no_refusal (band_at report.rate.freq report.rate.dr) OutOfBand _ frame.2 in
-    let session = from_needs is_success no_refusal (session_with s.sessions c.base frame.0.addr) UnknownDevAddr _ band.2 in
+    let session = from_needs is_success no_refusal (session_with_address s.sessions c.base frame.0.addr) UnknownDevAddr _ band.2 in
     let counter = from_needs is_success no_refusal verdict MicFailed _ session.2 in (
       session.0,
       counter.0,
@@ -74,7 +74,7 @@ passed c s verdict report h =
         counted = counter.1;
         success = counter.2;
         rest = λ t gateways sessions. decided c t verdict report frame.0 band.0 session.0 counter.0 time.0 (ap (λ (g : List ℕ → Bool). g report.gateway) gateways ∙ known.0)
-            frame.1 band.1 (ap (λ (all : List Session). session_with all c.base frame.0.addr) sessions ∙ session.1) counter.1;
+            frame.1 band.1 (ap (λ (all : List Session). session_with_address all c.base frame.0.addr) sessions ∙ session.1) counter.1;
       },
     )
 
@@ -142,7 +142,7 @@ both_reports c s verdict a b sound same apart first second sound_a sound_b = by_
         let told_a : data_up (frame_of a.octets) ≡ Some pa.frame = carried data_up a.rate.dr a.octets pa.frame refl pa.told in
         let told_b : data_up (frame_of b.octets) ≡ Some q.frame = carried data_up b.rate.dr b.octets q.frame refl q.told in
         let frame : q.frame ≡ pa.frame = same_Some q.frame pa.frame (sym told_b ∙ ap (λ octets. data_up (frame_of octets)) (sym same) ∙ told_a) in
-        let at : found.0 ≡ session = same_Some found.0 session (sym q.at ∙ ap (λ (f : DataFrame). session_with s.sessions c.base f.addr) frame ∙ pa.at) in
+        let at : found.0 ≡ session = same_Some found.0 session (sym q.at ∙ ap (λ (f : DataFrame). session_with_address s.sessions c.base f.addr) frame ∙ pa.at) in
         let counted : found.1 ≡ counter = same_Some found.1 counter (sym q.counted ∙ pa.counted) in
         subst (Passes c s verdict b session) counted (subst (λ x. Passes c s verdict b x found.1) at q)
 

@@ -40,9 +40,9 @@ use Rattle.registry_core.specs.Bookings.{downlinks, downlinks_in, is_answered, i
 use Rattle.registry_core.specs.Checks.{Checked, ◌>>=◌, ◌>>◌, wants, needs, unless}
 use Rattle.registry_core.specs.Administration.{is_operator, sender_add, owner_add, gateway_add, device_add, device_move, limit_set}
 use Rattle.registry_core.specs.Decision.{Decision, decision_or_refusal}
-use Rattle.registry_core.specs.Derived.{address_of, data_with, is_above, is_below, is_below_floor, is_data_with, is_join_with, last_counter, last_nonce, session_with}
+use Rattle.registry_core.specs.Derived.{address_of, data_with, is_above, is_below, is_below_floor, is_data_with, is_join_with, last_counter, last_nonce, session_with_address}
 use Rattle.registry_core.specs.DataFrames.{original_data, data_copied, data_added, frame_heard}
-use Rattle.registry_core.specs.Frames.{counts_as, data_up, downlink_to, frame_at, goes_to, join_request}
+use Rattle.registry_core.specs.Frames.{counts_as, data_up, downlink_to, frame_at_rate, goes_to, join_request}
 use Rattle.registry_core.specs.Fits.{Fits, BookingFits, SessionFits, UplinkFits, DecisionsFit}
 use Rattle.registry_core.specs.Downlinks.{down_added, down_book, down_done, on_air}
 use Rattle.registry_core.specs.Heard.{state_after, state_of}
@@ -202,7 +202,7 @@ unfolding join_heard
 join_decides c s report verdict h =
     after_wants c s (is_time report.time) Time _ (λ _.
     after_wants c s (s.gateways report.gateway) UnknownGateway _ (λ gateway.
-    after_needs c s (join_request (frame_at report.rate.dr report.octets)) BadFrame _ (λ join _.
+    after_needs c s (join_request (frame_at_rate report.rate.dr report.octets)) BadFrame _ (λ join _.
     after_needs c s (band_at report.rate.freq report.rate.dr) OutOfBand _ (λ band lies.
     after_needs c s (s.devices join.dev_eui) UnknownDevEui _ (λ device there.
     after_wants c s (device.join_eui == join.join_eui) JoinEui _ (λ _.
@@ -212,7 +212,7 @@ join_decides c s report verdict h =
 
 -- ---- a data frame
 
-pub session_there : (c : Settings) (s : State) (addr : ℕ) (found : ℕ × Session) → session_with s.sessions c.base addr ≡ Some found → (item_at s.sessions found.0 ≡ Some found.1) × (addr ≡ address_of c found.0)
+pub session_there : (c : Settings) (s : State) (addr : ℕ) (found : ℕ × Session) → session_with_address s.sessions c.base addr ≡ Some found → (item_at s.sessions found.0 ≡ Some found.1) × (addr ≡ address_of c found.0)
 session_there c s addr found e = by_session (item_at s.sessions (addr + 1 - c.base)) refl e
   where
     by_session : (session : Option Session) → item_at s.sessions (addr + 1 - c.base) ≡ session → option_map (λ (x : Session). (addr + 1 - c.base, x)) session ≡ Some found
@@ -236,7 +236,7 @@ candidate_is (Some n) low counter h =
     ((and_parts _ _ edges).0, low_bits counter low (eqb-true (counter % 65536) low (and_parts _ _ front).1))
 
 data_added_decides : (c : Settings) (s : State) (report : Report) (frame : DataFrame) (session : ℕ × Session) (counter : ℕ) (band : Band) → IsSound c s → s.gateways report.gateway ≡ true
-    → data_up (frame_of report.octets) ≡ Some frame → session_with s.sessions c.base frame.addr ≡ Some session → IsInBand (reception_of report)
+    → data_up (frame_of report.octets) ≡ Some frame → session_with_address s.sessions c.base frame.addr ≡ Some session → IsInBand (reception_of report)
     → Decides c s (data_added s report frame session.0 session.1.device counter band)
 unfolding data_added Decides
 data_added_decides c s report frame session counter band h gateway is at lies =
@@ -263,7 +263,7 @@ unfolding original_data
 data_there s session counter octets found e = (first_is (is_data_with session counter) s.uplinks found (with_octets octets _ found e).0).0
 
 frame_ended : (c : Settings) (s : State) (report : Report) (frame : DataFrame) (session : ℕ × Session) (counter : ℕ) (band : Band) (found : Option (ℕ × Uplink)) → IsSound c s → s.gateways report.gateway ≡ true
-    → data_up (frame_of report.octets) ≡ Some frame → session_with s.sessions c.base frame.addr ≡ Some session → IsInBand (reception_of report) → original_data s session.0 counter report.octets ≡ found
+    → data_up (frame_of report.octets) ≡ Some frame → session_with_address s.sessions c.base frame.addr ≡ Some session → IsInBand (reception_of report) → original_data s session.0 counter report.octets ≡ found
     → Decides c s (unless found (data_copied s report session.1.device counter) (data_added s report frame session.0 session.1.device counter band))
 unfolding Decides
 frame_ended c s report frame session counter band None h gateway told at lies is = data_added_decides c s report frame session counter band h gateway told at lies
@@ -274,7 +274,7 @@ frame_ended c s report frame session counter band (Some found) h gateway told at
 }
 
 -- what is read of a frame that its data rate can carry is read of its octets
-pub carried : {X : Type 0} (says : Option Phy → Option X) (dr : DataRate) (octets : List ℕ) (x : X) → says None ≡ None → says (frame_at dr octets) ≡ Some x → says (frame_of octets) ≡ Some x
+pub carried : {X : Type 0} (says : Option Phy → Option X) (dr : DataRate) (octets : List ℕ) (x : X) → says None ≡ None → says (frame_at_rate dr octets) ≡ Some x → says (frame_of octets) ≡ Some x
 carried says dr octets x none e = by_length (nat_le (length octets) (max_length dr)) e
   where
     by_length : (b : Bool) → says (if b then frame_of octets else None) ≡ Some x → says (frame_of octets) ≡ Some x
@@ -286,9 +286,9 @@ unfolding frame_heard
 frame_decides c s report verdict h =
     after_wants c s (is_time report.time) Time _ (λ _.
     after_wants c s (s.gateways report.gateway) UnknownGateway _ (λ gateway.
-    after_needs c s (data_up (frame_at report.rate.dr report.octets)) BadFrame _ (λ frame told.
+    after_needs c s (data_up (frame_at_rate report.rate.dr report.octets)) BadFrame _ (λ frame told.
     after_needs c s (band_at report.rate.freq report.rate.dr) OutOfBand _ (λ band lies.
-    after_needs c s (session_with s.sessions c.base frame.addr) UnknownDevAddr _ (λ session at.
+    after_needs c s (session_with_address s.sessions c.base frame.addr) UnknownDevAddr _ (λ session at.
     after_needs c s verdict MicFailed _ (λ counter _.
     frame_ended c s report frame session counter band (original_data s session.0 counter report.octets) h gateway
     (carried data_up report.rate.dr report.octets frame refl told) at
@@ -324,7 +324,7 @@ book_decides c s number gateway window octets =
     after_wants c s (s.gateways gateway) UnknownGateway _ (λ known.
     after_needs c s (item_at s.uplinks number) NoUplink _ (λ uplink there.
     after_needs c s (s.copies number gateway) NoUplink _ (λ copy heard.
-    after_needs c s (downlink_to uplink.kind (frame_at (rate_in window copy.rate).dr octets)) BadFrame _ (λ down told.
+    after_needs c s (downlink_to uplink.kind (frame_at_rate (rate_in window copy.rate).dr octets)) BadFrame _ (λ down told.
     after_wants c s (goes_to (address_of c uplink.session) down) UnknownDevAddr _ (λ _.
     after_wants c s (not (is_answered s.bookings number)) Answered _ (λ _.
     after_wants c s (counts_as (next_down s.bookings s.uplinks uplink.session) down) DownCounter _ (λ _.

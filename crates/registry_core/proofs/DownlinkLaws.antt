@@ -27,7 +27,7 @@ use Rattle.registry_core.specs.Decision.{Decision, decision_or_refusal}
 use Rattle.registry_core.specs.Derived.{address_of}
 use Rattle.registry_core.specs.DownlinkLaws.{BookedExactly, CopiesLieInBands, DownlinksAreShort, DownlinksHaveBands, IsAccepted, tells_booking}
 use Rattle.registry_core.specs.Downlinks.{down_added, down_book, on_air}
-use Rattle.registry_core.specs.Frames.{counts_as, downlink_to, frame_at, goes_to}
+use Rattle.registry_core.specs.Frames.{counts_as, downlink_to, frame_at_rate, goes_to}
 use Rattle.registry_core.specs.Heard.{state_of}
 use Rattle.registry_core.specs.Numbered.{item_at}
 use Rattle.registry_core.specs.Settings.{Settings}
@@ -72,7 +72,7 @@ accepted_of clear hours c s number gateway window octets h =
     let heard = from_needs tells_booking no_refusal (s.copies number gateway) NoUplink _ there.2 in
     let rate : Rate = rate_in window heard.0.rate in
     let span : Interval = on_air (heard.0.end + delay uplink.kind window) rate octets in
-    let frame = from_needs tells_booking no_refusal (downlink_to uplink.kind (frame_at rate.dr octets)) BadFrame _ heard.2 in
+    let frame = from_needs tells_booking no_refusal (downlink_to uplink.kind (frame_at_rate rate.dr octets)) BadFrame _ heard.2 in
     let address = from_wants tells_booking no_refusal (goes_to (address_of c uplink.session) frame.0) UnknownDevAddr _ frame.2 in
     let unanswered = from_wants tells_booking no_refusal (not (is_answered s.bookings number)) Answered _ address.1 in
     let counter = from_wants tells_booking no_refusal (counts_as (next_down s.bookings s.uplinks uplink.session) frame.0) DownCounter _ unanswered.1 in
@@ -105,7 +105,7 @@ booked_of clear hours c s number gateway window octets a =
     to_wants tells_booking (s.gateways gateway) UnknownGateway _ a.known
     (to_needs tells_booking (item_at s.uplinks number) NoUplink _ a.uplink a.there
     (to_needs tells_booking (s.copies number gateway) NoUplink _ a.copy a.heard
-    (to_needs tells_booking (downlink_to a.uplink.kind (frame_at rate.dr octets)) BadFrame _ a.down a.frame
+    (to_needs tells_booking (downlink_to a.uplink.kind (frame_at_rate rate.dr octets)) BadFrame _ a.down a.frame
     (to_wants tells_booking (goes_to (address_of c a.uplink.session) a.down) UnknownDevAddr _ a.address
     (to_wants tells_booking (not (is_answered s.bookings number)) Answered _ (ap not a.unanswered)
     (to_wants tells_booking (counts_as (next_down s.bookings s.uplinks a.uplink.session) a.down) DownCounter _ a.counter
@@ -159,7 +159,7 @@ book_band c heard number gateway window octets =
     wants_band (s.gateways gateway) UnknownGateway _ refl
     (needs_band (item_at s.uplinks number) NoUplink _ refl (λ uplink _.
     needs_band (s.copies number gateway) NoUplink _ refl (λ copy at.
-    needs_band (downlink_to uplink.kind (frame_at (rate_in window copy.rate).dr octets)) BadFrame _ refl (λ down _.
+    needs_band (downlink_to uplink.kind (frame_at_rate (rate_in window copy.rate).dr octets)) BadFrame _ refl (λ down _.
     wants_band (goes_to (address_of c uplink.session) down) UnknownDevAddr _ refl
     (wants_band (not (is_answered s.bookings number)) Answered _ refl
     (wants_band (counts_as (next_down s.bookings s.uplinks uplink.session) down) DownCounter _ refl

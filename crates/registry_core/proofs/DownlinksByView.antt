@@ -30,7 +30,7 @@ use Rattle.registry_core.specs.Decision.{Decision}
 use Rattle.registry_core.specs.Derived.{address_of}
 use Rattle.registry_core.specs.Downlinks.{down_added, down_book, down_done, on_air}
 use Rattle.registry_core.specs.steps.DownlinksByView.{down_added_by, down_book_by, down_done_by}
-use Rattle.registry_core.specs.Frames.{counts_as, downlink_to, frame_at, goes_to}
+use Rattle.registry_core.specs.Frames.{counts_as, downlink_to, frame_at_rate, goes_to}
 use Rattle.registry_core.specs.Numbered.{item_at}
 use Rattle.registry_core.specs.Settings.{Settings}
 use Rattle.registry_core.specs.State.{State}
@@ -88,7 +88,7 @@ banded_same clear hours s v number gateway start rate octets (Some band) kept sh
 -- from the frame on
 framed_same : (bounded : AirtimeIsBounded) (clear : IsClearByNearOnes) (hours : HoursWithinByNearOnes) (c : Settings) (s : State) (v : View) (number : ℕ)
     (gateway : List ℕ) (uplink : Uplink) (start : ℕ) (rate : Rate) (octets : List ℕ) (told : Option Downlink)
-    → IsKept s → downlink_to uplink.kind (frame_at rate.dr octets) ≡ told → v.base ≡ c.base → v.answered ≡ is_answered s.bookings number
+    → IsKept s → downlink_to uplink.kind (frame_at_rate rate.dr octets) ≡ told → v.base ≡ c.base → v.answered ≡ is_answered s.bookings number
     → v.next_down ≡ next_down s.bookings s.uplinks uplink.session → v.bookings ≡ length s.bookings
     → IsPermutation (near_ones (pos start) (downlinks s.bookings gateway)) v.near.items → IsPermutation (near_in s gateway (start, rate)) v.in_band.items
     → v.limit ≡ limit_in_window s gateway (start, rate)
@@ -143,7 +143,7 @@ uplinked_same : (bounded : AirtimeIsBounded) (clear : IsClearByNearOnes) (hours 
       seen ← needs (option_map (seen_with number copy) uplink) NoUplink
       heard ← needs seen.at_gateway NoUplink
       let opens : ℕ × Rate = window_of seen.uplink.kind heard.end heard.rate window
-      down ← needs (downlink_to seen.uplink.kind (frame_at opens.1.dr octets)) BadFrame
+      down ← needs (downlink_to seen.uplink.kind (frame_at_rate opens.1.dr octets)) BadFrame
       wants (goes_to (address_by v seen.uplink.session) down) UnknownDevAddr
       wants (not v.answered) Answered
       wants (counts_as v.next_down down) DownCounter
@@ -153,7 +153,7 @@ uplinked_same : (bounded : AirtimeIsBounded) (clear : IsClearByNearOnes) (hours 
       found ← needs uplink NoUplink
       heard ← needs copy NoUplink
       let opens : ℕ × Rate = window_of found.kind heard.end heard.rate window
-      down ← needs (downlink_to found.kind (frame_at opens.1.dr octets)) BadFrame
+      down ← needs (downlink_to found.kind (frame_at_rate opens.1.dr octets)) BadFrame
       wants (goes_to (address_of c found.session) down) UnknownDevAddr
       wants (not (is_answered s.bookings number)) Answered
       wants (counts_as (next_down s.bookings s.uplinks found.session) down) DownCounter

@@ -18,7 +18,7 @@ use Rattle.registry_core.specs.declared.messages.Report.{Report}
 use Rattle.registry_core.specs.Checks.{Checked, unless}
 use Rattle.registry_core.specs.Decision.{Decision}
 use Rattle.registry_core.specs.Derived.{is_above, is_join_with, last_nonce}
-use Rattle.registry_core.specs.Frames.{frame_at, join_request}
+use Rattle.registry_core.specs.Frames.{frame_at_rate, join_request}
 use Rattle.registry_core.specs.Heard.{state_of}
 use Rattle.registry_core.specs.Joins.{is_good, join_added, join_copied, join_heard, original_join}
 use Rattle.registry_core.specs.ReportOrder.{JoinsInAnyOrder, SameButFirst, is_success}
@@ -41,13 +41,13 @@ rest_of c s report join band = unless (original_join s join report.octets) (join
 
 -- what those checks find; they pass in a state with the same gateways and devices too
 record Passes (c : Settings) (s : State) (verdict : JoinVerdict) (report : Report) (join : JoinRequest) : Type 0 where
-  told : join_request (frame_at report.rate.dr report.octets) ≡ Some join
+  told : join_request (frame_at_rate report.rate.dr report.octets) ≡ Some join
   band : Band
   success : Succeeds (rest_of c s report join band)
   rest : (t : State) → t.gateways ≡ s.gateways → t.devices ≡ s.devices → join_heard c t report verdict ≡ rest_of c t report join band
 
 decided : (c : Settings) (t : State) (verdict : JoinVerdict) (report : Report) (join : JoinRequest) (band : Band) (device : Device) → is_time report.time ≡ true
-    → t.gateways report.gateway ≡ true → join_request (frame_at report.rate.dr report.octets) ≡ Some join → band_at report.rate.freq report.rate.dr ≡ Some band
+    → t.gateways report.gateway ≡ true → join_request (frame_at_rate report.rate.dr report.octets) ≡ Some join → band_at report.rate.freq report.rate.dr ≡ Some band
     → t.devices join.dev_eui ≡ Some device → (device.join_eui == join.join_eui) ≡ true → is_good verdict ≡ true → join_heard c t report verdict ≡ rest_of c t report join band
 unfolding join_heard
 decided c t verdict report join band device time known told lies there eui good = rw (time, known, told, lies, there, eui, good) refl
@@ -58,7 +58,7 @@ unfolding join_heard
 passed c s verdict report h =
     let time = from_wants is_success no_refusal (is_time report.time) Time _ h in
     let known = from_wants is_success no_refusal (s.gateways report.gateway) UnknownGateway _ time.1 in
-    let join = from_needs is_success no_refusal (join_request (frame_at report.rate.dr report.octets)) BadFrame _ known.1 in
+    let join = from_needs is_success no_refusal (join_request (frame_at_rate report.rate.dr report.octets)) BadFrame _ known.1 in
     let band = from_needs is_success no_refusal (band_at report.rate.freq report.rate.dr) OutOfBand _ join.2 in
     let device = from_needs is_success no_refusal (s.devices join.0.dev_eui) UnknownDevEui _ band.2 in
     let eui = from_wants is_success no_refusal (device.0.join_eui == join.0.join_eui) JoinEui _ device.2 in

@@ -26,9 +26,9 @@ use Rattle.registry_core.specs.Checks.{Checked, ◌>>=◌, ◌>>◌, wants, need
 use Rattle.registry_core.specs.CopyLaws.{CopiesAddOneAtMost, CopiesStay, KeepsCopy, copied_uplink, report_heard}
 use Rattle.registry_core.specs.DataFrames.{data_added, data_copied, frame_heard, original_data}
 use Rattle.registry_core.specs.Decision.{Decision, decision_or_refusal}
-use Rattle.registry_core.specs.Derived.{is_data_with, is_join_with, session_with}
+use Rattle.registry_core.specs.Derived.{is_data_with, is_join_with, session_with_address}
 use Rattle.registry_core.specs.Downlinks.{down_added, down_book, down_done}
-use Rattle.registry_core.specs.Frames.{data_up, frame_at, join_request}
+use Rattle.registry_core.specs.Frames.{data_up, frame_at_rate, join_request}
 use Rattle.registry_core.specs.Heard.{state_of}
 use Rattle.registry_core.specs.Joins.{is_good, join_added, join_copied, join_heard, original_join}
 use Rattle.registry_core.specs.Limits.{Limit}
@@ -140,7 +140,7 @@ unfolding join_heard
 join_keeps c s report verdict =
     after_wants s report (is_time report.time) Time _ (
     after_wants s report (s.gateways report.gateway) UnknownGateway _ (
-    after_needs s report (join_request (frame_at report.rate.dr report.octets)) BadFrame _ (λ join.
+    after_needs s report (join_request (frame_at_rate report.rate.dr report.octets)) BadFrame _ (λ join.
     after_needs s report (band_at report.rate.freq report.rate.dr) OutOfBand _ (λ band.
     after_needs s report (s.devices join.dev_eui) UnknownDevEui _ (λ device.
     after_wants s report (device.join_eui == join.join_eui) JoinEui _ (
@@ -165,9 +165,9 @@ unfolding frame_heard
 frame_keeps c s report verdict =
     after_wants s report (is_time report.time) Time _ (
     after_wants s report (s.gateways report.gateway) UnknownGateway _ (
-    after_needs s report (data_up (frame_at report.rate.dr report.octets)) BadFrame _ (λ frame.
+    after_needs s report (data_up (frame_at_rate report.rate.dr report.octets)) BadFrame _ (λ frame.
     after_needs s report (band_at report.rate.freq report.rate.dr) OutOfBand _ (λ band.
-    after_needs s report (session_with s.sessions c.base frame.addr) UnknownDevAddr _ (λ session.
+    after_needs s report (session_with_address s.sessions c.base frame.addr) UnknownDevAddr _ (λ session.
     after_needs s report verdict MicFailed _ (λ counter.
     data_found_keeps s report frame session.0 session.1.device counter band (original_data s session.0 counter report.octets) refl))))))
 

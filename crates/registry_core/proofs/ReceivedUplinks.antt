@@ -25,8 +25,8 @@ use Rattle.registry_core.specs.declared.messages.Report.{Report}
 use Rattle.registry_core.specs.AirtimeLaws.{IsReceived, UplinksAreReceived}
 use Rattle.registry_core.specs.Checks.{unless}
 use Rattle.registry_core.specs.DataFrames.{data_added, data_copied, frame_heard, original_data}
-use Rattle.registry_core.specs.Derived.{data_with, is_above, is_below, is_below_floor, last_counter, last_nonce, session_with}
-use Rattle.registry_core.specs.Frames.{data_up, frame_at, join_request}
+use Rattle.registry_core.specs.Derived.{data_with, is_above, is_below, is_below_floor, last_counter, last_nonce, session_with_address}
+use Rattle.registry_core.specs.Frames.{data_up, frame_at_rate, join_request}
 use Rattle.registry_core.specs.Joins.{is_good, join_added, join_copied, join_heard, original_join}
 use Rattle.registry_core.specs.Numbered.{item_at}
 use Rattle.registry_core.specs.Settings.{Settings}
@@ -83,7 +83,7 @@ unfolding join_heard join_added
 join_new laws c s report verdict =
     lets_wants New tt (is_time report.time) Time _ (λ time.
     lets_wants New tt (s.gateways report.gateway) UnknownGateway _ (λ _.
-    lets_needs New tt (join_request (frame_at report.rate.dr report.octets)) BadFrame _ (λ join told.
+    lets_needs New tt (join_request (frame_at_rate report.rate.dr report.octets)) BadFrame _ (λ join told.
     lets_needs New tt (band_at report.rate.freq report.rate.dr) OutOfBand _ (λ band lies.
     lets_needs New tt (s.devices join.dev_eui) UnknownDevEui _ (λ device _.
     lets_wants New tt (device.join_eui == join.join_eui) JoinEui _ (λ _.
@@ -102,9 +102,9 @@ unfolding frame_heard data_added
 frame_new laws c s report verdict =
     lets_wants New tt (is_time report.time) Time _ (λ time.
     lets_wants New tt (s.gateways report.gateway) UnknownGateway _ (λ _.
-    lets_needs New tt (data_up (frame_at report.rate.dr report.octets)) BadFrame _ (λ frame told.
+    lets_needs New tt (data_up (frame_at_rate report.rate.dr report.octets)) BadFrame _ (λ frame told.
     lets_needs New tt (band_at report.rate.freq report.rate.dr) OutOfBand _ (λ band lies.
-    lets_needs New tt (session_with s.sessions c.base frame.addr) UnknownDevAddr _ (λ session _.
+    lets_needs New tt (session_with_address s.sessions c.base frame.addr) UnknownDevAddr _ (λ session _.
     lets_needs New tt verdict MicFailed _ (λ counter _.
     ended frame session.0 session.1.device counter band
     (as_heard laws report session.0 Data counter band time (carried_by data_up report.rate.dr report.octets frame _ refl refl told) lies)

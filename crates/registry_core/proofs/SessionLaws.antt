@@ -1,7 +1,7 @@
 -- Sessions, whatever was heard: their addresses, their nonces, and which is found by an address.
 use Rattle.std.proofs.Common.{◌≡◌, ℕ, Some, refl, arith, ◌+◌, ◌-◌, sym}
 use Rattle.registry_core.specs.declared.facts.Session.{Session}
-use Rattle.registry_core.specs.Derived.{address_of, session_with}
+use Rattle.registry_core.specs.Derived.{address_of, session_with_address}
 use Rattle.registry_core.specs.Heard.{state_of}
 use Rattle.registry_core.specs.Laws.{AddressesLieInBlock, AddressesAreApart, NoncesRise, SessionsAreFound}
 use Rattle.registry_core.specs.Numbered.{item_at}
@@ -21,7 +21,7 @@ addresses_are_apart c heard m n a b em en same = omega (arith, same, (item_withi
 pub nonces_rise : NoncesRise
 nonces_rise c heard = (sound_of c heard).nonces
 
-found_by : (c : Settings) (s : State) (addr n : ℕ) (a : Session) → item_at s.sessions n ≡ Some a → address_of c n ≡ addr → session_with s.sessions c.base addr ≡ Some (n, a)
+found_by : (c : Settings) (s : State) (addr n : ℕ) (a : Session) → item_at s.sessions n ≡ Some a → address_of c n ≡ addr → session_with_address s.sessions c.base addr ≡ Some (n, a)
 found_by c s addr n a there at =
     let number : addr + 1 - c.base ≡ n = omega (arith, at, (item_within s.sessions n a there).0) in
     rw (number, there) refl

@@ -14,7 +14,7 @@ use Rattle.registry_core.specs.declared.frames.Downlink.{Downlink}
 use Rattle.registry_core.specs.declared.messages.Envelope.{Envelope}
 use Rattle.registry_core.specs.declared.windows.Window.{Window}
 use Rattle.registry_core.specs.Derived.{address_of}
-use Rattle.registry_core.specs.Frames.{downlink_to, frame_at, goes_to}
+use Rattle.registry_core.specs.Frames.{downlink_to, frame_at_rate, goes_to}
 use Rattle.registry_core.specs.Heard.{state_of}
 use Rattle.registry_core.specs.Numbered.{item_at}
 use Rattle.registry_core.specs.Settings.{Settings}
@@ -44,7 +44,7 @@ pub record IsDownlink (c : Settings) (s : State) (booking : Booking) : Type 0 wh
   pub sent_so : rate ≡ rate_in window copy.rate
   pub octets : List ℕ
   pub down : Downlink
-  pub frame : downlink_to uplink.kind (frame_at rate.dr octets) ≡ Some down
+  pub frame : downlink_to uplink.kind (frame_at_rate rate.dr octets) ≡ Some down
   pub size : IsDownlinkSize uplink.kind rate.dr (length octets)
   pub address : IsTrue (goes_to (address_of c uplink.session) down)
   pub start : booking.span.start ≡ pos (copy.end + delay uplink.kind window)

@@ -13,8 +13,8 @@ use Rattle.registry_core.specs.declared.frames.DataFrame.{DataFrame}
 use Rattle.registry_core.specs.declared.messages.Report.{Report}
 use Rattle.registry_core.specs.Checks.{Checked, ◌>>=◌, ◌>>◌, wants, needs, unless}
 use Rattle.registry_core.specs.Decision.{Decision}
-use Rattle.registry_core.specs.Derived.{session_with, data_with, last_counter, is_below, is_below_floor}
-use Rattle.registry_core.specs.Frames.{frame_at, data_up}
+use Rattle.registry_core.specs.Derived.{session_with_address, data_with, last_counter, is_below, is_below_floor}
+use Rattle.registry_core.specs.Frames.{frame_at_rate, data_up}
 use Rattle.registry_core.specs.Settings.{Settings}
 use Rattle.registry_core.specs.State.{State, next_uplink}
 use Rattle.registry_core.specs.Uplinks.{is_time, reception_of, time_up, uplink_of, copy_added, same_octets}
@@ -47,9 +47,9 @@ unfoldable pub frame_heard : Settings → State → Report → Option ℕ → Ch
 frame_heard c s report verdict = do
   wants (is_time report.time) Time
   wants (s.gateways report.gateway) UnknownGateway
-  frame ← needs (data_up (frame_at report.rate.dr report.octets)) BadFrame
+  frame ← needs (data_up (frame_at_rate report.rate.dr report.octets)) BadFrame
   band ← needs (band_at report.rate.freq report.rate.dr) OutOfBand
-  session ← needs (session_with s.sessions c.base frame.addr) UnknownDevAddr
+  session ← needs (session_with_address s.sessions c.base frame.addr) UnknownDevAddr
   counter ← needs verdict MicFailed
   unless (original_data s session.0 counter report.octets) (data_copied s report session.1.device counter)
       (data_added s report frame session.0 session.1.device counter band)

@@ -37,8 +37,8 @@ abbrev pub last_nonce : List Session → ℕ → Option ℕ
 last_nonce sessions dev_eui = greatest (map (λ session. session.nonce) (filter (is_session_of dev_eui) sessions))
 
 -- the session that has the address, with its number; `base` is the first address of the block
-abbrev pub session_with : List Session → ℕ → ℕ → Option (ℕ × Session)
-session_with sessions base addr = let n : ℕ = addr + 1 - base in option_map (λ session. (n, session)) (item_at sessions n)
+abbrev pub session_with_address : List Session → ℕ → ℕ → Option (ℕ × Session)
+session_with_address sessions base addr = let n : ℕ = addr + 1 - base in option_map (λ session. (n, session)) (item_at sessions n)
 
 -- ---- uplinks
 

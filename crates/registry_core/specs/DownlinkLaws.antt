@@ -17,7 +17,7 @@ use Rattle.registry_core.specs.declared.windows.Window.{Window}
 use Rattle.registry_core.specs.Bookings.{downlinks, downlinks_in, is_answered, is_dropped, limit_standing, next_down, stands_at}
 use Rattle.registry_core.specs.Derived.{address_of}
 use Rattle.registry_core.specs.Downlinks.{on_air}
-use Rattle.registry_core.specs.Frames.{counts_as, downlink_to, frame_at, goes_to}
+use Rattle.registry_core.specs.Frames.{counts_as, downlink_to, frame_at_rate, goes_to}
 use Rattle.registry_core.specs.Heard.{state_of}
 use Rattle.registry_core.specs.Numbered.{item_at}
 use Rattle.registry_core.specs.Settings.{Settings}
@@ -53,7 +53,7 @@ pub record IsAccepted (c : Settings) (s : State) (number : ℕ) (gateway : List 
   pub copy : Reception
   pub heard : s.copies number gateway ≡ Some copy
   pub down : Downlink
-  pub frame : downlink_to uplink.kind (frame_at (rate_in window copy.rate).dr octets) ≡ Some down
+  pub frame : downlink_to uplink.kind (frame_at_rate (rate_in window copy.rate).dr octets) ≡ Some down
   pub address : IsTrue (goes_to (address_of c uplink.session) down)
   pub unanswered : is_answered s.bookings number ≡ false
   pub counter : IsTrue (counts_as (next_down s.bookings s.uplinks uplink.session) down)

@@ -16,7 +16,7 @@ use Rattle.registry_core.specs.Bookings.{downlinks, downlinks_in, is_answered, i
 use Rattle.registry_core.specs.Checks.{Checked, ◌>>=◌, ◌>>◌, wants, needs}
 use Rattle.registry_core.specs.Decision.{Decision}
 use Rattle.registry_core.specs.Derived.{address_of}
-use Rattle.registry_core.specs.Frames.{frame_at, downlink_to, goes_to, counts_as}
+use Rattle.registry_core.specs.Frames.{frame_at_rate, downlink_to, goes_to, counts_as}
 use Rattle.registry_core.specs.Numbered.{item_at}
 use Rattle.registry_core.specs.Settings.{Settings}
 use Rattle.registry_core.specs.State.{State}
@@ -44,7 +44,7 @@ down_book c s number gateway window octets = do
   uplink ← needs (item_at s.uplinks number) NoUplink
   copy ← needs (s.copies number gateway) NoUplink
   let opens : ℕ × Rate = window_of uplink.kind copy.end copy.rate window
-  down ← needs (downlink_to uplink.kind (frame_at opens.1.dr octets)) BadFrame
+  down ← needs (downlink_to uplink.kind (frame_at_rate opens.1.dr octets)) BadFrame
   wants (goes_to (address_of c uplink.session) down) UnknownDevAddr
   wants (not (is_answered s.bookings number)) Answered
   wants (counts_as (next_down s.bookings s.uplinks uplink.session) down) DownCounter

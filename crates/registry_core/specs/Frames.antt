@@ -13,8 +13,8 @@ use Rattle.registry_core.specs.declared.frames.Downlink.TheVariants as downlinks
 use Rattle.registry_core.specs.declared.frames.JoinRequest.{JoinRequest}
 
 -- the frame that was sent at this data rate; octets that are more than the rate allows are none
-abbrev pub frame_at : DataRate → List ℕ → Option Phy
-frame_at dr octets = if nat_le (length octets) (max_length dr) then frame_of octets else None
+abbrev pub frame_at_rate : DataRate → List ℕ → Option Phy
+frame_at_rate dr octets = if nat_le (length octets) (max_length dr) then frame_of octets else None
 
 -- the fields of a frame that is a join request
 abbrev pub join_request : Option Phy → Option JoinRequest

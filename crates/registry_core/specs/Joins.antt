@@ -15,7 +15,7 @@ use Rattle.registry_core.specs.declared.messages.Report.{Report}
 use Rattle.registry_core.specs.Checks.{Checked, ◌>>=◌, ◌>>◌, wants, needs, unless}
 use Rattle.registry_core.specs.Decision.{Decision}
 use Rattle.registry_core.specs.Derived.{is_above, address_of, last_nonce, join_with}
-use Rattle.registry_core.specs.Frames.{frame_at, join_request}
+use Rattle.registry_core.specs.Frames.{frame_at_rate, join_request}
 use Rattle.registry_core.specs.Settings.{Settings}
 use Rattle.registry_core.specs.State.{State, next_uplink}
 use Rattle.registry_core.specs.Uplinks.{is_time, reception_of, time_up, uplink_of, copy_added, same_octets}
@@ -51,7 +51,7 @@ unfoldable pub join_heard : Settings → State → Report → JoinVerdict → Ch
 join_heard c s report verdict = do
   wants (is_time report.time) Time
   wants (s.gateways report.gateway) UnknownGateway
-  join ← needs (join_request (frame_at report.rate.dr report.octets)) BadFrame
+  join ← needs (join_request (frame_at_rate report.rate.dr report.octets)) BadFrame
   band ← needs (band_at report.rate.freq report.rate.dr) OutOfBand
   device ← needs (s.devices join.dev_eui) UnknownDevEui
   wants (device.join_eui == join.join_eui) JoinEui

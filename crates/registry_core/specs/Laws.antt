@@ -15,7 +15,7 @@ use Rattle.registry_core.specs.declared.messages.Message.{Message}
 use Rattle.registry_core.specs.declared.messages.Message.TheVariants.{SenderAdd}
 use Rattle.registry_core.specs.Administration.{is_operator}
 use Rattle.registry_core.specs.DataFrames.{original_data}
-use Rattle.registry_core.specs.Derived.{address_of, is_data_with, is_join_with, session_with}
+use Rattle.registry_core.specs.Derived.{address_of, is_data_with, is_join_with, session_with_address}
 use Rattle.registry_core.specs.Frames.{data_up}
 use Rattle.registry_core.specs.Heard.{state_of}
 use Rattle.registry_core.specs.Joins.{original_join}
@@ -45,7 +45,7 @@ NoncesRise = (c : Settings) (heard : List Envelope) (m n : ℕ) (a b : Session) 
 -- the session that is looked up by an address is the one that has it
 abbrev pub SessionsAreFound : Type 0
 SessionsAreFound = (c : Settings) (s : State) (addr n : ℕ) (a : Session)
-    → (session_with s.sessions c.base addr ≡ Some (n, a)) ↔ ((item_at s.sessions n ≡ Some a) × (address_of c n ≡ addr))
+    → (session_with_address s.sessions c.base addr ≡ Some (n, a)) ↔ ((item_at s.sessions n ≡ Some a) × (address_of c n ≡ addr))
 
 -- each session has the join uplink that made it: with its nonce as counter
 abbrev pub SessionsHaveJoins : Type 0

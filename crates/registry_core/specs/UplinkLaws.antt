@@ -16,7 +16,7 @@ use Rattle.registry_core.specs.declared.messages.JoinVerdict.TheVariants.{Good}
 use Rattle.registry_core.specs.declared.messages.Message.TheVariants.{JoinHeard, FrameHeard}
 use Rattle.registry_core.specs.declared.messages.Report.{Report}
 use Rattle.registry_core.specs.Derived.{address_of, last_counter}
-use Rattle.registry_core.specs.Frames.{data_up, frame_at, join_request}
+use Rattle.registry_core.specs.Frames.{data_up, frame_at_rate, join_request}
 use Rattle.registry_core.specs.Heard.{state_of}
 use Rattle.registry_core.specs.Numbered.{item_at}
 use Rattle.registry_core.specs.Settings.{Settings}
@@ -37,7 +37,7 @@ pub record IsReported (s : State) (report : Report) : Type 0 where
 pub record IsAcceptedJoin (c : Settings) (s : State) (report : Report) (verdict : JoinVerdict) : Type 0 where
   pub reported : IsReported s report
   pub join : JoinRequest
-  pub frame : join_request (frame_at report.rate.dr report.octets) ≡ Some join
+  pub frame : join_request (frame_at_rate report.rate.dr report.octets) ≡ Some join
   pub device : Device
   pub there : s.devices join.dev_eui ≡ Some device
   pub join_eui : device.join_eui ≡ join.join_eui
@@ -61,7 +61,7 @@ JoinedExactly = (c : Settings) (heard : List Envelope) (e : Envelope) (report : 
 pub record IsAcceptedFrame (c : Settings) (s : State) (report : Report) (verdict : Option ℕ) : Type 0 where
   pub reported : IsReported s report
   pub frame : DataFrame
-  pub is_frame : data_up (frame_at report.rate.dr report.octets) ≡ Some frame
+  pub is_frame : data_up (frame_at_rate report.rate.dr report.octets) ≡ Some frame
   pub number : ℕ
   pub session : Session
   pub there : item_at s.sessions number ≡ Some session

@@ -20,7 +20,7 @@ use Rattle.registry_core.specs.declared.views.UplinkView.{UplinkView}
 use Rattle.registry_core.specs.declared.views.View.{View}
 use Rattle.registry_core.specs.Bookings.{downlinks, downlinks_in, is_answered, limit_standing, next_down}
 use Rattle.registry_core.specs.Decision.{Decision}
-use Rattle.registry_core.specs.Derived.{last_nonce, join_with, session_with, data_with, last_counter, is_below_floor}
+use Rattle.registry_core.specs.Derived.{last_nonce, join_with, session_with_address, data_with, last_counter, is_below_floor}
 use Rattle.registry_core.specs.Frames.{data_up, join_request}
 use Rattle.registry_core.specs.Heard.{IsHeard, state_of}
 use Rattle.registry_core.specs.Numbered.{item_at}
@@ -70,7 +70,7 @@ last_nonce_for s m = option_and_then (λ join. last_nonce s.sessions join.dev_eu
 -- ---- the session whose data frame it reports
 
 abbrev pub session_for : Settings → State → Message → Option (ℕ × Session)
-session_for c s (FrameHeard report verdict) = option_and_then (λ frame. session_with s.sessions c.base frame.addr) (data_up (frame_of report.octets))
+session_for c s (FrameHeard report verdict) = option_and_then (λ frame. session_with_address s.sessions c.base frame.addr) (data_up (frame_of report.octets))
 session_for c s _ = None
 
 abbrev pub view_of_session : State → ℕ × Session → SessionView

@@ -116,7 +116,7 @@ impl Refusal {
     ghost use Rattle.registry_core.specs.Refusals.{refusal_number};
 
     /// Returns the refusal's number, 1 to 34.
-    pub fn number(self) -> u8
+    pub fn ordinal(self) -> u8
         ensures { result ≡ refusal_number self }
     {
         self as u8

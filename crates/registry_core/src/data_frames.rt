@@ -71,7 +71,10 @@ fn data_added(
 {
     wants(!session.below_floor, Refusal::SessionEnded)?;
     wants(view.uplink.is_none(), Refusal::Replayed)?;
-    wants(!is_below(counter, session.last_counter), Refusal::Late)?;
+    wants(
+        !is_counter_below(counter, session.last_counter),
+        Refusal::Late,
+    )?;
     let follows = is_candidate(session.last_counter, frame.fcnt, counter);
     wants(follows, Refusal::Gap)?;
     let effect = Effect::AddsUplink {
@@ -91,7 +94,7 @@ fn data_added(
 }
 
 /// Returns whether the counter is below the last.
-fn is_below(counter: u32, last: Option<u32>) -> bool
+fn is_counter_below(counter: u32, last: Option<u32>) -> bool
     ensures { result ≡ is_below counter last }
 {
     match last {

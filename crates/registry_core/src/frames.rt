@@ -1,7 +1,7 @@
 //! The fields of frames that the registry uses.
 ghost use Rattle.std.specs.Prelude.{◌≡◌, Some};
 ghost use Rattle.radio_core.specs.Frames.{frame_of};
-ghost use Rattle.registry_core.specs.Frames.{data_up, downlink_to, join_request, frame_at};
+ghost use Rattle.registry_core.specs.Frames.{data_up, downlink_to, join_request, frame_at_rate};
 
 use crate::facts::Kind;
 use radio_core::{DataRate, DevAddr, Eui, Octets, Phy, max_phy, read_phy};
@@ -73,25 +73,25 @@ pub fn data_up(octets: &Octets) -> Option<DataFrame>
 
 /// Reads the octets as a join request that the data rate can carry.
 pub(crate) fn join_at(dr: DataRate, octets: &Octets) -> Option<JoinRequest>
-    ensures { result ≡ join_request (frame_at dr octets.now) }
+    ensures { result ≡ join_request (frame_at_rate dr octets.now) }
 {
-    let frame = frame_at(dr, octets)?;
+    let frame = frame_at_rate(dr, octets)?;
     join_of(&frame)
 }
 
 /// Reads the octets as a data frame from a device that the data rate can carry.
 pub(crate) fn data_at(dr: DataRate, octets: &Octets) -> Option<DataFrame>
-    ensures { result ≡ data_up (frame_at dr octets.now) }
+    ensures { result ≡ data_up (frame_at_rate dr octets.now) }
 {
-    let frame = frame_at(dr, octets)?;
+    let frame = frame_at_rate(dr, octets)?;
     data_of(&frame)
 }
 
 /// Reads the octets as the frame that answers an uplink of the kind, if the data rate can carry them.
 pub(crate) fn downlink_at(kind: Kind, dr: DataRate, octets: &Octets) -> Option<Downlink>
-    ensures { result ≡ downlink_to kind (frame_at dr octets.now) }
+    ensures { result ≡ downlink_to kind (frame_at_rate dr octets.now) }
 {
-    match (kind, frame_at(dr, octets)?) {
+    match (kind, frame_at_rate(dr, octets)?) {
         (Kind::Join, Phy::Accept) => Some(Downlink::Accept),
         (
             Kind::Data,
@@ -106,8 +106,8 @@ pub(crate) fn downlink_at(kind: Kind, dr: DataRate, octets: &Octets) -> Option<D
 }
 
 /// Reads the octets as a frame, if the data rate can carry them.
-fn frame_at(dr: DataRate, octets: &Octets) -> Option<Phy>
-    ensures { result ≡ frame_at dr octets.now }
+fn frame_at_rate(dr: DataRate, octets: &Octets) -> Option<Phy>
+    ensures { result ≡ frame_at_rate dr octets.now }
 {
     if octets.get().len() > max_phy(dr) {
         return None;

@@ -27,9 +27,9 @@ fn value_in(alloc: Global, response: &[u8]) -> Option<Value> {
 
 /// Returns what an answer repeats of its message.
 fn head_in(answer: &Value) -> Option<Head> {
-    let sender = Name::new(text_at(answer, "ReceiverID")?.as_bytes())?;
+    let sender = Name::new(member_text(answer, "ReceiverID")?.as_bytes())?;
     let transaction = u32::try_from(answer.get("TransactionID")?.as_u64()?).ok()?;
-    let type_name = text_at(answer, "MessageType")?.strip_suffix("Ans")?;
+    let type_name = member_text(answer, "MessageType")?.strip_suffix("Ans")?;
     let type_name = TypeName::new(type_name.as_bytes())?;
     Some(Head {
         sender,
@@ -42,12 +42,12 @@ fn head_in(answer: &Value) -> Option<Head> {
 fn refusal_in(answer: &Value) -> Option<Refusal> {
     let result = answer.get("Result")?;
     refusal_of(
-        text_at(result, "ResultCode")?,
-        text_at(result, "Description")?,
+        member_text(result, "ResultCode")?,
+        member_text(result, "Description")?,
     )
 }
 
-fn text_at<'v>(value: &'v Value, member: &str) -> Option<&'v str> {
+fn member_text<'v>(value: &'v Value, member: &str) -> Option<&'v str> {
     value.get(member)?.as_str()
 }
 

@@ -162,7 +162,7 @@ fn refusal_field(alloc: Global, refusal: Option<Refusal>) -> Result<String, Allo
 {
     match refusal {
         Some(refusal) => {
-            let number = refusal.number();
+            let number = refusal.ordinal();
             format!(in alloc; "{number}")
         }
         None => format!(in alloc; "-"),

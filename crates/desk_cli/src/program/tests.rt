@@ -14,7 +14,7 @@ mod one_file;
 use super::run;
 use crate::endings::{Ending, ending_of};
 use crate::faults::Fault;
-use crate::files::Files;
+use crate::files::FileOpener;
 use crate::network::Network;
 use crate::tests::holding::{holds, holds_at, is_text_at};
 use crate::tests::ready;
@@ -73,7 +73,7 @@ impl<S: Alter + Drop> OneFile<S> {
     }
 }
 
-impl<S: Alter + Drop> Files<S> for OneFile<S> {
+impl<S: Alter + Drop> FileOpener<S> for OneFile<S> {
     ghost paths = { λ files. known_alike (λ conn. Unit {0}) };
 
     fn open(self, _path: &str) -> Result<Connection<S>, Fault> {
@@ -132,7 +132,7 @@ impl Network for OnePort {
 const NETWORK: OnePort = OnePort { free: 8080 };
 
 /// Runs the program with these arguments. Returns how it ends, what is on standard error, and the connection to its file.
-pub(super) fn ran<R: AllocGlobal, S: Alter + Drop, N: Files<S>, I: Read, W: Write>(
+pub(super) fn ran<R: AllocGlobal, S: Alter + Drop, N: FileOpener<S>, I: Read, W: Write>(
     rt: &R,
     words: &[&[u8]],
     files: N,

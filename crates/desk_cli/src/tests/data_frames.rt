@@ -2,9 +2,9 @@
 use super::joins::{
     AT_B, BAND, FIRST, FIRST_ADDED, FRAME, GATEWAY, MIC, NONCE_0, NONCE_1, NONCE_2, TIME,
 };
-use super::rows::Row::{Asks, Frames, Joins, Letters};
+use super::rows::Exchange::{Asks, Frames, Joins, Letters};
 use super::rows::Told::{Framed, Joined, Plain};
-use super::rows::{BODY, DEVICE, Heard, REUSED, Row, SUCCESS, Told};
+use super::rows::{BODY, DEVICE, Exchange, Heard, REUSED, SUCCESS, Told};
 
 const UNKNOWN_ADDRESS: Told = Plain(0, "", "UnknownDevAddr");
 
@@ -99,7 +99,7 @@ pub(super) const HEARD: Heard = Heard {
 
 /// After the setup: the three records of the worked gateway report, and counters of one session.
 #[rattlefmt::skip]
-pub(super) static DATA: [Row; 36] = [
+pub(super) static DATA: [Exchange; 36] = [
     Asks("office", 900_004, "DeviceAdd", DEVICE, SUCCESS),
     Frames("bridge", 9, HEARD, UNKNOWN_ADDRESS),
     Joins("bridge", 10, FIRST, FIRST_ADDED),
@@ -147,7 +147,7 @@ pub(super) static DATA: [Row; 36] = [
 
 /// After the setup: three sessions of one device.
 #[rattlefmt::skip]
-pub(super) static SESSIONS: [Row; 21] = [
+pub(super) static SESSIONS: [Exchange; 21] = [
     Asks("office", 900_004, "DeviceAdd", DEVICE, SUCCESS),
     Joins("bridge", 10, FIRST, FIRST_ADDED),
     Frames("bridge", 11, Heard { octets: FCNT_3, verdict: "3", ..HEARD }, Framed(41_216, "B3", false, 3, DEVICE_EUI, 2)),

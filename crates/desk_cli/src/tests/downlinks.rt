@@ -1,8 +1,8 @@
 //! Downlinks that gateways are to send, and what they are told.
 use super::joins::{FIRST, FIRST_ADDED, FRAME, GATEWAY, NONCE_0};
-use super::rows::Row::{Asks, Books, Frames, Joins, Letters};
+use super::rows::Exchange::{Asks, Books, Frames, Joins, Letters};
 use super::rows::Told::{Booked, Framed, Plain};
-use super::rows::{BODY, DEVICE, Down, Heard, REUSED, Row, SUCCESS, Told};
+use super::rows::{BODY, DEVICE, Down, Exchange, Heard, REUSED, SUCCESS, Told};
 
 const NO_UPLINK: Told = Plain(0, "uplink", "Other");
 
@@ -117,7 +117,7 @@ pub(super) const WITHOUT_SENT: &str = r#""Booking":1"#;
 
 /// After the setup: the worked downlinks, and one of an uplink at its other gateway.
 #[rattlefmt::skip]
-pub(super) static WORKED_DOWNLINKS: [Row; 14] = [
+pub(super) static WORKED_DOWNLINKS: [Exchange; 14] = [
     Asks("office", 900_004, "DeviceAdd", DEVICE, SUCCESS),
     Joins("bridge", 10, FIRST, FIRST_ADDED),
     Frames("bridge", 11, Heard { time: 1_706_745_700_041_216, freq: 868_300_000, ..HEARD }, Framed(41_216, "B3", false, 0, DEVICE_EUI, 2)),
@@ -138,7 +138,7 @@ pub(super) static WORKED_DOWNLINKS: [Row; 14] = [
 
 /// After the setup: three downlinks of an hour.
 #[rattlefmt::skip]
-pub(super) static HOUR_BEGUN: [Row; 8] = [
+pub(super) static HOUR_BEGUN: [Exchange; 8] = [
     Asks("office", 900_004, "DeviceAdd", DEVICE, SUCCESS),
     Joins("bridge", 10, FIRST, FIRST_ADDED),
     Frames("bridge", 11, Heard { time: 1_706_745_599_000_000, freq: 868_800_000, rate: 0, octets: UP_0, verdict: "0", ..HEARD }, Framed(1_155_072, "B4", false, 0, DEVICE_EUI, 2)),
@@ -151,14 +151,14 @@ pub(super) static HOUR_BEGUN: [Row; 8] = [
 
 /// After them: the fourth, by which the hour holds just its limit.
 #[rattlefmt::skip]
-pub(super) static HOURS: [Row; 2] = [
+pub(super) static HOURS: [Exchange; 2] = [
     Frames("bridge", 14, Heard { time: 1_706_749_198_373_696, freq: 868_800_000, rate: 0, octets: UP_3, verdict: "3", ..HEARD }, Framed(1_155_072, "B4", false, 3, DEVICE_EUI, 5)),
     Books("bridge", 18, Down { uplink: 5, octets: DOWN_3, ..DOWN }, Booked(991_232, "B4", 4, 1_706_749_199_373_696)),
 ];
 
 /// After the three: the fourth would make the hour hold one microsecond above its limit.
 #[rattlefmt::skip]
-pub(super) static HOURS_ABOVE: [Row; 8] = [
+pub(super) static HOURS_ABOVE: [Exchange; 8] = [
     Frames("bridge", 14, Heard { time: 1_706_749_198_373_695, freq: 868_800_000, rate: 0, octets: UP_3, verdict: "3", ..HEARD }, Framed(1_155_072, "B4", false, 3, DEVICE_EUI, 5)),
     // one microsecond more
     Books("bridge", 18, Down { uplink: 5, octets: DOWN_3, ..DOWN }, DUTY),
@@ -174,7 +174,7 @@ pub(super) static HOURS_ABOVE: [Row; 8] = [
 
 /// After the setup: a downlink before two that stand, in hours that hold just the limit.
 #[rattlefmt::skip]
-pub(super) static BETWEEN: [Row; 8] = [
+pub(super) static BETWEEN: [Exchange; 8] = [
     Asks("office", 900_004, "DeviceAdd", DEVICE, SUCCESS),
     Joins("bridge", 10, FIRST, FIRST_ADDED),
     Frames("bridge", 11, Heard { time: 1_706_747_399_000_000, freq: 868_800_000, rate: 0, octets: UP_0, verdict: "0", ..HEARD }, Framed(1_155_072, "B4", false, 0, DEVICE_EUI, 2)),
@@ -187,7 +187,7 @@ pub(super) static BETWEEN: [Row; 8] = [
 
 /// After the setup: the same, one microsecond above it.
 #[rattlefmt::skip]
-pub(super) static BETWEEN_ABOVE: [Row; 8] = [
+pub(super) static BETWEEN_ABOVE: [Exchange; 8] = [
     Asks("office", 900_004, "DeviceAdd", DEVICE, SUCCESS),
     Joins("bridge", 10, FIRST, FIRST_ADDED),
     Frames("bridge", 11, Heard { time: 1_706_747_399_000_000, freq: 868_800_000, rate: 0, octets: UP_0, verdict: "0", ..HEARD }, Framed(1_155_072, "B4", false, 0, DEVICE_EUI, 2)),
@@ -200,7 +200,7 @@ pub(super) static BETWEEN_ABOVE: [Row; 8] = [
 
 /// After the setup: downlinks of one gateway and of another, end to end and over each other.
 #[rattlefmt::skip]
-pub(super) static COLLISIONS: [Row; 20] = [
+pub(super) static COLLISIONS: [Exchange; 20] = [
     Asks("office", 900_004, "DeviceAdd", DEVICE, SUCCESS),
     Joins("bridge", 10, FIRST, FIRST_ADDED),
     Frames("bridge", 11, Heard { time: 1_706_745_600_000_000, freq: 868_100_000, octets: UP_0, verdict: "0", ..HEARD }, Framed(41_216, "B3", false, 0, DEVICE_EUI, 2)),
@@ -229,7 +229,7 @@ pub(super) static COLLISIONS: [Row; 20] = [
 
 /// After the setup: each refusal of a downlink, and of what became of it.
 #[rattlefmt::skip]
-pub(super) static DOWNLINKS: [Row; 33] = [
+pub(super) static DOWNLINKS: [Exchange; 33] = [
     Asks("office", 900_004, "DeviceAdd", DEVICE, SUCCESS),
     Joins("bridge", 10, FIRST, FIRST_ADDED),
     Frames("bridge", 11, HEARD, Framed(41_216, "B3", false, 0, DEVICE_EUI, 2)),
@@ -273,7 +273,7 @@ pub(super) static DOWNLINKS: [Row; 33] = [
 
 /// After the setup: the longest downlink of the second window, and a longer one in the first.
 #[rattlefmt::skip]
-pub(super) static LENGTHS: [Row; 6] = [
+pub(super) static LENGTHS: [Exchange; 6] = [
     Asks("office", 900_004, "DeviceAdd", DEVICE, SUCCESS),
     Joins("bridge", 10, FIRST, FIRST_ADDED),
     Frames("bridge", 11, HEARD, Framed(41_216, "B3", false, 0, DEVICE_EUI, 2)),

@@ -1,9 +1,9 @@
 //! Frames at DR7, which is FSK.
 use super::downlinks::{ACCEPT, DEVICE_EUI, DOWN, DOWN_0, DOWN_2, UP_0, UP_1};
 use super::joins::{BAND, FIRST, FIRST_ADDED, NONCE_1};
-use super::rows::Row::{Asks, Books, Frames, Joins};
+use super::rows::Exchange::{Asks, Books, Frames, Joins};
 use super::rows::Told::{Booked, Framed, Joined};
-use super::rows::{BODY, DEVICE, Down, Heard, Row, SUCCESS};
+use super::rows::{BODY, DEVICE, Down, Exchange, Heard, SUCCESS};
 
 /// FCnt 2, and 255 octets in all.
 const UP_OF_255: &str =
@@ -25,7 +25,7 @@ const HEARD: Heard = Heard {
 
 /// After the setup: frames of 12, 23 and 255 octets, up and down.
 #[rattlefmt::skip]
-pub(super) static FSK: [Row; 14] = [
+pub(super) static FSK: [Exchange; 14] = [
     Asks("office", 900_004, "DeviceAdd", DEVICE, SUCCESS),
     Joins("bridge", 10, FIRST, FIRST_ADDED),
     // no data rate has the number 8, and the text isn't heard

@@ -1,7 +1,7 @@
 //! Join requests that gateways report, and what they are told.
-use super::rows::Row::{Asks, Joins, Letters};
+use super::rows::Exchange::{Asks, Joins, Letters};
 use super::rows::Told::{Joined, Plain};
-use super::rows::{BODY, DEVICE, Heard, OTHER, REUSED, Row, SUCCESS, Told, UNKNOWN_DEVICE};
+use super::rows::{BODY, DEVICE, Exchange, Heard, OTHER, REUSED, SUCCESS, Told, UNKNOWN_DEVICE};
 
 pub(super) const TIME: Told = Plain(0, "time", "Other");
 
@@ -100,7 +100,7 @@ const OUT_OF_BAND: Heard = Heard {
 
 /// After the setup: joins, their copies, and each refusal that they may have.
 #[rattlefmt::skip]
-pub(super) static JOINS: [Row; 49] = [
+pub(super) static JOINS: [Exchange; 49] = [
     Asks("office", 900_004, "DeviceAdd", DEVICE, SUCCESS),
     Letters(WORKED, 0, WORKED_ANSWER),
     Joins("bridge", 10, FIRST, FIRST_ADDED),
@@ -164,7 +164,7 @@ pub(super) static JOINS: [Row; 49] = [
 
 /// After the setup, where the desk has one address: the checks that come first and last.
 #[rattlefmt::skip]
-pub(super) static ONE_ADDRESS: [Row; 7] = [
+pub(super) static ONE_ADDRESS: [Exchange; 7] = [
     Asks("office", 900_004, "DeviceAdd", DEVICE, SUCCESS),
     Joins("bridge", 10, Heard { gateway: "gw-c", time: 946_684_799_999_999, ..FIRST }, TIME),
     Joins("bridge", 11, Heard { verdict: "Bad", ..FIRST }, MIC),

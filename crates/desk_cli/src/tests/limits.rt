@@ -5,9 +5,9 @@ use super::downlinks::{
 };
 use super::holding::is_text;
 use super::joins::{FIRST, FIRST_ADDED, GATEWAY};
-use super::rows::Row::{Asks, Books, Frames, Joins};
+use super::rows::Exchange::{Asks, Books, Frames, Joins};
 use super::rows::Told::{Booked, Framed};
-use super::rows::{BODY, DEVICE, Down, Heard, ROLE, Row, SETUP, SUCCESS};
+use super::rows::{BODY, DEVICE, Down, Exchange, Heard, ROLE, SETUP, SUCCESS};
 use super::{Opened, deliver_each, opening};
 use desk_engine::band_report;
 use std::process::Abort;
@@ -36,7 +36,7 @@ const DROPPED_4: &str = r#""Booking":4,"Sent":false"#;
 
 /// After an hour of four downlinks that holds just the band's own limit.
 #[rattlefmt::skip]
-pub(super) static LIMITS: [Row; 4] = [
+pub(super) static LIMITS: [Exchange; 4] = [
     Asks("office", 19, "LimitSet", r#""Gateway":"gw-a","Band":"B4","Limit":3599999"#, DUTY),
     Asks("office", 20, "LimitSet", r#""Gateway":"gw-a","Band":"B4","Limit":3600001"#, BODY),
     Asks("office", 20, "LimitSet", r#""Gateway":"gw-a","Band":"B4","Limit":3600000"#, SUCCESS),
@@ -45,7 +45,7 @@ pub(super) static LIMITS: [Row; 4] = [
 
 /// And then a lower one, with the last downlink dropped, and a higher one again.
 #[rattlefmt::skip]
-pub(super) static LOWERED: [Row; 5] = [
+pub(super) static LOWERED: [Exchange; 5] = [
     Asks("bridge", 20, "DownDone", DROPPED_4, SUCCESS),
     Asks("office", 21, "LimitSet", r#""Gateway":"gw-a","Band":"B4","Limit":2973696"#, SUCCESS),
     Books("bridge", 21, Down { uplink: 5, octets: DOWN_4, ..DOWN }, DUTY),
@@ -55,7 +55,7 @@ pub(super) static LOWERED: [Row; 5] = [
 
 /// After the setup: limits before the first downlink, each for its gateway and band alone.
 #[rattlefmt::skip]
-pub(super) static FIRST_LIMITS: [Row; 19] = [
+pub(super) static FIRST_LIMITS: [Exchange; 19] = [
     Asks("bridge", 9, "LimitSet", LIMIT_OF_NONE, ROLE),
     Asks("office", 18, "LimitSet", LIMIT_OF_NONE, GATEWAY),
     Asks("office", 19, "LimitSet", r#""Gateway":"gw-a","Band":"B4","Limit":991232"#, SUCCESS),
@@ -90,7 +90,7 @@ const BANDS_LOWERED: &str =
 /// The report of the gateway's bands, after the tables, has each band's standing limit.
 fn expect_bands<R: Abort + AllocGlobal, K: Opened>(
     rt: &R,
-    tables: &[&[Row]],
+    tables: &[&[Exchange]],
     wanted: &str,
 ) -> Result<(), Fail> {
     let mut keeper = opening::<K>(rt.alloc(), 65_536)?;

@@ -7,11 +7,11 @@ use super::holding::holds;
 use super::joins::{FIRST, FIRST_ADDED, NONCE_1};
 use super::limits::HALF_OF_B3;
 use super::reports::expect_wanted;
-use super::rows::Row::{Asks, Books, Frames, Joins};
+use super::rows::Exchange::{Asks, Books, Frames, Joins};
 use super::rows::Told::{Booked, Framed, Joined};
 use super::rows::{
-    AS_ADMIN, BODY, DEVICE, DEVICE_TO_PORT, Down, Heard, OTHER, PORT, ROLE, Row, SETUP, SUCCESS,
-    TOWN,
+    AS_ADMIN, BODY, DEVICE, DEVICE_TO_PORT, Down, Exchange, Heard, OTHER, PORT, ROLE, SETUP,
+    SUCCESS, TOWN,
 };
 use super::{Opened, deliver_each, opening};
 use Listed::{All, Downlinks, One, Receptions};
@@ -35,7 +35,7 @@ enum Listed {
 }
 
 /// What is heard, and the lists that are asked for then.
-type Step = (&'static [Row], &'static [Listed]);
+type Step = (&'static [Exchange], &'static [Listed]);
 
 const OWN_LIMITS: &str =
     "gw-a,3600000,36000000,36000000,3600000,360000000,36000000\ngw-b,3600000,36000000,36000000,3600000,360000000,36000000\n";

@@ -1,7 +1,7 @@
 //! The log: the messages that a desk has heard and their answers, over each kind of store.
 use super::failing::FAILURES;
 use super::holding::{holds, holds_at};
-use super::rows::Row::Asks;
+use super::rows::Exchange::Asks;
 use super::rows::{Delivery, EXISTS, TOWN, delivery_of};
 use super::stops::deliveries;
 use super::switched::{Failure, Switched};

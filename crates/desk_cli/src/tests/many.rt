@@ -2,8 +2,8 @@
 use super::downlinks::DUTY;
 use super::holding::holds;
 use super::reports::{OWNER_HEADER, expect_wanted, is_wanted};
-use super::rows::Row::Asks;
-use super::rows::{Row, SUCCESS, delivery_of};
+use super::rows::Exchange::Asks;
+use super::rows::{Exchange, SUCCESS, delivery_of};
 use super::stops::{deliveries, heard};
 use super::{expect_told, found, with_device};
 use desk_engine::{band_report, deliver, owner_report};
@@ -50,7 +50,7 @@ fn insert_rows(conn: &mut Connection<MemStore>, insert: &str, first: i64) -> Res
 }
 
 /// The band's hours hold 240,000 microseconds at most.
-static LIMITS: [Row; 2] = [
+static LIMITS: [Exchange; 2] = [
     Asks(
         "office",
         20,

@@ -3,9 +3,9 @@ use super::data_frames::HEARD;
 use super::downlinks::{ACCEPT, DEVICE_EUI, DOWN, DOWN_0, UP_0, UP_1, UP_2};
 use super::holding::{holds, holds_of};
 use super::joins::{FIRST, FIRST_ADDED, NONCE_1};
-use super::rows::Row::{Asks, Books, Frames, Joins};
+use super::rows::Exchange::{Asks, Books, Frames, Joins};
 use super::rows::Told::{Booked, Framed, Joined};
-use super::rows::{DEVICE_TO_PORT, Down, Heard, OTHER, PORT, Row, SUCCESS};
+use super::rows::{DEVICE_TO_PORT, Down, Exchange, Heard, OTHER, PORT, SUCCESS};
 use super::{Opened, deliver_each, with_device};
 use Asked::{Bands, Owner, Room};
 use desk_engine::{ReportFault, band_report, owner_report, room_report};
@@ -55,7 +55,7 @@ pub(super) enum Asked {
 }
 
 /// What is heard, and the reports that are asked for then.
-type Step = (&'static [Row], &'static [Asked]);
+type Step = (&'static [Exchange], &'static [Asked]);
 
 /// The worked reports. Each row is heard twice.
 #[rattlefmt::skip]
@@ -230,7 +230,7 @@ fn expect_steps<R: Abort + AllocGlobal, K: Opened>(rt: &R, steps: &[Step]) -> Re
 
 /// A second join, which was on the air before the first.
 #[rattlefmt::skip]
-static TWO_SESSIONS: [Row; 2] = [
+static TWO_SESSIONS: [Exchange; 2] = [
     Joins("bridge", 10, FIRST, FIRST_ADDED),
     Joins("bridge", 11, Heard { time: 1_706_745_590_061_696, octets: NONCE_1, ..FIRST }, Joined(61_696, "B3", false, "01a00001", 2)),
 ];

@@ -3,9 +3,9 @@ use super::downlinks::{DEVICE_EUI, DOWN, DOWN_0, HOUR_BEGUN, UP_0};
 use super::joins::{FIRST, FIRST_ADDED};
 use super::reports::Asked::{self, Room};
 use super::reports::expect_report;
-use super::rows::Row::{Books, Frames, Joins};
+use super::rows::Exchange::{Books, Frames, Joins};
 use super::rows::Told::{Booked, Framed};
-use super::rows::{Down, Heard, Row};
+use super::rows::{Down, Exchange, Heard};
 use super::{Opened, deliver_each, with_device};
 use desk_engine::ReportFault;
 use std::process::Abort;
@@ -66,7 +66,7 @@ static ROOMS_OF_AN_HOUR: [Asked; 3] = [
 
 /// One downlink in B5.
 #[rattlefmt::skip]
-static ONE_BOOKED: [Row; 3] = [
+static ONE_BOOKED: [Exchange; 3] = [
     Joins("bridge", 10, FIRST, FIRST_ADDED),
     Frames("bridge", 11, Heard { time: 1_706_745_600_000_000, octets: UP_0, verdict: "0", ..FIRST }, Framed(41_216, "B3", false, 0, DEVICE_EUI, 2)),
     Books("bridge", 17, Down { window: 2, octets: DOWN_0, ..DOWN }, Booked(991_232, "B5", 1, 1_706_745_602_000_000)),
@@ -84,7 +84,7 @@ static ROOMS_BESIDE_ONE: [Asked; 5] = [
 /// What a desk with a device reports after it heard the rows.
 fn expect_rooms<R: Abort + AllocGlobal, K: Opened>(
     rt: &R,
-    rows: &[Row],
+    rows: &[Exchange],
     rooms: &[Asked],
 ) -> Result<(), Fail> {
     let mut keeper = with_device::<R, K>(rt)?;

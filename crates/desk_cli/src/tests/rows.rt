@@ -1,6 +1,6 @@
 //! What is delivered in each run, and what goes back: whole texts where their letters matter, and else the parts in
 //! which requests differ.
-use Row::{Asks, Books, Frames, Joins, Letters};
+use Exchange::{Asks, Books, Frames, Joins, Letters};
 use Told::{Booked, Framed, Joined, Plain};
 use Value::{Number, Text};
 use std::alloc::{AllocError, Global};
@@ -60,7 +60,7 @@ pub(crate) struct Down {
 
 /// What is delivered, and what it is told.
 #[derive(Clone, Copy)]
-pub(crate) enum Row {
+pub(crate) enum Exchange {
     /// A request of a sender: its transaction number, its type, and the members of the type.
     Asks(&'static str, u32, &'static str, &'static str, Told),
     /// A JoinHeard of a sender: its transaction number, and the join request.
@@ -82,7 +82,7 @@ pub(crate) struct Delivery {
 }
 
 /// The deliveries of the rows. Each row is delivered twice: whatever it is told, it is told again.
-pub(crate) fn deliveries_of(alloc: Global, rows: &[Row]) -> Result<Vec<Delivery>, AllocError> {
+pub(crate) fn deliveries_of(alloc: Global, rows: &[Exchange]) -> Result<Vec<Delivery>, AllocError> {
     let mut deliveries = Vec::new(alloc);
     for row in rows {
         for _ in 0..2 {
@@ -92,7 +92,7 @@ pub(crate) fn deliveries_of(alloc: Global, rows: &[Row]) -> Result<Vec<Delivery>
     Ok(deliveries)
 }
 
-pub(crate) fn delivery_of(alloc: Global, row: &Row) -> Result<Delivery, AllocError> {
+pub(crate) fn delivery_of(alloc: Global, row: &Exchange) -> Result<Delivery, AllocError> {
     match *row {
         Asks(sender, transaction, type_name, members, told) => {
             asked(alloc, sender, transaction, type_name, members, told)
@@ -338,7 +338,7 @@ pub(crate) const LONG_OWNER: &str = r#""Owner":"abcdefghijklmnopqrstuvwxyzabcdef
 // The tables are statics: a proof goes through all rows of a constant where it is used, which takes minutes.
 
 /// Owners, and each fault of a text.
-pub(crate) static OWNERS: [Row; 12] = [
+pub(crate) static OWNERS: [Exchange; 12] = [
     Letters(REQUEST, 0, ADDED),
     Asks("office", 1, "OwnerAdd", TOWN, SUCCESS),
     Asks("office", 2, "OwnerAdd", TOWN, EXISTS),
@@ -426,7 +426,7 @@ pub(crate) const SHORT_TO_TOWN: &str = r#""DevEUI":"0004a30b001a2b3","Owner":"to
 const LONG_TO_TOWN: &str = r#""DevEUI":"0004a30b001a2b3c00","Owner":"town""#;
 
 /// A sender, an owner and two gateways.
-pub(crate) static SETUP: [Row; 4] = [
+pub(crate) static SETUP: [Exchange; 4] = [
     Asks("office", 900_000, "SenderAdd", BRIDGE, SUCCESS),
     Asks("office", 900_001, "OwnerAdd", TOWN, SUCCESS),
     Asks("office", 900_002, "GatewayAdd", GATEWAY_A, SUCCESS),
@@ -434,10 +434,16 @@ pub(crate) static SETUP: [Row; 4] = [
 ];
 
 /// After the setup: the worked device.
-pub(crate) static DEVICE_ADDED: [Row; 1] = [Asks("office", 900_004, "DeviceAdd", DEVICE, SUCCESS)];
+pub(crate) static DEVICE_ADDED: [Exchange; 1] = [Asks(
+    "office",
+    900_004,
+    "DeviceAdd",
+    DEVICE,
+    SUCCESS,
+)];
 
 /// After the setup: senders, owners, gateways and devices, with each refusal that their messages may have.
-pub(crate) static REGISTRY: [Row; 45] = [
+pub(crate) static REGISTRY: [Exchange; 45] = [
     Asks("office", 2, "DeviceAdd", DEVICE, SUCCESS),
     Asks("office", 3, "DeviceAdd", DEVICE, EXISTS),
     Asks("office", 2, "DeviceAdd", OTHER, REUSED),

@@ -8,7 +8,7 @@ use super::fsk::FSK;
 use super::holding::holds;
 use super::joins::{JOINS, ONE_ADDRESS};
 use super::limits::{FIRST_LIMITS, LIMITS, LOWERED};
-use super::rows::{Delivery, OWNERS, REGISTRY, Row, SETUP, deliveries_of};
+use super::rows::{Delivery, Exchange, OWNERS, REGISTRY, SETUP, deliveries_of};
 use super::{Opened, deliver_each, expect_told, opening};
 use desk_engine::{Outcome, run};
 use desk_store::Keeper;
@@ -36,7 +36,7 @@ pub(super) fn expect_outcomes(rt: &impl Abort, outcomes: &[Outcome], deliveries:
 fn run_all<R: Abort + AllocGlobal, K: Keeper>(
     rt: &R,
     keeper: &mut K,
-    rows: &[Row],
+    rows: &[Exchange],
 ) -> Result<(), Fail> {
     let deliveries = deliveries_of(rt.alloc(), rows)?;
     let outcomes = run(rt.alloc(), keeper, &texts_of(rt.alloc(), &deliveries)?)?;
@@ -49,7 +49,7 @@ fn run_all<R: Abort + AllocGlobal, K: Keeper>(
 fn expect_run<R: Abort + AllocGlobal, K: Opened>(
     rt: &R,
     addresses: u32,
-    tables: &[&[Row]],
+    tables: &[&[Exchange]],
 ) -> Result<(), Fail> {
     let mut keeper = opening::<K>(rt.alloc(), addresses)?;
     for rows in tables {
@@ -65,29 +65,29 @@ fn expect_run<R: Abort + AllocGlobal, K: Opened>(
 // The tables stand in four functions: the more rows a function names, the longer its proof takes for each of them.
 
 /// The tables of joins and of data frames.
-fn of_frames() -> [&'static [Row]; 2] {
+fn of_frames() -> [&'static [Exchange]; 2] {
     [&JOINS, &DATA]
 }
 
 /// Those of sessions and of FSK.
-fn of_sessions() -> [&'static [Row]; 2] {
+fn of_sessions() -> [&'static [Exchange]; 2] {
     [&SESSIONS, &FSK]
 }
 
 /// Those of downlinks.
-fn of_downlinks() -> [&'static [Row]; 3] {
+fn of_downlinks() -> [&'static [Exchange]; 3] {
     [&WORKED_DOWNLINKS, &DOWNLINKS, &LENGTHS]
 }
 
 /// Those of downlinks that are near one another.
-fn of_near_downlinks() -> [&'static [Row]; 3] {
+fn of_near_downlinks() -> [&'static [Exchange]; 3] {
     [&BETWEEN, &BETWEEN_ABOVE, &COLLISIONS]
 }
 
 /// Each of these tables comes right after the setup.
 fn expect_after_setup<R: Abort + AllocGlobal, K: Opened>(
     rt: &R,
-    tables: &[&[Row]],
+    tables: &[&[Exchange]],
 ) -> Result<(), Fail> {
     for rows in tables {
         expect_run::<R, K>(rt, 65_536, &[&SETUP[..], *rows])?;

@@ -3,9 +3,9 @@
 use super::data_frames::HEARD;
 use super::downlinks::{DEVICE_EUI, UP_1};
 use super::holding::holds;
-use super::rows::Row::Frames;
+use super::rows::Exchange::Frames;
 use super::rows::Told::Framed;
-use super::rows::{Delivery, Heard, Row, delivery_of};
+use super::rows::{Delivery, Exchange, Heard, delivery_of};
 use super::stops::{all_deliveries, expect_found, rows_after, rows_in};
 use sqlite::{Connection, MemStore, params};
 use std::alloc::Global;
@@ -79,7 +79,7 @@ static REPLIES: [(&str, i64, &str); 14] = [
 ];
 
 /// A frame at DR7, after messages of each type.
-static FSK: [Row; 1] = [Frames(
+static FSK: [Exchange; 1] = [Frames(
     "bridge",
     15,
     Heard {

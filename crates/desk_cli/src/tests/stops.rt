@@ -4,10 +4,10 @@ use super::downlinks::{ACCEPT, DEVICE_EUI, DOWN, DROPPED_1};
 use super::holding::holds;
 use super::joins::{FIRST, FIRST_ADDED};
 use super::limits::HALF_OF_B3;
-use super::rows::Row::{Asks, Books, Frames, Joins};
+use super::rows::Exchange::{Asks, Books, Frames, Joins};
 use super::rows::Told::{Booked, Framed};
 use super::rows::{
-    BRIDGE, CITY, DEVICE, DEVICE_TO_CITY, Delivery, Down, GATEWAY_A, GATEWAY_B, Heard, Row,
+    BRIDGE, CITY, DEVICE, DEVICE_TO_CITY, Delivery, Down, Exchange, GATEWAY_A, GATEWAY_B, Heard,
     SUCCESS, TOWN, delivery_of,
 };
 use super::runs::{expect_outcomes, texts_of};
@@ -24,7 +24,7 @@ use std::process::Abort;
 use std::test::Fail;
 
 #[rattlefmt::skip]
-static MESSAGES: [Row; 10] = [
+static MESSAGES: [Exchange; 10] = [
     Asks("office", 1, "OwnerAdd", TOWN, SUCCESS),
     Asks("office", 2, "SenderAdd", BRIDGE, SUCCESS),
     Asks("office", 3, "GatewayAdd", GATEWAY_A, SUCCESS),
@@ -38,7 +38,7 @@ static MESSAGES: [Row; 10] = [
 ];
 
 /// What comes after them: the types that are left, and what they need. A file of schema 1 holds no limit.
-static MORE: [Row; 3] = [
+static MORE: [Exchange; 3] = [
     Asks("office", 6, "OwnerAdd", CITY, SUCCESS),
     Asks("office", 7, "DeviceMove", DEVICE_TO_CITY, SUCCESS),
     Asks("office", 8, "LimitSet", HALF_OF_B3, SUCCESS),
@@ -72,7 +72,7 @@ pub(crate) fn all_deliveries(alloc: Global) -> Result<Vec<Delivery>, Fail> {
 fn with_each_of(
     alloc: Global,
     deliveries: Vec<Delivery>,
-    rows: &[Row],
+    rows: &[Exchange],
 ) -> Result<Vec<Delivery>, Fail> {
     let mut deliveries = deliveries;
     for row in rows {

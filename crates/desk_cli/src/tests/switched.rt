@@ -3,7 +3,7 @@ ghost use Rattle.std.specs.Prelude.{◌≡◌, ◌||◌, true, Err};
 ghost use Rattle.desk_store.specs.Calls.{IsOfCalls, IsOfReading, fault_in, is_disk, is_not_a_desk};
 ghost use Rattle.desk_cli.specs.steps.Unsound.{unsound};
 
-use desk_store::{Counts, Keeper, Looks, StoreFault, Texts};
+use desk_store::{Counts, EntryTexts, Keeper, Looks, StoreFault};
 use duty_core::Span;
 use radio_core::{Band, Eui, Name};
 use registry_core::{
@@ -159,12 +159,12 @@ impl<K: Keeper> Looks for Switched<K> {
     }
 
     #[tactic(auto, using(crate::proofs::Unsound::read_by))]
-    fn texts_of(&mut self, envelope: &Envelope) -> Result<Option<Texts>, StoreFault> {
+    fn texts_of(&mut self, envelope: &Envelope) -> Result<Option<EntryTexts>, StoreFault> {
         in_turn!(self, self.inner.texts_of(envelope))
     }
 
     #[tactic(auto, using(crate::proofs::Unsound::read_by))]
-    fn entry(&mut self, number: u64) -> Result<Option<Texts>, StoreFault> {
+    fn entry(&mut self, number: u64) -> Result<Option<EntryTexts>, StoreFault> {
         in_turn!(self, self.inner.entry(number))
     }
 

@@ -48,8 +48,8 @@ abbrev pub session_columns : ℕ → List ℕ → List ℕ → List ℕ → List
 session_columns count address nonce rest = decimal count ++ (codes "," ++ (address ++ (codes "," ++ (nonce ++ (codes "," ++ rest)))))
 
 -- the columns of a device, and the rest
-abbrev pub device_columns : ℕ → Device → List ℕ → List ℕ
-device_columns dev_eui device rest = eui_digits dev_eui ++ (codes "," ++ (eui_digits device.join_eui ++ (codes "," ++ (device.owner ++ (codes "," ++ rest)))))
+abbrev pub device_list_columns : ℕ → Device → List ℕ → List ℕ
+device_list_columns dev_eui device rest = eui_digits dev_eui ++ (codes "," ++ (eui_digits device.join_eui ++ (codes "," ++ (device.owner ++ (codes "," ++ rest)))))
 
 -- the columns of a device's sessions, with LF, by their numbers
 abbrev pub sessions_text : Settings → State → ℕ → List ℕ → List ℕ

@@ -9,7 +9,7 @@ use Rattle.registry_core.specs.declared.facts.Uplink.{Uplink}
 use Rattle.registry_core.specs.Reports.{Use, in_band, is_after, is_owned, uplinks_from}
 use Rattle.registry_core.specs.State.{State}
 use Rattle.desk_engine.specs.declared.uses.Use.{Use as CountedUse}
-use Rattle.desk_engine.specs.Reports.{band_columns, device_line, owner_header}
+use Rattle.desk_engine.specs.Reports.{band_columns, device_use_line, owner_header}
 
 abbrev pub use_shown : CountedUse → Use
 use_shown used = record { count = used.count; airtime = used.airtime; peak = used.peak }
@@ -25,9 +25,9 @@ pub record HasColumns (sent : List Uplink) (done : List Band) (uplinks : ℕ) (c
   pub text : columns ≡ flat_map (λ band. band_columns (use_computed (in_band band sent))) done
 
 -- the line of a device, by its uplinks that start at `from` or later and before `to`
-unfoldable pub line_of_device : State → ℤ → ℤ → ℕ → List ℕ
-line_of_device s from to dev_eui = let sent = uplinks_from s.uplinks s.sessions dev_eui from to in
-    device_line dev_eui (length sent) (λ band. use_computed (in_band band sent))
+unfoldable pub owner_report_line : State → ℤ → ℤ → ℕ → List ℕ
+owner_report_line s from to dev_eui = let sent = uplinks_from s.uplinks s.sessions dev_eui from to in
+    device_use_line dev_eui (length sent) (λ band. use_computed (in_band band sent))
 
 -- ---- an owner's devices
 
@@ -36,4 +36,4 @@ pub record HasLines (s : State) (owner : List ℕ) (from to : ℤ) (last : Optio
   pub devices : List ℕ
   pub rising : IsStrictlyIncreasing devices
   pub owned : (dev_eui : ℕ) → list_any (λ other. other == dev_eui) devices ≡ (is_owned s owner dev_eui && not (is_after last dev_eui))
-  pub text_is : text ≡ owner_header ++ flat_map (line_of_device s from to) devices
+  pub text_is : text ≡ owner_header ++ flat_map (owner_report_line s from to) devices

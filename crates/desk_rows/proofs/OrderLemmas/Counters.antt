@@ -15,7 +15,7 @@ use Rattle.registry_core.specs.Derived.{is_data, is_data_of, is_of_device, is_se
 use Rattle.registry_core.specs.Numbered.{greatest, item_at, item_changed}
 use Rattle.registry_core.specs.State.{ended}
 use Rattle.desk_rows.specs.Rows.{DeviceRow, SessionRow, BookingRow}
-use Rattle.desk_rows.specs.order.Changes.{booking_row, counted_down, devices_raised, ended_row, kind_at, raised, session_at, sessions_counted}
+use Rattle.desk_rows.specs.order.Changes.{booking_row, counted_down, devices_raised, ended_row, kind_at, raised, session_of_uplink, sessions_counted}
 use Rattle.desk_rows.specs.order.Facts.{bookings_in, sessions_in}
 use Rattle.desk_rows.specs.order.RowsOf.{AnswersUplink, IsOfSession, floor_of, is_data_from}
 use Rattle.desk_rows.proofs.OrderLemmas.Counting.{count_alike, count_changed, count_none, count_with, filter_alike, greatest-append}
@@ -164,7 +164,7 @@ pub answers_ended : (uplinks : List Uplink) (bookings : List BookingRow) (number
 answers_ended uplinks bookings number sent each = all_changed (AnswersUplink uplinks) (ended_row sent)
     (λ b answers. record { uplink = answers.uplink; there = answers.there; session = answers.session; kind = answers.kind }) bookings number each
 
-pub session_found : (uplinks : List Uplink) (number : ℕ) (uplink : Uplink) → item_at uplinks number ≡ Some uplink → session_at uplinks number ≡ uplink.session
+pub session_found : (uplinks : List Uplink) (number : ℕ) (uplink : Uplink) → item_at uplinks number ≡ Some uplink → session_of_uplink uplinks number ≡ uplink.session
 session_found uplinks number uplink there = ap (λ found. option_map_or (λ (u : Uplink). u.session) found 0) there
 
 pub kind_found : (uplinks : List Uplink) (number : ℕ) (uplink : Uplink) → item_at uplinks number ≡ Some uplink → kind_at uplinks number ≡ uplink.kind

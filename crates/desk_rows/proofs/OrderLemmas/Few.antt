@@ -6,7 +6,7 @@ use Rattle.registry_core.specs.declared.effects.Effect.TheVariants.{Nothing, Add
 use Rattle.registry_core.specs.declared.facts.Kind.{Kind}
 use Rattle.registry_core.specs.declared.facts.Kind.TheVariants.{Join, Data}
 use Rattle.desk_rows.specs.Rows.{Rows, ReplyRow, SessionRow}
-use Rattle.desk_rows.specs.order.Changes.{counted_down, ended_row, kind_at, rows_with, session_at, sessions_counted}
+use Rattle.desk_rows.specs.order.Changes.{counted_down, ended_row, kind_at, rows_with, session_of_uplink, sessions_counted}
 use Rattle.desk_rows.specs.order.RowsOf.{IsFew}
 use Rattle.desk_rows.proofs.OrderLemmas.Limits.{limits_few}
 use Rattle.desk_rows.proofs.OrderLemmas.Numbering.{length-item_changed}
@@ -78,7 +78,7 @@ few_with r (AddsCopy number gateway reception) reply few =
     (none r.bookings) (none r.limits)
 few_with r (AddsBooking booking) reply few =
     few_by r _ reply refl few (none r.senders) (none r.owners) (none r.gateways) (none r.devices)
-    (counted (kind_at r.uplinks booking.uplink) (session_at r.uplinks booking.uplink) r.sessions) (none r.uplinks) (none r.copies) (one r.bookings _) (none r.limits)
+    (counted (kind_at r.uplinks booking.uplink) (session_of_uplink r.uplinks booking.uplink) r.sessions) (none r.uplinks) (none r.copies) (one r.bookings _) (none r.limits)
 few_with r (EndsBooking number sent) reply few =
     few_by r _ reply refl few (none r.senders) (none r.owners) (none r.gateways) (none r.devices) (none r.sessions) (none r.uplinks) (none r.copies)
     (changed r.bookings _ (length-item_changed (ended_row sent) r.bookings number)) (none r.limits)

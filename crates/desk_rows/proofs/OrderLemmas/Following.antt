@@ -18,7 +18,7 @@ use Rattle.registry_core.specs.Numbered.{greatest, item_at}
 use Rattle.registry_core.specs.State.{state_with}
 use Rattle.sqlite_keyed.specs.Lists.{update_where}
 use Rattle.desk_rows.specs.Rows.{Rows, DeviceRow, ReplyRow, SessionRow, is_device}
-use Rattle.desk_rows.specs.order.Changes.{RowsFollowFacts, booking_row, copy_row, device_row, kind_at, moved, raised, rows_with, sender_row, session_at, session_row, sessions_counted}
+use Rattle.desk_rows.specs.order.Changes.{RowsFollowFacts, booking_row, copy_row, device_row, kind_at, moved, raised, rows_with, sender_row, session_of_uplink, session_row, sessions_counted}
 use Rattle.desk_rows.specs.order.Facts.{bookings_in, facts_in, sessions_in}
 use Rattle.desk_rows.specs.order.RowsOf.{AnswersUplink, IsCounted, IsKeyed, IsOfSession, IsOfUplink, NamesRows, floor_of, is_data_from, same_join}
 use Rattle.desk_rows.proofs.OrderLemmas.Counters.{HasDowns, HasFloor, answers_ended, answers_new, answers_with, downs_with, floor_join, floor_session, floors_raised, kind_found, next_down_ended, next_down_kept, next_down_none, session_found}
@@ -91,7 +91,7 @@ module _ (r : Rows) (session : Session) (uplink : Uplink) (join : uplink.kind �
 -- with a new booking
 module _ (r : Rows) (booking : Booking) (uplink : Uplink) (there : item_at r.uplinks booking.uplink ≡ Some uplink) (counted : IsCounted r) where
   booking_downs : (n : ℕ) (s : SessionRow)
-      → item_at (sessions_counted (kind_at r.uplinks booking.uplink) (session_at r.uplinks booking.uplink) r.sessions) n ≡ Some s
+      → item_at (sessions_counted (kind_at r.uplinks booking.uplink) (session_of_uplink r.uplinks booking.uplink) r.sessions) n ≡ Some s
       → HasDowns (r.bookings ++ booking_row r.uplinks booking ∷ []) r.uplinks n s
   booking_downs n s at =
       downs_with r.bookings r.uplinks booking uplink there r.sessions counted.next_downs (booking_row r.uplinks booking) refl
@@ -128,7 +128,7 @@ counted_with r (AddsBooking booking) reply names fits counted =
     let found = item_there r.uplinks booking.uplink (item_at r.uplinks booking.uplink) refl fits.uplink in
     record {
       floors = subst (λ sessions. AllByRecursion (HasFloor r.uplinks sessions) r.devices)
-          (counted_shown (kind_at r.uplinks booking.uplink) (session_at r.uplinks booking.uplink) r.sessions) counted.floors;
+          (counted_shown (kind_at r.uplinks booking.uplink) (session_of_uplink r.uplinks booking.uplink) r.sessions) counted.floors;
       next_downs = booking_downs r booking found.0 found.1 counted;
       bookings = all_with (AnswersUplink r.uplinks) r.bookings (booking_row r.uplinks booking) counted.bookings
           (answers_new r.uplinks booking found.0 found.1);
@@ -186,7 +186,7 @@ names_with r (AddsUplink uplink gateway reception) reply fits names = record {
   copies = copies_with r.uplinks uplink r.copies gateway reception names.copies;
 }
 names_with r (AddsBooking booking) reply fits names =
-    let same = counted_shown (kind_at r.uplinks booking.uplink) (session_at r.uplinks booking.uplink) r.sessions in
+    let same = counted_shown (kind_at r.uplinks booking.uplink) (session_of_uplink r.uplinks booking.uplink) r.sessions in
     record {
       sessions = subst (AllByRecursion (HasDevice r.devices)) same names.sessions;
       uplinks = subst (λ sessions. AllByRecursion (IsOfSession sessions) r.uplinks) same names.uplinks;
@@ -276,7 +276,7 @@ keyed_with r (AddsBooking booking) reply fits keyed = record {
   owners = keyed.owners;
   gateways = keyed.gateways;
   devices = keyed.devices;
-  sessions = subst (IsDistinct same_join) (counted_shown (kind_at r.uplinks booking.uplink) (session_at r.uplinks booking.uplink) r.sessions) keyed.sessions;
+  sessions = subst (IsDistinct same_join) (counted_shown (kind_at r.uplinks booking.uplink) (session_of_uplink r.uplinks booking.uplink) r.sessions) keyed.sessions;
   copies = keyed.copies;
   limits = keyed.limits;
 }

@@ -26,10 +26,10 @@ use Rattle.desk_rows.proofs.OrderLemmas.Numbering.{item_at-map}
 
 rows_are_items : (r : Rows) → RowsAreItems r
 rows_are_items r = record {
-  session_at = λ n. row_numbered n r.sessions;
+  session_numbered = λ n. row_numbered n r.sessions;
   uplink_at = λ n. row_numbered n r.uplinks;
   booking_at = λ n. row_numbered n r.bookings;
-  session_with = λ test. first_zipped test 1 r.sessions;
+  session_that = λ test. first_zipped test 1 r.sessions;
   uplink_with = λ test. first_zipped test 1 r.uplinks;
 }
 

@@ -20,7 +20,7 @@ use Rattle.registry_core.specs.Fits.{Fits}
 use Rattle.registry_core.specs.State.{at_name, at_number, copies_with, devices_with_move, ended, owned_by, state_with}
 use Rattle.sqlite_keyed.specs.Lists.{update_where}
 use Rattle.desk_rows.specs.Rows.{Rows, SenderRow, ReplyRow, DeviceRow, SessionRow, CopyRow, BookingRow, is_copy, is_device, is_sender_named}
-use Rattle.desk_rows.specs.order.Changes.{booking_row, copy_row, counted_down, device_row, ended_row, kind_at, moved, raised, rows_with, sender_row, session_at, session_row, sessions_counted}
+use Rattle.desk_rows.specs.order.Changes.{booking_row, copy_row, counted_down, device_row, ended_row, kind_at, moved, raised, rows_with, sender_row, session_of_uplink, session_row, sessions_counted}
 use Rattle.desk_rows.specs.order.Facts.{facts_in, is_name_row, sessions_in}
 use Rattle.desk_rows.proofs.OrderLemmas.Finding.{find-map, found_passes, key_by, none_shown, shown_with}
 use Rattle.desk_rows.proofs.OrderLemmas.Limits.{limit_with}
@@ -180,7 +180,7 @@ facts_with r (AddsUplink uplink gateway reception) reply fits = λ i. record (fa
 facts_with r (AddsCopy number gateway reception) reply fits =
     λ i. record (facts_in r) { copies = λ n at. copy_with r.copies number gateway reception fits.no_copy n at i }
 facts_with r (AddsBooking booking) reply fits = λ i. record (facts_in r) {
-  sessions = counted_shown (kind_at r.uplinks booking.uplink) (session_at r.uplinks booking.uplink) r.sessions i;
+  sessions = counted_shown (kind_at r.uplinks booking.uplink) (session_of_uplink r.uplinks booking.uplink) r.sessions i;
   bookings = sym (map-append (λ (b : BookingRow). b.booking) r.bookings (booking_row r.uplinks booking ∷ [])) i;
 }
 facts_with r (EndsBooking number sent) reply fits = λ i. record (facts_in r) {

@@ -20,7 +20,7 @@ use Rattle.registry_core.specs.State.{State}
 use Rattle.sqlite_keyed.specs.Lists.{update_where}
 use Rattle.sqlite_keyed.proofs.SliceLemmas.{any_is_found}
 use Rattle.desk_rows.specs.Rows.{Rows, BookingRow, DeviceRow, LimitRow, SessionRow, is_device, is_limit}
-use Rattle.desk_rows.specs.order.Changes.{counted_down, devices_raised, limit_row, limited, raised, session_at, sessions_counted}
+use Rattle.desk_rows.specs.order.Changes.{counted_down, devices_raised, limit_row, limited, raised, session_of_uplink, sessions_counted}
 use Rattle.desk_rows.specs.order.Facts.{facts_in, limit_found, sessions_in}
 use Rattle.desk_rows.specs.order.Keys.{ChangedRowsAreThere, CountsOne, EndsOne, HasOnly, IsThereFor, RaisesOne, SetsOne, floor_set, next_down_set}
 use Rattle.desk_rows.specs.order.RowsOf.{AreRowsOf, IsOfSession, limit_key, same_band}
@@ -178,7 +178,7 @@ module _ (c : Settings) (facts : State) (r : Rows) (are : AreRowsOf c facts r) w
         there = row.1;
         counts = λ data_up. ap₂ (λ k n. sessions_counted k n r.sessions) (kind ∙ data_up) session
             ∙ item_changed_as counted_down (next_down_set (row.0.next_down + 1)) r.sessions found.0.session row.0 row.1 refl;
-        stays = λ join. ap (λ k. sessions_counted k (session_at r.uplinks booking.uplink) r.sessions) (kind ∙ join);
+        stays = λ join. ap (λ k. sessions_counted k (session_of_uplink r.uplinks booking.uplink) r.sessions) (kind ∙ join);
       }
 
   ends_one : (number : ℕ) → EndFits number (facts_in r) → EndsOne number r

@@ -53,15 +53,15 @@ abbrev pub copy_row : ℕ → List ℕ → Reception → CopyRow
 copy_row number gateway reception = record { uplink = number; gateway = gateway; reception = reception }
 
 -- the session and the kind of the uplink with this number
-abbrev pub session_at : List Uplink → ℕ → ℕ
-session_at uplinks number = option_map_or (λ u. u.session) (item_at uplinks number) 0
+abbrev pub session_of_uplink : List Uplink → ℕ → ℕ
+session_of_uplink uplinks number = option_map_or (λ u. u.session) (item_at uplinks number) 0
 
 abbrev pub kind_at : List Uplink → ℕ → Kind
 kind_at uplinks number = option_map_or (λ u. u.kind) (item_at uplinks number) Join
 
 -- a booking with the session and the kind of its uplink
 abbrev pub booking_row : List Uplink → Booking → BookingRow
-booking_row uplinks booking = record { booking = booking; session = session_at uplinks booking.uplink; kind = kind_at uplinks booking.uplink }
+booking_row uplinks booking = record { booking = booking; session = session_of_uplink uplinks booking.uplink; kind = kind_at uplinks booking.uplink }
 
 abbrev pub ended_row : Bool → BookingRow → BookingRow
 ended_row sent b = record b { booking = ended sent b.booking }
@@ -117,7 +117,7 @@ rows_changed (AddsUplink uplink gateway reception) r =
     with_uplink_row uplink gateway reception (record r { devices = devices_raised r.sessions uplink.session r.devices })
 rows_changed (AddsCopy number gateway reception) r = record r { copies = r.copies ++ copy_row number gateway reception ∷ [] }
 rows_changed (AddsBooking booking) r = record r {
-  sessions = sessions_counted (kind_at r.uplinks booking.uplink) (session_at r.uplinks booking.uplink) r.sessions;
+  sessions = sessions_counted (kind_at r.uplinks booking.uplink) (session_of_uplink r.uplinks booking.uplink) r.sessions;
   bookings = r.bookings ++ booking_row r.uplinks booking ∷ [];
 }
 rows_changed (EndsBooking number sent) r = record r { bookings = item_changed (ended_row sent) r.bookings number }

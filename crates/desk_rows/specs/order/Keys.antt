@@ -17,7 +17,7 @@ use Rattle.registry_core.specs.Settings.{Settings}
 use Rattle.registry_core.specs.State.{State}
 use Rattle.sqlite_keyed.specs.Lists.{update_where}
 use Rattle.desk_rows.specs.Rows.{Rows, BookingRow, DeviceRow, SessionRow, is_copy, is_device, is_limit, is_sender_named, is_session, is_uplink}
-use Rattle.desk_rows.specs.order.Changes.{booking_row, devices_raised, kind_at, limit_row, limited, limits_set, session_at, sessions_counted}
+use Rattle.desk_rows.specs.order.Changes.{booking_row, devices_raised, kind_at, limit_row, limited, limits_set, session_of_uplink, sessions_counted}
 use Rattle.desk_rows.specs.order.Facts.{is_name_row, limit_found}
 use Rattle.desk_rows.specs.order.RowsOf.{AreRowsOf}
 
@@ -88,9 +88,9 @@ pub record CountsOne (booking : Booking) (r : Rows) : Type 0 where
   pub row : booking_row r.uplinks booking ≡ record { booking = booking; session = uplink.session; kind = uplink.kind }
   pub session : SessionRow
   pub there : item_at r.sessions uplink.session ≡ Some session
-  pub counts : uplink.kind ≡ Data → sessions_counted (kind_at r.uplinks booking.uplink) (session_at r.uplinks booking.uplink) r.sessions
+  pub counts : uplink.kind ≡ Data → sessions_counted (kind_at r.uplinks booking.uplink) (session_of_uplink r.uplinks booking.uplink) r.sessions
       ≡ item_changed (next_down_set (session.next_down + 1)) r.sessions uplink.session
-  pub stays : uplink.kind ≡ Join → sessions_counted (kind_at r.uplinks booking.uplink) (session_at r.uplinks booking.uplink) r.sessions ≡ r.sessions
+  pub stays : uplink.kind ≡ Join → sessions_counted (kind_at r.uplinks booking.uplink) (session_of_uplink r.uplinks booking.uplink) r.sessions ≡ r.sessions
 
 -- the booking that ends is neither sent nor dropped
 pub record EndsOne (number : ℕ) (r : Rows) : Type 0 where

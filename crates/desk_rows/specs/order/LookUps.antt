@@ -96,10 +96,10 @@ pub record LastOnesTell (facts : State) (r : Rows) : Type 0 where
 
 -- a row that is found with its number is the item with that number in the list of rows
 pub record RowsAreItems (r : Rows) : Type 0 where
-  pub session_at : (n : ℕ) → row_at n r.sessions ≡ item_at r.sessions n
+  pub session_numbered : (n : ℕ) → row_at n r.sessions ≡ item_at r.sessions n
   pub uplink_at : (n : ℕ) → row_at n r.uplinks ≡ item_at r.uplinks n
   pub booking_at : (n : ℕ) → row_at n r.bookings ≡ item_at r.bookings n
-  pub session_with : (test : SessionRow → Bool) → row_with test r.sessions ≡ first_that test r.sessions
+  pub session_that : (test : SessionRow → Bool) → row_with test r.sessions ≡ first_that test r.sessions
   pub uplink_with : (test : Uplink → Bool) → row_with test r.uplinks ≡ first_that test r.uplinks
 
 -- the row with a number

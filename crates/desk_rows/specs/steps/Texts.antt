@@ -121,8 +121,8 @@ abbrev pub near_asked : Asked (17 ∷ [])
 near_asked = all_by (17 ∷ []) (is 3 0 ∷ above 7 1 ∷ below 7 2 ∷ undropped ∷ []) (col 1 7 ∷ col 1 8 ∷ col 1 6 ∷ []) ((col 1 7, rising) ∷ (col 1 0, rising) ∷ [])
 
 -- the numbers of a gateway's bookings that start at a parameter or later and before another, by start and then by number
-abbrev pub between_asked : Asked (17 ∷ [])
-between_asked = all_by (17 ∷ []) (is 3 0 ∷ at_least 7 1 ∷ below 7 2 ∷ []) (col 1 0 ∷ []) ((col 1 7, rising) ∷ (col 1 0, rising) ∷ [])
+abbrev pub bookings_between_asked : Asked (17 ∷ [])
+bookings_between_asked = all_by (17 ∷ []) (is 3 0 ∷ at_least 7 1 ∷ below 7 2 ∷ []) (col 1 0 ∷ []) ((col 1 7, rising) ∷ (col 1 0, rising) ∷ [])
 
 -- two columns, or a column and a parameter, are equal
 abbrev pub equal : Term → Term → Term

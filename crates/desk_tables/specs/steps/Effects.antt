@@ -11,7 +11,7 @@ use Rattle.registry_core.specs.Numbered.{item_at, item_changed}
 use Rattle.registry_core.specs.Wholes.{IsWhole}
 use Rattle.sqlite_keyed.specs.Lists.{update_where}
 use Rattle.desk_rows.specs.Rows.{Rows, ReplyRow, SessionRow, is_device, is_reply}
-use Rattle.desk_rows.specs.order.Changes.{booking_row, devices_raised, has_limit, kind_at, rows_changed, session_at, sessions_counted}
+use Rattle.desk_rows.specs.order.Changes.{booking_row, devices_raised, has_limit, kind_at, rows_changed, session_of_uplink, sessions_counted}
 use Rattle.desk_rows.specs.order.Keys.{HasOnly, IsFree, IsFreeFor, IsThereFor, floor_set, next_down_set}
 use Rattle.desk_rows.specs.declared.faults.RowFault.{RowFault}
 use Rattle.sqlite.specs.State.{State}
@@ -40,7 +40,7 @@ HasSession number r = (row : SessionRow) × (item_at r.sessions number ≡ Some 
 -- this is the next downlink counter of the session in which the booking counts, or it counts in none
 abbrev pub CountsInSession : Booking → Rows → ℕ → Option ℕ → Type 0
 CountsInSession booking r session counter =
-    let counted = sessions_counted (kind_at r.uplinks booking.uplink) (session_at r.uplinks booking.uplink) r.sessions in
+    let counted = sessions_counted (kind_at r.uplinks booking.uplink) (session_of_uplink r.uplinks booking.uplink) r.sessions in
     MatchOption counter (counted ≡ r.sessions) (λ n. HasSession session r × (counted ≡ item_changed (next_down_set n) r.sessions session))
 
 -- the next downlink counter of the session, with one more downlink

@@ -51,7 +51,7 @@ pub(crate) enum Basis {
 }
 
 /// Returns the number as an integer below 2^53.
-pub(crate) fn whole(number: u64) -> Result<Whole, RowFault>
+pub(crate) fn as_json_integer(number: u64) -> Result<Whole, RowFault>
     ensures { MatchResult result (λ n. (n ≡ number) × IsWhole number) (λ fault. ¬ IsWhole number) }
 {
     match Whole::new(number) {
@@ -64,16 +64,16 @@ pub(crate) fn whole(number: u64) -> Result<Whole, RowFault>
 fn next_uplink(uplinks: u64) -> Result<Whole, RowFault>
     ensures { MatchResult result (λ number. number ≡ uplinks + 1) (λ fault. ¬ IsWhole (uplinks + 1)) }
 {
-    whole(uplinks.saturating_add(1))
+    as_json_integer(uplinks.saturating_add(1))
 }
 
 // ---- floors
 
-fn session_at<S: Alter>(conn: &mut Connection<S>, number: u64) -> Result<Session, RowFault>
+fn session_numbered<S: Alter>(conn: &mut Connection<S>, number: u64) -> Result<Session, RowFault>
     ensures { Asks (state S.Store conn.old) (state S.Store conn.new) result (λ r. Unit {0}) (λ r. IsWhole number × HasSession number r)
         (λ r found. option_map (λ row. row.session) (item_at r.sessions number) ≡ Some found) }
 {
-    let number = whole(number)?;
+    let number = as_json_integer(number)?;
     match session(conn, number)? {
         Some(found) => Ok(found),
         None => Err(RowFault::Row),
@@ -101,7 +101,7 @@ fn session_known<S: Alter>(
 {
     match seen.session_seen(number) {
         Some(session) => Ok(session),
-        None => session_at(conn, number),
+        None => session_numbered(conn, number),
     }
 }
 
@@ -154,7 +154,7 @@ fn uplink_at<S: Alter>(conn: &mut Connection<S>, number: u64) -> Result<Uplink, 
         (λ r. IsWhole number × ((found : Uplink) × (item_at r.uplinks number ≡ Some found)))
         (λ r found. item_at r.uplinks number ≡ Some found) }
 {
-    let number = whole(number)?;
+    let number = as_json_integer(number)?;
     match uplink(conn, number)? {
         Some((_, found)) => Ok(found),
         None => Err(RowFault::Row),
@@ -168,7 +168,7 @@ fn next_counter<S: Alter>(conn: &mut Connection<S>, number: Whole) -> Result<Who
         (λ r counter. IsNextDown number r counter) }
 {
     match next_down(conn, number)? {
-        Some(counter) => whole(counter.saturating_add(1)),
+        Some(counter) => as_json_integer(counter.saturating_add(1)),
         None => Err(RowFault::Row),
     }
 }
@@ -197,7 +197,7 @@ fn basis_of_booking<S: Alter>(
         (IsBasisOfBooking booking.now) }
 {
     let found = uplink_at(conn, booking.uplink)?;
-    let session = whole(found.session)?;
+    let session = as_json_integer(found.session)?;
     let counter = counter_for(conn, session, found.kind)?;
     Ok(Basis::Booking {
         session,

@@ -1,11 +1,11 @@
 //! Writes a new booking, with its session's downlink counter, and a booking that ends.
 ghost use Rattle.std.specs.Prelude.{◌≡◌};
 ghost use Rattle.sqlite.specs.Held.{state};
-ghost use Rattle.desk_rows.specs.order.Changes.{kind_at, session_at, sessions_counted};
+ghost use Rattle.desk_rows.specs.order.Changes.{kind_at, session_of_uplink, sessions_counted};
 ghost use Rattle.desk_tables.specs.steps.Calls.{Makes};
 ghost use Rattle.desk_tables.specs.steps.Effects.{CountsInSession, WritesEffect};
 
-use crate::effects::basis::{Basis, whole};
+use crate::effects::basis::{Basis, as_json_integer};
 use desk_rows::{RowFault, end_booking, insert_booking, set_next_down};
 use registry_core::{Booking, Effect, Whole};
 use sqlite::{Alter, Transaction};
@@ -20,7 +20,7 @@ fn count_down<S: Alter>(
     ensures same_reference { tx.new.conn.ghost_name ≡ tx.old.conn.ghost_name }
     ensures makes { Makes (state S.Store tx.old.conn.now) (state S.Store tx.new.conn.now) result
         (λ r. CountsInSession booking.now r session counter) (λ r. Unit {0})
-        (λ r. record r { sessions = sessions_counted (kind_at r.uplinks booking.now.uplink) (session_at r.uplinks booking.now.uplink) r.sessions }) }
+        (λ r. record r { sessions = sessions_counted (kind_at r.uplinks booking.now.uplink) (session_of_uplink r.uplinks booking.now.uplink) r.sessions }) }
 {
     match counter {
         Some(next_down) => set_next_down(tx, session, next_down),
@@ -45,7 +45,7 @@ pub(crate) fn add_booking<S: Alter>(
     else {
         return Err(RowFault::Row);
     };
-    whole(booking.uplink)?;
+    as_json_integer(booking.uplink)?;
     count_down(tx, booking, session, counter)?;
     insert_booking(tx, booking, session.get(), kind)
 }
@@ -60,5 +60,5 @@ pub(crate) fn end<S: Alter>(
     ensures same_reference { tx.new.conn.ghost_name ≡ tx.old.conn.ghost_name }
     ensures writes { WritesEffect (state S.Store tx.old.conn.now) (state S.Store tx.new.conn.now) result (Effect.EndsBooking number sent) basis }
 {
-    end_booking(tx, whole(number)?, sent)
+    end_booking(tx, as_json_integer(number)?, sent)
 }

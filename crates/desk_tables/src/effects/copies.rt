@@ -3,7 +3,7 @@ ghost use Rattle.std.specs.Prelude.{◌≡◌};
 ghost use Rattle.sqlite.specs.Held.{state};
 ghost use Rattle.desk_tables.specs.steps.Effects.{WritesEffect};
 
-use crate::effects::basis::{Basis, whole};
+use crate::effects::basis::{Basis, as_json_integer};
 use desk_rows::{RowFault, insert_copy};
 use radio_core::Name;
 use registry_core::{Effect, Reception};
@@ -21,6 +21,6 @@ pub(crate) fn add_copy<S: Alter>(
     ensures writes { WritesEffect (state S.Store tx.old.conn.now) (state S.Store tx.new.conn.now) result
         (Effect.AddsCopy uplink gateway.now reception.now) basis }
 {
-    whole(uplink)?;
+    as_json_integer(uplink)?;
     insert_copy(tx, uplink, gateway, reception)
 }

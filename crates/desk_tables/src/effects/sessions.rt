@@ -3,7 +3,7 @@ ghost use Rattle.std.specs.Prelude.{◌≡◌};
 ghost use Rattle.sqlite.specs.Held.{state};
 ghost use Rattle.desk_tables.specs.steps.Effects.{WritesEffect};
 
-use crate::effects::basis::{Basis, whole};
+use crate::effects::basis::{Basis, as_json_integer};
 use crate::effects::uplinks::add_with_copy;
 use desk_rows::{RowFault, insert_session};
 use radio_core::Name;
@@ -26,7 +26,7 @@ pub(crate) fn add_session<S: Alter>(
     let Basis::Session { number } = basis else {
         return Err(RowFault::Row);
     };
-    whole(uplink.session)?;
+    as_json_integer(uplink.session)?;
     insert_session(tx, session)?;
     add_with_copy(tx, uplink, number, gateway, reception)
 }

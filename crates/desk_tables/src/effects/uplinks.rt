@@ -8,7 +8,7 @@ ghost use Rattle.desk_rows.specs.order.Keys.{IsFree};
 ghost use Rattle.desk_tables.specs.steps.Calls.{Makes};
 ghost use Rattle.desk_tables.specs.steps.Effects.{IsRaised, WritesEffect};
 
-use crate::effects::basis::{Basis, whole};
+use crate::effects::basis::{Basis, as_json_integer};
 use desk_rows::{RowFault, insert_copy, insert_uplink, set_floor};
 use radio_core::{Eui, Name};
 use registry_core::{Effect, Reception, Uplink, Whole};
@@ -63,6 +63,6 @@ pub(crate) fn add_uplink<S: Alter>(
     let Basis::Uplink { number, raises } = basis else {
         return Err(RowFault::Row);
     };
-    raise_floor(tx, raises, whole(uplink.session)?)?;
+    raise_floor(tx, raises, as_json_integer(uplink.session)?)?;
     add_with_copy(tx, uplink, number, gateway, reception)
 }

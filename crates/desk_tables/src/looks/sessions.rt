@@ -80,7 +80,7 @@ pub(crate) fn next_down<S: Alter>(conn: &mut Connection<S>, session: u64) -> Res
 }
 
 /// Returns whether the number is below the floor, if the device has one.
-fn is_below(number: u64, floor: Option<Option<u64>>) -> bool
+fn is_session_below(number: u64, floor: Option<Option<u64>>) -> bool
     ensures { result ≡ is_below number (option_and_then (λ floor. floor) floor) }
 {
     match floor {
@@ -101,5 +101,5 @@ pub(crate) fn is_below_floor<S: Alter>(
 {
     look_ups_tell();
     let floor = floor_of(conn, device)?;
-    Ok((is_below(session, floor), floor))
+    Ok((is_session_below(session, floor), floor))
 }

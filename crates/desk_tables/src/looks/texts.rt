@@ -10,15 +10,15 @@ ghost use Rattle.desk_rows.specs.Rows.{is_reply};
 ghost use Rattle.desk_tables.specs.steps.LookUps.{OfKept};
 
 use desk_rows::RowFault;
-use desk_store::Texts;
+use desk_store::EntryTexts;
 use registry_core::{Envelope, Whole};
 use sqlite::{Alter, Connection};
 
-fn shown(found: Option<desk_rows::Texts>) -> Option<Texts>
+fn shown(found: Option<desk_rows::ReplyTexts>) -> Option<EntryTexts>
     ensures { option_map store.texts_shown result ≡ option_map rows.kept_texts found }
 {
     let texts = found?;
-    Some(Texts {
+    Some(EntryTexts {
         message: texts.message,
         answer: texts.answer,
     })
@@ -28,7 +28,7 @@ fn shown(found: Option<desk_rows::Texts>) -> Option<Texts>
 fn row_texts<S: Alter>(
     conn: &mut Connection<S>,
     envelope: &Envelope,
-) -> Result<Option<desk_rows::Texts>, RowFault>
+) -> Result<Option<desk_rows::ReplyTexts>, RowFault>
     ensures { Reads (state S.Store conn.old) (state S.Store conn.new) result
         (λ r texts. option_map rows.kept_texts texts ≡ option_map rows.reply_texts (find (is_reply envelope.now.sender envelope.now.transaction) r.replies)) }
 {
@@ -38,7 +38,7 @@ fn row_texts<S: Alter>(
 pub(crate) fn texts_of<S: Alter>(
     conn: &mut Connection<S>,
     envelope: &Envelope,
-) -> Result<Option<Texts>, RowFault>
+) -> Result<Option<EntryTexts>, RowFault>
     ensures { Reads (state S.Store conn.old) (state S.Store conn.new) result
         (OfKept (λ kept texts. option_map store.texts_shown texts ≡ option_map texts_of (entry_of envelope.now kept.entries))) }
 {
@@ -50,7 +50,7 @@ pub(crate) fn texts_of<S: Alter>(
 fn numbered_row_texts<S: Alter>(
     conn: &mut Connection<S>,
     number: u64,
-) -> Result<Option<desk_rows::Texts>, RowFault>
+) -> Result<Option<desk_rows::ReplyTexts>, RowFault>
     ensures { Reads (state S.Store conn.old) (state S.Store conn.new) result
         (OfKept (λ kept texts. option_map rows.kept_texts texts ≡ option_map texts_of (item_at kept.entries number))) }
 {
@@ -63,7 +63,7 @@ fn numbered_row_texts<S: Alter>(
 pub(crate) fn entry<S: Alter>(
     conn: &mut Connection<S>,
     number: u64,
-) -> Result<Option<Texts>, RowFault>
+) -> Result<Option<EntryTexts>, RowFault>
     ensures { Reads (state S.Store conn.old) (state S.Store conn.new) result
         (OfKept (λ kept texts. option_map store.texts_shown texts ≡ option_map texts_of (item_at kept.entries number))) }
 {

@@ -12,7 +12,7 @@ ghost use Rattle.desk_tables.specs.steps.Calls.{Asks};
 ghost use Rattle.desk_tables.specs.steps.LookUps.{OfKept};
 
 use desk_rows::order::{listed_rows_tell, look_ups_tell};
-use desk_rows::{RowFault, session_with, uplink_with};
+use desk_rows::{RowFault, session_with_nonce, uplink_with};
 use radio_core::{Eui, Name};
 use registry_core::{Booking, Kind, Reception, Uplink, Whole};
 use sqlite::{Alter, Connection};
@@ -29,7 +29,7 @@ fn session_joined<S: Alter>(
         ≡ option_and_then (λ n. first_that (is_uplink n Join nonce) kept.facts.uplinks) session)) }
 {
     look_ups_tell();
-    session_with(conn, device, nonce)
+    session_with_nonce(conn, device, nonce)
 }
 
 /// Returns the join uplink of the session with this nonce.

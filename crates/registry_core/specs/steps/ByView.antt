@@ -17,7 +17,7 @@ use Rattle.registry_core.specs.declared.views.View.{View}
 use Rattle.registry_core.specs.Checks.{Checked, ◌>>=◌, ◌>>◌, wants, needs, unless}
 use Rattle.registry_core.specs.Decision.{Decision}
 use Rattle.registry_core.specs.Derived.{is_above, is_below}
-use Rattle.registry_core.specs.Frames.{data_up, frame_at, join_request}
+use Rattle.registry_core.specs.Frames.{data_up, frame_at_rate, join_request}
 use Rattle.registry_core.specs.Joins.{is_good}
 use Rattle.registry_core.specs.Uplinks.{is_time, reception_of, time_up, uplink_of, copy_added}
 
@@ -58,7 +58,7 @@ unfoldable pub join_heard_by : View → Report → JoinVerdict → Checked Decis
 join_heard_by v report verdict = do
   wants (is_time report.time) Time
   wants v.gateway_known UnknownGateway
-  join ← needs (join_request (frame_at report.rate.dr report.octets)) BadFrame
+  join ← needs (join_request (frame_at_rate report.rate.dr report.octets)) BadFrame
   band ← needs (band_at report.rate.freq report.rate.dr) OutOfBand
   device ← needs v.device UnknownDevEui
   wants (device.join_eui == join.join_eui) JoinEui
@@ -88,7 +88,7 @@ unfoldable pub frame_heard_by : View → Report → Option ℕ → Checked Decis
 frame_heard_by v report verdict = do
   wants (is_time report.time) Time
   wants v.gateway_known UnknownGateway
-  frame ← needs (data_up (frame_at report.rate.dr report.octets)) BadFrame
+  frame ← needs (data_up (frame_at_rate report.rate.dr report.octets)) BadFrame
   band ← needs (band_at report.rate.freq report.rate.dr) OutOfBand
   session ← needs v.session UnknownDevAddr
   counter ← needs verdict MicFailed

@@ -16,7 +16,7 @@ use Rattle.registry_core.specs.steps.ByView.{address_by}
 use Rattle.registry_core.specs.Checks.{Checked, ◌>>=◌, ◌>>◌, wants, needs}
 use Rattle.registry_core.specs.Decision.{Decision}
 use Rattle.registry_core.specs.Downlinks.{on_air}
-use Rattle.registry_core.specs.Frames.{frame_at, downlink_to, goes_to, counts_as}
+use Rattle.registry_core.specs.Frames.{frame_at_rate, downlink_to, goes_to, counts_as}
 use Rattle.registry_core.specs.Windows.{window_of}
 
 unfoldable pub down_added_by : View → ℕ → List ℕ → Band → ℕ → Interval → Checked Decision
@@ -34,7 +34,7 @@ down_book_by v gateway window octets = do
   seen ← needs v.uplink NoUplink
   copy ← needs seen.at_gateway NoUplink
   let opens : ℕ × Rate = window_of seen.uplink.kind copy.end copy.rate window
-  down ← needs (downlink_to seen.uplink.kind (frame_at opens.1.dr octets)) BadFrame
+  down ← needs (downlink_to seen.uplink.kind (frame_at_rate opens.1.dr octets)) BadFrame
   wants (goes_to (address_by v seen.uplink.session) down) UnknownDevAddr
   wants (not v.answered) Answered
   wants (counts_as v.next_down down) DownCounter

@@ -68,9 +68,9 @@ const LOG: &str = "\
 ";
 
 /// Arguments, standard input, and standard output if nothing fails.
-pub(super) type Row = (&'static [&'static [u8]], &'static str, &'static str);
+pub(super) type FusedRow = (&'static [&'static [u8]], &'static str, &'static str);
 
-pub(super) static ROWS: [Row; 10] = [
+pub(super) static ROWS: [FusedRow; 10] = [
     (&[b"desk", b"hear", b"f.db"], ADD_OWNER, OWNER_ADDED),
     (
         &[b"desk", b"import", b"f.db", b"--sender", b"bridge"],
@@ -130,7 +130,7 @@ impl Step for Hears<'_> {
 /// Runs the command. It does what is asked of it, or ends because the disk failed: then the lines before are answered, and nothing more.
 #[derive(Drop)]
 struct Runs<'a> {
-    row: &'a Row,
+    row: &'a FusedRow,
     has_failed: bool,
 }
 
@@ -168,7 +168,7 @@ const MANY: u64 = 10_000;
 fn failures<R: Abort + AllocGlobal>(
     rt: &R,
     files: &Files<Memory>,
-    row: &Row,
+    row: &FusedRow,
     is_log: bool,
 ) -> Result<u64, Fail> {
     let mut failures = 0_u64;
@@ -209,7 +209,7 @@ fn commands_fail_where_the_disk_does(rt: HostRuntime) -> Result<(), Fail> {
 /// Runs the command on a disk with room for so many writes, and once more after there is room.
 #[derive(Drop)]
 struct RunsTwice<'a> {
-    row: &'a Row,
+    row: &'a FusedRow,
     room: &'a Cell<u64>,
     writes: u64,
     has_failed: bool,
@@ -239,7 +239,7 @@ impl Step for RunsTwice<'_> {
 fn times_full<R: Abort + AllocGlobal>(
     rt: &R,
     files: &Files<Memory>,
-    row: &Row,
+    row: &FusedRow,
 ) -> Result<u64, Fail> {
     for writes in 0..MANY {
         let room = Cell::new(u64::MAX);

@@ -1,5 +1,5 @@
 //! Commands whose output is buffered until it is flushed, whose input is interrupted, and whose disk is full.
-use super::fused::{ROWS, Row};
+use super::fused::{FusedRow, ROWS};
 use super::{OneFile, ran};
 use crate::endings::Ending;
 use crate::tests::holding::{holds, holds_at, is_text_at};
@@ -14,7 +14,7 @@ use std::test::Fail;
 /// written, and what is on standard error.
 fn ended<R: Abort + AllocGlobal, S: Alter + Drop>(
     rt: &R,
-    row: &Row,
+    row: &FusedRow,
     conn: Connection<S>,
     fails: bool,
 ) -> (Ending, Vec<u8>, Vec<u8>) {
@@ -27,7 +27,7 @@ fn ended<R: Abort + AllocGlobal, S: Alter + Drop>(
 }
 
 /// Without it in `ROWS`: it has no connection to give back if its file can't be read to the end.
-static AUDIT: [Row; 1] = [(&[b"desk", b"audit", b"f.db"], "", "heard: 5\nin order\n")];
+static AUDIT: [FusedRow; 1] = [(&[b"desk", b"audit", b"f.db"], "", "heard: 5\nin order\n")];
 
 /// What is flushed is written; if a flush fails nothing is, and the command ends because its output failed.
 #[test]

@@ -1,11 +1,11 @@
 //! A desk whose rows are none that a desk keeps. Peers that fail stand with the tests of `serve`.
-use super::reports::{Row, expect_reports};
+use super::reports::{ReportRow, expect_reports};
 use super::responses::{BAD_MONTH, MALFORMED, UNAVAILABLE};
 use super::{expect, posted};
 use crate::tests::downlinks::DROPPED_1;
 use crate::tests::found;
 use crate::tests::holding::holds;
-use crate::tests::rows::Row::Asks;
+use crate::tests::rows::Exchange::Asks;
 use crate::tests::rows::{REQUEST, SUCCESS, delivery_of};
 use crate::tests::stops::{deliveries, heard};
 use desk_engine::{Outcome, deliver};
@@ -18,7 +18,7 @@ const DAMAGE: &str =
     "UPDATE sender SET role = 7; UPDATE device SET eui = x'00'; UPDATE booking SET state = 0, airtime = -1";
 
 /// What reads a damaged row is answered with 503. A month is looked at before any row.
-static DAMAGED: [Row; 3] = [
+static DAMAGED: [ReportRow; 3] = [
     ("/v1/reports/town/2024-02", 503, UNAVAILABLE),
     ("/v1/bands/gw-a", 503, UNAVAILABLE),
     ("/v1/reports/town/2024-13", 400, BAD_MONTH),

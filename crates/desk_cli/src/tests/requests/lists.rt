@@ -1,6 +1,6 @@
 //! Lists over HTTP, one device, its receptions of a month, and a gateway's downlinks.
 use super::expect;
-use super::reports::{Row, expect_reports};
+use super::reports::{ReportRow, expect_reports};
 use super::responses::{
     BAD_MONTH, DEVICES, DOWNLINKS, GATEWAYS, NEW_DEVICES, NEW_GATEWAYS, NEW_OWNERS, NEW_SENDERS,
     NO_DEVICE, NO_DOWNLINKS, NO_GATEWAY, NO_RECEPTIONS, NO_ROUTE, NOT_BY_POST, OWNERS, RECEPTIONS,
@@ -15,7 +15,7 @@ use std::process::Abort;
 use std::test::Fail;
 
 /// Of a new desk.
-static NEW: [Row; 9] = [
+static NEW: [ReportRow; 9] = [
     ("/v1/senders", 200, NEW_SENDERS),
     ("/v1/owners", 200, NEW_OWNERS),
     ("/v1/gateways", 200, NEW_GATEWAYS),
@@ -28,7 +28,7 @@ static NEW: [Row; 9] = [
 ];
 
 /// After a join, a data frame at two gateways, and a downlink that answers the join.
-static AFTER: [Row; 34] = [
+static AFTER: [ReportRow; 34] = [
     ("/v1/senders", 200, SENDERS),
     ("/v1/senders?x=/y", 200, SENDERS),
     ("/v1/owners", 200, OWNERS),

@@ -39,9 +39,9 @@ fn expect_report<R: Abort + AllocGlobal, K: Keeper>(
 }
 
 /// A target, the status and the response of a GET of it.
-pub(super) type Row = (&'static str, u16, &'static str);
+pub(super) type ReportRow = (&'static str, u16, &'static str);
 
-static BEFORE: [Row; 8] = [
+static BEFORE: [ReportRow; 8] = [
     ("/v1/reports/town/2024-13", 400, BAD_MONTH),
     ("/v1/reports/town/2024-02", 404, NO_OWNER),
     ("/v1/reports/to%20wn/2024-02", 404, NO_OWNER),
@@ -52,7 +52,7 @@ static BEFORE: [Row; 8] = [
     ("/v1/room/gw-z/1706745600000000", 404, NO_GATEWAY),
 ];
 
-static AFTER: [Row; 11] = [
+static AFTER: [ReportRow; 11] = [
     ("/v1/reports/town/2024-02", 200, OWNER_REPORT),
     ("/v1/reports/town/2024-02?x=/y", 200, OWNER_REPORT),
     ("/v1/reports/port/2024-02", 200, EMPTY_REPORT),
@@ -70,7 +70,7 @@ static AFTER: [Row; 11] = [
 pub(super) fn expect_reports<R: Abort + AllocGlobal, K: Keeper>(
     rt: &R,
     keeper: &mut K,
-    rows: &[Row],
+    rows: &[ReportRow],
 ) -> Result<(), Fail> {
     for (target, status, response) in rows {
         expect_report(rt, keeper, target, *status, response)?;

@@ -5,4 +5,4 @@ use Rattle.desk_rows.proofs.bookings.booking.Goals as goal
 
 pub returns : goal.returns
 unfolding understood everything
-returns g c = finds_number bookings c.args.number (2 ∷ 3 ∷ 6 ∷ 7 ∷ 8 ∷ 9 ∷ []) (refl, refl) refl (λ b. b.1.booking) (λ b. refl) (λ b fits. (fits.gateway, fits.start, fits.len)) (rw (c.whole.ensures.same) at c.find.ensures)
+returns g c = finds_number bookings c.args.number (2 ∷ 3 ∷ 6 ∷ 7 ∷ 8 ∷ 9 ∷ []) (refl, refl) refl (λ b. b.1.booking) (λ b. refl) (λ b fits. (fits.gateway, fits.start, fits.len)) (rw (c.json_integer.ensures.same) at c.find.ensures)

@@ -12,7 +12,7 @@ pub returns-clause-changes : goal.returns-clause-changes
 unfolding understood everything
 returns-clause-changes g c =
     let n = c.args.number in
-    let low : IsWhole n = c.whole.ensures.range in
+    let low : IsWhole n = c.json_integer.ensures.range in
     changes_at bookings (update_is 9 booking_table (0 ∷ []) 9 refl) _ refl refl (ended_row c.args.sent) (λ b fits. record { gateway = fits.gateway; start = fits.start; len = fits.len }) (λ b. refl)
     9 (λ b. number (standing_number (ended_row c.args.sent b).booking.standing)) (λ m b. refl) refl (λ m cells. refl) n (omega (arith, low)) (λ b. and_true _ ∙ number_equal b.0 n)
-    (rw (c.whole.ensures.same, c.standing.ensures, c.ended.ensures) at c.write.ensures.written)
+    (rw (c.json_integer.ensures.same, c.standing.ensures, c.ended.ensures) at c.write.ensures.written)

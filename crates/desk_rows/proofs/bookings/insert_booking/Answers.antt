@@ -12,5 +12,5 @@ unfolding understood everything
 returns-clause-changes g c =
     let x : BookingRow = record { booking = c.args.booking.now; session = c.args.session; kind = c.args.answers } in
     adds_free bookings (insert_is 9 booking_table refl) x (record { gateway = c.text.ensures.range; start = c.start.ensures.range; len = c.len.ensures.range }) (drop 1 (booking_cells x)) refl refl refl _ (_, refl)
-    ((c.args.booking.now.uplink < 2 ^ 63) × (c.args.session < 2 ^ 63)) (λ small. ap₂ (λ u s. u ∷ Text c.args.booking.now.gateway ∷ s ∷ drop 4 (booking_cells x)) (ap bound_value (c.number.ensures small.0)) (ap bound_value (c.number-2.ensures small.1)))
+    ((c.args.booking.now.uplink < 2 ^ 63) × (c.args.session < 2 ^ 63)) (λ small. ap₂ (λ u s. u ∷ Text c.args.booking.now.gateway ∷ s ∷ drop 4 (booking_cells x)) (ap bound_value (c.unsigned.ensures small.0)) (ap bound_value (c.unsigned-2.ensures small.1)))
     (λ r. Unit {0}) (λ r in_range free row is. refl) (rw (c.text.ensures.same, c.kind.ensures, c.band.ensures, c.start.ensures.same, c.len.ensures.same, c.standing.ensures) at c.write.ensures.written)

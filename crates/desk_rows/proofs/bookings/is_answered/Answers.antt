@@ -3,4 +3,4 @@ use Rattle.desk_rows.proofs.AnsweredUplinks.{reads_answer}
 use Rattle.desk_rows.proofs.bookings.is_answered.Goals as goal
 
 pub returns : goal.returns
-returns g c = reads_answer c.answer_text.ensures c.args.uplink (rw (c.whole.ensures.same) at c.is_found.ensures)
+returns g c = reads_answer c.answer_text.ensures c.args.uplink (rw (c.json_integer.ensures.same) at c.is_found.ensures)

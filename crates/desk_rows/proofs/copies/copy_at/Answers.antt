@@ -5,4 +5,4 @@ use Rattle.desk_rows.proofs.copies.copy_at.Goals as goal
 
 pub returns : goal.returns
 unfolding understood everything
-returns g c = finds_plain copies copy_key (c.args.uplink, c.args.gateway.now) tt (3 ∷ 4 ∷ 5 ∷ []) (refl, refl) refl refl (λ x. x.reception) (λ b. refl) (λ x fits. (fits.end, fits.freq)) (rw (c.whole.ensures.same, c.text.ensures.same) at c.find.ensures)
+returns g c = finds_plain copies copy_key (c.args.uplink, c.args.gateway.now) tt (3 ∷ 4 ∷ 5 ∷ []) (refl, refl) refl refl (λ x. x.reception) (λ b. refl) (λ x fits. (fits.end, fits.freq)) (rw (c.json_integer.ensures.same, c.text.ensures.same) at c.find.ensures)

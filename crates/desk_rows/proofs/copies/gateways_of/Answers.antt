@@ -3,4 +3,4 @@ use Rattle.desk_rows.proofs.ListedQueries.{reads_receptions}
 use Rattle.desk_rows.proofs.copies.gateways_of.Goals as goal
 
 pub returns : goal.returns
-returns g c = reads_receptions c.args.uplink (rw (c.whole.ensures.same) at c.find_all.ensures) c.gateways_text.ensures
+returns g c = reads_receptions c.args.uplink (rw (c.json_integer.ensures.same) at c.find_all.ensures) c.gateways_text.ensures

@@ -10,4 +10,4 @@ pub returns-clause-changes : goal.returns-clause-changes
 returns-clause-changes g c =
     let x : CopyRow = record { uplink = c.args.uplink; gateway = c.args.gateway.now; reception = c.args.copy.now } in
     let rest : Row = drop 1 (copy_cells x) in
-    adds_given copies copy_key (inserts c.copy_text.ensures) x (record { gateway = c.text.ensures.range; end = c.whole.ensures.range; freq = c.word.ensures.range }) (number c.args.uplink ∷ rest) refl refl refl _ (_, refl) (c.args.uplink < 2 ^ 63) (λ small. ap (λ v. v ∷ rest) (ap bound_value (c.number.ensures small))) (rw (c.text.ensures.same, c.whole.ensures.same, c.word.ensures.same, c.data_rate.ensures) at c.write.ensures.written)
+    adds_given copies copy_key (inserts c.copy_text.ensures) x (record { gateway = c.text.ensures.range; end = c.json_integer.ensures.range; freq = c.word.ensures.range }) (number c.args.uplink ∷ rest) refl refl refl _ (_, refl) (c.args.uplink < 2 ^ 63) (λ small. ap (λ v. v ∷ rest) (ap bound_value (c.unsigned.ensures small))) (rw (c.text.ensures.same, c.json_integer.ensures.same, c.word.ensures.same, c.data_rate.ensures) at c.write.ensures.written)

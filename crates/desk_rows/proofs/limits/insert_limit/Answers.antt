@@ -6,4 +6,4 @@ use Rattle.desk_rows.proofs.limits.insert_limit.Goals as goal
 
 pub returns-clause-changes : goal.returns-clause-changes
 unfolding understood everything
-returns-clause-changes g c = adds limits limit_key (insert_is 10 limit_table refl) (record { gateway = c.args.gateway.now; limit = c.args.limit }) tt _ refl refl refl (rw (c.text.ensures.same, c.band-2.ensures, c.band.ensures, c.number.ensures (rw c.most.ensures.same (storable c.args.limit c.most.ensures.range)), c.most.ensures.same) at c.write.ensures.written)
+returns-clause-changes g c = adds limits limit_key (insert_is 10 limit_table refl) (record { gateway = c.args.gateway.now; limit = c.args.limit }) tt _ refl refl refl (rw (c.text.ensures.same, c.band-2.ensures, c.band.ensures, c.unsigned.ensures (rw c.most.ensures.same (storable c.args.limit c.most.ensures.range)), c.most.ensures.same) at c.write.ensures.written)

@@ -3,4 +3,4 @@ use Rattle.desk_rows.proofs.NumberedReplies.{finds_reply}
 use Rattle.desk_rows.proofs.replies.texts_at.Goals as goal
 
 pub returns : goal.returns
-returns g c = finds_reply c.args.number c.numbered_reply_text.ensures (rw (c.whole.ensures.same) at c.find.ensures)
+returns g c = finds_reply c.args.number c.numbered_reply_text.ensures (rw (c.json_integer.ensures.same) at c.find.ensures)

@@ -5,4 +5,4 @@ use Rattle.desk_rows.proofs.sessions.session.Goals as goal
 
 pub returns : goal.returns
 unfolding understood everything
-returns g c = finds_number sessions c.args.number (2 ∷ 3 ∷ []) (refl, refl) refl (λ b. b.1.session) (λ b. refl) (λ b fits. (fits.device, fits.nonce)) (rw (c.whole.ensures.same) at c.find.ensures)
+returns g c = finds_number sessions c.args.number (2 ∷ 3 ∷ []) (refl, refl) refl (λ b. b.1.session) (λ b. refl) (λ b fits. (fits.device, fits.nonce)) (rw (c.json_integer.ensures.same) at c.find.ensures)

@@ -3,4 +3,4 @@ use Rattle.desk_rows.proofs.LastOnes.{reads_last_start}
 use Rattle.desk_rows.proofs.uplinks.last_start.Goals as goal
 
 pub returns : goal.returns
-returns g c = reads_last_start c.last_start_text.ensures c.args.session (rw (c.whole.ensures.same) at c.find.ensures)
+returns g c = reads_last_start c.last_start_text.ensures c.args.session (rw (c.json_integer.ensures.same) at c.find.ensures)

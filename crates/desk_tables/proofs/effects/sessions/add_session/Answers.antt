@@ -9,7 +9,7 @@ use Rattle.desk_tables.proofs.effects.sessions.add_session.Goals as goal
 
 pub returns-clause-writes : goal.returns-clause-writes
 returns-clause-writes g c =
-    let small : IsWhole c.args.uplink.now.session = c.in_ok-whole.ensures.1 in
+    let small : IsWhole c.args.uplink.now.session = c.in_ok-as_json_integer.ensures.1 in
     let number = λ (r : _) (of : IsBasisOfSession r c.args.basis). subst (IsBasisOfSession r) c.in-Session.is of in
     makes_then (makes_one c.in_ok-insert_session.ensures.changes (λ r of. tt) (λ r of may. (may.key, may.room)) (λ r of. refl)) c.add_with_copy.ensures.makes
     (λ r of. of) (λ r of may. may.free.0) (λ r of. (number r of, small))

@@ -15,11 +15,11 @@ returns-in_ok-next_down-in-Some g c = shows _ _ _ _ _ _ (λ r is config kept tel
     let laws = c.look_ups_tell.ensures config kept.facts r tell.are in
     let n = c.in-Some.session in
     c.unwrap_or.ensures ∙ ap (λ found. unwrap_or found 0) is ∙ or_zero (λ (s : SessionRow). s.next_down) (item_at r.sessions n)
-    ∙ ap (λ row. option_map_or (λ (s : SessionRow). s.next_down) row 0) (sym (laws.0.session_at n)) ∙ laws.1.next_down n
+    ∙ ap (λ row. option_map_or (λ (s : SessionRow). s.next_down) row 0) (sym (laws.0.session_numbered n)) ∙ laws.1.next_down n
     ∙ ap (next_down kept.facts.bookings kept.facts.uplinks) c.in-Some.ensures.1) c.in_ok-next_down-in-Some.ensures
 
 pub returns-in-None : goal.returns-in-None
 returns-in-None g c = unasked _ _ _ (λ r config kept tell.
     let laws = c.look_ups_tell.ensures config kept.facts r tell.are in
-    ap (λ row. option_map_or (λ (s : SessionRow). s.next_down) row 0) (sym (no_session config kept r tell c.args.session c.in-None.ensures) ∙ sym (laws.0.session_at c.args.session))
+    ap (λ row. option_map_or (λ (s : SessionRow). s.next_down) row 0) (sym (no_session config kept r tell c.args.session c.in-None.ensures) ∙ sym (laws.0.session_numbered c.args.session))
     ∙ laws.1.next_down c.args.session)

@@ -13,6 +13,6 @@ returns g c = says_also _ _ _ _ _ (λ r number is config kept tell.
     let laws = c.look_ups_tell.ensures config kept.facts r tell.are in
     sym (laws.5.join c.args.device c.args.nonce)
     ∙ (λ i. option_and_then (λ n. laws.0.uplink_with (is_uplink n Join c.args.nonce) i)
-    (option_map (λ found. found.0) (laws.0.session_with (is_session c.args.device c.args.nonce) i)))
+    (option_map (λ found. found.0) (laws.0.session_that (is_session c.args.device c.args.nonce) i)))
     ∙ ap (option_and_then (λ n. first_that (is_uplink n Join c.args.nonce) r.uplinks)) (sym is)
-    ∙ ap (λ (s : State). option_and_then (λ n. first_that (is_uplink n Join c.args.nonce) s.uplinks) number) (sym tell.are.is)) c.session_with.ensures
+    ∙ ap (λ (s : State). option_and_then (λ n. first_that (is_uplink n Join c.args.nonce) s.uplinks) number) (sym tell.are.is)) c.session_with_nonce.ensures

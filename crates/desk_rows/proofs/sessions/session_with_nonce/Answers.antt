@@ -1,7 +1,7 @@
 -- The DevEUI and the nonce are a unique key, so the number that is found is that of the only such session.
 use Rattle.std.proofs.Common.{[], ◌∷◌}
 use Rattle.desk_rows.proofs.DeskTables.{everything, finds_first, refl, session_key, sessions, understood}
-use Rattle.desk_rows.proofs.sessions.session_with.Goals as goal
+use Rattle.desk_rows.proofs.sessions.session_with_nonce.Goals as goal
 
 pub returns : goal.returns
 unfolding understood everything

@@ -1,7 +1,7 @@
 -- Each uplink is in one band, so the sum over the bands is the number of the device's uplinks in the month.
 use Rattle.std.proofs.Common.{◌∙◌}
 use Rattle.desk_engine.proofs.AirUse.{device_line_is}
-use Rattle.desk_engine.proofs.owner_reports.device_line.Goals as goal
+use Rattle.desk_engine.proofs.owner_reports.device_use_line.Goals as goal
 
 pub returns-clause-told : goal.returns-clause-told
 returns-clause-told g c = λ kept sound held.
