@@ -42,7 +42,7 @@ TESTS = {
     "desk_store/only_earlier_bookings_are_near": "tests::rows_over_lists",
     "desk_store/replies_by_transaction_alone": "tests::rows_over_lists",
     "desk_wire/a_csv_report_read_up_to_its_fault": "tests::csv_reports::reports_are_taken_or_refused_by_the_first_fault",
-    "desk_rows/a_copy_replaced": "tests::keys::a_gateway_has_one_copy_of_an_uplink",
+    "desk_rows/a_reception_replaced": "tests::keys::a_gateway_has_one_reception_of_an_uplink",
     "desk_rows/a_dropped_booking_answers": "tests::rows_over_tables",
     "desk_rows/a_limit_set_for_all_bands": "tests::rows_over_tables",
     "desk_rows/an_index_left_out": "tests::stops::a_run_is_found_after_a_stop",

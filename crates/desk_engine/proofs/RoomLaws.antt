@@ -126,16 +126,16 @@ module _ (last : Checked Decision) where
       → found ≡ Some x → Decides last (next x) → Decides last (needs found refusal >>= next)
   after_known found x refusal next other is then = after_needs found refusal next other (λ y there. subst (λ z. Decides last (next z)) (same_Some x y (sym is ∙ there)) then)
 
-last_two : (c : Settings) (s : State) (number : ℕ) (gateway : List ℕ) (window : Window) (octets : List ℕ) (uplink : Uplink) (copy : Reception) (band : Band)
-    → item_at s.uplinks number ≡ Some uplink → s.copies number gateway ≡ Some copy → band_at (rate_in window copy.rate).freq (rate_in window copy.rate).dr ≡ Some band
-    → let start : ℕ = copy.end + delay uplink.kind window in
-    Decides (down_added s number gateway band start (on_air start (rate_in window copy.rate) octets)) (down_book c s number gateway window octets)
+last_two : (c : Settings) (s : State) (number : ℕ) (gateway : List ℕ) (window : Window) (octets : List ℕ) (uplink : Uplink) (reception : Reception) (band : Band)
+    → item_at s.uplinks number ≡ Some uplink → s.receptions number gateway ≡ Some reception → band_at (rate_in window reception.rate).freq (rate_in window reception.rate).dr ≡ Some band
+    → let start : ℕ = reception.end + delay uplink.kind window in
+    Decides (down_added s number gateway band start (on_air start (rate_in window reception.rate) octets)) (down_book c s number gateway window octets)
 unfolding down_book
-last_two c s number gateway window octets uplink copy band there heard lies =
-    let start : ℕ = copy.end + delay uplink.kind window in
-    let rate : Rate = rate_in window copy.rate in
+last_two c s number gateway window octets uplink reception band there heard lies =
+    let start : ℕ = reception.end + delay uplink.kind window in
+    let rate : Rate = rate_in window reception.rate in
     let last : Checked Decision = down_added s number gateway band start (on_air start rate octets) in
-    after_wants last (s.gateways gateway) UnknownGateway _ refl (after_known last (item_at s.uplinks number) uplink NoUplink _ refl there (after_known last (s.copies number gateway) copy NoUplink _ refl heard
+    after_wants last (s.gateways gateway) UnknownGateway _ refl (after_known last (item_at s.uplinks number) uplink NoUplink _ refl there (after_known last (s.receptions number gateway) reception NoUplink _ refl heard
     (after_needs last (downlink_to uplink.kind (frame_at_rate rate.dr octets)) BadFrame _ refl (λ down _.
     after_wants last (goes_to (address_of c uplink.session) down) UnknownDevAddr _ refl (after_wants last (not (is_answered s.bookings number)) Answered _ refl
     (after_wants last (counts_as (next_down s.bookings s.uplinks uplink.session) down) DownCounter _ refl (after_known last (band_at rate.freq rate.dr) band OutOfBand _ refl lies (λ air. refl))))))))
@@ -173,13 +173,13 @@ last_of P bookings last each = by bookings (recursion_from_All P (bookings ++ la
     by (b ∷ rest) each = by rest each.1
 
 pub room_agrees : IsClearTells → HoursWithinTells → DownlinksAreShort → RulesAreKept → RoomAgrees
-room_agrees clear hours short rules c heard e number gateway window octets uplink copy band room message there got lies is air =
+room_agrees clear hours short rules c heard e number gateway window octets uplink reception band room message there got lies is air =
     let s = state_of c heard in
-    let start : ℕ = copy.end + delay uplink.kind window in
-    let span : Interval = on_air start (rate_in window copy.rate) octets in
+    let start : ℕ = reception.end + delay uplink.kind window in
+    let span : Interval = on_air start (rate_in window reception.rate) octets in
     let book : checked_decision c s e e.message ≡ down_book c s number gateway window octets = ap (checked_decision c s e) message in
     let two : down_book c s number gateway window octets ≡ down_added s number gateway band start span =
-    last_two c s number gateway window octets uplink copy band there got lies (ap of_air (sym book) ∙ air) in
+    last_two c s number gateway window octets uplink reception band there got lies (ap of_air (sym book) ∙ air) in
     let decided : checked_decision c s e e.message ≡ down_added s number gateway band start span = book ∙ two in
     let books : tells_booking (step c s e).1 ≡ is_ok (down_added s number gateway band start span) =
     ap (λ d. tells_booking (decision_or_refusal d).1) decided ∙ books_where s number gateway band start span in

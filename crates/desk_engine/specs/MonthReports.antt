@@ -49,7 +49,7 @@ reception_line number uplink gateway reception =
 
 -- the line of the reception of the uplink with this number at the gateway, if there is one
 abbrev pub line_of_reception : State → ℕ × List ℕ → List ℕ
-line_of_reception s of = option_map_or (λ (uplink : Uplink). option_map_or (reception_line of.0 uplink of.1) (s.copies of.0 of.1) []) (item_at s.uplinks of.0) []
+line_of_reception s of = option_map_or (λ (uplink : Uplink). option_map_or (reception_line of.0 uplink of.1) (s.receptions of.0 of.1) []) (item_at s.uplinks of.0) []
 
 -- the report on the receptions of the device's uplinks that start at `from` or later and before `to`
 pub record IsReceptionReport (s : State) (dev_eui : ℕ) (from to : ℤ) (text : List ℕ) : Type 0 where

@@ -80,11 +80,11 @@ comes_of_air _ = false
 -- Whatever was heard, let each check of a DownBook before those two pass. Then it is booked if and only if its airtime is at most the room
 -- of its gateway and band at its start. Otherwise one of the two refuses it.
 abbrev pub RoomAgrees : Type 0
-RoomAgrees = (c : Settings) (heard : List Envelope) (e : Envelope) (number : ℕ) (gateway : List ℕ) (window : Window) (octets : List ℕ) (uplink : Uplink) (copy : Reception) (band : Band) (room : ℕ)
+RoomAgrees = (c : Settings) (heard : List Envelope) (e : Envelope) (number : ℕ) (gateway : List ℕ) (window : Window) (octets : List ℕ) (uplink : Uplink) (reception : Reception) (band : Band) (room : ℕ)
     → e.message ≡ DownBook number gateway window octets
     → let s : State = state_of c heard in
-    let start : ℕ = copy.end + delay uplink.kind window in
-    let rate : Rate = rate_in window copy.rate in
-    item_at s.uplinks number ≡ Some uplink → s.copies number gateway ≡ Some copy → band_at rate.freq rate.dr ≡ Some band
+    let start : ℕ = reception.end + delay uplink.kind window in
+    let rate : Rate = rate_in window reception.rate in
+    item_at s.uplinks number ≡ Some uplink → s.receptions number gateway ≡ Some reception → band_at rate.freq rate.dr ≡ Some band
     → IsBandRoom s gateway band start room → IsTrue (comes_of_air (step c s e).1)
     → IsTrue (tells_booking (step c s e).1) ↔ ((on_air start rate octets).len ≤ room)

@@ -128,7 +128,7 @@ impl TextOf<(u64, Name)> for ReceptionLine {
         let Some(uplink) = keeper.uplink(*number)? else {
             return Ok(String::new(alloc));
         };
-        let Some(reception) = keeper.copy_at(*number, gateway)? else {
+        let Some(reception) = keeper.reception_at(*number, gateway)? else {
             return Ok(String::new(alloc));
         };
         Ok(line_of(alloc, *number, &uplink, gateway, &reception)?)

@@ -14,7 +14,7 @@ use Rattle.registry_core.specs.declared.facts.Kind.{Kind}
 use Rattle.registry_core.specs.declared.facts.Uplink.{Uplink}
 use Rattle.registry_core.specs.Ranges.{IsEui, IsName}
 use Rattle.desk_rows.specs.Schema.{sender_table, reply_table, owner_table, gateway_table, device_table, session_table, uplink_table, copy_table, booking_table, limit_table, unique_index}
-use Rattle.desk_rows.specs.Rows.{SenderRow, ReplyRow, DeviceRow, SessionRow, CopyRow, BookingRow, LimitRow, IsSender, IsDevice, IsSession, IsUplink, IsCopy, IsBooking, sender_cells, reply_cells, name_cells, device_cells, session_cells, uplink_cells, copy_cells, booking_cells, limit_cells, number, eui, or_null, kind_number, is_sender_named, is_reply, is_device, is_session, is_uplink, is_copy, is_limit}
+use Rattle.desk_rows.specs.Rows.{SenderRow, ReplyRow, DeviceRow, SessionRow, ReceptionRow, BookingRow, LimitRow, IsSender, IsDevice, IsSession, IsUplink, IsReceptionRow, IsBooking, sender_cells, reply_cells, name_cells, device_cells, session_cells, uplink_cells, reception_cells, booking_cells, limit_cells, number, eui, or_null, kind_number, is_sender_named, is_reply, is_device, is_session, is_uplink, is_reception, is_limit}
 use Rattle.desk_rows.proofs.Ordered.{every}
 use Rattle.desk_rows.proofs.Stored.{Keyed, Stored, passes_alone}
 use Rattle.desk_rows.proofs.Terms.{and_true, eui_equal, number_equal, text_equal}
@@ -35,7 +35,7 @@ senders = record {
   cells = sender_cells;
   held = λ db r has. has.ten.sender;
   ranges = λ r h. h.senders;
-  in_range = λ r xs h all. record { senders = all; owners = h.owners; gateways = h.gateways; devices = h.devices; sessions = h.sessions; uplinks = h.uplinks; copies = h.copies; bookings = h.bookings };
+  in_range = λ r xs h all. record { senders = all; owners = h.owners; gateways = h.gateways; devices = h.devices; sessions = h.sessions; uplinks = h.uplinks; receptions = h.receptions; bookings = h.bookings };
   computes = (refl, λ r xs. refl, λ db n x. refl, refl, refl);
 }
 
@@ -59,7 +59,7 @@ replies = record {
   cells = reply_cells;
   held = λ db r has. has.ten.reply;
   ranges = λ r h. every r.replies;
-  in_range = λ r xs h all. record { senders = h.senders; owners = h.owners; gateways = h.gateways; devices = h.devices; sessions = h.sessions; uplinks = h.uplinks; copies = h.copies; bookings = h.bookings };
+  in_range = λ r xs h all. record { senders = h.senders; owners = h.owners; gateways = h.gateways; devices = h.devices; sessions = h.sessions; uplinks = h.uplinks; receptions = h.receptions; bookings = h.bookings };
   computes = (refl, λ r xs. refl, λ db n x. refl, refl, refl);
 }
 
@@ -83,7 +83,7 @@ owners = record {
   cells = name_cells;
   held = λ db r has. has.ten.owner;
   ranges = λ r h. h.owners;
-  in_range = λ r xs h all. record { senders = h.senders; owners = all; gateways = h.gateways; devices = h.devices; sessions = h.sessions; uplinks = h.uplinks; copies = h.copies; bookings = h.bookings };
+  in_range = λ r xs h all. record { senders = h.senders; owners = all; gateways = h.gateways; devices = h.devices; sessions = h.sessions; uplinks = h.uplinks; receptions = h.receptions; bookings = h.bookings };
   computes = (refl, λ r xs. refl, λ db n x. refl, refl, refl);
 }
 
@@ -107,7 +107,7 @@ gateways = record {
   cells = name_cells;
   held = λ db r has. has.ten.gateway;
   ranges = λ r h. h.gateways;
-  in_range = λ r xs h all. record { senders = h.senders; owners = h.owners; gateways = all; devices = h.devices; sessions = h.sessions; uplinks = h.uplinks; copies = h.copies; bookings = h.bookings };
+  in_range = λ r xs h all. record { senders = h.senders; owners = h.owners; gateways = all; devices = h.devices; sessions = h.sessions; uplinks = h.uplinks; receptions = h.receptions; bookings = h.bookings };
   computes = (refl, λ r xs. refl, λ db n x. refl, refl, refl);
 }
 
@@ -131,7 +131,7 @@ devices = record {
   cells = device_cells;
   held = λ db r has. has.ten.device;
   ranges = λ r h. h.devices;
-  in_range = λ r xs h all. record { senders = h.senders; owners = h.owners; gateways = h.gateways; devices = all; sessions = h.sessions; uplinks = h.uplinks; copies = h.copies; bookings = h.bookings };
+  in_range = λ r xs h all. record { senders = h.senders; owners = h.owners; gateways = h.gateways; devices = all; sessions = h.sessions; uplinks = h.uplinks; receptions = h.receptions; bookings = h.bookings };
   computes = (refl, λ r xs. refl, device_obeys, refl, refl);
 }
 
@@ -158,7 +158,7 @@ sessions = record {
   cells = session_cells;
   held = λ db r has. has.ten.session;
   ranges = λ r h. h.sessions;
-  in_range = λ r xs h all. record { senders = h.senders; owners = h.owners; gateways = h.gateways; devices = h.devices; sessions = all; uplinks = h.uplinks; copies = h.copies; bookings = h.bookings };
+  in_range = λ r xs h all. record { senders = h.senders; owners = h.owners; gateways = h.gateways; devices = h.devices; sessions = all; uplinks = h.uplinks; receptions = h.receptions; bookings = h.bookings };
   computes = (refl, λ r xs. refl, λ db n x. refl, refl, refl);
 }
 
@@ -182,7 +182,7 @@ uplinks = record {
   cells = uplink_cells;
   held = λ db r has. has.ten.uplink;
   ranges = λ r h. h.uplinks;
-  in_range = λ r xs h all. record { senders = h.senders; owners = h.owners; gateways = h.gateways; devices = h.devices; sessions = h.sessions; uplinks = all; copies = h.copies; bookings = h.bookings };
+  in_range = λ r xs h all. record { senders = h.senders; owners = h.owners; gateways = h.gateways; devices = h.devices; sessions = h.sessions; uplinks = all; receptions = h.receptions; bookings = h.bookings };
   computes = (refl, λ r xs. refl, λ db n x. refl, refl, refl);
 }
 
@@ -197,25 +197,25 @@ uplink_key = record {
   computes = (λ db all row free. rw free refl, λ n x. refl, λ n k x. refl);
 }
 
-abbrev pub copies : Stored CopyRow IsCopy
-copies = record {
+abbrev pub receptions : Stored ReceptionRow IsReceptionRow
+receptions = record {
   at = 8;
   table = copy_table;
-  rows = λ r. r.copies;
-  put = λ r xs. record r { copies = xs };
-  cells = copy_cells;
+  rows = λ r. r.receptions;
+  put = λ r xs. record r { receptions = xs };
+  cells = reception_cells;
   held = λ db r has. has.ten.copy;
-  ranges = λ r h. h.copies;
-  in_range = λ r xs h all. record { senders = h.senders; owners = h.owners; gateways = h.gateways; devices = h.devices; sessions = h.sessions; uplinks = h.uplinks; copies = all; bookings = h.bookings };
+  ranges = λ r h. h.receptions;
+  in_range = λ r xs h all. record { senders = h.senders; owners = h.owners; gateways = h.gateways; devices = h.devices; sessions = h.sessions; uplinks = h.uplinks; receptions = all; bookings = h.bookings };
   computes = (refl, λ r xs. refl, λ db n x. refl, refl, refl);
 }
 
-abbrev pub copy_key : Keyed copies (ℕ × List ℕ) (λ _. Unit {0})
-copy_key = record {
+abbrev pub reception_key : Keyed receptions (ℕ × List ℕ) (λ _. Unit {0})
+reception_key = record {
   places = 1 ∷ 2 ∷ [];
   key_of = λ x. (x.uplink, x.gateway);
   values = λ k. number k.0 ∷ Text k.1 ∷ [];
-  has = λ k. is_copy k.0 k.1;
+  has = λ k. is_reception k.0 k.1;
   tells = λ k x in_range fits. ap₂ (λ s t. s && t) (number_equal x.uplink k.0) (and_true _ ∙ text_equal x.gateway k.1);
   known = λ x fits. tt;
   computes = (λ db all row free. rw free refl, λ n x. refl, λ n k x. refl);
@@ -230,7 +230,7 @@ bookings = record {
   cells = booking_cells;
   held = λ db r has. has.ten.booking;
   ranges = λ r h. h.bookings;
-  in_range = λ r xs h all. record { senders = h.senders; owners = h.owners; gateways = h.gateways; devices = h.devices; sessions = h.sessions; uplinks = h.uplinks; copies = h.copies; bookings = all };
+  in_range = λ r xs h all. record { senders = h.senders; owners = h.owners; gateways = h.gateways; devices = h.devices; sessions = h.sessions; uplinks = h.uplinks; receptions = h.receptions; bookings = all };
   computes = (refl, λ r xs. refl, λ db n x. refl, refl, refl);
 }
 
@@ -243,7 +243,7 @@ limits = record {
   cells = limit_cells;
   held = λ db r has. has.limit;
   ranges = λ r h. every r.limits;
-  in_range = λ r xs h all. record { senders = h.senders; owners = h.owners; gateways = h.gateways; devices = h.devices; sessions = h.sessions; uplinks = h.uplinks; copies = h.copies; bookings = h.bookings };
+  in_range = λ r xs h all. record { senders = h.senders; owners = h.owners; gateways = h.gateways; devices = h.devices; sessions = h.sessions; uplinks = h.uplinks; receptions = h.receptions; bookings = h.bookings };
   computes = (refl, λ r xs. refl, λ db n x. refl, refl, refl);
 }
 

@@ -17,9 +17,9 @@ use Rattle.sqlite.specs.Program.{overlay}
 use Rattle.sqlite.specs.State.{State}
 use Rattle.registry_core.specs.Ranges.{IsEui, IsName}
 use Rattle.desk_rows.specs.Calls.{Reads}
-use Rattle.desk_rows.specs.Rows.{Rows, Holds, CopyRow, DeviceRow, IsCopy, IsDevice, SenderRow, copy_cells, device_cells, eui, name_cells, number, sender_cells, table_of}
+use Rattle.desk_rows.specs.Rows.{Rows, Holds, ReceptionRow, DeviceRow, IsReceptionRow, IsDevice, SenderRow, reception_cells, device_cells, eui, name_cells, number, sender_cells, table_of}
 use Rattle.desk_rows.specs.Schema.{desk_schema}
-use Rattle.desk_rows.specs.order.Listed.{by_key, devices_listed, gateways_listed, is_copy_of, listed, names_listed, senders_listed}
+use Rattle.desk_rows.specs.order.Listed.{by_key, devices_listed, gateways_listed, is_reception_of, listed, names_listed, senders_listed}
 use Rattle.desk_rows.specs.order.LookUps.{rows_by}
 use Rattle.desk_rows.specs.steps.Errors.{Decodes, ReadsAt}
 use Rattle.desk_rows.specs.steps.Queries.{FindsAll}
@@ -94,7 +94,7 @@ reads_devices found means = reads_listed (λ (d : DeviceRow). d.dev_eui) eui dev
 -- the gateways of an uplink's receptions
 pub reads_receptions : {sql : List ℕ} {names : List (List ℕ)} {old new : State} (uplink : ℕ) {result : Result (Vec (List ℕ) Global) RowFault}
     → FindsAll sql (number uplink ∷ []) old new (λ name. name) (λ name. Text name ∷ []) IsName result → AsksFor sql 1 gateways_asked names
-    → Reads old new result (λ r all. all.items ≡ gateways_listed uplink r.copies)
-reads_receptions uplink found means = reads_listed (λ (c : CopyRow). c.gateway) Text copy_cells (slice_cmp nat_cmp) value_cmp-Text IsName means (number uplink ∷ []) refl refl
-    (λ c n. refl) (is_copy_of uplink) (λ b. and_true _ ∙ number_equal b.1.uplink uplink) (λ r. r.copies) (λ r has. has.ten.copy)
-    (λ r has. all_so IsCopy (λ (c : CopyRow). IsName c.gateway) (λ c fits. fits.gateway) r.copies has.ten.in_range.copies) found
+    → Reads old new result (λ r all. all.items ≡ gateways_listed uplink r.receptions)
+reads_receptions uplink found means = reads_listed (λ (c : ReceptionRow). c.gateway) Text reception_cells (slice_cmp nat_cmp) value_cmp-Text IsName means (number uplink ∷ []) refl refl
+    (λ c n. refl) (is_reception_of uplink) (λ b. and_true _ ∙ number_equal b.1.uplink uplink) (λ r. r.receptions) (λ r has. has.ten.copy)
+    (λ r has. all_so IsReceptionRow (λ (c : ReceptionRow). IsName c.gateway) (λ c fits. fits.gateway) r.receptions has.ten.in_range.receptions) found

@@ -68,7 +68,7 @@ module _ (old new : State) (c : Settings) (bare : IsBare old.now) where
         ten = record {
           schema = did.0;
           sound = did.3;
-          in_range = record { senders = tt; owners = tt; gateways = tt; devices = tt; sessions = tt; uplinks = tt; copies = tt; bookings = tt };
+          in_range = record { senders = tt; owners = tt; gateways = tt; devices = tt; sessions = tt; uplinks = tt; receptions = tt; bookings = tt };
           meta = did.1;
           sender = k.1.0 (λ e. omega (arith, e)) ∙ none.1.0;
           reply = k.1.1.0 (λ e. omega (arith, e)) ∙ none.1.1.0;

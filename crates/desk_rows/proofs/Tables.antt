@@ -7,13 +7,13 @@ use Rattle.sqlite_trees.specs.Tree.{Trees}
 use Rattle.sqlite.specs.Effect.{Database, IsDatabase}
 use Rattle.desk_rows.specs.Schema.{desk_schema}
 use Rattle.desk_rows.specs.steps.Change.{KeepsOthers}
-use Rattle.desk_rows.specs.Rows.{Rows, Holds, HoldsTen, InRange, table_of, meta_cells, sender_cells, reply_cells, name_cells, device_cells, session_cells, uplink_cells, copy_cells, booking_cells, limit_cells}
+use Rattle.desk_rows.specs.Rows.{Rows, Holds, HoldsTen, InRange, table_of, meta_cells, sender_cells, reply_cells, name_cells, device_cells, session_cells, uplink_cells, reception_cells, booking_cells, limit_cells}
 
 -- the rows of each tree that has a table, under a version of the schema
 abbrev pub tables_as : ℕ → Rows → List (ℕ × List Row)
 tables_as version r =
     (0, table_of (meta_cells version) (r.settings ∷ [])) ∷ (1, table_of sender_cells r.senders) ∷ (3, table_of reply_cells r.replies) ∷ (5, table_of name_cells r.owners) ∷ (7, table_of name_cells r.gateways)
-    ∷ (9, table_of device_cells r.devices) ∷ (11, table_of session_cells r.sessions) ∷ (13, table_of uplink_cells r.uplinks) ∷ (15, table_of copy_cells r.copies) ∷ (17, table_of booking_cells r.bookings)
+    ∷ (9, table_of device_cells r.devices) ∷ (11, table_of session_cells r.sessions) ∷ (13, table_of uplink_cells r.uplinks) ∷ (15, table_of reception_cells r.receptions) ∷ (17, table_of booking_cells r.bookings)
     ∷ (22, table_of limit_cells r.limits) ∷ []
 
 abbrev pub tables : Rows → List (ℕ × List Row)

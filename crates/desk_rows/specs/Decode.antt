@@ -23,7 +23,7 @@ use Rattle.sqlite_value.specs.declared.value.Value.TheVariants.{Int}
 use Rattle.sqlite_value.specs.Order.{Row, column, bytes}
 use Rattle.sqlite_trees.specs.Tree.{Trees}
 use Rattle.sqlite.specs.Effect.{Database}
-use Rattle.desk_rows.specs.Rows.{SenderRow, ReplyRow, DeviceRow, SessionRow, CopyRow, BookingRow, LimitRow, IsDevice, IsSession, Rows, Holds, role_number, kind_number, standing_number, rowids_from, table_of, sender_cells, reply_cells, name_cells, device_cells, session_cells, uplink_cells, copy_cells, booking_cells, limit_cells, or_null, number}
+use Rattle.desk_rows.specs.Rows.{SenderRow, ReplyRow, DeviceRow, SessionRow, ReceptionRow, BookingRow, LimitRow, IsDevice, IsSession, Rows, Holds, role_number, kind_number, standing_number, rowids_from, table_of, sender_cells, reply_cells, name_cells, device_cells, session_cells, uplink_cells, reception_cells, booking_cells, limit_cells, or_null, number}
 
 -- ---- values
 
@@ -125,8 +125,8 @@ uplink_in r = record {
   band = band_in (column r 8);
 }
 
-abbrev pub copy_in : Row → CopyRow
-copy_in r = record {
+abbrev pub reception_in : Row → ReceptionRow
+reception_in r = record {
   uplink = nat_in (column r 1);
   gateway = bytes (column r 2);
   reception = record { end = nat_in (column r 3); rate = record { freq = nat_in (column r 4); dr = dr_in (column r 5) } };
@@ -178,7 +178,7 @@ rows_in db = record {
   devices = map device_in (db 9);
   sessions = map session_in (db 11);
   uplinks = map uplink_in (db 13);
-  copies = map copy_in (db 15);
+  receptions = map reception_in (db 15);
   bookings = map booking_in (db 17);
   limits = map limit_in (db 22);
 }
@@ -215,9 +215,9 @@ module _ (db : Database) (r : Rows) (h : Holds db r) where
   uplinks_are = again (λ x. Unit {0}) uplink_cells uplink_in
       (λ n x p i. record { session = x.session; kind = kind_again x.kind i; counter = x.counter; octets = x.octets; start = x.start; airtime = x.airtime; band = band_again x.band i }) r.uplinks (every r.uplinks) (db.trees 13) h.ten.uplink
 
-  copies_are : r.copies ≡ map copy_in (db.trees 15)
-  copies_are = again (λ x. Unit {0}) copy_cells copy_in
-      (λ n x p i. record { uplink = x.uplink; gateway = x.gateway; reception = record { end = x.reception.end; rate = record { freq = x.reception.rate.freq; dr = dr_again x.reception.rate.dr i } } }) r.copies (every r.copies) (db.trees 15) h.ten.copy
+  receptions_are : r.receptions ≡ map reception_in (db.trees 15)
+  receptions_are = again (λ x. Unit {0}) reception_cells reception_in
+      (λ n x p i. record { uplink = x.uplink; gateway = x.gateway; reception = record { end = x.reception.end; rate = record { freq = x.reception.rate.freq; dr = dr_again x.reception.rate.dr i } } }) r.receptions (every r.receptions) (db.trees 15) h.ten.copy
 
   bookings_are : r.bookings ≡ map booking_in (db.trees 17)
   bookings_are = again (λ x. Unit {0}) booking_cells booking_in
@@ -248,7 +248,7 @@ module _ (db : Database) (r : Rows) (h : Holds db r) where
     devices = devices_are i;
     sessions = sessions_are i;
     uplinks = uplinks_are i;
-    copies = copies_are i;
+    receptions = receptions_are i;
     bookings = bookings_are i;
     limits = limits_are i;
   }

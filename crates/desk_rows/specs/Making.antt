@@ -18,4 +18,4 @@ pub record IsBare (db : Database) : Type 0 where
 
 -- only the configuration
 abbrev pub settings_rows : Settings → Rows
-settings_rows c = record { settings = c; senders = []; replies = []; owners = []; gateways = []; devices = []; sessions = []; uplinks = []; copies = []; bookings = []; limits = [] }
+settings_rows c = record { settings = c; senders = []; replies = []; owners = []; gateways = []; devices = []; sessions = []; uplinks = []; receptions = []; bookings = []; limits = [] }

@@ -77,7 +77,7 @@ pub record SessionRow : Type 0 where
   -- the number of bookings that answer its data uplinks
   pub next_down : ℕ
 
-pub record CopyRow : Type 0 where
+pub record ReceptionRow : Type 0 where
   pub uplink : ℕ
   pub gateway : List ℕ
   pub reception : Reception
@@ -103,7 +103,7 @@ pub record Rows : Type 0 where
   pub devices : List DeviceRow
   pub sessions : List SessionRow
   pub uplinks : List Uplink
-  pub copies : List CopyRow
+  pub receptions : List ReceptionRow
   pub bookings : List BookingRow
   pub limits : List LimitRow
 
@@ -124,8 +124,8 @@ is_session device nonce s = s.session.device == device && s.session.nonce == non
 abbrev pub is_uplink : ℕ → Kind → ℕ → Uplink → Bool
 is_uplink session kind counter u = u.session == session && (kind_number u.kind == kind_number kind && u.counter == counter)
 
-abbrev pub is_copy : ℕ → List ℕ → CopyRow → Bool
-is_copy uplink gateway c = c.uplink == uplink && bytes_eq c.gateway gateway
+abbrev pub is_reception : ℕ → List ℕ → ReceptionRow → Bool
+is_reception uplink gateway c = c.uplink == uplink && bytes_eq c.gateway gateway
 
 -- a gateway and a band, by the band's number
 abbrev pub is_limit : List ℕ → ℕ → LimitRow → Bool
@@ -155,8 +155,8 @@ session_cells s = Null ∷ eui s.session.device ∷ number s.session.nonce ∷ n
 abbrev pub uplink_cells : Uplink → Row
 uplink_cells u = Null ∷ number u.session ∷ number (kind_number u.kind) ∷ number u.counter ∷ Blob u.octets ∷ number u.start ∷ number u.airtime ∷ number (band_number u.band) ∷ []
 
-abbrev pub copy_cells : CopyRow → Row
-copy_cells c = number c.uplink ∷ Text c.gateway ∷ number c.reception.end ∷ number c.reception.rate.freq ∷ number (dr_number c.reception.rate.dr) ∷ []
+abbrev pub reception_cells : ReceptionRow → Row
+reception_cells c = number c.uplink ∷ Text c.gateway ∷ number c.reception.end ∷ number c.reception.rate.freq ∷ number (dr_number c.reception.rate.dr) ∷ []
 
 abbrev pub booking_cells : BookingRow → Row
 booking_cells b =
@@ -201,7 +201,7 @@ pub record IsUplink (u : Uplink) : Type 0 where
   pub start : IsWhole u.start
   pub airtime : u.airtime < 2 ^ 32
 
-pub record IsCopy (c : CopyRow) : Type 0 where
+pub record IsReceptionRow (c : ReceptionRow) : Type 0 where
   pub gateway : IsName c.gateway
   pub end : IsWhole c.reception.end
   pub freq : c.reception.rate.freq < 2 ^ 32
@@ -218,7 +218,7 @@ pub record InRange (r : Rows) : Type 0 where
   pub devices : AllByRecursion IsDevice r.devices
   pub sessions : AllByRecursion IsSession r.sessions
   pub uplinks : AllByRecursion IsUplink r.uplinks
-  pub copies : AllByRecursion IsCopy r.copies
+  pub receptions : AllByRecursion IsReceptionRow r.receptions
   pub bookings : AllByRecursion IsBooking r.bookings
 
 -- The database has this schema and nothing else, meta has this version of it, and the ten tables that each version has store exactly these
@@ -235,7 +235,7 @@ pub record HoldsTen (version : ℕ) (desk : Schema) (db : Database) (r : Rows) :
   pub device : db.trees 9 ≡ table_of device_cells r.devices
   pub session : db.trees 11 ≡ table_of session_cells r.sessions
   pub uplink : db.trees 13 ≡ table_of uplink_cells r.uplinks
-  pub copy : db.trees 15 ≡ table_of copy_cells r.copies
+  pub copy : db.trees 15 ≡ table_of reception_cells r.receptions
   pub booking : db.trees 17 ≡ table_of booking_cells r.bookings
 
 -- The database has schema 2 and nothing else, and its eleven tables store exactly these rows.

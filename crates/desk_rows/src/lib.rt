@@ -12,7 +12,6 @@
 
 mod bookings;
 mod columns;
-mod copies;
 mod devices;
 mod faults;
 mod gateways;
@@ -24,6 +23,7 @@ mod migrating;
 pub mod order;
 mod owners;
 mod queries;
+mod receptions;
 mod replies;
 mod senders;
 mod sessions;
@@ -35,7 +35,6 @@ mod writes;
 pub use bookings::{
     booking, bookings_between, end_booking, insert_booking, is_answered, last_booking,
 };
-pub use copies::{copy_at, gateways_of, insert_copy};
 pub use devices::{
     device, device_euis, floor_of, insert_device, last_device, move_device, next_device, set_floor,
 };
@@ -46,6 +45,7 @@ pub use making::{create_tables, insert_settings};
 pub use meta::read_settings;
 pub use migrating::{create_limits, raise_version};
 pub use owners::{insert_owner, last_owner, owner_is_known, owner_names};
+pub use receptions::{gateways_of, insert_reception, reception_at};
 pub use replies::{ReplyTexts, insert_reply, last_reply, last_transaction, texts_at, texts_of};
 pub use senders::{insert_sender, last_sender, role_of, sender_names};
 pub use sessions::{

@@ -9,18 +9,18 @@ use Rattle.indexmap.specs.IndexMap.{IndexMap, Updates, get}
 use Rattle.radio_core.specs.Bands.{band_number}
 use Rattle.registry_core.specs.declared.facts.Reception.{Reception}
 use Rattle.registry_core.specs.Limits.{Limit}
-use Rattle.registry_core.specs.State.{at_name, at_number, copies_with, limits_with}
-use Rattle.desk_store.specs.Facts.{copies_of, limits_of, same_key}
+use Rattle.registry_core.specs.State.{at_name, at_number, limits_with, receptions_with}
+use Rattle.desk_store.specs.Facts.{limits_of, receptions_of, same_key}
 
 -- functions with one value at each argument are one
 at_each : {X Y : Type 0} {f g : X → Y} → ((x : X) → f x ≡ g x) → f ≡ g
 at_each h = λ i x. h x i
 
-copy_key : (copies : ℕ → List ℕ → Option Reception) (number : ℕ) (gateway : List ℕ) (reception : Reception) (n : ℕ) (at : List ℕ) (b : Bool) → (n == number) ≡ b
-    → cond (nat_eq number n && bytes_eq gateway at) (Some reception) (copies n at) ≡ copies_with copies number gateway reception n at
-copy_key copies number gateway reception n at true is = rw (eqb-true n number is, eq-eqb number number refl)
-    (ap (λ b. cond b (Some reception) (copies number at)) (nat_list_eq_equiv.symm gateway at))
-copy_key copies number gateway reception n at false is = rw (nat_eq_equiv.symm number n, is) refl
+reception_key : (receptions : ℕ → List ℕ → Option Reception) (number : ℕ) (gateway : List ℕ) (reception : Reception) (n : ℕ) (at : List ℕ) (b : Bool) → (n == number) ≡ b
+    → cond (nat_eq number n && bytes_eq gateway at) (Some reception) (receptions n at) ≡ receptions_with receptions number gateway reception n at
+reception_key receptions number gateway reception n at true is = rw (eqb-true n number is, eq-eqb number number refl)
+    (ap (λ b. cond b (Some reception) (receptions number at)) (nat_list_eq_equiv.symm gateway at))
+reception_key receptions number gateway reception n at false is = rw (nat_eq_equiv.symm number n, is) refl
 
 limit_key : (limits : List ℕ → ℕ → Option ℕ) (gateway : List ℕ) (limit : Limit) (at : List ℕ) (n : ℕ) (named same : Bool) → bytes_eq at gateway ≡ named → (n == band_number limit.band) ≡ same
     → cond (nat_eq (band_number limit.band) n && bytes_eq gateway at) (Some limit.most) (limits at n) ≡ limits_with limits gateway limit at n
@@ -43,11 +43,11 @@ module _ {S : Type 0} where
       → get nat_eq new ≡ at_number (get nat_eq old) number (Some x)
   at_number-updated old new number x updates = at_each (λ other. updates.0 other ∙ ap (λ b. cond b (Some x) (get nat_eq old other)) (nat_eq_equiv.symm number other))
 
-  pub copies_with-updated : (old new : IndexMap (ℕ × List ℕ) Reception S) (number : ℕ) (gateway : List ℕ) (reception : Reception)
+  pub receptions_with-updated : (old new : IndexMap (ℕ × List ℕ) Reception S) (number : ℕ) (gateway : List ℕ) (reception : Reception)
       → Updates same_key old new (number, gateway) (Some reception)
-      → copies_of new ≡ copies_with (copies_of old) number gateway reception
-  copies_with-updated old new number gateway reception updates = at_each (λ n. at_each (λ at.
-      updates.0 (n, at) ∙ copy_key (copies_of old) number gateway reception n at (n == number) refl))
+      → receptions_of new ≡ receptions_with (receptions_of old) number gateway reception
+  receptions_with-updated old new number gateway reception updates = at_each (λ n. at_each (λ at.
+      updates.0 (n, at) ∙ reception_key (receptions_of old) number gateway reception n at (n == number) refl))
 
   pub limits_with-updated : (old new : IndexMap (ℕ × List ℕ) ℕ S) (gateway : List ℕ) (limit : Limit) → Updates same_key old new (band_number limit.band, gateway) (Some limit.most)
       → limits_of new ≡ limits_with (limits_of old) gateway limit

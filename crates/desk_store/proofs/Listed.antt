@@ -26,11 +26,11 @@ use Rattle.registry_core.specs.Listing.{AreDevices, AreNames, numbers_from, sess
 use Rattle.registry_core.specs.Numbered.{greatest, item_at}
 use Rattle.desk_store.specs.declared.looks.EntryTexts.{EntryTexts}
 use Rattle.desk_store.specs.Devices.{devices_of}
-use Rattle.desk_store.specs.Facts.{copies_of, same_key}
+use Rattle.desk_store.specs.Facts.{receptions_of, same_key}
 use Rattle.desk_store.specs.Kept.{Entry}
 use Rattle.desk_store.specs.Lists.{entry_shown}
 use Rattle.desk_store.specs.Looks.{is_from, last_transaction}
-use Rattle.desk_store.specs.steps.Listing.{is_copy_of, is_key_of}
+use Rattle.desk_store.specs.steps.Listing.{is_key_of, is_reception_of}
 
 -- ---- keys in order
 
@@ -122,50 +122,50 @@ last_heard sender entries = greatest_reduced _ ∙ ap greatest (keys_shown sende
 -- ---- the gateways of an uplink
 
 gateways_found : (uplink : ℕ) (gateway : List ℕ) (keys : List (ℕ × List ℕ))
-    → list_any (bytes_eq gateway) (map (λ (key : ℕ × List ℕ). key.1) (filter (is_copy_of uplink) keys)) ≡ list_any (same_key (uplink, gateway)) keys
+    → list_any (bytes_eq gateway) (map (λ (key : ℕ × List ℕ). key.1) (filter (is_reception_of uplink) keys)) ≡ list_any (same_key (uplink, gateway)) keys
 gateways_found uplink gateway [] = refl
 gateways_found uplink gateway (key ∷ keys) = by (key.0 == uplink) refl (gateways_found uplink gateway keys)
   where
     by : (b : Bool) → (key.0 == uplink) ≡ b
-        → list_any (bytes_eq gateway) (map (λ (k : ℕ × List ℕ). k.1) (filter (is_copy_of uplink) keys)) ≡ list_any (same_key (uplink, gateway)) keys
-        → list_any (bytes_eq gateway) (map (λ (k : ℕ × List ℕ). k.1) (cond b (key ∷ filter (is_copy_of uplink) keys) (filter (is_copy_of uplink) keys)))
+        → list_any (bytes_eq gateway) (map (λ (k : ℕ × List ℕ). k.1) (filter (is_reception_of uplink) keys)) ≡ list_any (same_key (uplink, gateway)) keys
+        → list_any (bytes_eq gateway) (map (λ (k : ℕ × List ℕ). k.1) (cond b (key ∷ filter (is_reception_of uplink) keys) (filter (is_reception_of uplink) keys)))
         ≡ (same_key (uplink, gateway) key || list_any (same_key (uplink, gateway)) keys)
     by true is rest = rw (nat_eq_equiv.symm uplink key.0, is) (ap (λ b. bytes_eq gateway key.1 || b) rest)
     by false is rest = rw (nat_eq_equiv.symm uplink key.0, is) rest
 
 -- those of the other keys differ from this one's
 others_apart : (uplink : ℕ) (key : ℕ × List ℕ) (keys : List (ℕ × List ℕ)) → key.0 ≡ uplink → AllByRecursion (λ other. same_key key other ≡ false) keys
-    → AllByRecursion (λ gateway. bytes_eq key.1 gateway ≡ false) (map (λ (k : ℕ × List ℕ). k.1) (filter (is_copy_of uplink) keys))
+    → AllByRecursion (λ gateway. bytes_eq key.1 gateway ≡ false) (map (λ (k : ℕ × List ℕ). k.1) (filter (is_reception_of uplink) keys))
 others_apart uplink key [] own apart = tt
 others_apart uplink key (other ∷ keys) own apart = by (other.0 == uplink) refl (others_apart uplink key keys own apart.1)
   where
-    by : (b : Bool) → (other.0 == uplink) ≡ b → AllByRecursion (λ gateway. bytes_eq key.1 gateway ≡ false) (map (λ (k : ℕ × List ℕ). k.1) (filter (is_copy_of uplink) keys))
-        → AllByRecursion (λ gateway. bytes_eq key.1 gateway ≡ false) (map (λ (k : ℕ × List ℕ). k.1) (cond b (other ∷ filter (is_copy_of uplink) keys) (filter (is_copy_of uplink) keys)))
+    by : (b : Bool) → (other.0 == uplink) ≡ b → AllByRecursion (λ gateway. bytes_eq key.1 gateway ≡ false) (map (λ (k : ℕ × List ℕ). k.1) (filter (is_reception_of uplink) keys))
+        → AllByRecursion (λ gateway. bytes_eq key.1 gateway ≡ false) (map (λ (k : ℕ × List ℕ). k.1) (cond b (other ∷ filter (is_reception_of uplink) keys) (filter (is_reception_of uplink) keys)))
     by true is rest =
         let same : nat_eq key.0 other.0 ≡ true = eq-eqb key.0 other.0 (own ∙ sym (eqb-true other.0 uplink is)) in
         (ap (λ b. b && bytes_eq key.1 other.1) (sym same) ∙ apart.0, rest)
     by false is rest = rest
 
 gateways_distinct : (uplink : ℕ) (keys : List (ℕ × List ℕ)) → IsDistinct same_key keys
-    → IsDistinct bytes_eq (map (λ (key : ℕ × List ℕ). key.1) (filter (is_copy_of uplink) keys))
+    → IsDistinct bytes_eq (map (λ (key : ℕ × List ℕ). key.1) (filter (is_reception_of uplink) keys))
 unfolding IsDistinct
 gateways_distinct uplink [] distinct = tt
 gateways_distinct uplink (key ∷ keys) distinct = by (key.0 == uplink) refl (gateways_distinct uplink keys distinct.1)
   where
-    by : (b : Bool) → (key.0 == uplink) ≡ b → IsDistinct bytes_eq (map (λ (k : ℕ × List ℕ). k.1) (filter (is_copy_of uplink) keys))
-        → IsDistinct bytes_eq (map (λ (k : ℕ × List ℕ). k.1) (cond b (key ∷ filter (is_copy_of uplink) keys) (filter (is_copy_of uplink) keys)))
+    by : (b : Bool) → (key.0 == uplink) ≡ b → IsDistinct bytes_eq (map (λ (k : ℕ × List ℕ). k.1) (filter (is_reception_of uplink) keys))
+        → IsDistinct bytes_eq (map (λ (k : ℕ × List ℕ). k.1) (cond b (key ∷ filter (is_reception_of uplink) keys) (filter (is_reception_of uplink) keys)))
     by true is rest = (others_apart uplink key keys (eqb-true key.0 uplink is) distinct.0, rest)
     by false is rest = rest
 
 module _ {S : Type 0} where
-  pub gateways_listed : (copies : IndexMap (ℕ × List ℕ) Reception S) (uplink : ℕ) (names sorted : List (List ℕ))
-      → IsUnique same_key copies → names ≡ map (λ (key : ℕ × List ℕ). key.1) (filter (is_copy_of uplink) (keys copies))
+  pub gateways_listed : (receptions : IndexMap (ℕ × List ℕ) Reception S) (uplink : ℕ) (names sorted : List (List ℕ))
+      → IsUnique same_key receptions → names ≡ map (λ (key : ℕ × List ℕ). key.1) (filter (is_reception_of uplink) (keys receptions))
       → (IsDistinct bytes_eq names → AreNames (λ name. list_any (bytes_eq name) names) sorted)
-      → AreNames (λ name. is_some (copies_of copies uplink name)) sorted
-  gateways_listed copies uplink names sorted apart names_are listed =
-      let are : AreNames (λ name. list_any (bytes_eq name) names) sorted = listed (subst (IsDistinct bytes_eq) (sym names_are) (gateways_distinct uplink (keys copies) apart)) in
+      → AreNames (λ name. is_some (receptions_of receptions uplink name)) sorted
+  gateways_listed receptions uplink names sorted apart names_are listed =
+      let are : AreNames (λ name. list_any (bytes_eq name) names) sorted = listed (subst (IsDistinct bytes_eq) (sym names_are) (gateways_distinct uplink (keys receptions) apart)) in
       record {
         rising = are.rising;
-        each = λ name. are.each name ∙ ap (list_any (bytes_eq name)) names_are ∙ gateways_found uplink name (keys copies)
-            ∙ sym (is_some-lookup (same_key (uplink, name)) copies.entries);
+        each = λ name. are.each name ∙ ap (list_any (bytes_eq name)) names_are ∙ gateways_found uplink name (keys receptions)
+            ∙ sym (is_some-lookup (same_key (uplink, name)) receptions.entries);
       }

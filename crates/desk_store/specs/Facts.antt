@@ -12,8 +12,8 @@ abbrev pub same_key : ℕ × List ℕ → ℕ × List ℕ → Bool
 same_key a b = nat_eq a.0 b.0 && bytes_eq a.1 b.1
 
 -- the reception of an uplink, by the uplink's number, at a gateway
-abbrev pub copies_of : {S : Type 0} → IndexMap (ℕ × List ℕ) Reception S → ℕ → List ℕ → Option Reception
-copies_of copies number gateway = get same_key copies (number, gateway)
+abbrev pub receptions_of : {S : Type 0} → IndexMap (ℕ × List ℕ) Reception S → ℕ → List ℕ → Option Reception
+receptions_of receptions number gateway = get same_key receptions (number, gateway)
 
 -- the limit that was set for a gateway's band, by the band's number
 abbrev pub limits_of : {S : Type 0} → IndexMap (ℕ × List ℕ) ℕ S → List ℕ → ℕ → Option ℕ
@@ -27,7 +27,7 @@ facts_of facts = record {
   devices = devices_of facts.devices;
   sessions = facts.sessions.items;
   uplinks = facts.traffic.uplinks;
-  copies = copies_of facts.copies;
+  receptions = receptions_of facts.receptions;
   bookings = facts.traffic.bookings;
   limits = limits_of facts.limits;
 }

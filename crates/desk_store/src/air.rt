@@ -150,10 +150,10 @@ fn window_after(uplink: &Option<UplinkView>, window: Window) -> Option<(u64, Rat
         Some(
             UplinkView {
                 uplink,
-                at_gateway: Some(copy),
+                at_gateway: Some(reception),
                 ..
             },
-        ) => Some(receive(uplink.kind, copy.end, copy.rate, window)),
+        ) => Some(receive(uplink.kind, reception.end, reception.rate, window)),
         _ => None,
     }
 }

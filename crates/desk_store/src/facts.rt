@@ -1,10 +1,10 @@
 //! The registry's facts in memory: what has a key in maps and sets, and what is numbered in lists.
 ghost use Rattle.std.specs.Prelude.{◌≡◌, ◌+◌, [], ◌∷◌, ◌++◌, bytes_eq, length, None, Some, IfOk, OnOk, OnErr};
 ghost use Rattle.indexmap.specs.IndexMap.{get};
-ghost use Rattle.registry_core.specs.State.{at_name, copies_with, opening, state_with};
+ghost use Rattle.registry_core.specs.State.{at_name, opening, receptions_with, state_with};
 ghost use Rattle.registry_core.specs.declared.messages.Role.TheVariants.{Operator};
-ghost use Rattle.registry_core.specs.declared.effects.Effect.TheVariants.{AddsCopy, AddsSession, AddsUplink, SetsLimit};
-ghost use Rattle.desk_store.specs.Facts.{copies_of, facts_of};
+ghost use Rattle.registry_core.specs.declared.effects.Effect.TheVariants.{AddsReception, AddsSession, AddsUplink, SetsLimit};
+ghost use Rattle.desk_store.specs.Facts.{facts_of, receptions_of};
 
 use crate::devices::Devices;
 use crate::sessions::Sessions;
@@ -24,7 +24,7 @@ pub(crate) struct Facts {
     pub(crate) sessions: Sessions,
     pub(crate) traffic: Traffic,
     /// By the uplink's number and the gateway.
-    pub(crate) copies: IndexMap<(u64, Name), Reception>,
+    pub(crate) receptions: IndexMap<(u64, Name), Reception>,
     /// By the band's number and the gateway. Only limits that were set.
     pub(crate) limits: IndexMap<(u8, Name), u64>,
 }
@@ -51,7 +51,7 @@ impl Facts {
             devices: Devices::new(alloc),
             sessions: Sessions::new(alloc),
             traffic: Traffic::new(alloc),
-            copies: IndexMap::new(alloc),
+            receptions: IndexMap::new(alloc),
             limits: IndexMap::new(alloc),
         })
     }
@@ -88,11 +88,11 @@ impl Facts {
                 gateway,
                 reception,
             } => self.add_uplink(uplink, gateway, reception),
-            Effect::AddsCopy {
+            Effect::AddsReception {
                 uplink,
                 gateway,
                 reception,
-            } => self.add_copy(uplink, gateway, reception),
+            } => self.add_reception(uplink, gateway, reception),
             Effect::AddsBooking { booking } => self.traffic.push_booking(booking),
             Effect::EndsBooking { booking, sent } => self.traffic.end_booking(booking, sent),
             Effect::SetsLimit { gateway, limit } => self.set_limit(gateway, limit),
@@ -128,7 +128,7 @@ impl Facts {
     {
         put_uplink(
             &mut self.traffic,
-            &mut self.copies,
+            &mut self.receptions,
             uplink,
             gateway,
             reception,
@@ -136,16 +136,16 @@ impl Facts {
     }
 
     /// Adds the reception, or nothing.
-    fn add_copy(
+    fn add_reception(
         &mut self,
         uplink: u64,
         gateway: Name,
         reception: Reception,
     ) -> Result<(), AllocError>
-        ensures ok { OnOk result (facts_of self.new ≡ state_with (facts_of self.old) (AddsCopy uplink gateway reception)) }
+        ensures ok { OnOk result (facts_of self.new ≡ state_with (facts_of self.old) (AddsReception uplink gateway reception)) }
         ensures err { OnErr result (facts_of self.new ≡ facts_of self.old) }
     {
-        self.copies.insert((uplink, gateway), reception)?;
+        self.receptions.insert((uplink, gateway), reception)?;
         Ok(())
     }
 
@@ -163,21 +163,21 @@ impl Facts {
 /// Adds the uplink at the end, and its reception under the uplink's number; or adds neither.
 fn put_uplink(
     traffic: &mut Traffic,
-    copies: &mut IndexMap<(u64, Name), Reception>,
+    receptions: &mut IndexMap<(u64, Name), Reception>,
     uplink: Uplink,
     gateway: Name,
     reception: Reception,
 ) -> Result<(), AllocError>
     ensures uplinks { OnOk result (traffic.new.uplinks ≡ traffic.old.uplinks ++ uplink ∷ []) }
-    ensures copies { OnOk result (copies_of copies.new
-        ≡ copies_with (copies_of copies.old) (length traffic.old.uplinks + 1) gateway reception) }
+    ensures receptions { OnOk result (receptions_of receptions.new
+        ≡ receptions_with (receptions_of receptions.old) (length traffic.old.uplinks + 1) gateway reception) }
     ensures err { OnErr result ((traffic.new.uplinks ≡ traffic.old.uplinks)
-        × (copies_of copies.new ≡ copies_of copies.old)) }
+        × (receptions_of receptions.new ≡ receptions_of receptions.old)) }
     ensures bookings { traffic.new.bookings ≡ traffic.old.bookings }
 {
     let number = traffic.uplinks().len() as u64 + 1;
-    copies.reserve(1)?;
+    receptions.reserve(1)?;
     traffic.push_uplink(uplink)?;
-    copies.insert((number, gateway), reception)?;
+    receptions.insert((number, gateway), reception)?;
     Ok(())
 }

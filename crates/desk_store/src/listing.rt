@@ -10,10 +10,10 @@ ghost use Rattle.registry_core.specs.Derived.{is_of_device};
 ghost use Rattle.registry_core.specs.Listing.{AreDevices, AreNames, AreNumbersByStart, is_of_session, last_start, sessions_of, uplink_start};
 ghost use Rattle.registry_core.specs.Reports.{is_uplink_from};
 ghost use Rattle.desk_store.specs.Devices.{devices_of};
-ghost use Rattle.desk_store.specs.Facts.{copies_of, same_key};
+ghost use Rattle.desk_store.specs.Facts.{receptions_of, same_key};
 ghost use Rattle.desk_store.specs.Lists.{entries_shown};
 ghost use Rattle.desk_store.specs.Looks.{last_transaction};
-ghost use Rattle.desk_store.specs.steps.Listing.{is_copy_of, is_key_of};
+ghost use Rattle.desk_store.specs.steps.Listing.{is_key_of, is_reception_of};
 ghost use Rattle.desk_store.specs.steps.StartIndex.{place_at};
 
 use crate::looks::EntryTexts;
@@ -165,12 +165,12 @@ fn is_uplink_from(sessions: &Sessions, device: Eui, period: &Period, uplink: &Up
 /// Returns the names of the gateways that reported a reception of the uplink with this number, ordered by their octets.
 pub(crate) fn gateways_of(
     alloc: Global,
-    copies: &IndexMap<(u64, Name), Reception>,
+    receptions: &IndexMap<(u64, Name), Reception>,
     uplink: u64,
 ) -> Result<Vec<Name>, AllocError>
-    ensures { IfOk result (λ sorted. AreNames (λ gateway. is_some (copies_of copies.now uplink gateway)) sorted.items) }
+    ensures { IfOk result (λ sorted. AreNames (λ gateway. is_some (receptions_of receptions.now uplink gateway)) sorted.items) }
 {
-    let mut names = names_of(alloc, copies, uplink)?;
+    let mut names = names_of(alloc, receptions, uplink)?;
     sort_names(&mut names);
     Ok(names)
 }
@@ -178,13 +178,13 @@ pub(crate) fn gateways_of(
 /// Returns those names in the order in which they are stored.
 fn names_of(
     alloc: Global,
-    copies: &IndexMap<(u64, Name), Reception>,
+    receptions: &IndexMap<(u64, Name), Reception>,
     uplink: u64,
 ) -> Result<Vec<Name>, AllocError>
-    ensures names { IfOk result (λ names. names.items ≡ map (λ key. key.1) (filter (is_copy_of uplink) (keys copies.now))) }
-    ensures distinct { IsUnique same_key copies.now }
+    ensures names { IfOk result (λ names. names.items ≡ map (λ key. key.1) (filter (is_reception_of uplink) (keys receptions.now))) }
+    ensures distinct { IsUnique same_key receptions.now }
 {
-    copies
+    receptions
         .keys()
         .filter(|key| key.0 == uplink)
         .map(|key| key.1)

@@ -16,7 +16,7 @@ use Rattle.registry_core.specs.Settings.{Settings}
 use Rattle.registry_core.specs.State.{State}
 use Rattle.registry_core.specs.Wholes.{IsWhole}
 use Rattle.desk_store.specs.Kept.{Kept}
-use Rattle.desk_rows.specs.Rows.{Rows, BookingRow, CopyRow, SessionRow, is_copy, is_uplink, kind_number}
+use Rattle.desk_rows.specs.Rows.{Rows, BookingRow, ReceptionRow, SessionRow, is_reception, is_uplink, kind_number}
 use Rattle.desk_rows.specs.order.Facts.{sessions_in}
 use Rattle.desk_rows.specs.order.RowsOf.{AnswersUplink, IsOfSession, IsOfUplink}
 use Rattle.desk_tables.specs.InOrder.{entry_in}
@@ -83,13 +83,13 @@ module _ (c : Settings) (kept : Kept) (r : Rows) (tell : RowsTell c kept r) (n :
   of_no_session = each_so (IsOfSession (sessions_in r.sessions)) (λ u. (u.session == n) ≡ false)
       (λ u of. differs (sessions_in r.sessions) n u.session of.session past_sessions of.there) r.uplinks tell.are.names.uplinks
 
-  of_no_uplink : AllByRecursion (λ (copy : CopyRow). (copy.uplink == n) ≡ false) r.copies
-  of_no_uplink = each_so (IsOfUplink r.uplinks) (λ copy. (copy.uplink == n) ≡ false) (λ copy there. go copy (item_at r.uplinks copy.uplink) refl there)
-      r.copies tell.are.names.copies
+  of_no_uplink : AllByRecursion (λ (row : ReceptionRow). (row.uplink == n) ≡ false) r.receptions
+  of_no_uplink = each_so (IsOfUplink r.uplinks) (λ row. (row.uplink == n) ≡ false) (λ row there. go row (item_at r.uplinks row.uplink) refl there)
+      r.receptions tell.are.names.receptions
     where
-      go : (copy : CopyRow) (found : Option Uplink) → item_at r.uplinks copy.uplink ≡ found → is_some found ≡ true → (copy.uplink == n) ≡ false
-      go copy None at some = let none : is_some {T = Uplink} None ≡ true = some in cc
-      go copy (Some u) at some = differs r.uplinks n copy.uplink u past_uplinks at
+      go : (row : ReceptionRow) (found : Option Uplink) → item_at r.uplinks row.uplink ≡ found → is_some found ≡ true → (row.uplink == n) ≡ false
+      go row None at some = let none : is_some {T = Uplink} None ≡ true = some in cc
+      go row (Some u) at some = differs r.uplinks n row.uplink u past_uplinks at
 
   answers_none : AllByRecursion (λ (b : BookingRow). (b.booking.uplink == n) ≡ false) r.bookings
   answers_none = each_so (AnswersUplink r.uplinks) (λ b. (b.booking.uplink == n) ≡ false)
@@ -114,14 +114,14 @@ module _ (c : Settings) (kept : Kept) (r : Rows) (tell : RowsTell c kept r) (n :
       (each_so (λ (u : Uplink). (u.session == n) ≡ false) (λ u. is_uplink n Join nonce u ≡ false)
       (λ u is. ap (λ b. b && (kind_number u.kind == kind_number Join && u.counter == nonce)) is) r.uplinks of_no_session)
 
-  pub no_copy : (gateway : List ℕ) → kept.facts.copies n gateway ≡ None
-  no_copy gateway = ap (λ (s : State). s.copies n gateway) tell.are.is ∙ ap (option_map (λ (copy : CopyRow). copy.reception)) (find_none (is_copy n gateway) r.copies
-      (each_so (λ (copy : CopyRow). (copy.uplink == n) ≡ false) (λ copy. is_copy n gateway copy ≡ false)
-      (λ copy is. ap (λ b. b && bytes_eq copy.gateway gateway) is) r.copies of_no_uplink))
+  pub no_reception : (gateway : List ℕ) → kept.facts.receptions n gateway ≡ None
+  no_reception gateway = ap (λ (s : State). s.receptions n gateway) tell.are.is ∙ ap (option_map (λ (row : ReceptionRow). row.reception)) (find_none (is_reception n gateway) r.receptions
+      (each_so (λ (row : ReceptionRow). (row.uplink == n) ≡ false) (λ row. is_reception n gateway row ≡ false)
+      (λ row is. ap (λ b. b && bytes_eq row.gateway gateway) is) r.receptions of_no_uplink))
 
   pub no_gateway : AreNames (has_reception kept.facts n) []
   unfolding IsStrictlySortedBy
-  no_gateway = record { rising = tt; each = λ name. ap is_some (sym (no_copy name)) }
+  no_gateway = record { rising = tt; each = λ name. ap is_some (sym (no_reception name)) }
 
   pub no_answer : list_any (λ (b : BookingRow). is_answer_to n b.booking) r.bookings ≡ false
   no_answer = any_none (λ (b : BookingRow). is_answer_to n b.booking) r.bookings

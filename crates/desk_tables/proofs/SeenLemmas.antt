@@ -7,7 +7,7 @@ use Rattle.registry_core.specs.declared.facts.Uplink.{Uplink}
 use Rattle.registry_core.specs.Derived.{is_above, is_data_of, is_data_with, last_counter}
 use Rattle.registry_core.specs.Numbered.{first_from, greatest}
 use Rattle.registry_core.specs.declared.effects.Effect.{Effect}
-use Rattle.registry_core.specs.declared.effects.Effect.TheVariants.{Nothing, AddsSender, AddsOwner, AddsGateway, AddsDevice, MovesDevice, AddsSession, AddsUplink, AddsCopy, AddsBooking, EndsBooking, SetsLimit}
+use Rattle.registry_core.specs.declared.effects.Effect.TheVariants.{Nothing, AddsSender, AddsOwner, AddsGateway, AddsDevice, MovesDevice, AddsSession, AddsUplink, AddsReception, AddsBooking, EndsBooking, SetsLimit}
 use Rattle.registry_core.specs.declared.messages.Role.{Role}
 use Rattle.sqlite.specs.Effect.{Database}
 use Rattle.desk_rows.specs.Decode.{held_again}
@@ -51,7 +51,7 @@ role_with (AddsDevice dev_eui device) reply r name role is = is
 role_with (MovesDevice dev_eui owner) reply r name role is = is
 role_with (AddsSession session uplink gateway reception) reply r name role is = is
 role_with (AddsUplink uplink gateway reception) reply r name role is = is
-role_with (AddsCopy number gateway reception) reply r name role is = is
+role_with (AddsReception number gateway reception) reply r name role is = is
 role_with (AddsBooking booking) reply r name role is = is
 role_with (EndsBooking number sent) reply r name role is = is
 role_with (SetsLimit gateway limit) reply r name role is = is

@@ -6,7 +6,7 @@ use Rattle.std.proofs.lemmas.Option.{slice_get_within}
 use Rattle.std.specs.List.{AllByRecursion}
 use Rattle.sqlite_trees.proofs.ListLemmas.{all-slice_get}
 use Rattle.registry_core.specs.declared.effects.Effect.{Effect}
-use Rattle.registry_core.specs.declared.effects.Effect.TheVariants.{Nothing, AddsSender, AddsOwner, AddsGateway, AddsDevice, MovesDevice, AddsSession, AddsUplink, AddsCopy, AddsBooking, EndsBooking, SetsLimit}
+use Rattle.registry_core.specs.declared.effects.Effect.TheVariants.{Nothing, AddsSender, AddsOwner, AddsGateway, AddsDevice, MovesDevice, AddsSession, AddsUplink, AddsReception, AddsBooking, EndsBooking, SetsLimit}
 use Rattle.registry_core.specs.declared.facts.Uplink.{Uplink}
 use Rattle.registry_core.specs.Bookings.{is_down_of}
 use Rattle.registry_core.specs.Fits.{Fits}
@@ -74,7 +74,7 @@ module _ (c : Settings) (r : Rows) (rows : AreRowsOf c (facts_in r) r) (room : l
         is_whole r.uplinks (length r.uplinks + 1) rows.few.uplinks (omega arith),
         is_whole r.devices (length r.devices) rows.few.devices (omega arith),
       )
-  wholes (AddsCopy number gateway reception) fits =
+  wholes (AddsReception number gateway reception) fits =
       let few = within_some r.uplinks number fits.uplink in is_whole r.uplinks number rows.few.uplinks (omega (arith, few))
   wholes (AddsBooking booking) fits =
       let few = within_some r.uplinks booking.uplink fits.uplink in

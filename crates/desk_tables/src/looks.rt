@@ -171,11 +171,15 @@ impl<S: Alter> Looks for Tables<S> {
         self.tell(answer)
     }
 
-    fn copy_at(&mut self, uplink: u64, gateway: &Name) -> Result<Option<Reception>, StoreFault> {
+    fn reception_at(
+        &mut self,
+        uplink: u64,
+        gateway: &Name,
+    ) -> Result<Option<Reception>, StoreFault> {
         if self.down {
             return Err(StoreFault::Disk);
         }
-        let answer = uplinks::copy_at(&mut self.conn, uplink, gateway);
+        let answer = uplinks::reception_at(&mut self.conn, uplink, gateway);
         self.tell(answer)
     }
 

@@ -120,7 +120,7 @@ sender_added s name role = record {
   owners = refl;
   gateways = refl;
   devices = refl;
-  traffic = record { sessions = refl; uplinks = refl; copies = refl; bookings = refl; limits = refl };
+  traffic = record { sessions = refl; uplinks = refl; receptions = refl; bookings = refl; limits = refl };
 }
 
 pub senders_added_alone : SendersAddedAlone
@@ -149,7 +149,7 @@ owner_added s name = record {
   senders = refl;
   gateways = refl;
   devices = refl;
-  traffic = record { sessions = refl; uplinks = refl; copies = refl; bookings = refl; limits = refl };
+  traffic = record { sessions = refl; uplinks = refl; receptions = refl; bookings = refl; limits = refl };
 }
 
 pub owners_added_alone : OwnersAddedAlone
@@ -178,7 +178,7 @@ gateway_added s name = record {
   senders = refl;
   owners = refl;
   devices = refl;
-  traffic = record { sessions = refl; uplinks = refl; copies = refl; bookings = refl; limits = refl };
+  traffic = record { sessions = refl; uplinks = refl; receptions = refl; bookings = refl; limits = refl };
 }
 
 pub gateways_added_alone : GatewaysAddedAlone
@@ -207,7 +207,7 @@ device_added s dev_eui join_eui owner = record {
   senders = refl;
   owners = refl;
   gateways = refl;
-  traffic = record { sessions = refl; uplinks = refl; copies = refl; bookings = refl; limits = refl };
+  traffic = record { sessions = refl; uplinks = refl; receptions = refl; bookings = refl; limits = refl };
 }
 
 pub devices_added_alone : DevicesAddedAlone
@@ -240,7 +240,7 @@ device_moved s dev_eui owner = record {
   senders = refl;
   owners = refl;
   gateways = refl;
-  traffic = record { sessions = refl; uplinks = refl; copies = refl; bookings = refl; limits = refl };
+  traffic = record { sessions = refl; uplinks = refl; receptions = refl; bookings = refl; limits = refl };
 }
 
 pub devices_moved_alone : DevicesMovedAlone
@@ -303,7 +303,7 @@ booking_ended s number sent = record {
   devices = refl;
   sessions = refl;
   uplinks = refl;
-  copies = refl;
+  receptions = refl;
   limits = refl;
 }
 

@@ -37,7 +37,7 @@ use Rattle.registry_core.proofs.Decisions.{whatever_heard}
 use Rattle.registry_core.proofs.HeardStates.{IsAllowed}
 use Rattle.registry_core.proofs.Items.{item_last, item_within}
 use Rattle.registry_core.proofs.BookingsApart.{item_was}
-use Rattle.registry_core.proofs.KeptCopies.{copy_stays_with}
+use Rattle.registry_core.proofs.KeptReceptions.{reception_stays_with}
 use Rattle.registry_core.proofs.NewItems.{Lets, OfBooking, lets_needs, lets_wants, new_booking}
 use Rattle.registry_core.proofs.UplinkLaws.{uplink_stays_with}
 
@@ -90,17 +90,17 @@ unfolding down_book
 book_downlink computed found reads c s number gateway window octets =
     lets_wants (New c s) tt (s.gateways gateway) UnknownGateway _ (λ _.
     lets_needs (New c s) tt (item_at s.uplinks number) NoUplink _ (λ uplink there.
-    lets_needs (New c s) tt (s.copies number gateway) NoUplink _ (λ copy heard.
-    let rate : Rate = rate_in window copy.rate in
+    lets_needs (New c s) tt (s.receptions number gateway) NoUplink _ (λ reception heard.
+    let rate : Rate = rate_in window reception.rate in
     lets_needs (New c s) tt (downlink_to uplink.kind (frame_at_rate rate.dr octets)) BadFrame _ (λ down frame.
     lets_wants (New c s) tt (goes_to (address_of c uplink.session) down) UnknownDevAddr _ (λ address.
     lets_wants (New c s) tt (not (is_answered s.bookings number)) Answered _ (λ _.
     lets_wants (New c s) tt (counts_as (next_down s.bookings s.uplinks uplink.session) down) DownCounter _ (λ _.
     lets_needs (New c s) tt (band_at rate.freq rate.dr) OutOfBand _ (λ band lies.
-    added_downlink c s number gateway band (copy.end + delay uplink.kind window) (on_air (copy.end + delay uplink.kind window) rate octets) (record {
+    added_downlink c s number gateway band (reception.end + delay uplink.kind window) (on_air (reception.end + delay uplink.kind window) rate octets) (record {
       uplink = uplink;
       there = there;
-      copy = copy;
+      reception = reception;
       heard = heard;
       window = window;
       rate = rate;
@@ -119,11 +119,11 @@ book_downlink computed found reads c s number gateway window octets =
 
 -- also if it is sent or dropped, in a state with the same uplink and the same reception at the gateway
 downlink_in : (c : Settings) (s after : State) (booking : Booking) (standing : Standing) (h : IsDownlink c s booking) → item_at after.uplinks booking.uplink ≡ Some h.uplink
-    → after.copies booking.uplink booking.gateway ≡ Some h.copy → IsDownlink c after (record booking { standing = standing })
+    → after.receptions booking.uplink booking.gateway ≡ Some h.reception → IsDownlink c after (record booking { standing = standing })
 downlink_in c s after booking standing h there heard = record {
   uplink = h.uplink;
   there = there;
-  copy = h.copy;
+  reception = h.reception;
   heard = heard;
   window = h.window;
   rate = h.rate;
@@ -141,7 +141,7 @@ downlink_in c s after booking standing h there heard = record {
 downlink_stays : (c : Settings) (s : State) (effect : Effect) → IsAllowed c s effect → (booking : Booking) → IsDownlink c s booking → IsDownlink c (state_with s effect) booking
 downlink_stays c s effect k booking h =
     downlink_in c s (state_with s effect) booking booking.standing h (uplink_stays_with s effect booking.uplink h.uplink h.there)
-    (copy_stays_with c s effect k booking.uplink booking.gateway h.copy h.heard)
+    (reception_stays_with c s effect k booking.uplink booking.gateway h.reception h.heard)
 
 -- ---- each change
 

@@ -32,7 +32,7 @@ use Rattle.registry_core.specs.State.{State}
 use Rattle.registry_core.specs.Step.{checked_decision}
 use Rattle.registry_core.specs.UplinkLaws.{FramesBookedExactly, IsAcceptedFrame, IsAcceptedJoin, JoinedExactly, tells_frame, tells_join}
 use Rattle.registry_core.specs.Uplinks.{is_time, same_octets}
-use Rattle.registry_core.proofs.CopyLaws.{data_parts, is_data_kind, join_parts, of_device}
+use Rattle.registry_core.proofs.ReceptionLaws.{data_parts, is_data_kind, join_parts, of_device}
 use Rattle.registry_core.proofs.SessionLaws.{sessions_are_found}
 use Rattle.registry_core.proofs.Decisions.{candidate_is, sound_of}
 use Rattle.registry_core.proofs.HeardStates.{IsSound}

@@ -55,13 +55,13 @@ unfolding down_book
 book_books c s number gateway window octets =
     lets_wants (Books s) tt (s.gateways gateway) UnknownGateway _ (λ _.
     lets_needs (Books s) tt (item_at s.uplinks number) NoUplink _ (λ uplink _.
-    lets_needs (Books s) tt (s.copies number gateway) NoUplink _ (λ copy _.
-    lets_needs (Books s) tt (downlink_to uplink.kind (frame_at_rate (rate_in window copy.rate).dr octets)) BadFrame _ (λ down _.
+    lets_needs (Books s) tt (s.receptions number gateway) NoUplink _ (λ reception _.
+    lets_needs (Books s) tt (downlink_to uplink.kind (frame_at_rate (rate_in window reception.rate).dr octets)) BadFrame _ (λ down _.
     lets_wants (Books s) tt (goes_to (address_of c uplink.session) down) UnknownDevAddr _ (λ _.
     lets_wants (Books s) tt (not (is_answered s.bookings number)) Answered _ (λ unanswered.
     lets_wants (Books s) tt (counts_as (next_down s.bookings s.uplinks uplink.session) down) DownCounter _ (λ _.
-    lets_needs (Books s) tt (band_at (rate_in window copy.rate).freq (rate_in window copy.rate).dr) OutOfBand _ (λ band _.
-    added_books s number gateway band (copy.end + delay uplink.kind window) (on_air (copy.end + delay uplink.kind window) (rate_in window copy.rate) octets) (not-true (is_answered s.bookings number) unanswered)))))))))
+    lets_needs (Books s) tt (band_at (rate_in window reception.rate).freq (rate_in window reception.rate).dr) OutOfBand _ (λ band _.
+    added_books s number gateway band (reception.end + delay uplink.kind window) (on_air (reception.end + delay uplink.kind window) (rate_in window reception.rate) octets) (not-true (is_answered s.bookings number) unanswered)))))))))
 
 -- ---- the invariant of every state
 

@@ -9,7 +9,7 @@ use Rattle.std.proofs.lemmas.Map.Made.{IsDistinct-from_AllPairs, is_member-Decid
 use Rattle.std.proofs.lemmas.Slice.Eq.{bytes_eq-Decides}
 use Rattle.radio_core.specs.Bands.{band_number}
 use Rattle.registry_core.specs.declared.effects.Effect.{Effect}
-use Rattle.registry_core.specs.declared.effects.Effect.TheVariants.{AddsSender, AddsOwner, AddsGateway, AddsDevice, MovesDevice, AddsSession, AddsUplink, AddsCopy, AddsBooking, EndsBooking, SetsLimit}
+use Rattle.registry_core.specs.declared.effects.Effect.TheVariants.{AddsSender, AddsOwner, AddsGateway, AddsDevice, MovesDevice, AddsSession, AddsUplink, AddsReception, AddsBooking, EndsBooking, SetsLimit}
 use Rattle.registry_core.specs.declared.facts.Device.{Device}
 use Rattle.registry_core.specs.declared.facts.Reception.{Reception}
 use Rattle.registry_core.specs.declared.messages.Envelope.{Envelope}
@@ -18,7 +18,7 @@ use Rattle.registry_core.specs.Counts.{AtMost, FactsAreNoMoreThanMessages}
 use Rattle.registry_core.specs.Heard.{state_after, state_of}
 use Rattle.registry_core.specs.Limits.{Limit}
 use Rattle.registry_core.specs.Settings.{Settings}
-use Rattle.registry_core.specs.State.{State, at_name, at_number, copies_with, devices_with_move, ended, limits_with, next_uplink, opening, owned_by, state_with}
+use Rattle.registry_core.specs.State.{State, at_name, at_number, devices_with_move, ended, limits_with, next_uplink, opening, owned_by, receptions_with, state_with}
 use Rattle.registry_core.specs.Step.{decision_of, step}
 use Rattle.registry_core.proofs.Items.{item_changed_length}
 
@@ -109,16 +109,16 @@ moved_was devices dev_eui owner other there = by (other == dev_eui) refl there
     by true is e = subst (λ n. is_some (devices n) ≡ true) (sym (eqb-true other dev_eui is)) (still (devices dev_eui) e)
     by false is e = e
 
-abbrev has_copy : (ℕ → List ℕ → Option Reception) → ℕ × List ℕ → Bool
-has_copy copies key = is_some (copies key.0 key.1)
+abbrev has_reception_of : (ℕ → List ℕ → Option Reception) → ℕ × List ℕ → Bool
+has_reception_of receptions key = is_some (receptions key.0 key.1)
 
-copy_was : (copies : ℕ → List ℕ → Option Reception) (number : ℕ) (gateway : List ℕ) (new : Reception) (key : ℕ × List ℕ) → has_copy (copies_with copies number gateway new) key ≡ true
-    → (has_copy copies key ≡ true) ⊎ ((number, gateway) ≡ key)
-copy_was copies number gateway new key there = by (key.0 == number) (bytes_eq key.1 gateway) refl refl
+reception_was : (receptions : ℕ → List ℕ → Option Reception) (number : ℕ) (gateway : List ℕ) (new : Reception) (key : ℕ × List ℕ) → has_reception_of (receptions_with receptions number gateway new) key ≡ true
+    → (has_reception_of receptions key ≡ true) ⊎ ((number, gateway) ≡ key)
+reception_was receptions number gateway new key there = by (key.0 == number) (bytes_eq key.1 gateway) refl refl
   where
-    by : (same named : Bool) → (key.0 == number) ≡ same → bytes_eq key.1 gateway ≡ named → (has_copy copies key ≡ true) ⊎ ((number, gateway) ≡ key)
+    by : (same named : Bool) → (key.0 == number) ≡ same → bytes_eq key.1 gateway ≡ named → (has_reception_of receptions key ≡ true) ⊎ ((number, gateway) ≡ key)
     by false named is gateway_is = inl (rw is at there)
-    by true false is gateway_is = inl (subst (λ n. is_some (copies n key.1) ≡ true) (sym (eqb-true key.0 number is)) (rw (is, gateway_is) at there))
+    by true false is gateway_is = inl (subst (λ n. is_some (receptions n key.1) ≡ true) (sym (eqb-true key.0 number is)) (rw (is, gateway_is) at there))
     by true true is gateway_is =
         let n : number ≡ key.0 = sym (eqb-true key.0 number is) in
         let g : gateway ≡ key.1 = sym ((bytes_eq-Decides key.1 gateway).0 gateway_is) in
@@ -165,14 +165,14 @@ devices_more n s (MovesDevice dev_eui owner) h =
     listed_with n (has_device s) (has_device (state_with s (MovesDevice dev_eui owner))) dev_eui h (λ other e. inl (moved_was s.devices dev_eui owner other e))
 devices_more n s effect h = listed_more n (has_device s) h
 
-copies_with_more : (n : ℕ) (s : State) (number : ℕ) (gateway : List ℕ) (new : Reception) → IsListed n (has_copy s.copies) → IsListed (n + 1) (has_copy (copies_with s.copies number gateway new))
-copies_with_more n s number gateway new h = listed_with n (has_copy s.copies) (has_copy (copies_with s.copies number gateway new)) (number, gateway) h (copy_was s.copies number gateway new)
+receptions_with_more : (n : ℕ) (s : State) (number : ℕ) (gateway : List ℕ) (new : Reception) → IsListed n (has_reception_of s.receptions) → IsListed (n + 1) (has_reception_of (receptions_with s.receptions number gateway new))
+receptions_with_more n s number gateway new h = listed_with n (has_reception_of s.receptions) (has_reception_of (receptions_with s.receptions number gateway new)) (number, gateway) h (reception_was s.receptions number gateway new)
 
-copies_more : (n : ℕ) (s : State) (effect : Effect) → IsListed n (has_copy s.copies) → IsListed (n + 1) (has_copy (state_with s effect).copies)
-copies_more n s (AddsSession session uplink gateway new) h = copies_with_more n s (next_uplink s) gateway new h
-copies_more n s (AddsUplink uplink gateway new) h = copies_with_more n s (next_uplink s) gateway new h
-copies_more n s (AddsCopy number gateway new) h = copies_with_more n s number gateway new h
-copies_more n s effect h = listed_more n (has_copy s.copies) h
+receptions_more : (n : ℕ) (s : State) (effect : Effect) → IsListed n (has_reception_of s.receptions) → IsListed (n + 1) (has_reception_of (state_with s effect).receptions)
+receptions_more n s (AddsSession session uplink gateway new) h = receptions_with_more n s (next_uplink s) gateway new h
+receptions_more n s (AddsUplink uplink gateway new) h = receptions_with_more n s (next_uplink s) gateway new h
+receptions_more n s (AddsReception number gateway new) h = receptions_with_more n s number gateway new h
+receptions_more n s effect h = listed_more n (has_reception_of s.receptions) h
 
 limits_more : (n : ℕ) (s : State) (effect : Effect) → IsListed n (has_limit s.limits) → IsListed (n + 1) (has_limit (state_with s effect).limits)
 limits_more n s (SetsLimit gateway limit) h =
@@ -198,7 +198,7 @@ record IsBoundedBy (n : ℕ) (s : State) : Type 0 where
   by_owner : IsListed n s.owners
   by_gateway : IsListed n s.gateways
   by_device : IsListed n (has_device s)
-  by_copy : IsListed n (has_copy s.copies)
+  by_reception : IsListed n (has_reception_of s.receptions)
   by_limit : IsListed n (has_limit s.limits)
   by_session : length s.sessions ≤ length s.uplinks
   by_item : length s.uplinks + length s.bookings ≤ n
@@ -213,7 +213,7 @@ counted_after n c s (e ∷ es) h =
       by_owner = owners_more n s effect h.by_owner;
       by_gateway = gateways_more n s effect h.by_gateway;
       by_device = devices_more n s effect h.by_device;
-      by_copy = copies_more n s effect h.by_copy;
+      by_reception = receptions_more n s effect h.by_reception;
       by_limit = limits_more n s effect h.by_limit;
       by_session = sessions_more s effect h.by_session;
       by_item = items_more n s effect h.by_item;
@@ -229,7 +229,7 @@ opening_counted c = record {
   by_owner = none_listed;
   by_gateway = none_listed;
   by_device = none_listed;
-  by_copy = none_listed;
+  by_reception = none_listed;
   by_limit = none_listed;
   by_session = omega arith;
   by_item = omega arith;
@@ -245,7 +245,7 @@ facts_are_no_more_than_messages c heard =
       gateways = listed_at_most bytes_eq bytes_eq-Decides _ _ h.by_gateway;
       devices = listed_at_most (λ a b. a == b) (λ a b. (eqb-true a b, eq-eqb a b)) _ _ h.by_device;
       limits = listed_at_most pair_eq pair_eq-Decides _ _ h.by_limit;
-      copies = listed_at_most pair_eq pair_eq-Decides _ _ h.by_copy;
+      receptions = listed_at_most pair_eq pair_eq-Decides _ _ h.by_reception;
       sessions = h.by_session;
       uplinks_and_bookings = h.by_item;
     }

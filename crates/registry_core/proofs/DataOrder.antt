@@ -24,7 +24,7 @@ use Rattle.registry_core.specs.ReportOrder.{DataInAnyOrder, SameButFirst, is_suc
 use Rattle.registry_core.specs.Settings.{Settings}
 use Rattle.registry_core.specs.State.{State, next_uplink, state_with, with_uplink}
 use Rattle.registry_core.specs.Uplinks.{is_time, uplink_of}
-use Rattle.registry_core.proofs.CopyLaws.{data_once}
+use Rattle.registry_core.proofs.ReceptionLaws.{data_once}
 use Rattle.registry_core.proofs.Decisions.{carried, sound_of}
 use Rattle.registry_core.proofs.HeardStates.{IsSound}
 use Rattle.registry_core.proofs.ReportOrder.{Books, Hearing, IsCopy, Succeeds, after_report, booked_in_any_order, by_reports, effect_of, found_new, new_in_any_order, no_refusal, put}
@@ -82,8 +82,8 @@ passed c s verdict report h =
 is_copy : (c : Settings) (s base : State) (verdict : Option ℕ) (report : Report) (session : ℕ × Session) (counter : ℕ) (found : ℕ × Uplink) → Passes c s verdict report session counter
     → base.gateways ≡ s.gateways → base.sessions ≡ s.sessions → original_data base session.0 counter report.octets ≡ Some found → IsCopy (hearing c verdict) base found.0 report
 unfolding original_data
-is_copy c s base verdict report session counter found p gateways sessions is copies =
-    let t : State = record base { copies = copies } in
+is_copy c s base verdict report session counter found p gateways sessions is receptions =
+    let t : State = record base { receptions = receptions } in
     ap effect_of (p.rest t gateways sessions
     ∙ ap (λ original. unless original (data_copied t report session.1.device counter) (data_added t report p.frame session.0 session.1.device counter p.band)) is)
 

@@ -17,7 +17,7 @@ use Rattle.registry_core.specs.declared.answers.Answer.TheVariants.{Success, Ref
 use Rattle.registry_core.specs.declared.answers.Refusal.{Refusal}
 use Rattle.registry_core.specs.declared.answers.Refusal.TheVariants.{WrongRole, Exists, UnknownOwner, UnknownGateway, UnknownDevEui, UnknownDevAddr, BadFrame, OutOfBand, MicFailed, JoinEui, Nonce, Addresses, Replayed, Late, Gap, SessionEnded, NoUplink, DownCounter, Collision, Duty, Answered, NoBooking, Done, Time}
 use Rattle.registry_core.specs.declared.effects.Effect.{Effect}
-use Rattle.registry_core.specs.declared.effects.Effect.TheVariants.{Nothing, AddsSender, AddsOwner, AddsGateway, AddsDevice, MovesDevice, AddsSession, AddsUplink, AddsCopy, AddsBooking, EndsBooking, SetsLimit}
+use Rattle.registry_core.specs.declared.effects.Effect.TheVariants.{Nothing, AddsSender, AddsOwner, AddsGateway, AddsDevice, MovesDevice, AddsSession, AddsUplink, AddsReception, AddsBooking, EndsBooking, SetsLimit}
 use Rattle.registry_core.specs.declared.facts.Device.{Device}
 use Rattle.registry_core.specs.declared.facts.Kind.{Kind}
 use Rattle.registry_core.specs.declared.facts.Kind.TheVariants.{Join, Data}
@@ -53,7 +53,7 @@ use Rattle.registry_core.specs.Numbered.{item_at}
 use Rattle.registry_core.specs.Settings.{Settings}
 use Rattle.registry_core.specs.State.{State, next_uplink, opening}
 use Rattle.registry_core.specs.Step.{checked_decision, decision_of, step}
-use Rattle.registry_core.specs.Uplinks.{is_time, copy_added, reception_of, uplink_of}
+use Rattle.registry_core.specs.Uplinks.{is_time, reception_added, reception_of, uplink_of}
 use Rattle.registry_core.specs.Windows.{delay, rate_in}
 use Rattle.registry_core.proofs.HeardStates.{IsSound, IsAllowed, IsInBand, IsTimeDown, opening_sound, change_sound}
 use Rattle.registry_core.proofs.Items.{first_is, item_within, with_octets}
@@ -147,10 +147,10 @@ limit_decides c s e gateway limit =
 
 -- ---- a join
 
--- the next uplink has no copy
-pub no_copy : (c : Settings) (s : State) (gateway : List ℕ) (found : Option Reception) → IsSound c s → s.copies (next_uplink s) gateway ≡ found → found ≡ None
-no_copy c s gateway None h e = refl
-no_copy c s gateway (Some r) h e = absurd (omega (arith, h.of_uplinks (next_uplink s) gateway r e))
+-- the next uplink has no reception
+pub no_reception : (c : Settings) (s : State) (gateway : List ℕ) (found : Option Reception) → IsSound c s → s.receptions (next_uplink s) gateway ≡ found → found ≡ None
+no_reception c s gateway None h e = refl
+no_reception c s gateway (Some r) h e = absurd (omega (arith, h.of_uplinks (next_uplink s) gateway r e))
 
 added_decides : (c : Settings) (s : State) (report : Report) (join : JoinRequest) (device : Device) (band : Band) → IsSound c s → s.gateways report.gateway ≡ true → s.devices join.dev_eui ≡ Some device
     → IsInBand (reception_of report) → Decides c s (join_added c s report join band)
@@ -168,20 +168,20 @@ added_decides c s report join device band h gateway there lies =
       kind = refl;
       counter = refl;
       gateway = gateway;
-      no_copy = no_copy c s report.gateway (s.copies (next_uplink s) report.gateway) h refl;
+      no_reception = no_reception c s report.gateway (s.receptions (next_uplink s) report.gateway) h refl;
     }
 
 copied_fits : (c : Settings) (s : State) (report : Report) (found : ℕ × Uplink) (at : Option Reception) → s.gateways report.gateway ≡ true → item_at s.uplinks found.0 ≡ Some found.1
-    → IsInBand (reception_of report) → s.copies found.0 report.gateway ≡ at → IsAllowed c s (copy_added found.0 at report)
+    → IsInBand (reception_of report) → s.receptions found.0 report.gateway ≡ at → IsAllowed c s (reception_added found.0 at report)
 copied_fits c s report found (Some r) gateway there lies is = tt
-copied_fits c s report found None gateway there lies is = (record { uplink = ap is_some there; gateway = gateway; no_copy = is }, lies)
+copied_fits c s report found None gateway there lies is = (record { uplink = ap is_some there; gateway = gateway; no_reception = is }, lies)
 
 -- a copy is one of an uplink that is there
 uplink_there : (s : State) (join : JoinRequest) (octets : List ℕ) (found : ℕ × Uplink) → original_join s join octets ≡ Some found → item_at s.uplinks found.0 ≡ Some found.1
 unfolding original_join
 uplink_there s join octets found e = (first_is (is_join_with s.sessions join.dev_eui join.nonce) s.uplinks found (with_octets octets _ found e).0).0
 
-copy_books : (number : ℕ) (at : Option Reception) (report : Report) → BooksNothing (copy_added number at report)
+copy_books : (number : ℕ) (at : Option Reception) (report : Report) → BooksNothing (reception_added number at report)
 copy_books number (Some r) report = tt
 copy_books number None report = tt
 
@@ -192,8 +192,8 @@ unfolding Decides
 ended_decides c s report join device band None h gateway there lies is = added_decides c s report join device band h gateway there lies
 ended_decides c s report join device band (Some found) h gateway there lies is =
     record {
-      allowed = copied_fits c s report found (s.copies found.0 report.gateway) gateway (uplink_there s join report.octets found is) lies refl;
-      copy = λ k. copy_books found.0 (s.copies found.0 report.gateway) report;
+      allowed = copied_fits c s report found (s.receptions found.0 report.gateway) gateway (uplink_there s join report.octets found is) lies refl;
+      copy = λ k. copy_books found.0 (s.receptions found.0 report.gateway) report;
       refusal = λ x h. cc;
     }
 
@@ -255,7 +255,7 @@ data_added_decides c s report frame session counter band h gateway is at lies =
       kind = refl;
       counter = (candidate_is (last_counter s.uplinks session.0) frame.fcnt counter follows).0;
       gateway = gateway;
-      no_copy = no_copy c s report.gateway (s.copies (next_uplink s) report.gateway) h refl;
+      no_reception = no_reception c s report.gateway (s.receptions (next_uplink s) report.gateway) h refl;
     }
 
 data_there : (s : State) (session counter : ℕ) (octets : List ℕ) (found : ℕ × Uplink) → original_data s session counter octets ≡ Some found → item_at s.uplinks found.0 ≡ Some found.1
@@ -268,8 +268,8 @@ frame_ended : (c : Settings) (s : State) (report : Report) (frame : DataFrame) (
 unfolding Decides
 frame_ended c s report frame session counter band None h gateway told at lies is = data_added_decides c s report frame session counter band h gateway told at lies
 frame_ended c s report frame session counter band (Some found) h gateway told at lies is = record {
-  allowed = copied_fits c s report found (s.copies found.0 report.gateway) gateway (data_there s session.0 counter report.octets found is) lies refl;
-  copy = λ k. copy_books found.0 (s.copies found.0 report.gateway) report;
+  allowed = copied_fits c s report found (s.receptions found.0 report.gateway) gateway (data_there s session.0 counter report.octets found is) lies refl;
+  copy = λ k. copy_books found.0 (s.receptions found.0 report.gateway) report;
   refusal = λ x h. cc;
 }
 
@@ -303,10 +303,10 @@ carried_down kind dr octets down true is e = leb-true (length octets) (max_lengt
 carried_down Join dr octets down false is e = cc
 carried_down Data dr octets down false is e = cc
 
-down_added_decides : (c : Settings) (s : State) (number : ℕ) (gateway : List ℕ) (band : Band) (start : ℕ) (span : Interval) (uplink : Uplink) (copy : Reception) → s.gateways gateway ≡ true
-    → item_at s.uplinks number ≡ Some uplink → s.copies number gateway ≡ Some copy → IsTimeDown span.len → Decides c s (down_added s number gateway band start span)
+down_added_decides : (c : Settings) (s : State) (number : ℕ) (gateway : List ℕ) (band : Band) (start : ℕ) (span : Interval) (uplink : Uplink) (reception : Reception) → s.gateways gateway ≡ true
+    → item_at s.uplinks number ≡ Some uplink → s.receptions number gateway ≡ Some reception → IsTimeDown span.len → Decides c s (down_added s number gateway band start span)
 unfolding down_added Decides
-down_added_decides c s number gateway band start span uplink copy known there heard time =
+down_added_decides c s number gateway band start span uplink reception known there heard time =
     after_wants c s (is_clear (downlinks s.bookings gateway) span) Collision _ (λ _.
     after_wants c s (hours_within (downlinks_in s.bookings gateway band ++ span ∷ []) (limit_standing s gateway band)) Duty _ (λ within. record { allowed = (fits_new, time, within); copy = λ k. cc; refusal = λ x h. cc }))
   where
@@ -314,7 +314,7 @@ down_added_decides c s number gateway band start span uplink copy known there he
     fits_new = record {
       uplink = ap is_some there;
       gateway = known;
-      copy = ap is_some heard;
+      reception = ap is_some heard;
       standing = refl;
     }
 
@@ -323,14 +323,14 @@ unfolding down_book
 book_decides c s number gateway window octets =
     after_wants c s (s.gateways gateway) UnknownGateway _ (λ known.
     after_needs c s (item_at s.uplinks number) NoUplink _ (λ uplink there.
-    after_needs c s (s.copies number gateway) NoUplink _ (λ copy heard.
-    after_needs c s (downlink_to uplink.kind (frame_at_rate (rate_in window copy.rate).dr octets)) BadFrame _ (λ down told.
+    after_needs c s (s.receptions number gateway) NoUplink _ (λ reception heard.
+    after_needs c s (downlink_to uplink.kind (frame_at_rate (rate_in window reception.rate).dr octets)) BadFrame _ (λ down told.
     after_wants c s (goes_to (address_of c uplink.session) down) UnknownDevAddr _ (λ _.
     after_wants c s (not (is_answered s.bookings number)) Answered _ (λ _.
     after_wants c s (counts_as (next_down s.bookings s.uplinks uplink.session) down) DownCounter _ (λ _.
-    after_needs c s (band_at (rate_in window copy.rate).freq (rate_in window copy.rate).dr) OutOfBand _ (λ band _.
-    down_added_decides c s number gateway band (copy.end + delay uplink.kind window) (on_air (copy.end + delay uplink.kind window) (rate_in window copy.rate) octets) uplink copy known there heard
-    ((rate_in window copy.rate).dr, length octets, carried_down uplink.kind (rate_in window copy.rate).dr octets down _ refl told, refl)))))))))
+    after_needs c s (band_at (rate_in window reception.rate).freq (rate_in window reception.rate).dr) OutOfBand _ (λ band _.
+    down_added_decides c s number gateway band (reception.end + delay uplink.kind window) (on_air (reception.end + delay uplink.kind window) (rate_in window reception.rate) octets) uplink reception known there heard
+    ((rate_in window reception.rate).dr, length octets, carried_down uplink.kind (rate_in window reception.rate).dr octets down _ refl told, refl)))))))))
 
 booked_standing : (standing : Standing) → is_booked standing ≡ true → standing ≡ Booked
 booked_standing Booked h = refl
@@ -383,7 +383,7 @@ whatever_heard c P first kept heard = after (opening c) heard (opening_sound c) 
 fits : (c : Settings) (s : State) (effect : Effect) → IsAllowed c s effect → Fits effect s
 fits c s (AddsSession session u gateway reception) k = k.0
 fits c s (AddsUplink u gateway reception) k = k.0
-fits c s (AddsCopy number gateway reception) k = k.0
+fits c s (AddsReception number gateway reception) k = k.0
 fits c s (AddsBooking booking) k = k.0
 fits c s (SetsLimit gateway limit) k = k.0
 fits c s effect k = k

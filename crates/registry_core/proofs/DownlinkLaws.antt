@@ -25,7 +25,7 @@ use Rattle.registry_core.specs.Bookings.{downlinks, downlinks_in, is_answered, l
 use Rattle.registry_core.specs.Checks.{Checked, ◌>>=◌, ◌>>◌, wants, needs}
 use Rattle.registry_core.specs.Decision.{Decision, decision_or_refusal}
 use Rattle.registry_core.specs.Derived.{address_of}
-use Rattle.registry_core.specs.DownlinkLaws.{BookedExactly, CopiesLieInBands, DownlinksAreShort, DownlinksHaveBands, IsAccepted, tells_booking}
+use Rattle.registry_core.specs.DownlinkLaws.{BookedExactly, DownlinksAreShort, DownlinksHaveBands, IsAccepted, ReceptionsLieInBands, tells_booking}
 use Rattle.registry_core.specs.Downlinks.{down_added, down_book, on_air}
 use Rattle.registry_core.specs.Frames.{counts_as, downlink_to, frame_at_rate, goes_to}
 use Rattle.registry_core.specs.Heard.{state_of}
@@ -69,7 +69,7 @@ accepted_of clear hours c s number gateway window octets h =
     let known = from_wants tells_booking no_refusal (s.gateways gateway) UnknownGateway _ h in
     let there = from_needs tells_booking no_refusal (item_at s.uplinks number) NoUplink _ known.1 in
     let uplink : Uplink = there.0 in
-    let heard = from_needs tells_booking no_refusal (s.copies number gateway) NoUplink _ there.2 in
+    let heard = from_needs tells_booking no_refusal (s.receptions number gateway) NoUplink _ there.2 in
     let rate : Rate = rate_in window heard.0.rate in
     let span : Interval = on_air (heard.0.end + delay uplink.kind window) rate octets in
     let frame = from_needs tells_booking no_refusal (downlink_to uplink.kind (frame_at_rate rate.dr octets)) BadFrame _ heard.2 in
@@ -82,7 +82,7 @@ accepted_of clear hours c s number gateway window octets h =
       known = known.0;
       uplink = uplink;
       there = there.1;
-      copy = heard.0;
+      reception = heard.0;
       heard = heard.1;
       down = frame.0;
       frame = frame.1;
@@ -99,12 +99,12 @@ booked_of : IsClearTells → HoursWithinTells → (c : Settings) (s : State) (nu
     → Books (down_book c s number gateway window octets)
 unfolding down_book
 booked_of clear hours c s number gateway window octets a =
-    let rate : Rate = rate_in window a.copy.rate in
-    let start : ℕ = a.copy.end + delay a.uplink.kind window in
+    let rate : Rate = rate_in window a.reception.rate in
+    let start : ℕ = a.reception.end + delay a.uplink.kind window in
     let span : Interval = on_air start rate octets in
     to_wants tells_booking (s.gateways gateway) UnknownGateway _ a.known
     (to_needs tells_booking (item_at s.uplinks number) NoUplink _ a.uplink a.there
-    (to_needs tells_booking (s.copies number gateway) NoUplink _ a.copy a.heard
+    (to_needs tells_booking (s.receptions number gateway) NoUplink _ a.reception a.heard
     (to_needs tells_booking (downlink_to a.uplink.kind (frame_at_rate rate.dr octets)) BadFrame _ a.down a.frame
     (to_wants tells_booking (goes_to (address_of c a.uplink.session) a.down) UnknownDevAddr _ a.address
     (to_wants tells_booking (not (is_answered s.bookings number)) Answered _ (ap not a.unanswered)
@@ -120,11 +120,11 @@ booked_exactly clear hours c s e number gateway window octets same = (
 
 -- ---- each has a band
 
--- the second window has one, and the first that of the copy
-window_has_band : (window : Window) (copy : Reception) → is_some (band_at copy.rate.freq copy.rate.dr) ≡ true → is_some (band_at (rate_in window copy.rate).freq (rate_in window copy.rate).dr) ≡ true
+-- the second window has one, and the first that of the reception
+window_has_band : (window : Window) (reception : Reception) → is_some (band_at reception.rate.freq reception.rate.dr) ≡ true → is_some (band_at (rate_in window reception.rate).freq (rate_in window reception.rate).dr) ≡ true
 unfolding band_at
-window_has_band First copy h = h
-window_has_band Second copy h = refl
+window_has_band First reception h = h
+window_has_band Second reception h = refl
 
 tells_no_band : Answer → Bool
 tells_no_band (Refused OutOfBand) = true
@@ -158,16 +158,16 @@ book_band c heard number gateway window octets =
     let s : State = state_of c heard in
     wants_band (s.gateways gateway) UnknownGateway _ refl
     (needs_band (item_at s.uplinks number) NoUplink _ refl (λ uplink _.
-    needs_band (s.copies number gateway) NoUplink _ refl (λ copy at.
-    needs_band (downlink_to uplink.kind (frame_at_rate (rate_in window copy.rate).dr octets)) BadFrame _ refl (λ down _.
+    needs_band (s.receptions number gateway) NoUplink _ refl (λ reception at.
+    needs_band (downlink_to uplink.kind (frame_at_rate (rate_in window reception.rate).dr octets)) BadFrame _ refl (λ down _.
     wants_band (goes_to (address_of c uplink.session) down) UnknownDevAddr _ refl
     (wants_band (not (is_answered s.bookings number)) Answered _ refl
     (wants_band (counts_as (next_down s.bookings s.uplinks uplink.session) down) DownCounter _ refl
-    (there_band (band_at (rate_in window copy.rate).freq (rate_in window copy.rate).dr) _ (window_has_band window copy ((sound_of c heard).in_bands number gateway copy at)) (λ band.
-    added_band s number gateway band (copy.end + delay uplink.kind window) (on_air (copy.end + delay uplink.kind window) (rate_in window copy.rate) octets)))))))))
+    (there_band (band_at (rate_in window reception.rate).freq (rate_in window reception.rate).dr) _ (window_has_band window reception ((sound_of c heard).in_bands number gateway reception at)) (λ band.
+    added_band s number gateway band (reception.end + delay uplink.kind window) (on_air (reception.end + delay uplink.kind window) (rate_in window reception.rate) octets)))))))))
 
-pub copies_lie_in_bands : CopiesLieInBands
-copies_lie_in_bands c heard = (sound_of c heard).in_bands
+pub receptions_lie_in_bands : ReceptionsLieInBands
+receptions_lie_in_bands c heard = (sound_of c heard).in_bands
 
 pub downlinks_have_bands : DownlinksHaveBands
 unfolding HasBand tells_no_band

@@ -121,26 +121,26 @@ framed_same bounded clear hours c s v number gateway uplink start rate octets (S
     short = omega (arith, bounded rate.dr (length octets) false (carried_down uplink.kind rate.dr octets down _ refl is))
 
 abbrev seen_with : ℕ → Option Reception → Uplink → UplinkView
-seen_with number copy uplink = record { number = number; uplink = uplink; at_gateway = copy }
+seen_with number reception uplink = record { number = number; uplink = uplink; at_gateway = reception }
 
--- when the window of the uplink that is there opens, by the copy that is there, and at which rate
+-- when the window of the uplink that is there opens, by the reception that is there, and at which rate
 abbrev opens_at : Window → Option Uplink → Option Reception → Option (ℕ × Rate)
-opens_at window uplink copy = option_and_then (λ (u : Uplink). option_map (λ (r : Reception). window_of u.kind r.end r.rate window) copy) uplink
+opens_at window uplink reception = option_and_then (λ (u : Uplink). option_map (λ (r : Reception). window_of u.kind r.end r.rate window) reception) uplink
 
--- what a view shows of the uplink, and what it shows near the window, with the uplink and the copy that are there
-record Shows (s : State) (v : View) (number : ℕ) (gateway : List ℕ) (window : Window) (uplink : Option Uplink) (copy : Option Reception) : Type 0 where
-  seen : v.uplink ≡ option_map (seen_with number copy) uplink
+-- what a view shows of the uplink, and what it shows near the window, with the uplink and the reception that are there
+record Shows (s : State) (v : View) (number : ℕ) (gateway : List ℕ) (window : Window) (uplink : Option Uplink) (reception : Option Reception) : Type 0 where
+  seen : v.uplink ≡ option_map (seen_with number reception) uplink
   next_down : v.next_down ≡ option_map_or (λ (u : Uplink). next_down s.bookings s.uplinks u.session) uplink 0
-  near : IsPermutation (option_map_or (λ (opens : ℕ × Rate). near_ones (pos opens.0) (downlinks s.bookings gateway)) (opens_at window uplink copy) []) v.near.items
-  in_band : IsPermutation (option_map_or (near_in s gateway) (opens_at window uplink copy) []) v.in_band.items
-  limit : v.limit ≡ option_map_or (limit_in_window s gateway) (opens_at window uplink copy) 0
+  near : IsPermutation (option_map_or (λ (opens : ℕ × Rate). near_ones (pos opens.0) (downlinks s.bookings gateway)) (opens_at window uplink reception) []) v.near.items
+  in_band : IsPermutation (option_map_or (near_in s gateway) (opens_at window uplink reception) []) v.in_band.items
+  limit : v.limit ≡ option_map_or (limit_in_window s gateway) (opens_at window uplink reception) 0
 
 -- from the uplink on
 uplinked_same : (bounded : AirtimeIsBounded) (clear : IsClearByNearOnes) (hours : HoursWithinByNearOnes) (c : Settings) (s : State) (v : View) (number : ℕ)
-    (gateway : List ℕ) (window : Window) (octets : List ℕ) (uplink : Option Uplink) (copy : Option Reception)
-    → IsKept s → Shows s v number gateway window uplink copy → v.base ≡ c.base → v.answered ≡ is_answered s.bookings number → v.bookings ≡ length s.bookings
+    (gateway : List ℕ) (window : Window) (octets : List ℕ) (uplink : Option Uplink) (reception : Option Reception)
+    → IsKept s → Shows s v number gateway window uplink reception → v.base ≡ c.base → v.answered ≡ is_answered s.bookings number → v.bookings ≡ length s.bookings
     → (do
-      seen ← needs (option_map (seen_with number copy) uplink) NoUplink
+      seen ← needs (option_map (seen_with number reception) uplink) NoUplink
       heard ← needs seen.at_gateway NoUplink
       let opens : ℕ × Rate = window_of seen.uplink.kind heard.end heard.rate window
       down ← needs (downlink_to seen.uplink.kind (frame_at_rate opens.1.dr octets)) BadFrame
@@ -151,7 +151,7 @@ uplinked_same : (bounded : AirtimeIsBounded) (clear : IsClearByNearOnes) (hours 
       down_added_by v seen.number gateway band opens.0 (on_air opens.0 opens.1 octets))
     ≡ (do
       found ← needs uplink NoUplink
-      heard ← needs copy NoUplink
+      heard ← needs reception NoUplink
       let opens : ℕ × Rate = window_of found.kind heard.end heard.rate window
       down ← needs (downlink_to found.kind (frame_at_rate opens.1.dr octets)) BadFrame
       wants (goes_to (address_of c found.session) down) UnknownDevAddr
@@ -159,23 +159,23 @@ uplinked_same : (bounded : AirtimeIsBounded) (clear : IsClearByNearOnes) (hours 
       wants (counts_as (next_down s.bookings s.uplinks found.session) down) DownCounter
       band ← needs (band_at opens.1.freq opens.1.dr) OutOfBand
       down_added s number gateway band opens.0 (on_air opens.0 opens.1 octets))
-uplinked_same bounded clear hours c s v number gateway window octets None copy kept shows base answered count = refl
+uplinked_same bounded clear hours c s v number gateway window octets None reception kept shows base answered count = refl
 uplinked_same bounded clear hours c s v number gateway window octets (Some uplink) None kept shows base answered count = refl
-uplinked_same bounded clear hours c s v number gateway window octets (Some uplink) (Some copy) kept shows base answered count =
-    framed_same bounded clear hours c s v number gateway uplink (copy.end + delay uplink.kind window) (rate_in window copy.rate) octets _ kept refl base answered shows.next_down count shows.near shows.in_band shows.limit
+uplinked_same bounded clear hours c s v number gateway window octets (Some uplink) (Some reception) kept shows base answered count =
+    framed_same bounded clear hours c s v number gateway uplink (reception.end + delay uplink.kind window) (rate_in window reception.rate) octets _ kept refl base answered shows.next_down count shows.near shows.in_band shows.limit
 
 book_same : (bounded : AirtimeIsBounded) (clear : IsClearByNearOnes) (hours : HoursWithinByNearOnes) (c : Settings) (s : State) (v : View) (number : ℕ) (gateway : List ℕ) (window : Window) (octets : List ℕ) (uplink : Option Uplink)
-    → item_at s.uplinks number ≡ uplink → IsKept s → Shows s v number gateway window uplink (s.copies number gateway) → v.gateway_known ≡ s.gateways gateway
+    → item_at s.uplinks number ≡ uplink → IsKept s → Shows s v number gateway window uplink (s.receptions number gateway) → v.gateway_known ≡ s.gateways gateway
     → v.base ≡ c.base → v.answered ≡ is_answered s.bookings number → v.bookings ≡ length s.bookings
     → down_book_by v gateway window octets ≡ down_book c s number gateway window octets
 unfolding down_book_by down_book down_added_by
 book_same bounded clear hours c s v number gateway window octets uplink there kept shows known base answered count =
     rw (known, shows.seen, there) (ap (λ (rest : Checked Decision). wants (s.gateways gateway) UnknownGateway >> rest)
-    (uplinked_same bounded clear hours c s v number gateway window octets uplink (s.copies number gateway) kept shows base answered count))
+    (uplinked_same bounded clear hours c s v number gateway window octets uplink (s.receptions number gateway) kept shows base answered count))
 
 -- what a view shows of an uplink that is looked up by its number
 named_same : (s : State) (number : ℕ) (gateway : List ℕ) (uplink : Option Uplink)
-    → option_map (view_of_uplink s gateway) (option_map (λ (u : Uplink). (number, u)) uplink) ≡ option_map (seen_with number (s.copies number gateway)) uplink
+    → option_map (view_of_uplink s gateway) (option_map (λ (u : Uplink). (number, u)) uplink) ≡ option_map (seen_with number (s.receptions number gateway)) uplink
 named_same s number gateway None = refl
 named_same s number gateway (Some uplink) = refl
 

@@ -24,7 +24,7 @@ use Rattle.registry_core.specs.Limits.{Limit}
 use Rattle.registry_core.specs.Settings.{Settings}
 use Rattle.registry_core.specs.State.{State, state_with}
 use Rattle.registry_core.specs.Step.{checked_decision, decision_of}
-use Rattle.registry_core.specs.Uplinks.{copy_added}
+use Rattle.registry_core.specs.Uplinks.{reception_added}
 use Rattle.registry_core.proofs.Decisions.{is_decision, sound_of}
 
 pub refusals_change_nothing : RefusalsChangeNothing
@@ -75,7 +75,7 @@ limit_from : (s : State) (e : Envelope) (gateway : List ℕ) (limit : Limit) →
 unfolding limit_set
 limit_from s e gateway limit = of_operator (is_operator (s.senders e.sender)) (LimitSet gateway limit) _ (search rules)
 
-copy_from : (operator : Bool) (m : Message) (number : ℕ) (at : Option Reception) (report : Report) → IsFrom operator m (copy_added number at report)
+copy_from : (operator : Bool) (m : Message) (number : ℕ) (at : Option Reception) (report : Report) → IsFrom operator m (reception_added number at report)
 copy_from operator m number at report = search rules
 
 join_from : (operator : Bool) (m : Message) (c : Settings) (s : State) (report : Report) (verdict : JoinVerdict) → Changes operator m (join_heard c s report verdict)

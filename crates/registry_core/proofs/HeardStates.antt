@@ -10,7 +10,7 @@ use Rattle.radio_core.specs.Frames.{frame_of}
 use Rattle.radio_core.specs.TimeOnAir.{airtime_of}
 use Rattle.duty_core.specs.Computed.{hours_within}
 use Rattle.registry_core.specs.declared.effects.Effect.{Effect}
-use Rattle.registry_core.specs.declared.effects.Effect.TheVariants.{AddsSession, AddsUplink, AddsCopy, AddsBooking, SetsLimit}
+use Rattle.registry_core.specs.declared.effects.Effect.TheVariants.{AddsSession, AddsUplink, AddsReception, AddsBooking, SetsLimit}
 use Rattle.registry_core.specs.declared.facts.Kind.{Kind}
 use Rattle.registry_core.specs.declared.facts.Kind.TheVariants.{Join, Data}
 use Rattle.registry_core.specs.declared.facts.Reception.{Reception}
@@ -23,8 +23,8 @@ use Rattle.registry_core.specs.Frames.{data_up}
 use Rattle.registry_core.specs.Fits.{Fits}
 use Rattle.registry_core.specs.Numbered.{item_at}
 use Rattle.registry_core.specs.Settings.{Settings}
-use Rattle.registry_core.specs.State.{State, copies_with, next_uplink, opening, state_with}
-use Rattle.registry_core.proofs.Copies.{HasCopy, copy_stays, copy_was, each_copy}
+use Rattle.registry_core.specs.State.{State, next_uplink, opening, receptions_with, state_with}
+use Rattle.registry_core.proofs.Receptions.{HasReception, each_reception, reception_stays, reception_was}
 use Rattle.registry_core.proofs.Items.{above_each, item_last, item_new, item_stays, item_within, rise_with}
 
 -- ---- nonces rise
@@ -82,24 +82,24 @@ abbrev pub IsTimeDown : ℕ → Type 0
 IsTimeDown time = (dr : DataRate) × (n : ℕ) × (n ≤ max_length dr) × (time ≡ airtime_of dr n false)
 
 -- over the parts of a state
-pub record IsSoundOf (c : Settings) (all_sessions : List Session) (uplinks : List Uplink) (copies : ℕ → List ℕ → Option Reception) : Type 0 where
+pub record IsSoundOf (c : Settings) (all_sessions : List Session) (uplinks : List Uplink) (receptions : ℕ → List ℕ → Option Reception) : Type 0 where
   -- each session has an address
   pub block : length all_sessions ≤ c.addresses
   pub nonces : NoncesRiseIn all_sessions
-  -- each uplink has a session, and a copy
+  -- each uplink has a session, and a reception
   pub sessions : (n : ℕ) (u : Uplink) → item_at uplinks n ≡ Some u → (1 ≤ u.session) × (u.session ≤ length all_sessions)
-  pub copied : (n : ℕ) (u : Uplink) → item_at uplinks n ≡ Some u → HasCopy copies n
+  pub copied : (n : ℕ) (u : Uplink) → item_at uplinks n ≡ Some u → HasReception receptions n
   pub joins : JoinsAreApartIn uplinks
   pub join_nonces : (n : ℕ) (u : Uplink) → item_at uplinks n ≡ Some u → u.kind ≡ Join → HasNonce all_sessions u
   pub counters : CountersRiseIn uplinks
   pub frames : (n : ℕ) (u : Uplink) → item_at uplinks n ≡ Some u → u.kind ≡ Data → IsFrameOf c u
   -- copies are of uplinks that are there, and lie in bands
-  pub of_uplinks : (n : ℕ) (gateway : List ℕ) (reception : Reception) → copies n gateway ≡ Some reception → n ≤ length uplinks
-  pub in_bands : (n : ℕ) (gateway : List ℕ) (reception : Reception) → copies n gateway ≡ Some reception → IsInBand reception
+  pub of_uplinks : (n : ℕ) (gateway : List ℕ) (reception : Reception) → receptions n gateway ≡ Some reception → n ≤ length uplinks
+  pub in_bands : (n : ℕ) (gateway : List ℕ) (reception : Reception) → receptions n gateway ≡ Some reception → IsInBand reception
 
 -- of the state nothing else is asked
 abbrev pub IsSound : Settings → State → Type 0
-IsSound c s = IsSoundOf c s.sessions s.uplinks s.copies
+IsSound c s = IsSoundOf c s.sessions s.uplinks s.receptions
 
 pub opening_sound : (c : Settings) → IsSound c (opening c)
 opening_sound c = record {
@@ -120,29 +120,29 @@ opening_sound c = record {
 abbrev pub IsAllowed : Settings → State → Effect → Type 0
 IsAllowed c s (AddsSession session uplink gateway reception) = Fits (AddsSession session uplink gateway reception) s × (length s.sessions < c.addresses) × IsInBand reception
 IsAllowed c s (AddsUplink uplink gateway reception) = Fits (AddsUplink uplink gateway reception) s × IsFrameOf c uplink × IsInBand reception
-IsAllowed c s (AddsCopy number gateway reception) = Fits (AddsCopy number gateway reception) s × IsInBand reception
+IsAllowed c s (AddsReception number gateway reception) = Fits (AddsReception number gateway reception) s × IsInBand reception
 IsAllowed c s (AddsBooking booking) = Fits (AddsBooking booking) s × IsTimeDown booking.span.len
     × IsTrue (hours_within (downlinks_in s.bookings booking.gateway booking.band ++ booking.span ∷ []) (limit_standing s booking.gateway booking.band))
 IsAllowed c s (SetsLimit gateway limit) = Fits (SetsLimit gateway limit) s × IsTrue (hours_within (downlinks_in s.bookings gateway limit.band) limit.most)
 IsAllowed c s effect = Fits effect s
 
--- ---- one more uplink, with its first copy
+-- ---- one more uplink, with its first reception
 
--- each uplink has a copy, the new one too
-new_copied : (uplinks : List Uplink) (copies : ℕ → List ℕ → Option Reception) (u : Uplink) (gateway : List ℕ) (reception : Reception) → ((n : ℕ) (v : Uplink) → item_at uplinks n ≡ Some v → HasCopy copies n)
-    → (n : ℕ) (v : Uplink) → item_at (uplinks ++ u ∷ []) n ≡ Some v → HasCopy (copies_with copies (length uplinks + 1) gateway reception) n
-new_copied uplinks copies u gateway reception all n v e = copy_stays copies (length uplinks + 1) gateway reception n (n == length uplinks + 1) refl (has (item_last uplinks u n v e))
+-- each uplink has a reception, the new one too
+new_copied : (uplinks : List Uplink) (receptions : ℕ → List ℕ → Option Reception) (u : Uplink) (gateway : List ℕ) (reception : Reception) → ((n : ℕ) (v : Uplink) → item_at uplinks n ≡ Some v → HasReception receptions n)
+    → (n : ℕ) (v : Uplink) → item_at (uplinks ++ u ∷ []) n ≡ Some v → HasReception (receptions_with receptions (length uplinks + 1) gateway reception) n
+new_copied uplinks receptions u gateway reception all n v e = reception_stays receptions (length uplinks + 1) gateway reception n (n == length uplinks + 1) refl (has (item_last uplinks u n v e))
   where
-    has : (item_at uplinks n ≡ Some v) ⊎ ((n ≡ length uplinks + 1) × (u ≡ v)) → HasCopy copies n ⊎ (n ≡ length uplinks + 1)
+    has : (item_at uplinks n ≡ Some v) ⊎ ((n ≡ length uplinks + 1) × (u ≡ v)) → HasReception receptions n ⊎ (n ≡ length uplinks + 1)
     has (inl old) = inl (all n v old)
     has (inr new) = inr new.0
 
 -- and copies are of uplinks that are there
-new_of_uplinks : (uplinks : List Uplink) (copies : ℕ → List ℕ → Option Reception) (u : Uplink) (gateway : List ℕ) (reception : Reception) → ((n : ℕ) (at : List ℕ) (r : Reception) → copies n at ≡ Some r → n ≤ length uplinks)
-    → (n : ℕ) (at : List ℕ) (r : Reception) → copies_with copies (length uplinks + 1) gateway reception n at ≡ Some r → n ≤ length (uplinks ++ u ∷ [])
-new_of_uplinks uplinks copies u gateway reception all n at r e = within (copy_was copies (length uplinks + 1) gateway reception n at r (n == length uplinks + 1) refl e)
+new_of_uplinks : (uplinks : List Uplink) (receptions : ℕ → List ℕ → Option Reception) (u : Uplink) (gateway : List ℕ) (reception : Reception) → ((n : ℕ) (at : List ℕ) (r : Reception) → receptions n at ≡ Some r → n ≤ length uplinks)
+    → (n : ℕ) (at : List ℕ) (r : Reception) → receptions_with receptions (length uplinks + 1) gateway reception n at ≡ Some r → n ≤ length (uplinks ++ u ∷ [])
+new_of_uplinks uplinks receptions u gateway reception all n at r e = within (reception_was receptions (length uplinks + 1) gateway reception n at r (n == length uplinks + 1) refl e)
   where
-    within : (copies n at ≡ Some r) ⊎ (n ≡ length uplinks + 1) → n ≤ length (uplinks ++ u ∷ [])
+    within : (receptions n at ≡ Some r) ⊎ (n ≡ length uplinks + 1) → n ≤ length (uplinks ++ u ∷ [])
     within (inl old) = omega (arith, length_push uplinks u, all n at r old)
     within (inr new) = omega (arith, length_push uplinks u, new)
 
@@ -154,13 +154,13 @@ session_sound c s session u gateway reception h k = record {
   block = omega (arith, length_push s.sessions session, k.1);
   nonces = nonces_rise_with s.sessions session h.nonces k.0.nonce;
   sessions = λ n v e. numbers n v (item_last s.uplinks u n v e);
-  copied = new_copied s.uplinks s.copies u gateway reception h.copied;
+  copied = new_copied s.uplinks s.receptions u gateway reception h.copied;
   joins = joins_apart_with s.uplinks u h.joins (λ n v there join same. omega (arith, same, k.0.number, (h.sessions n v there).1));
   join_nonces = λ n v e j. nonce n v j (item_last s.uplinks u n v e);
   counters = counters_rise_with s.uplinks u h.counters (λ n v there d _ _. never_kinds u.kind k.0.kind d);
   frames = λ n v e d. frame n v d (item_last s.uplinks u n v e);
-  of_uplinks = new_of_uplinks s.uplinks s.copies u gateway reception h.of_uplinks;
-  in_bands = λ n at r e. each_copy IsInBand s.copies (next_uplink s) gateway reception n at r (n == next_uplink s) h.in_bands k.2 refl e;
+  of_uplinks = new_of_uplinks s.uplinks s.receptions u gateway reception h.of_uplinks;
+  in_bands = λ n at r e. each_reception IsInBand s.receptions (next_uplink s) gateway reception n at r (n == next_uplink s) h.in_bands k.2 refl e;
 }
   where
     nonce : (n : ℕ) (v : Uplink) → v.kind ≡ Join → (item_at s.uplinks n ≡ Some v) ⊎ ((n ≡ length s.uplinks + 1) × (u ≡ v)) → HasNonce (s.sessions ++ session ∷ []) v
@@ -182,14 +182,14 @@ uplink_sound c s u gateway reception h k = record {
   block = h.block;
   nonces = h.nonces;
   sessions = λ n v e. numbers n v (item_last s.uplinks u n v e);
-  copied = new_copied s.uplinks s.copies u gateway reception h.copied;
+  copied = new_copied s.uplinks s.receptions u gateway reception h.copied;
   joins = joins_apart_with s.uplinks u h.joins (λ n v there join same. never_kinds u.kind join k.0.kind);
   join_nonces = λ n v e j. nonce n v j (item_last s.uplinks u n v e);
   counters = counters_rise_with s.uplinks u h.counters (λ n v there _ d same.
       above_each (λ (z : Uplink). z.counter) (is_data_of u.session) s.uplinks u.counter n v there (data_of v d same) k.0.counter);
   frames = λ n v e d. frame n v d (item_last s.uplinks u n v e);
-  of_uplinks = new_of_uplinks s.uplinks s.copies u gateway reception h.of_uplinks;
-  in_bands = λ n at r e. each_copy IsInBand s.copies (next_uplink s) gateway reception n at r (n == next_uplink s) h.in_bands k.2 refl e;
+  of_uplinks = new_of_uplinks s.uplinks s.receptions u gateway reception h.of_uplinks;
+  in_bands = λ n at r e. each_reception IsInBand s.receptions (next_uplink s) gateway reception n at r (n == next_uplink s) h.in_bands k.2 refl e;
 }
   where
     nonce : (n : ℕ) (v : Uplink) → v.kind ≡ Join → (item_at s.uplinks n ≡ Some v) ⊎ ((n ≡ length s.uplinks + 1) × (u ≡ v)) → HasNonce s.sessions v
@@ -211,9 +211,9 @@ uplink_sound c s u gateway reception h k = record {
     numbers n v (inl old) = h.sessions n v old
     numbers n v (inr new) = subst (λ (w : Uplink). (1 ≤ w.session) × (w.session ≤ length s.sessions)) new.1 (at_session (item_at s.sessions u.session) refl k.0.session)
 
-copy_sound : (c : Settings) (s : State) (number : ℕ) (gateway : List ℕ) (reception : Reception) → IsSound c s → IsAllowed c s (AddsCopy number gateway reception)
-    → IsSound c (state_with s (AddsCopy number gateway reception))
-copy_sound c s number gateway reception h k = record {
+reception_sound : (c : Settings) (s : State) (number : ℕ) (gateway : List ℕ) (reception : Reception) → IsSound c s → IsAllowed c s (AddsReception number gateway reception)
+    → IsSound c (state_with s (AddsReception number gateway reception))
+reception_sound c s number gateway reception h k = record {
   block = h.block;
   nonces = h.nonces;
   sessions = h.sessions;
@@ -221,21 +221,21 @@ copy_sound c s number gateway reception h k = record {
   join_nonces = h.join_nonces;
   counters = h.counters;
   frames = h.frames;
-  copied = λ n v e. copy_stays s.copies number gateway reception n (n == number) refl (inl (h.copied n v e));
-  of_uplinks = λ n at r e. within n at r (copy_was s.copies number gateway reception n at r (n == number) refl e);
-  in_bands = λ n at r e. each_copy IsInBand s.copies number gateway reception n at r (n == number) h.in_bands k.1 refl e;
+  copied = λ n v e. reception_stays s.receptions number gateway reception n (n == number) refl (inl (h.copied n v e));
+  of_uplinks = λ n at r e. within n at r (reception_was s.receptions number gateway reception n at r (n == number) refl e);
+  in_bands = λ n at r e. each_reception IsInBand s.receptions number gateway reception n at r (n == number) h.in_bands k.1 refl e;
 }
   where
     there : (found : Option Uplink) → item_at s.uplinks number ≡ found → is_some found ≡ true → number ≤ length s.uplinks
     there (Some u) e h = (item_within s.uplinks number u e).1
     there None e h = cc
 
-    within : (n : ℕ) (at : List ℕ) (r : Reception) → (s.copies n at ≡ Some r) ⊎ (n ≡ number) → n ≤ length s.uplinks
+    within : (n : ℕ) (at : List ℕ) (r : Reception) → (s.receptions n at ≡ Some r) ⊎ (n ≡ number) → n ≤ length s.uplinks
     within n at r (inl old) = h.of_uplinks n at r old
     within n at r (inr same) = omega (arith, same, there (item_at s.uplinks number) refl k.0.uplink)
 
 pub change_sound : (c : Settings) (s : State) (effect : Effect) → IsSound c s → IsAllowed c s effect → IsSound c (state_with s effect)
 change_sound c s (AddsSession session u gateway reception) h k = session_sound c s session u gateway reception h k
 change_sound c s (AddsUplink u gateway reception) h k = uplink_sound c s u gateway reception h k
-change_sound c s (AddsCopy number gateway reception) h k = copy_sound c s number gateway reception h k
+change_sound c s (AddsReception number gateway reception) h k = reception_sound c s number gateway reception h k
 change_sound c s effect h k = h

@@ -25,7 +25,7 @@ use Rattle.registry_core.specs.ReportOrder.{JoinsInAnyOrder, SameButFirst, is_su
 use Rattle.registry_core.specs.Settings.{Settings}
 use Rattle.registry_core.specs.State.{State, next_uplink, state_with, with_session, with_uplink}
 use Rattle.registry_core.specs.Uplinks.{is_time, uplink_of}
-use Rattle.registry_core.proofs.CopyLaws.{join_once}
+use Rattle.registry_core.proofs.ReceptionLaws.{join_once}
 use Rattle.registry_core.proofs.Decisions.{carried, sound_of}
 use Rattle.registry_core.proofs.HeardStates.{IsSound}
 use Rattle.registry_core.proofs.Items.{item_new}
@@ -77,8 +77,8 @@ passed c s verdict report h =
 is_copy : (c : Settings) (s base : State) (verdict : JoinVerdict) (report : Report) (join : JoinRequest) (found : ℕ × Uplink) → Passes c s verdict report join
     → base.gateways ≡ s.gateways → base.devices ≡ s.devices → original_join base join report.octets ≡ Some found → IsCopy (hearing c verdict) base found.0 report
 unfolding original_join
-is_copy c s base verdict report join found p gateways devices is copies =
-    let t : State = record base { copies = copies } in
+is_copy c s base verdict report join found p gateways devices is receptions =
+    let t : State = record base { receptions = receptions } in
     ap effect_of (p.rest t gateways devices ∙ ap (λ original. unless original (join_copied c t report) (join_added c t report join p.band)) is)
 
 -- ---- a report of a new join

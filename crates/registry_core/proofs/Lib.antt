@@ -5,8 +5,6 @@ pub mod BookedDownlinks
 pub mod BookedHours
 pub mod BookedUplinks
 pub mod BookingsApart
-pub mod Copies
-pub mod CopyLaws
 pub mod Counts
 pub mod DataByView
 pub mod DataOrder
@@ -19,12 +17,14 @@ pub mod HeardStates
 pub mod Items
 pub mod JoinOrder
 pub mod JoinsByView
-pub mod KeptCopies
+pub mod KeptReceptions
 pub mod LimitLaws
 pub mod LimitsByView
 pub mod NewItems
 pub mod NumberedLaws
 pub mod ReceivedUplinks
+pub mod ReceptionLaws
+pub mod Receptions
 pub mod Replies
 pub mod ReportOrder
 pub mod Sameness

@@ -23,14 +23,14 @@ use Rattle.registry_core.specs.Limits.{Limit}
 use Rattle.registry_core.specs.Settings.{Settings}
 use Rattle.registry_core.specs.State.{State}
 use Rattle.registry_core.specs.Step.{checked_decision}
-use Rattle.registry_core.specs.Uplinks.{copy_added}
+use Rattle.registry_core.specs.Uplinks.{reception_added}
 
 -- it is true of the booking that a change adds
 abbrev pub OfBooking : (Booking → Type 0) → Effect → Type 0
 OfBooking P (AddsBooking booking) = P booking
 OfBooking P effect = Unit {0}
 
--- and of the uplink that it adds, with the gateway's first copy of it
+-- and of the uplink that it adds, with the gateway's first reception of it
 abbrev pub OfUplink : (Uplink → Reception → Type 0) → Effect → Type 0
 OfUplink P (AddsSession session uplink gateway reception) = P uplink reception
 OfUplink P (AddsUplink uplink gateway reception) = P uplink reception
@@ -87,7 +87,7 @@ done_neither : (s : State) (number : ℕ) (sent : Bool) → Lets AddsNeither (do
 unfolding down_done
 done_neither s number sent = search rules
 
-copy_no_booking : (P : Booking → Type 0) (number : ℕ) (at : Option Reception) (report : Report) → OfBooking P (copy_added number at report)
+copy_no_booking : (P : Booking → Type 0) (number : ℕ) (at : Option Reception) (report : Report) → OfBooking P (reception_added number at report)
 copy_no_booking P number at report = search rules
 
 join_no_booking : (P : Booking → Type 0) (c : Settings) (s : State) (report : Report) (verdict : JoinVerdict) → Lets (OfBooking P) (join_heard c s report verdict)

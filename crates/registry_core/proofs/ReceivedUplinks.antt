@@ -30,23 +30,23 @@ use Rattle.registry_core.specs.Frames.{data_up, frame_at_rate, join_request}
 use Rattle.registry_core.specs.Joins.{is_good, join_added, join_copied, join_heard, original_join}
 use Rattle.registry_core.specs.Numbered.{item_at}
 use Rattle.registry_core.specs.Settings.{Settings}
-use Rattle.registry_core.specs.State.{State, copies_with, next_uplink, state_with}
+use Rattle.registry_core.specs.State.{State, next_uplink, receptions_with, state_with}
 use Rattle.registry_core.specs.Step.{decision_of}
-use Rattle.registry_core.specs.Uplinks.{copy_added, is_time, reception_of, uplink_of}
+use Rattle.registry_core.specs.Uplinks.{is_time, reception_added, reception_of, uplink_of}
 use Rattle.registry_core.proofs.Decisions.{whatever_heard}
 use Rattle.registry_core.proofs.HeardStates.{IsAllowed}
 use Rattle.registry_core.proofs.Items.{item_last, item_within}
-use Rattle.registry_core.proofs.KeptCopies.{copy_stays_with}
+use Rattle.registry_core.proofs.KeptReceptions.{reception_stays_with}
 use Rattle.registry_core.proofs.NewItems.{Lets, OfUplink, lets_needs, lets_wants, new_uplink}
 
 -- ---- a new uplink
 
 -- the uplink is as the gateway received it
-pub record IsAsHeard (uplink : Uplink) (copy : Reception) : Type 0 where
-  pub carried : length uplink.octets ≤ max_length copy.rate.dr
-  pub airtime : IsAirtime copy.rate.dr (length uplink.octets) true uplink.airtime
-  pub ends : uplink.start + uplink.airtime ≡ copy.end
-  pub band : lies_in copy.rate.freq copy.rate.dr uplink.band ≡ true
+pub record IsAsHeard (uplink : Uplink) (reception : Reception) : Type 0 where
+  pub carried : length uplink.octets ≤ max_length reception.rate.dr
+  pub airtime : IsAirtime reception.rate.dr (length uplink.octets) true uplink.airtime
+  pub ends : uplink.start + uplink.airtime ≡ reception.end
+  pub band : lies_in reception.rate.freq reception.rate.dr uplink.band ≡ true
 
 -- what is a frame at a data rate isn't longer than that allows
 carried_by : {X : Type 0} (says : Option Phy → Option X) (dr : DataRate) (octets : List ℕ) (x : X) (b : Bool) → nat_le (length octets) (max_length dr) ≡ b → says None ≡ None
@@ -75,8 +75,8 @@ as_heard laws report session kind counter band time carried lies =
 abbrev New : Effect → Type 0
 New = OfUplink IsAsHeard
 
-copy_new : (number : ℕ) (at : Option Reception) (report : Report) → New (copy_added number at report)
-copy_new number at report = search rules
+reception_new : (number : ℕ) (at : Option Reception) (report : Report) → New (reception_added number at report)
+reception_new number at report = search rules
 
 join_new : RadioLaws → (c : Settings) (s : State) (report : Report) (verdict : JoinVerdict) → Lets New (join_heard c s report verdict)
 unfolding join_heard join_added
@@ -93,7 +93,7 @@ join_new laws c s report verdict =
   where
     ended : (join : JoinRequest) (band : Band) → IsAsHeard (uplink_of report (length s.sessions + 1) Join join.nonce band) (reception_of report) → (found : Option (ℕ × Uplink))
         → Lets New (unless found (join_copied c s report) (join_added c s report join band))
-    ended join band is (Some found) = copy_new found.0 (s.copies found.0 report.gateway) report
+    ended join band is (Some found) = reception_new found.0 (s.receptions found.0 report.gateway) report
     ended join band is None =
         lets_wants New tt (is_above join.nonce (last_nonce s.sessions join.dev_eui)) Nonce _ (λ _. lets_wants New tt (nat_lt (length s.sessions) c.addresses) Addresses _ (λ _. is))
 
@@ -112,7 +112,7 @@ frame_new laws c s report verdict =
   where
     ended : (frame : DataFrame) (session dev_eui counter : ℕ) (band : Band) → IsAsHeard (uplink_of report session Data counter band) (reception_of report) → (found : Option (ℕ × Uplink))
         → Lets New (unless found (data_copied s report dev_eui counter) (data_added s report frame session dev_eui counter band))
-    ended frame session dev_eui counter band is (Some found) = copy_new found.0 (s.copies found.0 report.gateway) report
+    ended frame session dev_eui counter band is (Some found) = reception_new found.0 (s.receptions found.0 report.gateway) report
     ended frame session dev_eui counter band is None =
         lets_wants New tt (not (is_below_floor s.uplinks s.sessions dev_eui session)) SessionEnded _ (λ _.
         lets_wants New tt (is_none (data_with s.uplinks session counter)) Replayed _ (λ _.
@@ -124,8 +124,8 @@ frame_new laws c s report verdict =
 received_stays : (c : Settings) (s : State) (effect : Effect) → IsAllowed c s effect → (n : ℕ) (u : Uplink) → IsReceived s n u → IsReceived (state_with s effect) n u
 received_stays c s effect k n u h = record {
   gateway = h.gateway;
-  copy = h.copy;
-  heard = copy_stays_with c s effect k n h.gateway h.copy h.heard;
+  reception = h.reception;
+  heard = reception_stays_with c s effect k n h.gateway h.reception h.heard;
   carried = h.carried;
   airtime = h.airtime;
   ends = h.ends;
@@ -139,15 +139,15 @@ AreReceived s = (n : ℕ) (u : Uplink) → item_at s.uplinks n ≡ Some u → Is
 uplinks_stay : (c : Settings) (s : State) (effect : Effect) → IsAllowed c s effect → AreReceived s → (n : ℕ) (u : Uplink) → item_at s.uplinks n ≡ Some u → IsReceived (state_with s effect) n u
 uplinks_stay c s effect k h n u e = received_stays c s effect k n u (h n u e)
 
--- where one comes, with its first copy
-uplinks_with : (c : Settings) (s : State) (effect : Effect) → IsAllowed c s effect → AreReceived s → (new : Uplink) (gateway : List ℕ) (copy : Reception)
-    → (state_with s effect).copies ≡ copies_with s.copies (next_uplink s) gateway copy → IsAsHeard new copy → (n : ℕ) (u : Uplink) → item_at (s.uplinks ++ new ∷ []) n ≡ Some u → IsReceived (state_with s effect) n u
-uplinks_with c s effect k h new gateway copy same is n u e = by (item_last s.uplinks new n u e)
+-- where one comes, with its first reception
+uplinks_with : (c : Settings) (s : State) (effect : Effect) → IsAllowed c s effect → AreReceived s → (new : Uplink) (gateway : List ℕ) (reception : Reception)
+    → (state_with s effect).receptions ≡ receptions_with s.receptions (next_uplink s) gateway reception → IsAsHeard new reception → (n : ℕ) (u : Uplink) → item_at (s.uplinks ++ new ∷ []) n ≡ Some u → IsReceived (state_with s effect) n u
+uplinks_with c s effect k h new gateway reception same is n u e = by (item_last s.uplinks new n u e)
   where
     first : IsReceived (state_with s effect) (next_uplink s) new
     first = record {
       gateway = gateway;
-      copy = copy;
+      reception = reception;
       heard = rw (same, eq-eqb (next_uplink s) (next_uplink s) refl, (bytes_eq-Decides gateway gateway).1 refl) refl;
       carried = is.carried;
       airtime = is.airtime;
@@ -161,8 +161,8 @@ uplinks_with c s effect k h new gateway copy same is n u e = by (item_last s.upl
 
 change_received : (c : Settings) (s : State) (effect : Effect) → IsAllowed c s effect → New effect → AreReceived s → AreReceived (state_with s effect)
 change_received c s Nothing k new h = h
-change_received c s (AddsSession session uplink gateway copy) k new h = uplinks_with c s (AddsSession session uplink gateway copy) k h uplink gateway copy refl new
-change_received c s (AddsUplink uplink gateway copy) k new h = uplinks_with c s (AddsUplink uplink gateway copy) k h uplink gateway copy refl new
+change_received c s (AddsSession session uplink gateway reception) k new h = uplinks_with c s (AddsSession session uplink gateway reception) k h uplink gateway reception refl new
+change_received c s (AddsUplink uplink gateway reception) k new h = uplinks_with c s (AddsUplink uplink gateway reception) k h uplink gateway reception refl new
 change_received c s effect k new h = uplinks_stay c s effect k h
 
 pub uplinks_are_received : AirtimeIsComputed → AirtimeIsBounded → BandIsFound → UplinksAreReceived

@@ -5,7 +5,7 @@ use Rattle.std.specs.List.{find, list_any}
 use Rattle.std.proofs.lemmas.Bool.{cases_Bool, eq-eqb, or_parts}
 use Rattle.std.proofs.lemmas.Slice.Eq.{bytes_eq-Decides}
 use Rattle.registry_core.specs.declared.effects.Effect.{Effect}
-use Rattle.registry_core.specs.declared.effects.Effect.TheVariants.{Nothing, AddsSender, AddsOwner, AddsGateway, AddsDevice, MovesDevice, AddsSession, AddsUplink, AddsCopy, AddsBooking, EndsBooking, SetsLimit}
+use Rattle.registry_core.specs.declared.effects.Effect.TheVariants.{Nothing, AddsSender, AddsOwner, AddsGateway, AddsDevice, MovesDevice, AddsSession, AddsUplink, AddsReception, AddsBooking, EndsBooking, SetsLimit}
 use Rattle.registry_core.specs.declared.messages.Envelope.{Envelope}
 use Rattle.registry_core.specs.declared.messages.Role.{Role}
 use Rattle.registry_core.specs.Heard.{AreHeard, FirstAnswersStay, NewNumbersAreDecided, UsedNumbersAreRefused, answers_after, has_pair, is_sender, pair_place, reply_to, same_pair, state_after, state_of}
@@ -30,7 +30,7 @@ stays_with s (AddsDevice dev_eui device) name known = known
 stays_with s (MovesDevice dev_eui owner) name known = known
 stays_with s (AddsSession session uplink gateway reception) name known = known
 stays_with s (AddsUplink uplink gateway reception) name known = known
-stays_with s (AddsCopy number gateway reception) name known = known
+stays_with s (AddsReception number gateway reception) name known = known
 stays_with s (AddsBooking booking) name known = known
 stays_with s (EndsBooking number sent) name known = known
 stays_with s (SetsLimit gateway limit) name known = known

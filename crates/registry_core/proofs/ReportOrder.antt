@@ -14,9 +14,9 @@ use Rattle.registry_core.specs.ReportOrder.{AreSameFrames, IsSameFrame, SameButF
 use Rattle.registry_core.specs.Settings.{Settings}
 use Rattle.registry_core.specs.State.{State, next_uplink, state_with, with_uplink}
 use Rattle.registry_core.specs.Step.{checked_decision, step}
-use Rattle.registry_core.specs.Uplinks.{copy_added, reception_of, same_octets}
-use Rattle.registry_core.proofs.Copies.{either_order, other_gateway}
-use Rattle.registry_core.proofs.Decisions.{no_copy, sound_after}
+use Rattle.registry_core.specs.Uplinks.{reception_added, reception_of, same_octets}
+use Rattle.registry_core.proofs.Receptions.{either_order, other_gateway}
+use Rattle.registry_core.proofs.Decisions.{no_reception, sound_after}
 use Rattle.registry_core.proofs.HeardStates.{IsSound}
 use Rattle.registry_core.proofs.Items.{first_only, item_new, kept_with}
 use Rattle.registry_core.proofs.Telling.{NoRefusal, AnswerPasses}
@@ -35,7 +35,7 @@ effect_of checked = (decision_or_refusal checked).0
 
 -- what a copy of uplink n leaves, where the gateway has that copy of it
 abbrev pub put : State → ℕ → Option Reception → Report → State
-put s n at report = state_with s (copy_added n at report)
+put s n at report = state_with s (reception_added n at report)
 
 same_frame : (u v : Uplink) → u ≡ v → IsSameFrame u v
 same_frame u v is = subst (IsSameFrame u) is (record { session = refl; kind = refl; counter = refl; octets = refl })
@@ -49,19 +49,19 @@ frames_push [] u v same = (same, tt)
 frames_push (w ∷ us) u v same = (same_frame w w refl, frames_push us u v same)
 
 -- two states that differ in the uplinks alone, and there in which copy came first
-differ_first : (s : State) (us : List Uplink) (copies : ℕ → List ℕ → Option Reception) → AreSameFrames s.uplinks us → ((m : ℕ) (at : List ℕ) → s.copies m at ≡ copies m at)
-    → SameButFirst s (record s { uplinks = us; copies = copies })
-differ_first s us copies uplinks same =
-    record { senders = refl; owners = refl; gateways = refl; devices = refl; sessions = refl; uplinks = uplinks; copies = same; bookings = refl; limits = refl }
+differ_first : (s : State) (us : List Uplink) (receptions : ℕ → List ℕ → Option Reception) → AreSameFrames s.uplinks us → ((m : ℕ) (at : List ℕ) → s.receptions m at ≡ receptions m at)
+    → SameButFirst s (record s { uplinks = us; receptions = receptions })
+differ_first s us receptions uplinks same =
+    record { senders = refl; owners = refl; gateways = refl; devices = refl; sessions = refl; uplinks = uplinks; receptions = same; bookings = refl; limits = refl }
 
 -- two copies of an uplink come to the same in either order, whichever of them it is booked as
-both_copies : (s : State) (us : List Uplink) (n : ℕ) (a b : Report) (at_a at_b : Option Reception) → a.gateway ≢ b.gateway → AreSameFrames s.uplinks us
+both_receptions : (s : State) (us : List Uplink) (n : ℕ) (a b : Report) (at_a at_b : Option Reception) → a.gateway ≢ b.gateway → AreSameFrames s.uplinks us
     → SameButFirst (put (put s n at_a a) n at_b b) (put (put (record s { uplinks = us }) n at_b b) n at_a a)
-both_copies s us n a b (Some x) (Some y) apart same = differ_first s us s.copies same (λ m at. refl)
-both_copies s us n a b (Some x) None apart same = let once : State = put s n None b in differ_first once us once.copies same (λ m at. refl)
-both_copies s us n a b None (Some y) apart same = let once : State = put s n None a in differ_first once us once.copies same (λ m at. refl)
-both_copies s us n a b None None apart same =
-    differ_first (put (put s n None a) n None b) us (put (put s n None b) n None a).copies same (λ m at. either_order s.copies n a.gateway b.gateway
+both_receptions s us n a b (Some x) (Some y) apart same = differ_first s us s.receptions same (λ m at. refl)
+both_receptions s us n a b (Some x) None apart same = let once : State = put s n None b in differ_first once us once.receptions same (λ m at. refl)
+both_receptions s us n a b None (Some y) apart same = let once : State = put s n None a in differ_first once us once.receptions same (λ m at. refl)
+both_receptions s us n a b None None apart same =
+    differ_first (put (put s n None a) n None b) us (put (put s n None b) n None a).receptions same (λ m at. either_order s.receptions n a.gateway b.gateway
     (reception_of a) (reception_of b) m at (m == n) (bytes_eq at a.gateway) (bytes_eq at b.gateway) apart refl refl refl)
 
 -- what is true of two states is true of states that are equal to them
@@ -80,32 +80,32 @@ after_report hearing s report = state_with s (effect_of (hearing s report))
 
 -- a report is one of uplink n, whatever copies there are
 abbrev pub IsCopy : Hearing → State → ℕ → Report → Type 0
-IsCopy hearing s n report = (copies : ℕ → List ℕ → Option Reception) → effect_of (hearing (record s { copies = copies }) report) ≡ copy_added n (copies n report.gateway) report
+IsCopy hearing s n report = (receptions : ℕ → List ℕ → Option Reception) → effect_of (hearing (record s { receptions = receptions }) report) ≡ reception_added n (receptions n report.gateway) report
 
 -- also after the copy of another gateway
-second_copy : (hearing : Hearing) (s : State) (n : ℕ) (a b : Report) (at_a at_b : Option Reception) → s.copies n b.gateway ≡ at_b → b.gateway ≢ a.gateway
+second_copy : (hearing : Hearing) (s : State) (n : ℕ) (a b : Report) (at_a at_b : Option Reception) → s.receptions n b.gateway ≡ at_b → b.gateway ≢ a.gateway
     → IsCopy hearing s n b → after_report hearing (put s n at_a a) b ≡ put (put s n at_a a) n at_b b
-second_copy hearing s n a b (Some x) at_b is apart copy = ap (state_with s) (copy s.copies ∙ ap (λ at. copy_added n at b) is)
+second_copy hearing s n a b (Some x) at_b is apart copy = ap (state_with s) (copy s.receptions ∙ ap (λ at. reception_added n at b) is)
 second_copy hearing s n a b None at_b is apart copy =
     let once : State = put s n None a in
-    ap (state_with once) (copy once.copies ∙ ap (λ at. copy_added n at b) (other_gateway s.copies n a.gateway b.gateway (reception_of a) apart ∙ is))
+    ap (state_with once) (copy once.receptions ∙ ap (λ at. reception_added n at b) (other_gateway s.receptions n a.gateway b.gateway (reception_of a) apart ∙ is))
 
 -- Each report comes to its copy of one uplink, which is booked as the one or the other: then both orders leave the same.
 in_any_order : (hearing : Hearing) (s base : State) (us : List Uplink) (n : ℕ) (a b : Report) (at_a at_b : Option Reception) → let other : State = record base { uplinks = us } in
-    a.gateway ≢ b.gateway → AreSameFrames base.uplinks us → base.copies n a.gateway ≡ at_a → base.copies n b.gateway ≡ at_b
+    a.gateway ≢ b.gateway → AreSameFrames base.uplinks us → base.receptions n a.gateway ≡ at_a → base.receptions n b.gateway ≡ at_b
     → after_report hearing s a ≡ put base n at_a a → after_report hearing s b ≡ put other n at_b b → IsCopy hearing base n b → IsCopy hearing other n a
     → SameButFirst (after_report hearing (after_report hearing s a) b) (after_report hearing (after_report hearing s b) a)
 in_any_order hearing s base us n a b at_a at_b apart same is_a is_b first_a first_b copy_b copy_a =
     let other : State = record base { uplinks = us } in
     either _ _ _ _ (ap (λ once. after_report hearing once b) first_a ∙ second_copy hearing base n a b at_a at_b is_b (λ e. apart (sym e)) copy_b)
-    (ap (λ once. after_report hearing once a) first_b ∙ second_copy hearing other n b a at_b at_a is_a apart copy_a) (both_copies base us n a b at_a at_b apart same)
+    (ap (λ once. after_report hearing once a) first_b ∙ second_copy hearing other n b a at_b at_a is_a apart copy_a) (both_receptions base us n a b at_a at_b apart same)
 
 -- so it is of an uplink that is booked
 pub booked_in_any_order : (hearing : Hearing) (s : State) (n : ℕ) (a b : Report) → a.gateway ≢ b.gateway → IsCopy hearing s n a → IsCopy hearing s n b
     → SameButFirst (after_report hearing (after_report hearing s a) b) (after_report hearing (after_report hearing s b) a)
 booked_in_any_order hearing s n a b apart copy_a copy_b =
-    in_any_order hearing s s s.uplinks n a b (s.copies n a.gateway) (s.copies n b.gateway) apart (frames_self s.uplinks) refl refl
-    (ap (state_with s) (copy_a s.copies)) (ap (state_with s) (copy_b s.copies)) copy_b copy_a
+    in_any_order hearing s s s.uplinks n a b (s.receptions n a.gateway) (s.receptions n b.gateway) apart (frames_self s.uplinks) refl refl
+    (ap (state_with s) (copy_a s.receptions)) (ap (state_with s) (copy_b s.receptions)) copy_b copy_a
 
 -- The one report books the uplink, with its copy, and the other is a copy of that.
 pub record Books (hearing : Hearing) (s opened : State) (uplink : Uplink) (one other : Report) : Type 0 where
@@ -113,15 +113,15 @@ pub record Books (hearing : Hearing) (s opened : State) (uplink : Uplink) (one o
   pub second : IsCopy hearing (with_uplink opened uplink) (next_uplink s) other
 
 -- and of a new one, whichever report books it
-pub new_in_any_order : (c : Settings) (hearing : Hearing) (s opened : State) (u v : Uplink) (a b : Report) → IsSound c s → opened.copies ≡ s.copies → a.gateway ≢ b.gateway → IsSameFrame u v
+pub new_in_any_order : (c : Settings) (hearing : Hearing) (s opened : State) (u v : Uplink) (a b : Report) → IsSound c s → opened.receptions ≡ s.receptions → a.gateway ≢ b.gateway → IsSameFrame u v
     → Books hearing s opened u a b → Books hearing s opened v b a
     → SameButFirst (after_report hearing (after_report hearing s a) b) (after_report hearing (after_report hearing s b) a)
-new_in_any_order c hearing s opened u v a b sound copies apart same by_a by_b =
+new_in_any_order c hearing s opened u v a b sound receptions apart same by_a by_b =
     in_any_order hearing s (with_uplink opened u) (opened.uplinks ++ v ∷ []) (next_uplink s) a b None None apart (frames_push opened.uplinks u v same) (none a.gateway) (none b.gateway)
     by_a.first by_b.first by_a.second by_b.second
   where
-    none : (gateway : List ℕ) → opened.copies (next_uplink s) gateway ≡ None
-    none gateway = ap (λ (all : ℕ → List ℕ → Option Reception). all (next_uplink s) gateway) copies ∙ no_copy c s gateway (s.copies (next_uplink s) gateway) sound refl
+    none : (gateway : List ℕ) → opened.receptions (next_uplink s) gateway ≡ None
+    none gateway = ap (λ (all : ℕ → List ℕ → Option Reception). all (next_uplink s) gateway) receptions ∙ no_reception c s gateway (s.receptions (next_uplink s) gateway) sound refl
 
 -- the new uplink is found by its octets, where no other passes the test that it passes
 pub found_new : (test : Uplink → Bool) (us : List Uplink) (u : Uplink) (octets : List ℕ) → test u ≡ true → u.octets ≡ octets

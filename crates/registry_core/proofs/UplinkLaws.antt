@@ -1,4 +1,4 @@
--- Uplinks, whatever was heard: each frame is booked once, counters rise and agree with frames, each has a copy, and none changes.
+-- Uplinks, whatever was heard: each frame is booked once, counters rise and agree with frames, each has a reception, and none changes.
 use Rattle.std.proofs.Common.{◌≡◌, ℕ, Some, refl, arith, ◌<◌, sym, inl, inr}
 use Rattle.std.specs.Prelude.{◌⊎◌}
 use Rattle.std.proofs.lemmas.Bool.{cases_order}
@@ -7,7 +7,7 @@ use Rattle.registry_core.specs.declared.effects.Effect.TheVariants.{AddsSession,
 use Rattle.registry_core.specs.declared.facts.Kind.{Kind}
 use Rattle.registry_core.specs.declared.facts.Kind.TheVariants.{Join, Data}
 use Rattle.registry_core.specs.declared.facts.Uplink.{Uplink}
-use Rattle.registry_core.specs.Laws.{UplinksHaveCopies, UplinksStay, CountersRise, CountersAgreeWithFrames}
+use Rattle.registry_core.specs.Laws.{UplinksHaveReceptions, UplinksStay, CountersRise, CountersAgreeWithFrames}
 use Rattle.registry_core.specs.Numbered.{item_at}
 use Rattle.registry_core.specs.Settings.{Settings}
 use Rattle.registry_core.specs.State.{State, state_with}
@@ -35,8 +35,8 @@ pub uplink_once : (c : Settings) (s : State) (m n : ℕ) (u v : Uplink) → IsSo
     → u.session ≡ v.session → u.kind ≡ v.kind → u.counter ≡ v.counter → m ≡ n
 uplink_once c s m n u v sound em en same kinds counter = once_by c s m n u v v.kind sound em en same kinds refl counter (cases_order m n)
 
-pub uplinks_have_copies : UplinksHaveCopies
-uplinks_have_copies c heard = (sound_of c heard).copied
+pub uplinks_have_receptions : UplinksHaveReceptions
+uplinks_have_receptions c heard = (sound_of c heard).copied
 
 -- no change changes an uplink
 pub uplink_stays_with : (s : State) (effect : Effect) (n : ℕ) (u : Uplink) → item_at s.uplinks n ≡ Some u → item_at (state_with s effect).uplinks n ≡ Some u

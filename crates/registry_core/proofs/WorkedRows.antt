@@ -25,7 +25,7 @@ use Rattle.registry_core.specs.declared.windows.Window.TheVariants.{First, Secon
 use Rattle.registry_core.specs.Administration.{sender_add, owner_add, gateway_add, device_add, device_move, limit_set}
 use Rattle.registry_core.specs.AirtimeLaws.{IsDownlinkSize}
 use Rattle.registry_core.specs.Bookings.{limit_standing}
-use Rattle.registry_core.specs.CopyLaws.{copied_uplink}
+use Rattle.registry_core.specs.ReceptionLaws.{copied_uplink}
 use Rattle.registry_core.specs.DataFrames.{data_added, frame_heard, original_data}
 use Rattle.registry_core.specs.Downlinks.{down_added, down_book, down_done}
 use Rattle.registry_core.specs.Heard.{Reply, Answers, Reused, Stranger, answers_of, heard_with, reply_to, state_of}
@@ -116,7 +116,7 @@ join_copied = refl
 
 -- one session, one uplink, and a copy at each gateway are left
 join_leaves : (length (state_of desk three_joins).sessions ≡ 1) × (length (state_of desk three_joins).uplinks ≡ 1)
-    × ((state_of desk three_joins).copies 1 gw_b ≡ Some (record { end = start + 61696; rate = record { freq = 868100000; dr = Dr5 } }))
+    × ((state_of desk three_joins).receptions 1 gw_b ≡ Some (record { end = start + 61696; rate = record { freq = 868100000; dr = Dr5 } }))
 unfolding sender_add owner_add gateway_add device_add join_heard join_added original_join frame_of band_at airtime_of
 join_leaves = (refl, refl, refl)
 
@@ -321,7 +321,7 @@ asked_leaves : map (λ b. b.standing) (state_of desk asked).bookings ≡ Sent �
 unfolding sender_add owner_add gateway_add device_add join_heard join_added original_join frame_of band_at airtime_of frame_heard data_added original_data down_book down_added down_done is_clear hours_within peak_of
 asked_leaves = refl
 
--- 23 and 12 octets at DR5, each up to the end of its copy; 64 octets at DR0 without CRC, 2 s after the second
+-- 23 and 12 octets at DR5, each up to the end of its reception; 64 octets at DR0 without CRC, 2 s after the second
 asked_on_air : (map interval_of (state_of desk asked).uplinks ≡ record { start = pos start; len = 61696 } ∷ record { start = pos (start - 41216); len = 41216 } ∷ [])
     × (map (λ b. b.span) (state_of desk asked).bookings ≡ record { start = pos (start + 2000000); len = 2793472 } ∷ [])
 unfolding sender_add owner_add gateway_add device_add join_heard join_added original_join frame_of band_at airtime_of frame_heard data_added original_data down_book down_added down_done is_clear hours_within peak_of

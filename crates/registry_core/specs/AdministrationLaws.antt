@@ -21,7 +21,7 @@ use Rattle.registry_core.specs.Step.{step}
 pub record SameTraffic (s after : State) : Type 0 where
   pub sessions : after.sessions ≡ s.sessions
   pub uplinks : after.uplinks ≡ s.uplinks
-  pub copies : after.copies ≡ s.copies
+  pub receptions : after.receptions ≡ s.receptions
   pub bookings : after.bookings ≡ s.bookings
   pub limits : after.limits ≡ s.limits
 
@@ -172,7 +172,7 @@ pub record IsBookingEnded (s after : State) (number : ℕ) (sent : Bool) : Type 
   pub devices : after.devices ≡ s.devices
   pub sessions : after.sessions ≡ s.sessions
   pub uplinks : after.uplinks ≡ s.uplinks
-  pub copies : after.copies ≡ s.copies
+  pub receptions : after.receptions ≡ s.receptions
   pub limits : after.limits ≡ s.limits
 
 -- whoever sends the message

@@ -37,17 +37,17 @@ pub record IsDownlinkSize (kind : Kind) (dr : DataRate) (n : ℕ) : Type 0 where
 pub record IsDownlink (c : Settings) (s : State) (booking : Booking) : Type 0 where
   pub uplink : Uplink
   pub there : item_at s.uplinks booking.uplink ≡ Some uplink
-  pub copy : Reception
-  pub heard : s.copies booking.uplink booking.gateway ≡ Some copy
+  pub reception : Reception
+  pub heard : s.receptions booking.uplink booking.gateway ≡ Some reception
   pub window : Window
   pub rate : Rate
-  pub sent_so : rate ≡ rate_in window copy.rate
+  pub sent_so : rate ≡ rate_in window reception.rate
   pub octets : List ℕ
   pub down : Downlink
   pub frame : downlink_to uplink.kind (frame_at_rate rate.dr octets) ≡ Some down
   pub size : IsDownlinkSize uplink.kind rate.dr (length octets)
   pub address : IsTrue (goes_to (address_of c uplink.session) down)
-  pub start : booking.span.start ≡ pos (copy.end + delay uplink.kind window)
+  pub start : booking.span.start ≡ pos (reception.end + delay uplink.kind window)
   pub airtime : IsAirtime rate.dr (length octets) false booking.span.len
   pub band : IsTrue (lies_in rate.freq rate.dr booking.band)
 
@@ -60,12 +60,12 @@ BookingsAreDownlinks = (c : Settings) (heard : List Envelope) (n : ℕ) (booking
 -- octets, which has a payload CRC if it is of LoRa. It ends when the reception ends, and the reception is in its band.
 pub record IsReceived (s : State) (number : ℕ) (uplink : Uplink) : Type 0 where
   pub gateway : List ℕ
-  pub copy : Reception
-  pub heard : s.copies number gateway ≡ Some copy
-  pub carried : length uplink.octets ≤ max_length copy.rate.dr
-  pub airtime : IsAirtime copy.rate.dr (length uplink.octets) true uplink.airtime
-  pub ends : uplink.start + uplink.airtime ≡ copy.end
-  pub band : IsTrue (lies_in copy.rate.freq copy.rate.dr uplink.band)
+  pub reception : Reception
+  pub heard : s.receptions number gateway ≡ Some reception
+  pub carried : length uplink.octets ≤ max_length reception.rate.dr
+  pub airtime : IsAirtime reception.rate.dr (length uplink.octets) true uplink.airtime
+  pub ends : uplink.start + uplink.airtime ≡ reception.end
+  pub band : IsTrue (lies_in reception.rate.freq reception.rate.dr uplink.band)
 
 -- the same for each uplink, whatever was heard
 abbrev pub UplinksAreReceived : Type 0

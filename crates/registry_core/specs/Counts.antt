@@ -18,7 +18,7 @@ pub record HoldsAtMost (messages : ℕ) (s : State) : Type 0 where
   pub gateways : AtMost messages s.gateways
   pub devices : AtMost messages (λ dev_eui. is_some (s.devices dev_eui))
   pub limits : AtMost messages (λ (key : ℕ × List ℕ). is_some (s.limits key.1 key.0))
-  pub copies : AtMost messages (λ (key : ℕ × List ℕ). is_some (s.copies key.0 key.1))
+  pub receptions : AtMost messages (λ (key : ℕ × List ℕ). is_some (s.receptions key.0 key.1))
   -- a session has its join uplink
   pub sessions : length s.sessions ≤ length s.uplinks
   pub uplinks_and_bookings : length s.uplinks + length s.bookings ≤ messages

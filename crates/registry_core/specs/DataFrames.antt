@@ -17,7 +17,7 @@ use Rattle.registry_core.specs.Derived.{session_with_address, data_with, last_co
 use Rattle.registry_core.specs.Frames.{frame_at_rate, data_up}
 use Rattle.registry_core.specs.Settings.{Settings}
 use Rattle.registry_core.specs.State.{State, next_uplink}
-use Rattle.registry_core.specs.Uplinks.{is_time, reception_of, time_up, uplink_of, copy_added, same_octets}
+use Rattle.registry_core.specs.Uplinks.{is_time, reception_of, time_up, uplink_of, reception_added, same_octets}
 
 -- the uplink that the frame copies: the session's data uplink with the verdict's counter, if it has the same octets
 unfoldable pub original_data : State → ℕ → ℕ → List ℕ → Option (ℕ × Uplink)
@@ -26,7 +26,7 @@ original_data s session counter octets = option_and_then (same_octets octets) (d
 -- a copy is answered with the booked uplink, and books none
 abbrev pub data_copied : State → Report → ℕ → ℕ → ℕ × Uplink → Checked Decision
 data_copied s report dev_eui counter found = Ok (
-  copy_added found.0 (s.copies found.0 report.gateway) report,
+  reception_added found.0 (s.receptions found.0 report.gateway) report,
   FrameSuccess found.1.airtime found.1.band true counter dev_eui found.0,
 )
 

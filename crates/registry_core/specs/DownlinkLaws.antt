@@ -50,17 +50,17 @@ pub record IsAccepted (c : Settings) (s : State) (number : ℕ) (gateway : List 
   pub known : IsTrue (s.gateways gateway)
   pub uplink : Uplink
   pub there : item_at s.uplinks number ≡ Some uplink
-  pub copy : Reception
-  pub heard : s.copies number gateway ≡ Some copy
+  pub reception : Reception
+  pub heard : s.receptions number gateway ≡ Some reception
   pub down : Downlink
-  pub frame : downlink_to uplink.kind (frame_at_rate (rate_in window copy.rate).dr octets) ≡ Some down
+  pub frame : downlink_to uplink.kind (frame_at_rate (rate_in window reception.rate).dr octets) ≡ Some down
   pub address : IsTrue (goes_to (address_of c uplink.session) down)
   pub unanswered : is_answered s.bookings number ≡ false
   pub counter : IsTrue (counts_as (next_down s.bookings s.uplinks uplink.session) down)
   pub band : Band
-  pub lies_in_it : band_at (rate_in window copy.rate).freq (rate_in window copy.rate).dr ≡ Some band
-  pub clear : IsClear (downlinks s.bookings gateway) (on_air (copy.end + delay uplink.kind window) (rate_in window copy.rate) octets)
-  pub hours : EveryHourWithin (downlinks_in s.bookings gateway band ++ on_air (copy.end + delay uplink.kind window) (rate_in window copy.rate) octets ∷ []) (limit_standing s gateway band)
+  pub lies_in_it : band_at (rate_in window reception.rate).freq (rate_in window reception.rate).dr ≡ Some band
+  pub clear : IsClear (downlinks s.bookings gateway) (on_air (reception.end + delay uplink.kind window) (rate_in window reception.rate) octets)
+  pub hours : EveryHourWithin (downlinks_in s.bookings gateway band ++ on_air (reception.end + delay uplink.kind window) (rate_in window reception.rate) octets ∷ []) (limit_standing s gateway band)
 
 abbrev pub tells_booking : Answer → Bool
 tells_booking (DownSuccess airtime band booking start) = true
@@ -74,9 +74,9 @@ BookedExactly = (c : Settings) (s : State) (e : Envelope) (number : ℕ) (gatewa
 -- ---- their bands
 
 -- each reception of an uplink is in a band
-abbrev pub CopiesLieInBands : Type 0
-CopiesLieInBands = (c : Settings) (heard : List Envelope) (number : ℕ) (gateway : List ℕ) (copy : Reception) → (state_of c heard).copies number gateway ≡ Some copy
-    → IsTrue (is_some (band_at copy.rate.freq copy.rate.dr))
+abbrev pub ReceptionsLieInBands : Type 0
+ReceptionsLieInBands = (c : Settings) (heard : List Envelope) (number : ℕ) (gateway : List ℕ) (reception : Reception) → (state_of c heard).receptions number gateway ≡ Some reception
+    → IsTrue (is_some (band_at reception.rate.freq reception.rate.dr))
 
 -- and so is the second window: no downlink is refused for its band
 abbrev pub DownlinksHaveBands : Type 0

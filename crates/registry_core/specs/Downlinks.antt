@@ -42,8 +42,8 @@ unfoldable pub down_book : Settings → State → ℕ → List ℕ → Window �
 down_book c s number gateway window octets = do
   wants (s.gateways gateway) UnknownGateway
   uplink ← needs (item_at s.uplinks number) NoUplink
-  copy ← needs (s.copies number gateway) NoUplink
-  let opens : ℕ × Rate = window_of uplink.kind copy.end copy.rate window
+  reception ← needs (s.receptions number gateway) NoUplink
+  let opens : ℕ × Rate = window_of uplink.kind reception.end reception.rate window
   down ← needs (downlink_to uplink.kind (frame_at_rate opens.1.dr octets)) BadFrame
   wants (goes_to (address_of c uplink.session) down) UnknownDevAddr
   wants (not (is_answered s.bookings number)) Answered

@@ -1,7 +1,7 @@
 -- What a change needs of the facts to which it is applied.
 use Rattle.std.specs.Prelude.{◌≡◌, ℕ, ◌+◌, false, List, length, Some, None, is_some, IsTrue}
 use Rattle.registry_core.specs.declared.effects.Effect.{Effect}
-use Rattle.registry_core.specs.declared.effects.Effect.TheVariants.{Nothing, AddsSender, AddsOwner, AddsGateway, AddsDevice, MovesDevice, AddsSession, AddsUplink, AddsCopy, AddsBooking, EndsBooking, SetsLimit}
+use Rattle.registry_core.specs.declared.effects.Effect.TheVariants.{Nothing, AddsSender, AddsOwner, AddsGateway, AddsDevice, MovesDevice, AddsSession, AddsUplink, AddsReception, AddsBooking, EndsBooking, SetsLimit}
 use Rattle.registry_core.specs.declared.facts.Booking.{Booking}
 use Rattle.registry_core.specs.declared.facts.Kind.TheVariants.{Join, Data}
 use Rattle.registry_core.specs.declared.facts.Session.{Session}
@@ -23,7 +23,7 @@ pub record SessionFits (session : Session) (uplink : Uplink) (at : List ℕ) (s 
   pub kind : uplink.kind ≡ Join
   pub counter : uplink.counter ≡ session.nonce
   pub gateway : IsTrue (s.gateways at)
-  pub no_copy : s.copies (next_uplink s) at ≡ None
+  pub no_reception : s.receptions (next_uplink s) at ≡ None
 
 -- a new data uplink of a session that is there, with a counter above its last
 pub record UplinkFits (uplink : Uplink) (at : List ℕ) (s : State) : Type 0 where
@@ -31,19 +31,19 @@ pub record UplinkFits (uplink : Uplink) (at : List ℕ) (s : State) : Type 0 whe
   pub kind : uplink.kind ≡ Data
   pub counter : IsTrue (is_above uplink.counter (last_counter s.uplinks uplink.session))
   pub gateway : IsTrue (s.gateways at)
-  pub no_copy : s.copies (next_uplink s) at ≡ None
+  pub no_reception : s.receptions (next_uplink s) at ≡ None
 
 -- a new reception of an uplink that is there
-pub record CopyFits (number : ℕ) (at : List ℕ) (s : State) : Type 0 where
+pub record ReceptionFits (number : ℕ) (at : List ℕ) (s : State) : Type 0 where
   pub uplink : IsTrue (is_some (item_at s.uplinks number))
   pub gateway : IsTrue (s.gateways at)
-  pub no_copy : s.copies number at ≡ None
+  pub no_reception : s.receptions number at ≡ None
 
 -- a new booking, for an uplink that the gateway received
 pub record BookingFits (booking : Booking) (s : State) : Type 0 where
   pub uplink : IsTrue (is_some (item_at s.uplinks booking.uplink))
   pub gateway : IsTrue (s.gateways booking.gateway)
-  pub copy : IsTrue (is_some (s.copies booking.uplink booking.gateway))
+  pub reception : IsTrue (is_some (s.receptions booking.uplink booking.gateway))
   pub standing : booking.standing ≡ Booked
 
 -- a booking that is there, neither sent nor dropped
@@ -62,7 +62,7 @@ Fits (AddsDevice dev_eui device) s = (s.devices dev_eui ≡ None) × IsTrue (s.o
 Fits (MovesDevice dev_eui owner) s = IsTrue (is_some (s.devices dev_eui)) × IsTrue (s.owners owner)
 Fits (AddsSession session uplink gateway reception) s = SessionFits session uplink gateway s
 Fits (AddsUplink uplink gateway reception) s = UplinkFits uplink gateway s
-Fits (AddsCopy number gateway reception) s = CopyFits number gateway s
+Fits (AddsReception number gateway reception) s = ReceptionFits number gateway s
 Fits (AddsBooking booking) s = BookingFits booking s
 Fits (EndsBooking number sent) s = EndFits number s
 Fits (SetsLimit gateway limit) s = IsTrue (s.gateways gateway)

@@ -18,7 +18,7 @@ use Rattle.registry_core.specs.Derived.{is_above, address_of, last_nonce, join_w
 use Rattle.registry_core.specs.Frames.{frame_at_rate, join_request}
 use Rattle.registry_core.specs.Settings.{Settings}
 use Rattle.registry_core.specs.State.{State, next_uplink}
-use Rattle.registry_core.specs.Uplinks.{is_time, reception_of, time_up, uplink_of, copy_added, same_octets}
+use Rattle.registry_core.specs.Uplinks.{is_time, reception_of, time_up, uplink_of, reception_added, same_octets}
 
 abbrev pub is_good : JoinVerdict → Bool
 is_good Good = true
@@ -31,7 +31,7 @@ original_join s join octets = option_and_then (same_octets octets) (join_with s.
 -- a copy is answered with the booked uplink, and books none
 abbrev pub join_copied : Settings → State → Report → ℕ × Uplink → Checked Decision
 join_copied c s report found = Ok (
-  copy_added found.0 (s.copies found.0 report.gateway) report,
+  reception_added found.0 (s.receptions found.0 report.gateway) report,
   JoinSuccess found.1.airtime found.1.band true (address_of c found.1.session) found.0,
 )
 

@@ -70,9 +70,9 @@ CountersAgreeWithFrames = (c : Settings) (heard : List Envelope) (n : ℕ) (u : 
     → (frame : DataFrame) × (data_up (frame_of u.octets) ≡ Some frame) × (frame.addr ≡ address_of c u.session) × (frame.fcnt % 65536 ≡ u.counter % 65536)
 
 -- each uplink has a reception at some gateway
-abbrev pub UplinksHaveCopies : Type 0
-UplinksHaveCopies = (c : Settings) (heard : List Envelope) (n : ℕ) (u : Uplink) → item_at (state_of c heard).uplinks n ≡ Some u
-    → (gateway : List ℕ) × (reception : Reception) × ((state_of c heard).copies n gateway ≡ Some reception)
+abbrev pub UplinksHaveReceptions : Type 0
+UplinksHaveReceptions = (c : Settings) (heard : List Envelope) (n : ℕ) (u : Uplink) → item_at (state_of c heard).uplinks n ≡ Some u
+    → (gateway : List ℕ) × (reception : Reception) × ((state_of c heard).receptions n gateway ≡ Some reception)
 
 -- an uplink with a number stays as it is
 abbrev pub UplinksStay : Type 0

@@ -3,7 +3,6 @@ pub mod AdministrationLaws
 pub mod AirtimeLaws
 pub mod Bookings
 pub mod Checks
-pub mod CopyLaws
 pub mod Counts
 pub mod DataFrames
 pub mod Decision
@@ -22,6 +21,7 @@ pub mod Near
 pub mod Numbered
 pub mod NumberedLaws
 pub mod Ranges
+pub mod ReceptionLaws
 pub mod Refusals
 pub mod ReportOrder
 pub mod Reports

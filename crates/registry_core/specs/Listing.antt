@@ -99,7 +99,7 @@ AreBookingsFrom s gateway from to = AreNumbersByStart booking_start (is_booking_
 
 -- the gateway reported a reception of the uplink with this number
 abbrev pub has_reception : State → ℕ → List ℕ → Bool
-has_reception s number gateway = is_some (s.copies number gateway)
+has_reception s number gateway = is_some (s.receptions number gateway)
 
 -- an uplink's number and a gateway: by the uplink's start, then its number, then the gateway's octets
 abbrev pub reception_cmp : State → ℕ × List ℕ → ℕ × List ℕ → Ordering

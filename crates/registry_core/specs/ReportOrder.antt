@@ -32,7 +32,7 @@ pub record SameButFirst (a b : State) : Type 0 where
   pub devices : a.devices ≡ b.devices
   pub sessions : a.sessions ≡ b.sessions
   pub uplinks : AreSameFrames a.uplinks b.uplinks
-  pub copies : (number : ℕ) (gateway : List ℕ) → a.copies number gateway ≡ b.copies number gateway
+  pub receptions : (number : ℕ) (gateway : List ℕ) → a.receptions number gateway ≡ b.receptions number gateway
   pub bookings : a.bookings ≡ b.bookings
   pub limits : a.limits ≡ b.limits
 

@@ -12,7 +12,7 @@ use Rattle.registry_core.specs.declared.facts.Uplink.{Uplink}
 use Rattle.registry_core.specs.declared.messages.Role.{Role}
 use Rattle.registry_core.specs.declared.messages.Role.TheVariants.{Operator}
 use Rattle.registry_core.specs.declared.effects.Effect.{Effect}
-use Rattle.registry_core.specs.declared.effects.Effect.TheVariants.{Nothing, AddsSender, AddsOwner, AddsGateway, AddsDevice, MovesDevice, AddsSession, AddsUplink, AddsCopy, AddsBooking, EndsBooking, SetsLimit}
+use Rattle.registry_core.specs.declared.effects.Effect.TheVariants.{Nothing, AddsSender, AddsOwner, AddsGateway, AddsDevice, MovesDevice, AddsSession, AddsUplink, AddsReception, AddsBooking, EndsBooking, SetsLimit}
 use Rattle.registry_core.specs.Limits.{Limit}
 use Rattle.registry_core.specs.Numbered.{item_changed}
 use Rattle.registry_core.specs.Settings.{Settings}
@@ -31,7 +31,7 @@ pub record State : Type 0 where
   pub sessions : List Session
   pub uplinks : List Uplink
   -- the reception of an uplink, by its number, at a gateway
-  pub copies : ℕ → List ℕ → Option Reception
+  pub receptions : ℕ → List ℕ → Option Reception
   pub bookings : List Booking
   -- the limit that was set for a gateway's band, by the band's number
   pub limits : List ℕ → ℕ → Option ℕ
@@ -53,7 +53,7 @@ opening c = record {
   devices = λ _. None;
   sessions = [];
   uplinks = [];
-  copies = λ _ _. None;
+  receptions = λ _ _. None;
   bookings = [];
   limits = λ _ _. None;
 }
@@ -90,11 +90,11 @@ abbrev pub with_uplink : State → Uplink → State
 with_uplink s uplink = record s { uplinks = s.uplinks ++ uplink ∷ [] }
 
 -- the receptions with one more: of the uplink with the number, at the gateway
-abbrev pub copies_with : (ℕ → List ℕ → Option Reception) → ℕ → List ℕ → Reception → ℕ → List ℕ → Option Reception
-copies_with copies number gateway reception = at_number copies number (at_name (copies number) gateway (Some reception))
+abbrev pub receptions_with : (ℕ → List ℕ → Option Reception) → ℕ → List ℕ → Reception → ℕ → List ℕ → Option Reception
+receptions_with receptions number gateway reception = at_number receptions number (at_name (receptions number) gateway (Some reception))
 
-abbrev pub with_copy : State → ℕ → List ℕ → Reception → State
-with_copy s number gateway reception = record s { copies = copies_with s.copies number gateway reception }
+abbrev pub with_reception : State → ℕ → List ℕ → Reception → State
+with_reception s number gateway reception = record s { receptions = receptions_with s.receptions number gateway reception }
 
 abbrev pub with_booking : State → Booking → State
 with_booking s booking = record s { bookings = s.bookings ++ booking ∷ [] }
@@ -125,9 +125,9 @@ state_with s (AddsOwner name) = with_owner s name
 state_with s (AddsGateway name) = with_gateway s name
 state_with s (AddsDevice dev_eui device) = with_device s dev_eui device
 state_with s (MovesDevice dev_eui owner) = with_move s dev_eui owner
-state_with s (AddsSession session uplink gateway reception) = with_copy (with_uplink (with_session s session) uplink) (next_uplink s) gateway reception
-state_with s (AddsUplink uplink gateway reception) = with_copy (with_uplink s uplink) (next_uplink s) gateway reception
-state_with s (AddsCopy number gateway reception) = with_copy s number gateway reception
+state_with s (AddsSession session uplink gateway reception) = with_reception (with_uplink (with_session s session) uplink) (next_uplink s) gateway reception
+state_with s (AddsUplink uplink gateway reception) = with_reception (with_uplink s uplink) (next_uplink s) gateway reception
+state_with s (AddsReception number gateway reception) = with_reception s number gateway reception
 state_with s (AddsBooking booking) = with_booking s booking
 state_with s (EndsBooking number sent) = with_end s number sent
 state_with s (SetsLimit gateway limit) = with_limit s gateway limit

@@ -3,7 +3,7 @@ use Rattle.std.specs.Prelude.{ℕ, ◌-◌, Bool, true, ◌&&◌, List, length, 
 use Rattle.radio_core.specs.declared.bands.Band.{Band}
 use Rattle.radio_core.specs.TimeOnAir.{airtime_of}
 use Rattle.registry_core.specs.declared.effects.Effect.{Effect}
-use Rattle.registry_core.specs.declared.effects.Effect.TheVariants.{Nothing, AddsCopy}
+use Rattle.registry_core.specs.declared.effects.Effect.TheVariants.{Nothing, AddsReception}
 use Rattle.registry_core.specs.declared.facts.Kind.{Kind}
 use Rattle.registry_core.specs.declared.facts.Reception.{Reception}
 use Rattle.registry_core.specs.declared.facts.Uplink.{Uplink}
@@ -37,5 +37,5 @@ abbrev pub same_octets : List ℕ → ℕ × Uplink → Option (ℕ × Uplink)
 same_octets octets found = if bytes_eq found.1.octets octets then Some found else None
 
 -- a copy of the uplink with this number adds its gateway's reception if that gateway has none of it, and nothing else
-abbrev pub copy_added : ℕ → Option Reception → Report → Effect
-copy_added number at_gateway report = if is_none at_gateway then AddsCopy number report.gateway (reception_of report) else Nothing
+abbrev pub reception_added : ℕ → Option Reception → Report → Effect
+reception_added number at_gateway report = if is_none at_gateway then AddsReception number report.gateway (reception_of report) else Nothing

@@ -92,7 +92,7 @@ abbrev pub data_for : State → Option (ℕ × Session) → Option ℕ → Optio
 data_for s session verdict = option_and_then (λ found. option_and_then (data_with s.uplinks found.0) verdict) session
 
 abbrev pub view_of_uplink : State → List ℕ → ℕ × Uplink → UplinkView
-view_of_uplink s gateway found = record { number = found.0; uplink = found.1; at_gateway = s.copies found.0 gateway }
+view_of_uplink s gateway found = record { number = found.0; uplink = found.1; at_gateway = s.receptions found.0 gateway }
 
 abbrev pub uplink_for : Settings → State → Message → Option UplinkView
 uplink_for c s (JoinHeard report verdict) = option_map (view_of_uplink s report.gateway) (option_and_then (λ join. join_with s.uplinks s.sessions join.dev_eui join.nonce) (join_request (frame_of report.octets)))
@@ -120,7 +120,7 @@ booking_for s _ = None
 -- when its receive window opens, and its frequency and data rate
 abbrev pub window_for : State → Message → Option (ℕ × Rate)
 window_for s (DownBook uplink gateway window octets) =
-    option_and_then (λ (found : Uplink). option_map (λ (copy : Reception). window_of found.kind copy.end copy.rate window) (s.copies uplink gateway)) (item_at s.uplinks uplink)
+    option_and_then (λ (found : Uplink). option_map (λ (reception : Reception). window_of found.kind reception.end reception.rate window) (s.receptions uplink gateway)) (item_at s.uplinks uplink)
 window_for s _ = None
 
 -- the gateway that is to send it

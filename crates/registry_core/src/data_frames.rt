@@ -11,7 +11,7 @@ use crate::effects::Effect;
 use crate::facts::Kind;
 use crate::frames::{DataFrame, data_at};
 use crate::messages::Report;
-use crate::uplinks::{copy_added, is_time, original, reception_of, time_up, uplink_of};
+use crate::uplinks::{is_time, original, reception_added, reception_of, time_up, uplink_of};
 use crate::views::{SessionView, UplinkView, View};
 use radio_core::{Band, band_of, rebuild};
 
@@ -53,7 +53,7 @@ fn data_copied(
         dev_eui: session.device,
         uplink: seen.number,
     };
-    (copy_added(seen, report), answer)
+    (reception_added(seen, report), answer)
 }
 
 /// Decides a data frame that isn't a copy: its counter has to be the one that follows.

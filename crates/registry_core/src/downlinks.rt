@@ -51,9 +51,9 @@ fn down_booked(
 {
     wants(view.gateway_known, Refusal::UnknownGateway)?;
     let seen = view.uplink.ok_or(Refusal::NoUplink)?;
-    let copy = seen.at_gateway.ok_or(Refusal::NoUplink)?;
+    let reception = seen.at_gateway.ok_or(Refusal::NoUplink)?;
     let kind = seen.uplink.kind;
-    let (start, rate) = receive(kind, copy.end, copy.rate, window);
+    let (start, rate) = receive(kind, reception.end, reception.rate, window);
     let down = downlink_at(kind, rate.dr, octets).ok_or(Refusal::BadFrame)?;
     let addr = address_of(view.base, seen.uplink.session);
     wants(down.goes_to(addr), Refusal::UnknownDevAddr)?;

@@ -46,7 +46,7 @@ pub enum Effect {
         reception: Reception,
     },
     /// Adds the reception at the gateway of the uplink with this number.
-    AddsCopy {
+    AddsReception {
         uplink: u64,
         gateway: Name,
         reception: Reception,

@@ -10,7 +10,7 @@ use crate::effects::Effect;
 use crate::facts::{Kind, Session};
 use crate::frames::{JoinRequest, join_at};
 use crate::messages::{JoinVerdict, Report};
-use crate::uplinks::{copy_added, is_time, original, reception_of, time_up, uplink_of};
+use crate::uplinks::{is_time, original, reception_added, reception_of, time_up, uplink_of};
 use crate::views::{UplinkView, View};
 use radio_core::{Band, band_of};
 
@@ -48,7 +48,7 @@ fn join_copied(report: &Report, seen: &UplinkView, view: &View) -> (Effect, Answ
         addr: address_of(view.base, seen.uplink.session),
         uplink: seen.number,
     };
-    (copy_added(seen, report), answer)
+    (reception_added(seen, report), answer)
 }
 
 /// Decides a join that isn't a copy: it makes a session with the next address.

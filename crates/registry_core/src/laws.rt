@@ -2,12 +2,12 @@
 ghost use Rattle.std.specs.Prelude.{ℕ, ◌<◌, ◌^◌, IfSome, get_or};
 ghost use Rattle.registry_core.specs.AdministrationLaws.{DevicesAddedAlone, DevicesAddedExactly, DevicesMovedAlone, DevicesMovedExactly, DownlinksEndedAlone, DownlinksEndedExactly, GatewaysAddedAlone, GatewaysAddedExactly, OwnersAddedAlone, OwnersAddedExactly, SendersAddedAlone, SendersAddedExactly};
 ghost use Rattle.registry_core.specs.AirtimeLaws.{BookingsAreDownlinks, UplinksAreReceived};
-ghost use Rattle.registry_core.specs.CopyLaws.{CopiesAddOneAtMost, CopiesStay};
+ghost use Rattle.registry_core.specs.ReceptionLaws.{CopiesAddOneAtMost, ReceptionsStay};
 ghost use Rattle.registry_core.specs.Counts.{FactsAreNoMoreThanMessages};
-ghost use Rattle.registry_core.specs.DownlinkLaws.{BookedExactly, CopiesLieInBands, DownlinksAreShort, DownlinksHaveBands, GatewaysSendOneAtATime, UplinksAreAnsweredOnce};
+ghost use Rattle.registry_core.specs.DownlinkLaws.{BookedExactly, DownlinksAreShort, DownlinksHaveBands, GatewaysSendOneAtATime, ReceptionsLieInBands, UplinksAreAnsweredOnce};
 ghost use Rattle.registry_core.specs.Fits.{DecisionsFit};
 ghost use Rattle.registry_core.specs.Heard.{FirstAnswersStay, HeardListsStay, NewNumbersAreDecided, NothingIsHeard, UsedNumbersAreRefused};
-ghost use Rattle.registry_core.specs.Laws.{AddressesAreApart, AddressesLieInBlock, CopiesBookNothing, CountersAgreeWithFrames, CountersRise, DataCopiesAreFound, JoinCopiesAreFound, NoncesRise, OperatorsKeepTheRegister, RefusalsChangeNothing, SendersStay, SessionsAreFound, SessionsHaveJoins, StepsRefuseByNumber, UplinksHaveCopies, UplinksHaveSessions, UplinksStay};
+ghost use Rattle.registry_core.specs.Laws.{AddressesAreApart, AddressesLieInBlock, CopiesBookNothing, CountersAgreeWithFrames, CountersRise, DataCopiesAreFound, JoinCopiesAreFound, NoncesRise, OperatorsKeepTheRegister, RefusalsChangeNothing, SendersStay, SessionsAreFound, SessionsHaveJoins, StepsRefuseByNumber, UplinksHaveReceptions, UplinksHaveSessions, UplinksStay};
 ghost use Rattle.registry_core.specs.LimitLaws.{LastLimitStands, LimitsAreWithin, OtherLimitsStay, SetExactly, SetLimitsStand};
 ghost use Rattle.registry_core.specs.NumberedLaws.{FirstIsFirst, GreatestIsMost, OneIsChanged};
 ghost use Rattle.registry_core.specs.Ranges.{IsEnvelope, IsMessage, IsName, IsOctets, IsReport, IsSettings};
@@ -127,9 +127,9 @@ pub fn sessions_have_joins()
 {}
 
 /// Whatever was heard, each uplink has a reception at some gateway.
-#[tactic(auto, using(crate::proofs::UplinkLaws::uplinks_have_copies))]
-pub fn uplinks_have_copies()
-    ensures { UplinksHaveCopies }
+#[tactic(auto, using(crate::proofs::UplinkLaws::uplinks_have_receptions))]
+pub fn uplinks_have_receptions()
+    ensures { UplinksHaveReceptions }
 {}
 
 /// No message changes an uplink that is booked.
@@ -140,16 +140,16 @@ pub fn uplinks_stay()
 
 /// Whatever was heard, a message that is answered as a copy adds no session and no uplink, and changes no booking. It is a report, and adds
 /// at most its gateway's reception of the uplink in the answer, if that gateway had none.
-#[tactic(auto, using(crate::proofs::CopyLaws::copies_book_nothing, crate::proofs::KeptCopies::copies_add_one_at_most))]
+#[tactic(auto, using(crate::proofs::ReceptionLaws::copies_book_nothing, crate::proofs::KeptReceptions::copies_add_one_at_most))]
 pub fn copies_book_nothing()
     ensures nothing { CopiesBookNothing }
     ensures copy { CopiesAddOneAtMost }
 {}
 
 /// Whatever was heard, no message changes a reception that is stored.
-#[tactic(auto, using(crate::proofs::KeptCopies::copies_stay))]
-pub fn copies_stay()
-    ensures { CopiesStay }
+#[tactic(auto, using(crate::proofs::KeptReceptions::receptions_stay))]
+pub fn receptions_stay()
+    ensures { ReceptionsStay }
 {}
 
 /// Whatever was heard, two gateways may report a frame in either order: the states after them differ only in which reception came first.
@@ -249,9 +249,9 @@ pub fn limits_are_within()
 {}
 
 /// Whatever was heard, each reception of an uplink is in a band.
-#[tactic(auto, using(crate::proofs::DownlinkLaws::copies_lie_in_bands))]
-pub fn copies_lie_in_bands()
-    ensures { CopiesLieInBands }
+#[tactic(auto, using(crate::proofs::DownlinkLaws::receptions_lie_in_bands))]
+pub fn receptions_lie_in_bands()
+    ensures { ReceptionsLieInBands }
 {}
 
 /// Whatever was heard, no downlink is refused for its band.

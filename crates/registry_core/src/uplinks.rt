@@ -2,7 +2,7 @@
 ghost use Rattle.std.specs.Prelude.{◌≡◌, ◌≤◌, length};
 ghost use Rattle.radio_core.specs.DataRates.{max_length};
 ghost use Rattle.registry_core.specs.steps.ByView.{original_by};
-ghost use Rattle.registry_core.specs.Uplinks.{is_time, reception_of, time_up, uplink_of, copy_added};
+ghost use Rattle.registry_core.specs.Uplinks.{is_time, reception_of, time_up, uplink_of, reception_added};
 
 use crate::effects::Effect;
 use crate::facts::{Kind, Reception, Uplink};
@@ -59,13 +59,13 @@ pub(crate) fn uplink_of(
 }
 
 /// Returns what a copy adds: its gateway's reception if that gateway has none of the uplink, and nothing else.
-pub(crate) fn copy_added(seen: &UplinkView, report: &Report) -> Effect
-    ensures { result ≡ copy_added seen.now.number seen.now.at_gateway report.now }
+pub(crate) fn reception_added(seen: &UplinkView, report: &Report) -> Effect
+    ensures { result ≡ reception_added seen.now.number seen.now.at_gateway report.now }
 {
     if seen.at_gateway.is_some() {
         return Effect::Nothing;
     }
-    Effect::AddsCopy {
+    Effect::AddsReception {
         uplink: seen.number,
         gateway: report.gateway,
         reception: reception_of(report),

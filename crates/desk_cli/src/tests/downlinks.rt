@@ -131,7 +131,7 @@ pub(super) static WORKED_DOWNLINKS: [Exchange; 14] = [
     Asks("office", 18, "DownDone", DROPPED_2, SUCCESS),
     Books("bridge", 19, Down { uplink: 2, window: 2, octets: DOWN_1, ..DOWN }, Booked(991_232, "B5", 3, 1_706_745_702_041_216)),
     Asks("bridge", 20, "DownDone", DROPPED_3, SUCCESS),
-    // the other gateway has its own copy, which ended later and was heard at another data rate; a later report of it changes nothing
+    // the other gateway has its own reception, which ended later and was heard at another data rate; a later report of it changes nothing
     Frames("bridge", 21, Heard { gateway: "gw-b", time: 1_706_745_700_041_225, freq: 868_300_000, ..HEARD }, Framed(41_216, "B3", true, 0, DEVICE_EUI, 2)),
     Books("bridge", 22, Down { uplink: 2, gateway: "gw-b", octets: DOWN_2, ..DOWN }, Booked(20_608, "B3", 4, 1_706_745_701_041_220)),
 ];

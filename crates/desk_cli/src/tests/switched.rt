@@ -223,8 +223,12 @@ impl<K: Keeper> Looks for Switched<K> {
     }
 
     #[tactic(auto, using(crate::proofs::Unsound::read_by))]
-    fn copy_at(&mut self, uplink: u64, gateway: &Name) -> Result<Option<Reception>, StoreFault> {
-        in_turn!(self, self.inner.copy_at(uplink, gateway))
+    fn reception_at(
+        &mut self,
+        uplink: u64,
+        gateway: &Name,
+    ) -> Result<Option<Reception>, StoreFault> {
+        in_turn!(self, self.inner.reception_at(uplink, gateway))
     }
 
     #[tactic(auto, using(crate::proofs::Unsound::read_by))]

@@ -6,7 +6,7 @@ use Rattle.std.specs.Option.{option_map_or}
 use Rattle.std.proofs.lemmas.Bool.{and_right, both_ways, ne_eqb}
 use Rattle.std.proofs.lemmas.List.{length-map, map-append}
 use Rattle.registry_core.specs.declared.effects.Effect.{Effect}
-use Rattle.registry_core.specs.declared.effects.Effect.TheVariants.{Nothing, AddsSender, AddsOwner, AddsGateway, AddsDevice, MovesDevice, AddsSession, AddsUplink, AddsCopy, AddsBooking, EndsBooking, SetsLimit}
+use Rattle.registry_core.specs.declared.effects.Effect.TheVariants.{Nothing, AddsSender, AddsOwner, AddsGateway, AddsDevice, MovesDevice, AddsSession, AddsUplink, AddsReception, AddsBooking, EndsBooking, SetsLimit}
 use Rattle.registry_core.specs.declared.facts.Booking.{Booking}
 use Rattle.registry_core.specs.declared.facts.Kind.TheVariants.{Join}
 use Rattle.registry_core.specs.declared.facts.Session.{Session}
@@ -18,7 +18,7 @@ use Rattle.registry_core.specs.Numbered.{greatest, item_at}
 use Rattle.registry_core.specs.State.{state_with}
 use Rattle.sqlite_keyed.specs.Lists.{update_where}
 use Rattle.desk_rows.specs.Rows.{Rows, DeviceRow, ReplyRow, SessionRow, is_device}
-use Rattle.desk_rows.specs.order.Changes.{RowsFollowFacts, booking_row, copy_row, device_row, kind_at, moved, raised, rows_with, sender_row, session_of_uplink, session_row, sessions_counted}
+use Rattle.desk_rows.specs.order.Changes.{RowsFollowFacts, booking_row, device_row, kind_at, moved, raised, reception_row, rows_with, sender_row, session_of_uplink, session_row, sessions_counted}
 use Rattle.desk_rows.specs.order.Facts.{bookings_in, facts_in, sessions_in}
 use Rattle.desk_rows.specs.order.RowsOf.{AnswersUplink, IsCounted, IsKeyed, IsOfSession, IsOfUplink, NamesRows, floor_of, is_data_from, same_join}
 use Rattle.desk_rows.proofs.OrderLemmas.Counters.{HasDowns, HasFloor, answers_ended, answers_new, answers_with, downs_with, floor_join, floor_session, floors_raised, kind_found, next_down_ended, next_down_kept, next_down_none, session_found}
@@ -26,9 +26,9 @@ use Rattle.desk_rows.proofs.OrderLemmas.Counting.{filter_none}
 use Rattle.desk_rows.proofs.OrderLemmas.Each.{all_at, all_map, all_so, all_with}
 use Rattle.desk_rows.proofs.OrderLemmas.Few.{few_with}
 use Rattle.desk_rows.proofs.OrderLemmas.Finding.{keys_changed}
-use Rattle.desk_rows.proofs.OrderLemmas.Keys.{copies_keyed, devices_with, named_once_with, senders_with, sessions_with}
+use Rattle.desk_rows.proofs.OrderLemmas.Keys.{devices_with, named_once_with, receptions_keyed, senders_with, sessions_with}
 use Rattle.desk_rows.proofs.OrderLemmas.Limits.{limits_keyed}
-use Rattle.desk_rows.proofs.OrderLemmas.Named.{HasDevice, copies_with, device_changed, device_with, session_kept, session_new, session_there}
+use Rattle.desk_rows.proofs.OrderLemmas.Named.{HasDevice, device_changed, device_with, receptions_with, session_kept, session_new, session_there}
 use Rattle.desk_rows.proofs.OrderLemmas.Numbering.{item_end, item_past, item_there, item_with}
 use Rattle.desk_rows.proofs.OrderLemmas.Telling.{counted_shown, device_found, facts_with, there_changed}
 
@@ -105,7 +105,7 @@ counted_with r (AddsSender name role) reply names fits counted =
     record { floors = counted.floors; next_downs = counted.next_downs; bookings = counted.bookings }
 counted_with r (AddsOwner name) reply names fits counted = record { floors = counted.floors; next_downs = counted.next_downs; bookings = counted.bookings }
 counted_with r (AddsGateway name) reply names fits counted = record { floors = counted.floors; next_downs = counted.next_downs; bookings = counted.bookings }
-counted_with r (AddsCopy number gateway reception) reply names fits counted =
+counted_with r (AddsReception number gateway reception) reply names fits counted =
     record { floors = counted.floors; next_downs = counted.next_downs; bookings = counted.bookings }
 counted_with r (AddsDevice dev_eui device) reply names fits counted = record {
   floors = all_with (HasFloor r.uplinks (sessions_in r.sessions)) r.devices (device_row dev_eui device) counted.floors (no_floor r names dev_eui fits.0);
@@ -144,27 +144,27 @@ counted_with r (SetsLimit gateway limit) reply names fits counted =
 -- ---- what rows name
 
 names_with : (r : Rows) (effect : Effect) (reply : ReplyRow) → Fits effect (facts_in r) → NamesRows r → NamesRows (rows_with effect reply r)
-names_with r Nothing reply fits names = record { sessions = names.sessions; uplinks = names.uplinks; copies = names.copies }
-names_with r (AddsSender name role) reply fits names = record { sessions = names.sessions; uplinks = names.uplinks; copies = names.copies }
-names_with r (AddsOwner name) reply fits names = record { sessions = names.sessions; uplinks = names.uplinks; copies = names.copies }
-names_with r (AddsGateway name) reply fits names = record { sessions = names.sessions; uplinks = names.uplinks; copies = names.copies }
-names_with r (AddsCopy number gateway reception) reply fits names = record {
+names_with r Nothing reply fits names = record { sessions = names.sessions; uplinks = names.uplinks; receptions = names.receptions }
+names_with r (AddsSender name role) reply fits names = record { sessions = names.sessions; uplinks = names.uplinks; receptions = names.receptions }
+names_with r (AddsOwner name) reply fits names = record { sessions = names.sessions; uplinks = names.uplinks; receptions = names.receptions }
+names_with r (AddsGateway name) reply fits names = record { sessions = names.sessions; uplinks = names.uplinks; receptions = names.receptions }
+names_with r (AddsReception number gateway reception) reply fits names = record {
   sessions = names.sessions;
   uplinks = names.uplinks;
-  copies = all_with (IsOfUplink r.uplinks) r.copies (copy_row number gateway reception) names.copies fits.uplink;
+  receptions = all_with (IsOfUplink r.uplinks) r.receptions (reception_row number gateway reception) names.receptions fits.uplink;
 }
-names_with r (EndsBooking number sent) reply fits names = record { sessions = names.sessions; uplinks = names.uplinks; copies = names.copies }
-names_with r (SetsLimit gateway limit) reply fits names = record { sessions = names.sessions; uplinks = names.uplinks; copies = names.copies }
+names_with r (EndsBooking number sent) reply fits names = record { sessions = names.sessions; uplinks = names.uplinks; receptions = names.receptions }
+names_with r (SetsLimit gateway limit) reply fits names = record { sessions = names.sessions; uplinks = names.uplinks; receptions = names.receptions }
 names_with r (AddsDevice dev_eui device) reply fits names =
     record {
       sessions = device_with r.devices (device_row dev_eui device ∷ []) (sessions_in r.sessions) names.sessions;
       uplinks = names.uplinks;
-      copies = names.copies;
+      receptions = names.receptions;
     }
 names_with r (MovesDevice dev_eui owner) reply fits names = record {
   sessions = device_changed r.devices _ (there_changed (is_device dev_eui) (moved owner) (λ d. refl) r.devices) (sessions_in r.sessions) names.sessions;
   uplinks = names.uplinks;
-  copies = names.copies;
+  receptions = names.receptions;
 }
 names_with r (AddsSession session uplink gateway reception) reply fits names =
     let more = sym (sessions_more r.sessions session) in
@@ -175,7 +175,7 @@ names_with r (AddsSession session uplink gateway reception) reply fits names =
           (all_with (IsOfSession (old ++ session ∷ [])) r.uplinks uplink
           (all_so (IsOfSession old) (IsOfSession (old ++ session ∷ [])) (session_kept old (session ∷ [])) r.uplinks names.uplinks)
           (session_new old session uplink (length old + 1) fits.number (item_end old session) fits.counter));
-      copies = copies_with r.uplinks uplink r.copies gateway reception names.copies;
+      receptions = receptions_with r.uplinks uplink r.receptions gateway reception names.receptions;
     }
 names_with r (AddsUplink uplink gateway reception) reply fits names = record {
   sessions = device_changed r.devices _
@@ -183,27 +183,27 @@ names_with r (AddsUplink uplink gateway reception) reply fits names = record {
       (sessions_in r.sessions) names.sessions;
   uplinks = all_with (IsOfSession (sessions_in r.sessions)) r.uplinks uplink names.uplinks
       (session_there (sessions_in r.sessions) uplink (item_at (sessions_in r.sessions) uplink.session) refl fits.session fits.kind);
-  copies = copies_with r.uplinks uplink r.copies gateway reception names.copies;
+  receptions = receptions_with r.uplinks uplink r.receptions gateway reception names.receptions;
 }
 names_with r (AddsBooking booking) reply fits names =
     let same = counted_shown (kind_at r.uplinks booking.uplink) (session_of_uplink r.uplinks booking.uplink) r.sessions in
     record {
       sessions = subst (AllByRecursion (HasDevice r.devices)) same names.sessions;
       uplinks = subst (λ sessions. AllByRecursion (IsOfSession sessions) r.uplinks) same names.uplinks;
-      copies = names.copies;
+      receptions = names.receptions;
     }
 
 -- ---- keys
 
 keyed_with : (r : Rows) (effect : Effect) (reply : ReplyRow) → Fits effect (facts_in r) → IsKeyed r → IsKeyed (rows_with effect reply r)
-keyed_with r Nothing reply fits keyed = record { senders = keyed.senders; owners = keyed.owners; gateways = keyed.gateways; devices = keyed.devices; sessions = keyed.sessions; copies = keyed.copies; limits = keyed.limits }
+keyed_with r Nothing reply fits keyed = record { senders = keyed.senders; owners = keyed.owners; gateways = keyed.gateways; devices = keyed.devices; sessions = keyed.sessions; receptions = keyed.receptions; limits = keyed.limits }
 keyed_with r (AddsSender name role) reply fits keyed = record {
   senders = senders_with r.senders (sender_row name role) fits keyed.senders;
   owners = keyed.owners;
   gateways = keyed.gateways;
   devices = keyed.devices;
   sessions = keyed.sessions;
-  copies = keyed.copies;
+  receptions = keyed.receptions;
   limits = keyed.limits;
 }
 keyed_with r (AddsOwner name) reply fits keyed = record {
@@ -212,7 +212,7 @@ keyed_with r (AddsOwner name) reply fits keyed = record {
   gateways = keyed.gateways;
   devices = keyed.devices;
   sessions = keyed.sessions;
-  copies = keyed.copies;
+  receptions = keyed.receptions;
   limits = keyed.limits;
 }
 keyed_with r (AddsGateway name) reply fits keyed = record {
@@ -221,26 +221,26 @@ keyed_with r (AddsGateway name) reply fits keyed = record {
   gateways = named_once_with r.gateways name fits keyed.gateways;
   devices = keyed.devices;
   sessions = keyed.sessions;
-  copies = keyed.copies;
+  receptions = keyed.receptions;
   limits = keyed.limits;
 }
-keyed_with r (AddsCopy number gateway reception) reply fits keyed = record {
+keyed_with r (AddsReception number gateway reception) reply fits keyed = record {
   senders = keyed.senders;
   owners = keyed.owners;
   gateways = keyed.gateways;
   devices = keyed.devices;
   sessions = keyed.sessions;
-  copies = copies_keyed r.copies (copy_row number gateway reception) fits.no_copy keyed.copies;
+  receptions = receptions_keyed r.receptions (reception_row number gateway reception) fits.no_reception keyed.receptions;
   limits = keyed.limits;
 }
-keyed_with r (EndsBooking number sent) reply fits keyed = record { senders = keyed.senders; owners = keyed.owners; gateways = keyed.gateways; devices = keyed.devices; sessions = keyed.sessions; copies = keyed.copies; limits = keyed.limits }
+keyed_with r (EndsBooking number sent) reply fits keyed = record { senders = keyed.senders; owners = keyed.owners; gateways = keyed.gateways; devices = keyed.devices; sessions = keyed.sessions; receptions = keyed.receptions; limits = keyed.limits }
 keyed_with r (AddsDevice dev_eui device) reply fits keyed = record {
   senders = keyed.senders;
   owners = keyed.owners;
   gateways = keyed.gateways;
   devices = devices_with r.devices (device_row dev_eui device) fits.0 keyed.devices;
   sessions = keyed.sessions;
-  copies = keyed.copies;
+  receptions = keyed.receptions;
   limits = keyed.limits;
 }
 keyed_with r (MovesDevice dev_eui owner) reply fits keyed = record {
@@ -249,7 +249,7 @@ keyed_with r (MovesDevice dev_eui owner) reply fits keyed = record {
   gateways = keyed.gateways;
   devices = subst (IsDistinct nat_eq) (keys_changed (λ (d : DeviceRow). d.dev_eui) (is_device dev_eui) (moved owner) (λ d. refl) r.devices) keyed.devices;
   sessions = keyed.sessions;
-  copies = keyed.copies;
+  receptions = keyed.receptions;
   limits = keyed.limits;
 }
 keyed_with r (AddsSession session uplink gateway reception) reply fits keyed = record {
@@ -258,7 +258,7 @@ keyed_with r (AddsSession session uplink gateway reception) reply fits keyed = r
   gateways = keyed.gateways;
   devices = keyed.devices;
   sessions = subst (IsDistinct same_join) (sym (sessions_more r.sessions session)) (sessions_with (sessions_in r.sessions) session fits.nonce keyed.sessions);
-  copies = copies_keyed r.copies (copy_row (length r.uplinks + 1) gateway reception) fits.no_copy keyed.copies;
+  receptions = receptions_keyed r.receptions (reception_row (length r.uplinks + 1) gateway reception) fits.no_reception keyed.receptions;
   limits = keyed.limits;
 }
 keyed_with r (AddsUplink uplink gateway reception) reply fits keyed = record {
@@ -268,7 +268,7 @@ keyed_with r (AddsUplink uplink gateway reception) reply fits keyed = record {
   devices = subst (IsDistinct nat_eq)
       (keys_changed (λ (d : DeviceRow). d.dev_eui) (λ d. is_of_device (sessions_in r.sessions) d.dev_eui uplink.session) (raised uplink.session) (λ d. refl) r.devices) keyed.devices;
   sessions = keyed.sessions;
-  copies = copies_keyed r.copies (copy_row (length r.uplinks + 1) gateway reception) fits.no_copy keyed.copies;
+  receptions = receptions_keyed r.receptions (reception_row (length r.uplinks + 1) gateway reception) fits.no_reception keyed.receptions;
   limits = keyed.limits;
 }
 keyed_with r (AddsBooking booking) reply fits keyed = record {
@@ -277,7 +277,7 @@ keyed_with r (AddsBooking booking) reply fits keyed = record {
   gateways = keyed.gateways;
   devices = keyed.devices;
   sessions = subst (IsDistinct same_join) (counted_shown (kind_at r.uplinks booking.uplink) (session_of_uplink r.uplinks booking.uplink) r.sessions) keyed.sessions;
-  copies = keyed.copies;
+  receptions = keyed.receptions;
   limits = keyed.limits;
 }
 keyed_with r (SetsLimit gateway limit) reply fits keyed = record {
@@ -286,7 +286,7 @@ keyed_with r (SetsLimit gateway limit) reply fits keyed = record {
   gateways = keyed.gateways;
   devices = keyed.devices;
   sessions = keyed.sessions;
-  copies = keyed.copies;
+  receptions = keyed.receptions;
   limits = limits_keyed r.limits gateway limit keyed.limits;
 }
 
@@ -297,7 +297,7 @@ settings_with r Nothing reply = refl
 settings_with r (AddsSender name role) reply = refl
 settings_with r (AddsOwner name) reply = refl
 settings_with r (AddsGateway name) reply = refl
-settings_with r (AddsCopy number gateway reception) reply = refl
+settings_with r (AddsReception number gateway reception) reply = refl
 settings_with r (AddsDevice dev_eui device) reply = refl
 settings_with r (MovesDevice dev_eui owner) reply = refl
 settings_with r (AddsSession session uplink gateway reception) reply = refl

@@ -5,7 +5,7 @@ use Rattle.std.specs.List.{AllByRecursion, list_any}
 use Rattle.std.proofs.lemmas.Bool.{and_left, and_right, ne_eqb, or_from}
 use Rattle.radio_core.specs.Bands.{band_number}
 use Rattle.registry_core.specs.declared.effects.Effect.{Effect}
-use Rattle.registry_core.specs.declared.effects.Effect.TheVariants.{Nothing, AddsSender, AddsOwner, AddsGateway, AddsDevice, MovesDevice, AddsSession, AddsUplink, AddsCopy, AddsBooking, EndsBooking, SetsLimit}
+use Rattle.registry_core.specs.declared.effects.Effect.TheVariants.{Nothing, AddsSender, AddsOwner, AddsGateway, AddsDevice, MovesDevice, AddsSession, AddsUplink, AddsReception, AddsBooking, EndsBooking, SetsLimit}
 use Rattle.registry_core.specs.declared.facts.Kind.{Kind}
 use Rattle.registry_core.specs.declared.facts.Kind.TheVariants.{Join, Data}
 use Rattle.registry_core.specs.declared.facts.Session.{Session}
@@ -13,7 +13,7 @@ use Rattle.registry_core.specs.declared.facts.Uplink.{Uplink}
 use Rattle.registry_core.specs.Derived.{is_above, is_data, is_data_of, last_counter}
 use Rattle.registry_core.specs.Fits.{Fits}
 use Rattle.registry_core.specs.Heard.{most_heard}
-use Rattle.desk_rows.specs.Rows.{Rows, CopyRow, DeviceRow, LimitRow, SenderRow, SessionRow, kind_number, is_copy, is_device, is_limit, is_sender_named, is_uplink}
+use Rattle.desk_rows.specs.Rows.{Rows, ReceptionRow, DeviceRow, LimitRow, SenderRow, SessionRow, kind_number, is_reception, is_device, is_limit, is_sender_named, is_uplink}
 use Rattle.desk_rows.specs.order.Facts.{facts_in, sessions_in}
 use Rattle.desk_rows.specs.order.Keys.{HasRowid, IsFreeFor, KeysAreFree}
 use Rattle.desk_rows.specs.order.RowsOf.{IsFew, IsOfSession, same_join}
@@ -90,8 +90,8 @@ free_for r (AddsSession session uplink gateway reception) named few fits below =
     room = room r.uplinks r.replies (omega (arith, few.uplinks)) below;
   },
   record {
-    key = none_has (λ (c : CopyRow). c.reception) (is_copy (length r.uplinks + 1) gateway) r.copies fits.no_copy;
-    room = room r.copies r.replies (omega (arith, few.copies)) below;
+    key = none_has (λ (c : ReceptionRow). c.reception) (is_reception (length r.uplinks + 1) gateway) r.receptions fits.no_reception;
+    room = room r.receptions r.replies (omega (arith, few.receptions)) below;
   },
 )
 free_for r (AddsUplink uplink gateway reception) named few fits below = (
@@ -101,13 +101,13 @@ free_for r (AddsUplink uplink gateway reception) named few fits below = (
     room = room r.uplinks r.replies (omega (arith, few.uplinks)) below;
   },
   record {
-    key = none_has (λ (c : CopyRow). c.reception) (is_copy (length r.uplinks + 1) gateway) r.copies fits.no_copy;
-    room = room r.copies r.replies (omega (arith, few.copies)) below;
+    key = none_has (λ (c : ReceptionRow). c.reception) (is_reception (length r.uplinks + 1) gateway) r.receptions fits.no_reception;
+    room = room r.receptions r.replies (omega (arith, few.receptions)) below;
   },
 )
-free_for r (AddsCopy number gateway reception) named few fits below = record {
-  key = none_has (λ (c : CopyRow). c.reception) (is_copy number gateway) r.copies fits.no_copy;
-  room = room r.copies r.replies (omega (arith, few.copies)) below;
+free_for r (AddsReception number gateway reception) named few fits below = record {
+  key = none_has (λ (c : ReceptionRow). c.reception) (is_reception number gateway) r.receptions fits.no_reception;
+  room = room r.receptions r.replies (omega (arith, few.receptions)) below;
 }
 free_for r (AddsBooking booking) named few fits below = room r.bookings r.replies (omega (arith, few.bookings)) below
 free_for r (EndsBooking number sent) named few fits below = tt

@@ -6,9 +6,9 @@ use Rattle.std.proofs.lemmas.Bool.{and_right, ne_eqb}
 use Rattle.std.proofs.lemmas.List.{map-append}
 use Rattle.registry_core.specs.declared.facts.Session.{Session}
 use Rattle.registry_core.specs.Derived.{is_above, is_session_of, last_nonce}
-use Rattle.desk_rows.specs.Rows.{CopyRow, DeviceRow, SenderRow, is_copy, is_device, is_sender_named}
+use Rattle.desk_rows.specs.Rows.{DeviceRow, ReceptionRow, SenderRow, is_device, is_reception, is_sender_named}
 use Rattle.desk_rows.specs.order.Facts.{is_name_row}
-use Rattle.desk_rows.specs.order.RowsOf.{copy_key, same_copy, same_join}
+use Rattle.desk_rows.specs.order.RowsOf.{reception_key, same_join, same_reception}
 use Rattle.desk_rows.proofs.OrderLemmas.Counting.{above_each}
 use Rattle.desk_rows.proofs.OrderLemmas.Each.{all_map, all_so, distinct_with, none_found, none_of}
 use Rattle.desk_rows.proofs.OrderLemmas.Finding.{none_shown}
@@ -40,13 +40,13 @@ devices_with devices new free apart =
     (all_map (λ d. is_device new.dev_eui d ≡ false) (λ n. nat_eq n new.dev_eui ≡ false) (λ (d : DeviceRow). d.dev_eui) (λ d no. no) devices
     (none_found (is_device new.dev_eui) devices (none_shown (λ (d : DeviceRow). d.device) _ free))))
 
-pub copies_keyed : (copies : List CopyRow) (new : CopyRow) → option_map (λ (c : CopyRow). c.reception) (find (is_copy new.uplink new.gateway) copies) ≡ None
-    → IsDistinct same_copy (map copy_key copies) → IsDistinct same_copy (map copy_key (copies ++ new ∷ []))
-copies_keyed copies new free apart =
-    subst (IsDistinct same_copy) (sym (map-append copy_key copies (new ∷ [])))
-    (distinct_with same_copy (map copy_key copies) (copy_key new) apart
-    (all_map (λ c. is_copy new.uplink new.gateway c ≡ false) (λ key. same_copy key (copy_key new) ≡ false) copy_key (λ c no. no) copies
-    (none_found (is_copy new.uplink new.gateway) copies (none_shown (λ (c : CopyRow). c.reception) _ free))))
+pub receptions_keyed : (receptions : List ReceptionRow) (new : ReceptionRow) → option_map (λ (c : ReceptionRow). c.reception) (find (is_reception new.uplink new.gateway) receptions) ≡ None
+    → IsDistinct same_reception (map reception_key receptions) → IsDistinct same_reception (map reception_key (receptions ++ new ∷ []))
+receptions_keyed receptions new free apart =
+    subst (IsDistinct same_reception) (sym (map-append reception_key receptions (new ∷ [])))
+    (distinct_with same_reception (map reception_key receptions) (reception_key new) apart
+    (all_map (λ c. is_reception new.uplink new.gateway c ≡ false) (λ key. same_reception key (reception_key new) ≡ false) reception_key (λ c no. no) receptions
+    (none_found (is_reception new.uplink new.gateway) receptions (none_shown (λ (c : ReceptionRow). c.reception) _ free))))
 
 -- a session of the device with the nonce isn't there, where the nonce is above the last
 module _ (sessions : List Session) (new : Session) (above : IsTrue (is_above new.nonce (last_nonce sessions new.device))) where

@@ -11,11 +11,11 @@ use Rattle.std.proofs.lemmas.Map.Text.{is_eq-slice_cmp}
 use Rattle.registry_core.specs.Listing.{AreNames, AreNumbersByStart, booking_start, is_booking_from, uplink_start}
 use Rattle.registry_core.specs.Ranges.{IsEui}
 use Rattle.sqlite_keyed.proofs.SliceLemmas.{any_is_found}
-use Rattle.desk_rows.specs.Rows.{BookingRow, CopyRow, DeviceRow, SenderRow, is_copy, is_device, is_sender_named}
+use Rattle.desk_rows.specs.Rows.{BookingRow, DeviceRow, ReceptionRow, SenderRow, is_device, is_reception, is_sender_named}
 use Rattle.desk_rows.specs.order.Arranged.{booking_span, by_eui, is_uplink_between}
-use Rattle.desk_rows.specs.order.Listed.{AreListed, ListedRowsTell, by_name, is_copy_of, listed, uplinks_listed}
+use Rattle.desk_rows.specs.order.Listed.{AreListed, ListedRowsTell, by_name, is_reception_of, listed, uplinks_listed}
 use Rattle.desk_rows.specs.order.LookUps.{rows_by, zip_from}
-use Rattle.desk_rows.specs.order.RowsOf.{copy_key, same_copy}
+use Rattle.desk_rows.specs.order.RowsOf.{reception_key, same_reception}
 use Rattle.desk_rows.proofs.Ordered.{every, some_map, zip_all}
 use Rattle.desk_rows.proofs.OrderLemmas.Arranging.{between_rows}
 use Rattle.desk_rows.proofs.OrderLemmas.Each.{EachTwo, all_kept, all_map, all_passing, all_shown, all_so}
@@ -101,21 +101,21 @@ module _ {X : Type 0} (name : X → List ℕ) where
 of_one_uplink : (n a b : ℕ) (t : Bool) → (a == n) ≡ true → (b == n) ≡ true → (a == b && t) ≡ false → t ≡ false
 of_one_uplink n a b t is of apart = sym (ap (λ s. s && t) (eq-eqb a b (eqb-true a n is ∙ sym (eqb-true b n of)))) ∙ apart
 
-gateways_apart : (n : ℕ) (copies : List CopyRow) → IsDistinct same_copy (map copy_key copies)
-    → IsDistinct bytes_eq (map (λ (c : CopyRow). c.gateway) (filter (is_copy_of n) copies))
+gateways_apart : (n : ℕ) (receptions : List ReceptionRow) → IsDistinct same_reception (map reception_key receptions)
+    → IsDistinct bytes_eq (map (λ (c : ReceptionRow). c.gateway) (filter (is_reception_of n) receptions))
 unfolding IsDistinct
 gateways_apart n [] apart = tt
-gateways_apart n (c ∷ copies) apart = by (is_copy_of n c) refl (gateways_apart n copies apart.1)
+gateways_apart n (c ∷ receptions) apart = by (is_reception_of n c) refl (gateways_apart n receptions apart.1)
   where
-    by : (b : Bool) → is_copy_of n c ≡ b → IsDistinct bytes_eq (map (λ (c : CopyRow). c.gateway) (filter (is_copy_of n) copies))
-        → IsDistinct bytes_eq (map (λ (c : CopyRow). c.gateway) (cond b (c ∷ filter (is_copy_of n) copies) (filter (is_copy_of n) copies)))
+    by : (b : Bool) → is_reception_of n c ≡ b → IsDistinct bytes_eq (map (λ (c : ReceptionRow). c.gateway) (filter (is_reception_of n) receptions))
+        → IsDistinct bytes_eq (map (λ (c : ReceptionRow). c.gateway) (cond b (c ∷ filter (is_reception_of n) receptions) (filter (is_reception_of n) receptions)))
     by true is rest = (
-      all_map (λ (d : CopyRow). bytes_eq c.gateway d.gateway ≡ false) (λ name. bytes_eq c.gateway name ≡ false) (λ (d : CopyRow). d.gateway) (λ d no. no)
-          (filter (is_copy_of n) copies)
-          (all_kept (λ (d : CopyRow). bytes_eq c.gateway d.gateway ≡ false) (is_copy_of n) copies
-          (all_so (λ d. same_copy (copy_key c) (copy_key d) ≡ false) (λ d. is_copy_of n d ≡ true → bytes_eq c.gateway d.gateway ≡ false)
-          (λ d apart of. of_one_uplink n c.uplink d.uplink (bytes_eq c.gateway d.gateway) is of apart) copies
-          (all_shown copy_key (λ key. same_copy (copy_key c) key ≡ false) copies apart.0))),
+      all_map (λ (d : ReceptionRow). bytes_eq c.gateway d.gateway ≡ false) (λ name. bytes_eq c.gateway name ≡ false) (λ (d : ReceptionRow). d.gateway) (λ d no. no)
+          (filter (is_reception_of n) receptions)
+          (all_kept (λ (d : ReceptionRow). bytes_eq c.gateway d.gateway ≡ false) (is_reception_of n) receptions
+          (all_so (λ d. same_reception (reception_key c) (reception_key d) ≡ false) (λ d. is_reception_of n d ≡ true → bytes_eq c.gateway d.gateway ≡ false)
+          (λ d apart of. of_one_uplink n c.uplink d.uplink (bytes_eq c.gateway d.gateway) is of apart) receptions
+          (all_shown reception_key (λ key. same_reception (reception_key c) key ≡ false) receptions apart.0))),
       rest,
     )
     by false is rest = rest
@@ -171,8 +171,8 @@ listed_rows_tell c facts r are = subst (λ s. AreListed s r) (sym are.is) (recor
     each = λ dev_eui. any_listed (λ (d : DeviceRow). d.dev_eui) by_eui (λ d. true) (λ other. other == dev_eui) r.devices
         ∙ any_is_found (is_device dev_eui) r.devices ∙ sym (some_map (λ (d : DeviceRow). d.device) _);
   };
-  receptions = λ uplink. names_passing (λ (c : CopyRow). c.gateway) (is_copy_of uplink) r.copies _ (gateways_apart uplink r.copies are.keyed.copies)
-      (λ gateway. any_is_found (is_copy uplink gateway) r.copies ∙ sym (some_map (λ (c : CopyRow). c.reception) _));
+  receptions = λ uplink. names_passing (λ (c : ReceptionRow). c.gateway) (is_reception_of uplink) r.receptions _ (gateways_apart uplink r.receptions are.keyed.receptions)
+      (λ gateway. any_is_found (is_reception uplink gateway) r.receptions ∙ sym (some_map (λ (c : ReceptionRow). c.reception) _));
   uplinks = λ dev_eui from to. subst (λ test. AreNumbersByStart uplink_start test r.uplinks (uplinks_listed dev_eui from to r))
       (λ i u. between_rows r.sessions dev_eui from to u i) (numbers_by_start uplink_start (is_uplink_between r.sessions dev_eui from to) r.uplinks);
   bookings = λ gateway from to. items_by_start (λ (b : BookingRow). b.booking) booking_start (is_booking_from gateway from to) r.bookings _

@@ -7,8 +7,8 @@ use Rattle.registry_core.specs.declared.facts.Reception.{Reception}
 use Rattle.registry_core.specs.declared.facts.Session.{Session}
 use Rattle.registry_core.specs.declared.facts.Uplink.{Uplink}
 use Rattle.registry_core.specs.Numbered.{item_at}
-use Rattle.desk_rows.specs.Rows.{CopyRow, DeviceRow}
-use Rattle.desk_rows.specs.order.Changes.{copy_row}
+use Rattle.desk_rows.specs.Rows.{DeviceRow, ReceptionRow}
+use Rattle.desk_rows.specs.order.Changes.{reception_row}
 use Rattle.desk_rows.specs.order.RowsOf.{IsOfSession, IsOfUplink}
 use Rattle.desk_rows.proofs.OrderLemmas.Each.{all_so, all_with}
 use Rattle.desk_rows.proofs.OrderLemmas.Numbering.{item_end, item_kept}
@@ -50,17 +50,17 @@ session_there sessions u (Some s) at some is = record { session = s; there = at;
 
 -- ---- uplinks of copies
 
-uplink_kept : (uplinks more : List Uplink) (copy : CopyRow) (found : Option Uplink) → item_at uplinks copy.uplink ≡ found → is_some found ≡ true
-    → IsOfUplink (uplinks ++ more) copy
-uplink_kept uplinks more copy None at some = let none : is_some {T = Uplink} None ≡ true = some in cc
-uplink_kept uplinks more copy (Some u) at some = ap is_some (item_kept uplinks more copy.uplink u at)
+uplink_kept : (uplinks more : List Uplink) (row : ReceptionRow) (found : Option Uplink) → item_at uplinks row.uplink ≡ found → is_some found ≡ true
+    → IsOfUplink (uplinks ++ more) row
+uplink_kept uplinks more row None at some = let none : is_some {T = Uplink} None ≡ true = some in cc
+uplink_kept uplinks more row (Some u) at some = ap is_some (item_kept uplinks more row.uplink u at)
 
--- one uplink more, with its first copy
-pub copies_with : (uplinks : List Uplink) (uplink : Uplink) (copies : List CopyRow) (gateway : List ℕ) (reception : Reception)
-    → AllByRecursion (IsOfUplink uplinks) copies
-    → AllByRecursion (IsOfUplink (uplinks ++ uplink ∷ [])) (copies ++ copy_row (length uplinks + 1) gateway reception ∷ [])
-copies_with uplinks uplink copies gateway reception each =
-    all_with (IsOfUplink (uplinks ++ uplink ∷ [])) copies (copy_row (length uplinks + 1) gateway reception)
+-- one uplink more, with its first reception
+pub receptions_with : (uplinks : List Uplink) (uplink : Uplink) (receptions : List ReceptionRow) (gateway : List ℕ) (reception : Reception)
+    → AllByRecursion (IsOfUplink uplinks) receptions
+    → AllByRecursion (IsOfUplink (uplinks ++ uplink ∷ [])) (receptions ++ reception_row (length uplinks + 1) gateway reception ∷ [])
+receptions_with uplinks uplink receptions gateway reception each =
+    all_with (IsOfUplink (uplinks ++ uplink ∷ [])) receptions (reception_row (length uplinks + 1) gateway reception)
     (all_so (IsOfUplink uplinks) (IsOfUplink (uplinks ++ uplink ∷ []))
-    (λ copy there. uplink_kept uplinks (uplink ∷ []) copy (item_at uplinks copy.uplink) refl there) copies each)
+    (λ row there. uplink_kept uplinks (uplink ∷ []) row (item_at uplinks row.uplink) refl there) receptions each)
     (ap is_some (item_end uplinks uplink))

@@ -24,9 +24,9 @@ opening_tells c = record {
         ∙ one_sender c.operator name (bytes_eq c.operator name)) i;
   };
   counted = record { floors = tt; next_downs = λ n s at. absurd (none_at n s at); bookings = tt };
-  names = record { sessions = tt; uplinks = tt; copies = tt };
-  keyed = record { senders = (tt, tt); owners = tt; gateways = tt; devices = tt; sessions = tt; copies = tt; limits = tt };
-  few = record { senders = omega arith; owners = omega arith; gateways = omega arith; devices = omega arith; sessions = omega arith; uplinks = omega arith; copies = omega arith; bookings = omega arith; limits = omega arith };
+  names = record { sessions = tt; uplinks = tt; receptions = tt };
+  keyed = record { senders = (tt, tt); owners = tt; gateways = tt; devices = tt; sessions = tt; receptions = tt; limits = tt };
+  few = record { senders = omega arith; owners = omega arith; gateways = omega arith; devices = omega arith; sessions = omega arith; uplinks = omega arith; receptions = omega arith; bookings = omega arith; limits = omega arith };
 }
   where
     none_at : (n : ℕ) (s : SessionRow) → item_at (opening_rows c).sessions n ≡ Some s → ⊥

@@ -9,7 +9,7 @@ use Rattle.std.proofs.lemmas.List.{map-append}
 use Rattle.std.proofs.lemmas.List.Folds.{list_any-append}
 use Rattle.std.proofs.lemmas.Slice.Eq.{bytes_eq-Decides}
 use Rattle.registry_core.specs.declared.effects.Effect.{Effect}
-use Rattle.registry_core.specs.declared.effects.Effect.TheVariants.{Nothing, AddsSender, AddsOwner, AddsGateway, AddsDevice, MovesDevice, AddsSession, AddsUplink, AddsCopy, AddsBooking, EndsBooking, SetsLimit}
+use Rattle.registry_core.specs.declared.effects.Effect.TheVariants.{Nothing, AddsSender, AddsOwner, AddsGateway, AddsDevice, MovesDevice, AddsSession, AddsUplink, AddsReception, AddsBooking, EndsBooking, SetsLimit}
 use Rattle.registry_core.specs.declared.facts.Device.{Device}
 use Rattle.registry_core.specs.declared.facts.Kind.{Kind}
 use Rattle.registry_core.specs.declared.facts.Kind.TheVariants.{Join, Data}
@@ -17,10 +17,10 @@ use Rattle.registry_core.specs.declared.facts.Reception.{Reception}
 use Rattle.registry_core.specs.declared.messages.Role.{Role}
 use Rattle.registry_core.specs.Derived.{is_of_device}
 use Rattle.registry_core.specs.Fits.{Fits}
-use Rattle.registry_core.specs.State.{at_name, at_number, copies_with, devices_with_move, ended, owned_by, state_with}
+use Rattle.registry_core.specs.State.{at_name, at_number, devices_with_move, ended, owned_by, receptions_with, state_with}
 use Rattle.sqlite_keyed.specs.Lists.{update_where}
-use Rattle.desk_rows.specs.Rows.{Rows, SenderRow, ReplyRow, DeviceRow, SessionRow, CopyRow, BookingRow, is_copy, is_device, is_sender_named}
-use Rattle.desk_rows.specs.order.Changes.{booking_row, copy_row, counted_down, device_row, ended_row, kind_at, moved, raised, rows_with, sender_row, session_of_uplink, session_row, sessions_counted}
+use Rattle.desk_rows.specs.Rows.{Rows, SenderRow, ReplyRow, DeviceRow, SessionRow, ReceptionRow, BookingRow, is_reception, is_device, is_sender_named}
+use Rattle.desk_rows.specs.order.Changes.{booking_row, counted_down, device_row, ended_row, kind_at, moved, raised, reception_row, rows_with, sender_row, session_of_uplink, session_row, sessions_counted}
 use Rattle.desk_rows.specs.order.Facts.{facts_in, is_name_row, sessions_in}
 use Rattle.desk_rows.proofs.OrderLemmas.Finding.{find-map, found_passes, key_by, none_shown, shown_with}
 use Rattle.desk_rows.proofs.OrderLemmas.Limits.{limit_with}
@@ -131,25 +131,25 @@ raised_with test number devices other =
 
 -- ---- copies
 
-abbrev copy_found : List CopyRow → ℕ → List ℕ → Option Reception
-copy_found copies number gateway = option_map (λ (c : CopyRow). c.reception) (find (is_copy number gateway) copies)
+abbrev reception_found : List ReceptionRow → ℕ → List ℕ → Option Reception
+reception_found receptions number gateway = option_map (λ (c : ReceptionRow). c.reception) (find (is_reception number gateway) receptions)
 
-copy_key : (copies : ℕ → List ℕ → Option Reception) (number : ℕ) (gateway : List ℕ) (reception : Reception) (n : ℕ) (at : List ℕ) (b : Bool)
+reception_key : (receptions : ℕ → List ℕ → Option Reception) (number : ℕ) (gateway : List ℕ) (reception : Reception) (n : ℕ) (at : List ℕ) (b : Bool)
     → (n == number) ≡ b
-    → cond (number == n && bytes_eq gateway at) (Some reception) (copies n at) ≡ copies_with copies number gateway reception n at
-copy_key copies number gateway reception n at true is = rw (eqb-true n number is, eq-eqb number number refl)
-    (ap (λ b. cond b (Some reception) (copies number at)) (nat_list_eq_equiv.symm gateway at))
-copy_key copies number gateway reception n at false is = rw (nat_eq_equiv.symm number n, is) refl
+    → cond (number == n && bytes_eq gateway at) (Some reception) (receptions n at) ≡ receptions_with receptions number gateway reception n at
+reception_key receptions number gateway reception n at true is = rw (eqb-true n number is, eq-eqb number number refl)
+    (ap (λ b. cond b (Some reception) (receptions number at)) (nat_list_eq_equiv.symm gateway at))
+reception_key receptions number gateway reception n at false is = rw (nat_eq_equiv.symm number n, is) refl
 
-copy_with : (copies : List CopyRow) (number : ℕ) (gateway : List ℕ) (reception : Reception) → copy_found copies number gateway ≡ None → (n : ℕ) (at : List ℕ)
-    → copies_with (copy_found copies) number gateway reception n at ≡ copy_found (copies ++ copy_row number gateway reception ∷ []) n at
-copy_with copies number gateway reception free n at =
-    sym (copy_key (copy_found copies) number gateway reception n at (n == number) refl)
-    ∙ sym (shown_with (λ (c : CopyRow). c.reception) (is_copy n at) copies (copy_row number gateway reception) (λ same.
+reception_with : (receptions : List ReceptionRow) (number : ℕ) (gateway : List ℕ) (reception : Reception) → reception_found receptions number gateway ≡ None → (n : ℕ) (at : List ℕ)
+    → receptions_with (reception_found receptions) number gateway reception n at ≡ reception_found (receptions ++ reception_row number gateway reception ∷ []) n at
+reception_with receptions number gateway reception free n at =
+    sym (reception_key (reception_found receptions) number gateway reception n at (n == number) refl)
+    ∙ sym (shown_with (λ (c : ReceptionRow). c.reception) (is_reception n at) receptions (reception_row number gateway reception) (λ same.
     let parts = and_parts (number == n) (bytes_eq gateway at) same in
-    none_shown (λ (c : CopyRow). c.reception) _
-    (subst (λ m. copy_found copies m at ≡ None) (eqb-true number n parts.0)
-    (subst (λ g. copy_found copies number g ≡ None) (same_name gateway at parts.1) free))))
+    none_shown (λ (c : ReceptionRow). c.reception) _
+    (subst (λ m. reception_found receptions m at ≡ None) (eqb-true number n parts.0)
+    (subst (λ g. reception_found receptions number g ≡ None) (same_name gateway at parts.1) free))))
 
 -- ---- sessions
 
@@ -170,15 +170,15 @@ facts_with r (MovesDevice dev_eui owner) reply fits = λ i. record (facts_in r) 
 facts_with r (AddsSession session uplink gateway reception) reply fits = λ i. record (facts_in r) {
   sessions = sym (map-append (λ (s : SessionRow). s.session) r.sessions (session_row session ∷ [])) i;
   uplinks = r.uplinks ++ uplink ∷ [];
-  copies = λ n at. copy_with r.copies _ gateway reception fits.no_copy n at i;
+  receptions = λ n at. reception_with r.receptions _ gateway reception fits.no_reception n at i;
 }
 facts_with r (AddsUplink uplink gateway reception) reply fits = λ i. record (facts_in r) {
   devices = λ other. raised_with (λ d. is_of_device (sessions_in r.sessions) d.dev_eui uplink.session) uplink.session r.devices other i;
   uplinks = r.uplinks ++ uplink ∷ [];
-  copies = λ n at. copy_with r.copies _ gateway reception fits.no_copy n at i;
+  receptions = λ n at. reception_with r.receptions _ gateway reception fits.no_reception n at i;
 }
-facts_with r (AddsCopy number gateway reception) reply fits =
-    λ i. record (facts_in r) { copies = λ n at. copy_with r.copies number gateway reception fits.no_copy n at i }
+facts_with r (AddsReception number gateway reception) reply fits =
+    λ i. record (facts_in r) { receptions = λ n at. reception_with r.receptions number gateway reception fits.no_reception n at i }
 facts_with r (AddsBooking booking) reply fits = λ i. record (facts_in r) {
   sessions = counted_shown (kind_at r.uplinks booking.uplink) (session_of_uplink r.uplinks booking.uplink) r.sessions i;
   bookings = sym (map-append (λ (b : BookingRow). b.booking) r.bookings (booking_row r.uplinks booking ∷ [])) i;

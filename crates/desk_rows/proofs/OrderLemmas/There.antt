@@ -7,7 +7,7 @@ use Rattle.std.specs.Cmp.{nat_eq_equiv}
 use Rattle.std.proofs.lemmas.Bool.{eqb-true, ltb-false, ltb-true}
 use Rattle.radio_core.specs.Bands.{band_number}
 use Rattle.registry_core.specs.declared.effects.Effect.{Effect}
-use Rattle.registry_core.specs.declared.effects.Effect.TheVariants.{Nothing, AddsSender, AddsOwner, AddsGateway, AddsDevice, MovesDevice, AddsSession, AddsUplink, AddsCopy, AddsBooking, EndsBooking, SetsLimit}
+use Rattle.registry_core.specs.declared.effects.Effect.TheVariants.{Nothing, AddsSender, AddsOwner, AddsGateway, AddsDevice, MovesDevice, AddsSession, AddsUplink, AddsReception, AddsBooking, EndsBooking, SetsLimit}
 use Rattle.registry_core.specs.declared.facts.Booking.{Booking}
 use Rattle.registry_core.specs.declared.facts.Session.{Session}
 use Rattle.registry_core.specs.declared.facts.Uplink.{Uplink}
@@ -207,7 +207,7 @@ module _ (c : Settings) (facts : State) (r : Rows) (are : AreRowsOf c facts r) w
   there_for (MovesDevice dev_eui owner) fits = only_device r.devices dev_eui are.keyed.devices fits.0
   there_for (AddsSession session uplink gateway reception) fits = tt
   there_for (AddsUplink uplink gateway reception) fits = raises_one uplink fits.session
-  there_for (AddsCopy number gateway reception) fits = tt
+  there_for (AddsReception number gateway reception) fits = tt
   there_for (AddsBooking booking) fits = counts_one booking fits.uplink
   there_for (EndsBooking number sent) fits = ends_one number fits
   there_for (SetsLimit gateway limit) fits = sets_one gateway limit

@@ -12,7 +12,7 @@ use Rattle.registry_core.specs.declared.facts.Reception.{Reception}
 use Rattle.registry_core.specs.declared.facts.Standing.{Standing}
 use Rattle.registry_core.specs.declared.facts.Standing.TheVariants.{Booked, Dropped}
 use Rattle.registry_core.specs.declared.facts.Uplink.{Uplink}
-use Rattle.desk_rows.specs.Rows.{Rows, BookingRow, CopyRow, DeviceRow, LimitRow, ReplyRow, SessionRow}
+use Rattle.desk_rows.specs.Rows.{Rows, BookingRow, ReceptionRow, DeviceRow, LimitRow, ReplyRow, SessionRow}
 use Rattle.desk_rows.specs.order.Changes.{opening_rows, rows_with}
 
 abbrev reply : ReplyRow
@@ -80,8 +80,8 @@ moved_worked : ◌≡◌ {A = List (List ℕ × Option ℕ)}
 moved_worked = refl
 
 -- the copies are numbered by their uplinks, and each effect has added one reply
-copies_worked : map (λ (c : CopyRow). c.uplink) booked.copies ≡ 1 ∷ 2 ∷ 3 ∷ 4 ∷ 5 ∷ []
-copies_worked = refl
+receptions_worked : map (λ (c : ReceptionRow). c.uplink) booked.receptions ≡ 1 ∷ 2 ∷ 3 ∷ 4 ∷ 5 ∷ []
+receptions_worked = refl
 
 replies_worked : length booked.replies ≡ 15
 replies_worked = refl

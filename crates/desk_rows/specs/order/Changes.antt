@@ -4,7 +4,7 @@ use Rattle.std.specs.List.{list_any}
 use Rattle.std.specs.Option.{option_map_or}
 use Rattle.radio_core.specs.Bands.{band_number}
 use Rattle.registry_core.specs.declared.effects.Effect.{Effect}
-use Rattle.registry_core.specs.declared.effects.Effect.TheVariants.{Nothing, AddsSender, AddsOwner, AddsGateway, AddsDevice, MovesDevice, AddsSession, AddsUplink, AddsCopy, AddsBooking, EndsBooking, SetsLimit}
+use Rattle.registry_core.specs.declared.effects.Effect.TheVariants.{Nothing, AddsSender, AddsOwner, AddsGateway, AddsDevice, MovesDevice, AddsSession, AddsUplink, AddsReception, AddsBooking, EndsBooking, SetsLimit}
 use Rattle.registry_core.specs.declared.facts.Booking.{Booking}
 use Rattle.registry_core.specs.declared.facts.Device.{Device}
 use Rattle.registry_core.specs.declared.facts.Kind.{Kind}
@@ -21,7 +21,7 @@ use Rattle.registry_core.specs.Numbered.{item_at, item_changed}
 use Rattle.registry_core.specs.Settings.{Settings}
 use Rattle.registry_core.specs.State.{State, ended, opening, owned_by, state_with}
 use Rattle.sqlite_keyed.specs.Lists.{update_where}
-use Rattle.desk_rows.specs.Rows.{Rows, SenderRow, ReplyRow, DeviceRow, SessionRow, CopyRow, BookingRow, LimitRow, is_device, is_limit}
+use Rattle.desk_rows.specs.Rows.{Rows, SenderRow, ReplyRow, DeviceRow, SessionRow, ReceptionRow, BookingRow, LimitRow, is_device, is_limit}
 use Rattle.desk_rows.specs.order.Facts.{sessions_in}
 use Rattle.desk_rows.specs.order.RowsOf.{AreRowsOf}
 
@@ -49,8 +49,8 @@ session_row session = record { session = session; next_down = 0 }
 abbrev pub counted_down : SessionRow → SessionRow
 counted_down s = record s { next_down = s.next_down + 1 }
 
-abbrev pub copy_row : ℕ → List ℕ → Reception → CopyRow
-copy_row number gateway reception = record { uplink = number; gateway = gateway; reception = reception }
+abbrev pub reception_row : ℕ → List ℕ → Reception → ReceptionRow
+reception_row number gateway reception = record { uplink = number; gateway = gateway; reception = reception }
 
 -- the session and the kind of the uplink with this number
 abbrev pub session_of_uplink : List Uplink → ℕ → ℕ
@@ -99,7 +99,7 @@ limits_set gateway limit limits =
 abbrev pub with_uplink_row : Uplink → List ℕ → Reception → Rows → Rows
 with_uplink_row uplink gateway reception r = record r {
   uplinks = r.uplinks ++ uplink ∷ [];
-  copies = r.copies ++ copy_row (length r.uplinks + 1) gateway reception ∷ [];
+  receptions = r.receptions ++ reception_row (length r.uplinks + 1) gateway reception ∷ [];
 }
 
 -- the rows after an effect, without its message
@@ -115,7 +115,7 @@ rows_changed (AddsSession session uplink gateway reception) r =
     with_uplink_row uplink gateway reception (record r { sessions = r.sessions ++ session_row session ∷ [] })
 rows_changed (AddsUplink uplink gateway reception) r =
     with_uplink_row uplink gateway reception (record r { devices = devices_raised r.sessions uplink.session r.devices })
-rows_changed (AddsCopy number gateway reception) r = record r { copies = r.copies ++ copy_row number gateway reception ∷ [] }
+rows_changed (AddsReception number gateway reception) r = record r { receptions = r.receptions ++ reception_row number gateway reception ∷ [] }
 rows_changed (AddsBooking booking) r = record r {
   sessions = sessions_counted (kind_at r.uplinks booking.uplink) (session_of_uplink r.uplinks booking.uplink) r.sessions;
   bookings = r.bookings ++ booking_row r.uplinks booking ∷ [];
@@ -138,7 +138,7 @@ opening_rows c = record {
   devices = [];
   sessions = [];
   uplinks = [];
-  copies = [];
+  receptions = [];
   bookings = [];
   limits = [];
 }

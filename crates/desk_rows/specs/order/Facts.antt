@@ -4,7 +4,7 @@ use Rattle.std.specs.List.{list_any}
 use Rattle.registry_core.specs.declared.facts.Booking.{Booking}
 use Rattle.registry_core.specs.declared.facts.Session.{Session}
 use Rattle.registry_core.specs.State.{State}
-use Rattle.desk_rows.specs.Rows.{Rows, SenderRow, DeviceRow, SessionRow, CopyRow, BookingRow, LimitRow, is_copy, is_device, is_limit, is_sender_named}
+use Rattle.desk_rows.specs.Rows.{Rows, SenderRow, DeviceRow, SessionRow, ReceptionRow, BookingRow, LimitRow, is_reception, is_device, is_limit, is_sender_named}
 
 -- ---- the row with a key
 
@@ -32,7 +32,7 @@ facts_in r = record {
   devices = λ dev_eui. option_map (λ (d : DeviceRow). d.device) (find (is_device dev_eui) r.devices);
   sessions = sessions_in r.sessions;
   uplinks = r.uplinks;
-  copies = λ number gateway. option_map (λ (c : CopyRow). c.reception) (find (is_copy number gateway) r.copies);
+  receptions = λ number gateway. option_map (λ (c : ReceptionRow). c.reception) (find (is_reception number gateway) r.receptions);
   bookings = bookings_in r.bookings;
   limits = limit_found r.limits;
 }

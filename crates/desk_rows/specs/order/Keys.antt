@@ -3,7 +3,7 @@ use Rattle.std.specs.Prelude.{◌≡◌, ℕ, ◌+◌, ◌<◌, ◌^◌, ◌&&�
 use Rattle.std.specs.List.{list_any}
 use Rattle.radio_core.specs.Bands.{band_number}
 use Rattle.registry_core.specs.declared.effects.Effect.{Effect}
-use Rattle.registry_core.specs.declared.effects.Effect.TheVariants.{Nothing, AddsSender, AddsOwner, AddsGateway, AddsDevice, MovesDevice, AddsSession, AddsUplink, AddsCopy, AddsBooking, EndsBooking, SetsLimit}
+use Rattle.registry_core.specs.declared.effects.Effect.TheVariants.{Nothing, AddsSender, AddsOwner, AddsGateway, AddsDevice, MovesDevice, AddsSession, AddsUplink, AddsReception, AddsBooking, EndsBooking, SetsLimit}
 use Rattle.registry_core.specs.declared.facts.Booking.{Booking}
 use Rattle.registry_core.specs.declared.facts.Kind.TheVariants.{Join, Data}
 use Rattle.registry_core.specs.declared.facts.Standing.TheVariants.{Booked}
@@ -16,7 +16,7 @@ use Rattle.registry_core.specs.Numbered.{item_at, item_changed}
 use Rattle.registry_core.specs.Settings.{Settings}
 use Rattle.registry_core.specs.State.{State}
 use Rattle.sqlite_keyed.specs.Lists.{update_where}
-use Rattle.desk_rows.specs.Rows.{Rows, BookingRow, DeviceRow, SessionRow, is_copy, is_device, is_limit, is_sender_named, is_session, is_uplink}
+use Rattle.desk_rows.specs.Rows.{Rows, BookingRow, DeviceRow, SessionRow, is_reception, is_device, is_limit, is_sender_named, is_session, is_uplink}
 use Rattle.desk_rows.specs.order.Changes.{booking_row, devices_raised, kind_at, limit_row, limited, limits_set, session_of_uplink, sessions_counted}
 use Rattle.desk_rows.specs.order.Facts.{is_name_row, limit_found}
 use Rattle.desk_rows.specs.order.RowsOf.{AreRowsOf}
@@ -45,10 +45,10 @@ IsFreeFor (AddsGateway name) r = IsFree (is_name_row name) r.gateways
 IsFreeFor (AddsDevice dev_eui device) r = IsFree (is_device dev_eui) r.devices
 IsFreeFor (MovesDevice dev_eui owner) r = Unit {0}
 IsFreeFor (AddsSession session uplink gateway reception) r = IsFree (is_session session.device session.nonce) r.sessions
-    × IsFree (is_uplink uplink.session uplink.kind uplink.counter) r.uplinks × IsFree (is_copy (length r.uplinks + 1) gateway) r.copies
+    × IsFree (is_uplink uplink.session uplink.kind uplink.counter) r.uplinks × IsFree (is_reception (length r.uplinks + 1) gateway) r.receptions
 IsFreeFor (AddsUplink uplink gateway reception) r =
-    IsFree (is_uplink uplink.session uplink.kind uplink.counter) r.uplinks × IsFree (is_copy (length r.uplinks + 1) gateway) r.copies
-IsFreeFor (AddsCopy number gateway reception) r = IsFree (is_copy number gateway) r.copies
+    IsFree (is_uplink uplink.session uplink.kind uplink.counter) r.uplinks × IsFree (is_reception (length r.uplinks + 1) gateway) r.receptions
+IsFreeFor (AddsReception number gateway reception) r = IsFree (is_reception number gateway) r.receptions
 IsFreeFor (AddsBooking booking) r = HasRowid r.bookings
 IsFreeFor (EndsBooking number sent) r = Unit {0}
 IsFreeFor (SetsLimit gateway limit) r = IsFreeForLimit gateway limit r

@@ -10,7 +10,7 @@ use Rattle.registry_core.specs.Listing.{AreBookingsFrom, AreDevices, AreNames, A
 use Rattle.registry_core.specs.Ranges.{IsEui}
 use Rattle.registry_core.specs.Settings.{Settings}
 use Rattle.registry_core.specs.State.{State}
-use Rattle.desk_rows.specs.Rows.{Rows, BookingRow, CopyRow, DeviceRow, SenderRow}
+use Rattle.desk_rows.specs.Rows.{Rows, BookingRow, ReceptionRow, DeviceRow, SenderRow}
 use Rattle.desk_rows.specs.order.Arranged.{booking_span, by_eui, by_start, is_uplink_between, numbers_by}
 use Rattle.desk_rows.specs.order.LookUps.{rows_by}
 use Rattle.desk_rows.specs.order.RowsOf.{AreRowsOf}
@@ -39,12 +39,12 @@ abbrev pub devices_listed : List DeviceRow → List ℕ
 devices_listed devices = listed (λ (d : DeviceRow). d.dev_eui) by_eui (λ d. true) devices
 
 -- a reception of the uplink with this number
-abbrev pub is_copy_of : ℕ → CopyRow → Bool
-is_copy_of uplink c = c.uplink == uplink
+abbrev pub is_reception_of : ℕ → ReceptionRow → Bool
+is_reception_of uplink c = c.uplink == uplink
 
 -- the gateways of the uplink's receptions
-abbrev pub gateways_listed : ℕ → List CopyRow → List (List ℕ)
-gateways_listed uplink copies = listed (λ (c : CopyRow). c.gateway) (by_name (λ (c : CopyRow). c.gateway)) (is_copy_of uplink) copies
+abbrev pub gateways_listed : ℕ → List ReceptionRow → List (List ℕ)
+gateways_listed uplink receptions = listed (λ (c : ReceptionRow). c.gateway) (by_name (λ (c : ReceptionRow). c.gateway)) (is_reception_of uplink) receptions
 
 -- the numbers of the device's uplinks that start at `from` or later and before `to`
 abbrev pub uplinks_listed : ℕ → ℤ → ℤ → Rows → List ℕ
@@ -64,7 +64,7 @@ pub record AreListed (facts : State) (r : Rows) : Type 0 where
   pub owners : AreNames facts.owners (names_listed r.owners)
   pub gateways : AreNames facts.gateways (names_listed r.gateways)
   pub devices : AllByRecursion (λ (d : DeviceRow). IsEui d.dev_eui) r.devices → AreDevices (has_device facts) (devices_listed r.devices)
-  pub receptions : (uplink : ℕ) → AreNames (has_reception facts uplink) (gateways_listed uplink r.copies)
+  pub receptions : (uplink : ℕ) → AreNames (has_reception facts uplink) (gateways_listed uplink r.receptions)
   pub uplinks : (dev_eui : ℕ) (from to : ℤ) → AreUplinksFrom facts dev_eui from to (uplinks_listed dev_eui from to r)
   pub bookings : (gateway : List ℕ) (from to : ℤ) → AreBookingsFrom facts gateway from to (bookings_listed gateway from to r)
 

@@ -11,7 +11,7 @@ use Rattle.registry_core.specs.Derived.{is_data, is_of_device}
 use Rattle.registry_core.specs.Numbered.{item_at, greatest}
 use Rattle.registry_core.specs.Settings.{Settings}
 use Rattle.registry_core.specs.State.{State}
-use Rattle.desk_rows.specs.Rows.{Rows, SenderRow, DeviceRow, SessionRow, CopyRow, BookingRow, LimitRow}
+use Rattle.desk_rows.specs.Rows.{Rows, SenderRow, DeviceRow, SessionRow, ReceptionRow, BookingRow, LimitRow}
 use Rattle.desk_rows.specs.order.Facts.{bookings_in, facts_in, sessions_in}
 
 -- ---- stored counters
@@ -46,14 +46,14 @@ pub record IsOfSession (sessions : List Session) (uplink : Uplink) : Type 0 wher
   pub nonce : uplink.kind ≡ Join → session.nonce ≡ uplink.counter
 
 -- the uplink of a reception is there
-abbrev pub IsOfUplink : List Uplink → CopyRow → Type 0
-IsOfUplink uplinks copy = IsTrue (is_some (item_at uplinks copy.uplink))
+abbrev pub IsOfUplink : List Uplink → ReceptionRow → Type 0
+IsOfUplink uplinks row = IsTrue (is_some (item_at uplinks row.uplink))
 
 -- the device of each session is there, the session of each uplink, and the uplink of each reception
 pub record NamesRows (r : Rows) : Type 0 where
   pub sessions : AllByRecursion (λ (s : Session). IsTrue (is_some ((facts_in r).devices s.device))) (sessions_in r.sessions)
   pub uplinks : AllByRecursion (IsOfSession (sessions_in r.sessions)) r.uplinks
-  pub copies : AllByRecursion (IsOfUplink r.uplinks) r.copies
+  pub receptions : AllByRecursion (IsOfUplink r.uplinks) r.receptions
 
 -- ---- keys
 
@@ -61,11 +61,11 @@ abbrev pub same_join : Session → Session → Bool
 same_join a b = a.device == b.device && a.nonce == b.nonce
 
 -- the number of an uplink and a gateway
-abbrev pub copy_key : CopyRow → ℕ × List ℕ
-copy_key c = (c.uplink, c.gateway)
+abbrev pub reception_key : ReceptionRow → ℕ × List ℕ
+reception_key c = (c.uplink, c.gateway)
 
-abbrev pub same_copy : ℕ × List ℕ → ℕ × List ℕ → Bool
-same_copy a b = a.0 == b.0 && bytes_eq a.1 b.1
+abbrev pub same_reception : ℕ × List ℕ → ℕ × List ℕ → Bool
+same_reception a b = a.0 == b.0 && bytes_eq a.1 b.1
 
 -- a gateway and a band by its number
 abbrev pub limit_key : LimitRow → List ℕ × ℕ
@@ -82,7 +82,7 @@ pub record IsKeyed (r : Rows) : Type 0 where
   pub gateways : IsDistinct bytes_eq r.gateways
   pub devices : IsDistinct nat_eq (map (λ (d : DeviceRow). d.dev_eui) r.devices)
   pub sessions : IsDistinct same_join (sessions_in r.sessions)
-  pub copies : IsDistinct same_copy (map copy_key r.copies)
+  pub receptions : IsDistinct same_reception (map reception_key r.receptions)
   pub limits : IsDistinct same_band (map limit_key r.limits)
 
 -- ---- how many
@@ -95,7 +95,7 @@ pub record IsFew (r : Rows) : Type 0 where
   pub devices : length r.devices ≤ length r.replies
   pub sessions : length r.sessions ≤ length r.replies
   pub uplinks : length r.uplinks ≤ length r.replies
-  pub copies : length r.copies ≤ length r.replies
+  pub receptions : length r.receptions ≤ length r.replies
   pub bookings : length r.bookings ≤ length r.replies
   pub limits : length r.limits ≤ length r.replies
 

@@ -15,8 +15,8 @@ use Rattle.desk_rows.specs.Rows.{number, kind_number, standing_number}
 abbrev pub uplink_shown : ℕ × Uplink → Row
 uplink_shown found = let u = found.1 in number found.0 ∷ number u.session ∷ number (kind_number u.kind) ∷ number u.counter ∷ Blob u.octets ∷ number u.start ∷ number u.airtime ∷ number (band_number u.band) ∷ []
 
-abbrev pub copy_shown : Reception → Row
-copy_shown c = number c.end ∷ number c.rate.freq ∷ number (dr_number c.rate.dr) ∷ []
+abbrev pub reception_shown : Reception → Row
+reception_shown c = number c.end ∷ number c.rate.freq ∷ number (dr_number c.rate.dr) ∷ []
 
 abbrev pub booking_shown : Booking → Row
 booking_shown b = number b.uplink ∷ Text b.gateway ∷ number (band_number b.band) ∷ Int b.span.start ∷ number b.span.len ∷ number (standing_number b.standing) ∷ []

@@ -6,5 +6,5 @@ abbrev pub is_key_of : List ℕ → ℕ × List ℕ → Bool
 is_key_of sender key = bytes_eq key.1 sender
 
 -- the key is of a reception of the uplink with this number
-abbrev pub is_copy_of : ℕ → ℕ × List ℕ → Bool
-is_copy_of uplink key = key.0 == uplink
+abbrev pub is_reception_of : ℕ → ℕ × List ℕ → Bool
+is_reception_of uplink key = key.0 == uplink

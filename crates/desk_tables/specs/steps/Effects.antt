@@ -2,7 +2,7 @@
 use Rattle.std.specs.Prelude.{◌≡◌, ℕ, ◌+◌, List, length, Option, Some, MatchOption, Result}
 use Rattle.radio_core.specs.Bands.{band_number}
 use Rattle.registry_core.specs.declared.effects.Effect.{Effect}
-use Rattle.registry_core.specs.declared.effects.Effect.TheVariants.{MovesDevice, AddsSession, AddsUplink, AddsCopy, AddsBooking, EndsBooking, SetsLimit}
+use Rattle.registry_core.specs.declared.effects.Effect.TheVariants.{MovesDevice, AddsSession, AddsUplink, AddsReception, AddsBooking, EndsBooking, SetsLimit}
 use Rattle.registry_core.specs.declared.facts.Booking.{Booking}
 use Rattle.registry_core.specs.declared.facts.Uplink.{Uplink}
 use Rattle.registry_core.specs.declared.messages.Envelope.{Envelope}
@@ -93,7 +93,7 @@ abbrev pub AreWhole : Effect → Rows → Type 0
 AreWhole (MovesDevice dev_eui owner) r = IsWhole (length r.devices)
 AreWhole (AddsSession session uplink gateway reception) r = IsWhole uplink.session × IsWhole (length r.uplinks + 1)
 AreWhole (AddsUplink uplink gateway reception) r = IsWhole uplink.session × IsWhole (length r.uplinks + 1) × IsWhole (length r.devices)
-AreWhole (AddsCopy number gateway reception) r = IsWhole number
+AreWhole (AddsReception number gateway reception) r = IsWhole number
 AreWhole (AddsBooking booking) r = IsWhole booking.uplink × CountsInWholes booking r
 AreWhole (EndsBooking number sent) r = IsWhole number
 AreWhole (SetsLimit gateway limit) r = IsWhole (length r.limits)

@@ -4,7 +4,7 @@ ghost use Rattle.sqlite.specs.Held.{state};
 ghost use Rattle.desk_tables.specs.steps.Effects.{WritesEffect};
 
 use crate::effects::basis::{Basis, as_json_integer};
-use crate::effects::uplinks::add_with_copy;
+use crate::effects::uplinks::add_with_reception;
 use desk_rows::{RowFault, insert_session};
 use radio_core::Name;
 use registry_core::{Effect, Reception, Session, Uplink};
@@ -28,5 +28,5 @@ pub(crate) fn add_session<S: Alter>(
     };
     as_json_integer(uplink.session)?;
     insert_session(tx, session)?;
-    add_with_copy(tx, uplink, number, gateway, reception)
+    add_with_reception(tx, uplink, number, gateway, reception)
 }

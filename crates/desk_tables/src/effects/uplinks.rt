@@ -2,20 +2,20 @@
 ghost use Rattle.std.specs.Prelude.{◌≡◌, ◌+◌, length};
 ghost use Rattle.registry_core.specs.Wholes.{IsWhole};
 ghost use Rattle.sqlite.specs.Held.{state};
-ghost use Rattle.desk_rows.specs.Rows.{is_copy, is_uplink};
+ghost use Rattle.desk_rows.specs.Rows.{is_reception, is_uplink};
 ghost use Rattle.desk_rows.specs.order.Changes.{devices_raised, with_uplink_row};
 ghost use Rattle.desk_rows.specs.order.Keys.{IsFree};
 ghost use Rattle.desk_tables.specs.steps.Calls.{Makes};
 ghost use Rattle.desk_tables.specs.steps.Effects.{IsRaised, WritesEffect};
 
 use crate::effects::basis::{Basis, as_json_integer};
-use desk_rows::{RowFault, insert_copy, insert_uplink, set_floor};
+use desk_rows::{RowFault, insert_reception, insert_uplink, set_floor};
 use radio_core::{Eui, Name};
 use registry_core::{Effect, Reception, Uplink, Whole};
 use sqlite::{Alter, Transaction};
 
 /// Writes the uplink with this number, and its reception.
-pub(crate) fn add_with_copy<S: Alter>(
+pub(crate) fn add_with_reception<S: Alter>(
     tx: &mut Transaction<'_, S>,
     uplink: &Uplink,
     number: Whole,
@@ -25,11 +25,11 @@ pub(crate) fn add_with_copy<S: Alter>(
     ensures same_reference { tx.new.conn.ghost_name ≡ tx.old.conn.ghost_name }
     ensures makes { Makes (state S.Store tx.old.conn.now) (state S.Store tx.new.conn.now) result
         (λ r. (number ≡ length r.uplinks + 1) × IsWhole uplink.now.session)
-        (λ r. IsFree (is_uplink uplink.now.session uplink.now.kind uplink.now.counter) r.uplinks × IsFree (is_copy number gateway.now) r.copies)
+        (λ r. IsFree (is_uplink uplink.now.session uplink.now.kind uplink.now.counter) r.uplinks × IsFree (is_reception number gateway.now) r.receptions)
         (with_uplink_row uplink.now gateway.now reception.now) }
 {
     insert_uplink(tx, uplink)?;
-    insert_copy(tx, number.get(), gateway, reception)
+    insert_reception(tx, number.get(), gateway, reception)
 }
 
 /// Sets the floor of the device, if there is one to set.
@@ -64,5 +64,5 @@ pub(crate) fn add_uplink<S: Alter>(
         return Err(RowFault::Row);
     };
     raise_floor(tx, raises, as_json_integer(uplink.session)?)?;
-    add_with_copy(tx, uplink, number, gateway, reception)
+    add_with_reception(tx, uplink, number, gateway, reception)
 }

@@ -5,8 +5,8 @@ ghost use Rattle.desk_tables.specs.steps.Effects.{WritesEffect};
 
 use crate::effects::basis::Basis;
 use crate::effects::bookings::{add_booking, end};
-use crate::effects::copies::add_copy;
 use crate::effects::limits::set_limit;
+use crate::effects::receptions::add_reception;
 use crate::effects::sessions::add_session;
 use crate::effects::uplinks::add_uplink;
 use desk_rows::{
@@ -42,11 +42,11 @@ pub(crate) fn write_effect<S: Alter>(
             gateway,
             reception,
         } => add_uplink(tx, uplink, gateway, reception, basis),
-        Effect::AddsCopy {
+        Effect::AddsReception {
             uplink,
             gateway,
             reception,
-        } => add_copy(tx, *uplink, gateway, reception, basis),
+        } => add_reception(tx, *uplink, gateway, reception, basis),
         Effect::AddsBooking { booking } => add_booking(tx, booking, basis),
         Effect::EndsBooking { booking, sent } => end(tx, *booking, *sent, basis),
         Effect::SetsLimit { gateway, limit } => set_limit(tx, gateway, *limit, basis),

@@ -80,15 +80,15 @@ pub(crate) fn uplink<S: Alter>(
     }
 }
 
-pub(crate) fn copy_at<S: Alter>(
+pub(crate) fn reception_at<S: Alter>(
     conn: &mut Connection<S>,
     uplink: u64,
     gateway: &Name,
 ) -> Result<Option<Reception>, RowFault>
-    ensures { Reads (state S.Store conn.old) (state S.Store conn.new) result (OfKept (λ kept copy. copy ≡ kept.facts.copies uplink gateway.now)) }
+    ensures { Reads (state S.Store conn.old) (state S.Store conn.new) result (OfKept (λ kept reception. reception ≡ kept.facts.receptions uplink gateway.now)) }
 {
     match Whole::new(uplink) {
-        Some(uplink) => desk_rows::copy_at(conn, uplink, gateway),
+        Some(uplink) => desk_rows::reception_at(conn, uplink, gateway),
         None => Ok(None),
     }
 }

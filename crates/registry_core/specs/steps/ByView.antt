@@ -19,7 +19,7 @@ use Rattle.registry_core.specs.Decision.{Decision}
 use Rattle.registry_core.specs.Derived.{is_above, is_below}
 use Rattle.registry_core.specs.Frames.{data_up, frame_at_rate, join_request}
 use Rattle.registry_core.specs.Joins.{is_good}
-use Rattle.registry_core.specs.Uplinks.{is_time, reception_of, time_up, uplink_of, copy_added}
+use Rattle.registry_core.specs.Uplinks.{is_time, reception_of, time_up, uplink_of, reception_added}
 
 -- the view's numbers have space for one more, and its uplink has an address
 pub record HasRoom (v : View) : Type 0 where
@@ -40,7 +40,7 @@ original_by seen octets = option_and_then (λ (u : UplinkView). if bytes_eq u.up
 
 abbrev pub join_copied_by : View → Report → UplinkView → Checked Decision
 join_copied_by v report seen = Ok (
-  copy_added seen.number seen.at_gateway report,
+  reception_added seen.number seen.at_gateway report,
   JoinSuccess seen.uplink.airtime seen.uplink.band true (address_by v seen.uplink.session) seen.number,
 )
 
@@ -69,7 +69,7 @@ join_heard_by v report verdict = do
 
 abbrev pub data_copied_by : Report → SessionView → ℕ → UplinkView → Checked Decision
 data_copied_by report session counter seen = Ok (
-  copy_added seen.number seen.at_gateway report,
+  reception_added seen.number seen.at_gateway report,
   FrameSuccess seen.uplink.airtime seen.uplink.band true counter session.device seen.number,
 )
 

@@ -32,8 +32,8 @@ unfoldable pub down_book_by : View → List ℕ → Window → List ℕ → Chec
 down_book_by v gateway window octets = do
   wants v.gateway_known UnknownGateway
   seen ← needs v.uplink NoUplink
-  copy ← needs seen.at_gateway NoUplink
-  let opens : ℕ × Rate = window_of seen.uplink.kind copy.end copy.rate window
+  reception ← needs seen.at_gateway NoUplink
+  let opens : ℕ × Rate = window_of seen.uplink.kind reception.end reception.rate window
   down ← needs (downlink_to seen.uplink.kind (frame_at_rate opens.1.dr octets)) BadFrame
   wants (goes_to (address_by v seen.uplink.session) down) UnknownDevAddr
   wants (not v.answered) Answered

@@ -2,7 +2,7 @@
 use Rattle.std.proofs.lemmas.Bool.{cases_order}
 use Rattle.registry_core.specs.Heard.{state_of}
 use Rattle.registry_core.proofs.BookedHours.{kept_of}
-use Rattle.registry_core.proofs.CopyLaws.{session_once}
+use Rattle.registry_core.proofs.ReceptionLaws.{session_once}
 use Rattle.registry_core.proofs.Decisions.{sound_of}
 use Rattle.registry_core.proofs.UplinkLaws.{uplink_once}
 use Rattle.registry_core.proofs.laws.rules_are_kept.Goals as goal

@@ -15,7 +15,7 @@ returns c =
       devices = λ dev_eui. devices_of (c.new-3.ensures i) dev_eui;
       sessions = c.new-4.ensures i;
       uplinks = c.new-5.ensures.uplinks i;
-      copies = λ number gateway. lookup (same_key (number, gateway)) (c.new-6.ensures.empty i);
+      receptions = λ number gateway. lookup (same_key (number, gateway)) (c.new-6.ensures.empty i);
       bookings = c.new-5.ensures.bookings i;
       limits = λ gateway band. lookup (same_key (band, gateway)) (c.new-7.ensures.empty i);
     }

@@ -5,9 +5,9 @@ ghost use Rattle.sqlite.specs.Held.{state};
 ghost use Rattle.desk_rows.specs.Calls.{Changes, Reads};
 ghost use Rattle.registry_core.specs.declared.facts.Reception.{Reception};
 ghost use Rattle.registry_core.specs.Wholes.{IsWhole};
-ghost use Rattle.desk_rows.specs.Rows.{is_copy};
+ghost use Rattle.desk_rows.specs.Rows.{is_reception};
 ghost use Rattle.desk_rows.specs.order.Listed.{gateways_listed};
-ghost use Rattle.desk_rows.specs.steps.Shown.{copy_shown};
+ghost use Rattle.desk_rows.specs.steps.Shown.{reception_shown};
 ghost use Rattle.desk_rows.specs.steps.Texts.{AsksFor, InsertsRow, gateways_asked};
 ghost use Rattle.sqlite_sql.specs.Term.{lit, col};
 ghost use Rattle.sqlite_value.specs.declared.value.Value.TheVariants.{Null};
@@ -25,11 +25,11 @@ use std::alloc::Global;
 impl FromRow for Reception {
     ghost Seen = { Reception };
 
-    ghost seen = { λ copy. copy };
+    ghost seen = { λ reception. reception };
 
-    ghost shows = { copy_shown };
+    ghost shows = { reception_shown };
 
-    ghost InRange = { λ copy. IsWhole copy.end × (copy.rate.freq < 2 ^ 32) };
+    ghost InRange = { λ reception. IsWhole reception.end × (reception.rate.freq < 2 ^ 32) };
 
     fn from_row(row: &Row) -> Result<Reception, RowFault> {
         let end = whole_at(row, 0)?;
@@ -43,12 +43,12 @@ impl FromRow for Reception {
 }
 
 /// Returns the reception of an uplink at a gateway, `None` if there is none.
-pub fn copy_at<S: Alter>(
+pub fn reception_at<S: Alter>(
     conn: &mut Connection<S>,
     uplink: Whole,
     gateway: &Name,
 ) -> Result<Option<Reception>, RowFault>
-    ensures { Reads (state S.Store conn.old) (state S.Store conn.new) result (λ r copy. copy ≡ option_map (λ row. row.reception) (find (is_copy uplink gateway.now) r.copies)) }
+    ensures { Reads (state S.Store conn.old) (state S.Store conn.new) result (λ r reception. reception ≡ option_map (λ row. row.reception) (find (is_reception uplink gateway.now) r.receptions)) }
 {
     find(
         conn,
@@ -71,40 +71,40 @@ pub fn gateways_of<S: Alter>(
     conn: &mut Connection<S>,
     uplink: Whole,
 ) -> Result<Vec<Name>, RowFault>
-    ensures { Reads (state S.Store conn.old) (state S.Store conn.new) result (λ r all. all.items ≡ gateways_listed uplink r.copies) }
+    ensures { Reads (state S.Store conn.old) (state S.Store conn.new) result (λ r all. all.items ≡ gateways_listed uplink r.receptions) }
 {
     find_all(alloc, conn, gateways_text(), &[json_integer(uplink)])
 }
 
-/// The text of the statement that adds a copy.
+/// The text of the statement that adds a reception.
 #[tactic(auto, unfolding(sqlite::specs::Listing::understood, sqlite_tied::specs::Compute::everything))]
-fn copy_text() -> &'static str
+fn reception_text() -> &'static str
     ensures { InsertsRow result.now 5 8 (lit Null ∷ col 0 0 ∷ col 0 1 ∷ col 0 2 ∷ col 0 3 ∷ col 0 4 ∷ []) 6 }
 {
     "INSERT INTO copy (uplink, gateway, ended, freq, dr) VALUES (?1, ?2, ?3, ?4, ?5)"
 }
 
 /// Adds the reception of an uplink at a gateway.
-pub fn insert_copy<S: Alter>(
+pub fn insert_reception<S: Alter>(
     tx: &mut Transaction<'_, S>,
     uplink: u64,
     gateway: &Name,
-    copy: &Reception,
+    reception: &Reception,
 ) -> Result<(), RowFault>
     ensures same_reference { tx.new.conn.ghost_name ≡ tx.old.conn.ghost_name }
     ensures changes { Changes (state S.Store tx.old.conn.now) (state S.Store tx.new.conn.now) result (uplink < 2 ^ 63)
-        (λ r. (list_any (is_copy uplink gateway.now) r.copies ≡ false) × (1 + length r.copies < 2 ^ 63))
-        (λ r. record r { copies = r.copies ++ record { uplink = uplink; gateway = gateway.now; reception = copy.now } ∷ [] }) }
+        (λ r. (list_any (is_reception uplink gateway.now) r.receptions ≡ false) × (1 + length r.receptions < 2 ^ 63))
+        (λ r. record r { receptions = r.receptions ++ record { uplink = uplink; gateway = gateway.now; reception = reception.now } ∷ [] }) }
 {
     write(
         tx,
-        copy_text(),
+        reception_text(),
         &[
             unsigned(uplink),
             text(gateway),
-            json_integer(copy.end),
-            word(copy.rate.freq),
-            data_rate(copy.rate.dr),
+            json_integer(reception.end),
+            word(reception.rate.freq),
+            data_rate(reception.rate.dr),
         ],
     )
 }

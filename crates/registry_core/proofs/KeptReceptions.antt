@@ -9,7 +9,7 @@ use Rattle.radio_core.specs.Bands.{band_at}
 use Rattle.registry_core.specs.declared.answers.Refusal.{Refusal}
 use Rattle.registry_core.specs.declared.answers.Refusal.TheVariants.{UnknownGateway, UnknownDevEui, UnknownDevAddr, BadFrame, OutOfBand, MicFailed, JoinEui, Time}
 use Rattle.registry_core.specs.declared.effects.Effect.{Effect}
-use Rattle.registry_core.specs.declared.effects.Effect.TheVariants.{AddsSession, AddsUplink, AddsCopy}
+use Rattle.registry_core.specs.declared.effects.Effect.TheVariants.{AddsSession, AddsUplink, AddsReception}
 use Rattle.registry_core.specs.declared.facts.Reception.{Reception}
 use Rattle.registry_core.specs.declared.facts.Uplink.{Uplink}
 use Rattle.registry_core.specs.declared.frames.DataFrame.{DataFrame}
@@ -23,7 +23,7 @@ use Rattle.registry_core.specs.declared.messages.Role.{Role}
 use Rattle.registry_core.specs.declared.windows.Window.{Window}
 use Rattle.registry_core.specs.Administration.{sender_add, owner_add, gateway_add, device_add, device_move, limit_set}
 use Rattle.registry_core.specs.Checks.{Checked, ◌>>=◌, ◌>>◌, wants, needs, unless}
-use Rattle.registry_core.specs.CopyLaws.{CopiesAddOneAtMost, CopiesStay, KeepsCopy, copied_uplink, report_heard}
+use Rattle.registry_core.specs.ReceptionLaws.{CopiesAddOneAtMost, KeepsReception, ReceptionsStay, copied_uplink, report_heard}
 use Rattle.registry_core.specs.DataFrames.{data_added, data_copied, frame_heard, original_data}
 use Rattle.registry_core.specs.Decision.{Decision, decision_or_refusal}
 use Rattle.registry_core.specs.Derived.{is_data_with, is_join_with, session_with_address}
@@ -34,52 +34,52 @@ use Rattle.registry_core.specs.Joins.{is_good, join_added, join_copied, join_hea
 use Rattle.registry_core.specs.Limits.{Limit}
 use Rattle.registry_core.specs.Numbered.{item_at}
 use Rattle.registry_core.specs.Settings.{Settings}
-use Rattle.registry_core.specs.State.{State, copies_with, next_uplink, state_with}
+use Rattle.registry_core.specs.State.{State, next_uplink, receptions_with, state_with}
 use Rattle.registry_core.specs.Step.{checked_decision, decision_of}
-use Rattle.registry_core.specs.Uplinks.{copy_added, is_time, reception_of}
+use Rattle.registry_core.specs.Uplinks.{is_time, reception_added, reception_of}
 use Rattle.registry_core.proofs.Decisions.{is_decision, sound_of}
 use Rattle.registry_core.proofs.HeardStates.{IsAllowed}
 use Rattle.registry_core.proofs.Items.{first_is, with_octets}
 
--- ---- a copy stays
+-- ---- a reception stays
 
 -- if the gateway had no reception of the uplink, adding one leaves each that is stored
-old_stays : (copies : ℕ → List ℕ → Option Reception) (number : ℕ) (gateway : List ℕ) (new : Reception) (n : ℕ) (at : List ℕ) (old : Reception) (same named : Bool)
-    → (n == number) ≡ same → bytes_eq at gateway ≡ named → copies number gateway ≡ None → copies n at ≡ Some old → copies_with copies number gateway new n at ≡ Some old
-old_stays copies number gateway new n at old false named is by none there = rw is there
-old_stays copies number gateway new n at old true false is by none there = rw (is, by) (ap (λ m. copies m at) (sym (eqb-true n number is)) ∙ there)
-old_stays copies number gateway new n at old true true is by none there =
-    let never : None ≡ Some old = sym none ∙ ap (copies number) (sym ((bytes_eq-Decides at gateway).0 by)) ∙ ap (λ m. copies m at) (sym (eqb-true n number is)) ∙ there in cc
+old_stays : (receptions : ℕ → List ℕ → Option Reception) (number : ℕ) (gateway : List ℕ) (new : Reception) (n : ℕ) (at : List ℕ) (old : Reception) (same named : Bool)
+    → (n == number) ≡ same → bytes_eq at gateway ≡ named → receptions number gateway ≡ None → receptions n at ≡ Some old → receptions_with receptions number gateway new n at ≡ Some old
+old_stays receptions number gateway new n at old false named is by none there = rw is there
+old_stays receptions number gateway new n at old true false is by none there = rw (is, by) (ap (λ m. receptions m at) (sym (eqb-true n number is)) ∙ there)
+old_stays receptions number gateway new n at old true true is by none there =
+    let never : None ≡ Some old = sym none ∙ ap (receptions number) (sym ((bytes_eq-Decides at gateway).0 by)) ∙ ap (λ m. receptions m at) (sym (eqb-true n number is)) ∙ there in cc
 
-stays : (s : State) (number : ℕ) (gateway : List ℕ) (new : Reception) (n : ℕ) (at : List ℕ) (old : Reception) → s.copies number gateway ≡ None → s.copies n at ≡ Some old
-    → copies_with s.copies number gateway new n at ≡ Some old
-stays s number gateway new n at old none there = old_stays s.copies number gateway new n at old (n == number) (bytes_eq at gateway) refl refl none there
+stays : (s : State) (number : ℕ) (gateway : List ℕ) (new : Reception) (n : ℕ) (at : List ℕ) (old : Reception) → s.receptions number gateway ≡ None → s.receptions n at ≡ Some old
+    → receptions_with s.receptions number gateway new n at ≡ Some old
+stays s number gateway new n at old none there = old_stays s.receptions number gateway new n at old (n == number) (bytes_eq at gateway) refl refl none there
 
-pub copy_stays_with : (c : Settings) (s : State) (effect : Effect) → IsAllowed c s effect → (n : ℕ) (at : List ℕ) (old : Reception) → s.copies n at ≡ Some old → (state_with s effect).copies n at ≡ Some old
-copy_stays_with c s (AddsSession session uplink gateway new) k n at old there = stays s (next_uplink s) gateway new n at old k.0.no_copy there
-copy_stays_with c s (AddsUplink uplink gateway new) k n at old there = stays s (next_uplink s) gateway new n at old k.0.no_copy there
-copy_stays_with c s (AddsCopy number gateway new) k n at old there = stays s number gateway new n at old k.0.no_copy there
-copy_stays_with c s effect k n at old there = there
+pub reception_stays_with : (c : Settings) (s : State) (effect : Effect) → IsAllowed c s effect → (n : ℕ) (at : List ℕ) (old : Reception) → s.receptions n at ≡ Some old → (state_with s effect).receptions n at ≡ Some old
+reception_stays_with c s (AddsSession session uplink gateway new) k n at old there = stays s (next_uplink s) gateway new n at old k.0.no_reception there
+reception_stays_with c s (AddsUplink uplink gateway new) k n at old there = stays s (next_uplink s) gateway new n at old k.0.no_reception there
+reception_stays_with c s (AddsReception number gateway new) k n at old there = stays s number gateway new n at old k.0.no_reception there
+reception_stays_with c s effect k n at old there = there
 
-pub copies_stay : CopiesStay
-copies_stay c heard e number gateway copy there =
-    copy_stays_with c (state_of c heard) (decision_of c (state_of c heard) e).0 (is_decision c (state_of c heard) e (sound_of c heard)).allowed number gateway copy there
+pub receptions_stay : ReceptionsStay
+receptions_stay c heard e number gateway reception there =
+    reception_stays_with c (state_of c heard) (decision_of c (state_of c heard) e).0 (is_decision c (state_of c heard) e (sound_of c heard)).allowed number gateway reception there
 
--- ---- one copy at most
+-- ---- one reception at most
 
--- a copy at another gateway, or of another uplink, is the one that was there
-other_stays : (copies : ℕ → List ℕ → Option Reception) (number : ℕ) (gateway : List ℕ) (new : Reception) (n : ℕ) (at : List ℕ) (same named : Bool) → (n == number) ≡ same → bytes_eq at gateway ≡ named
-    → (n ≢ number) ⊎ (at ≢ gateway) → copies_with copies number gateway new n at ≡ copies n at
-other_stays copies number gateway new n at false named is by apart = rw is refl
-other_stays copies number gateway new n at true false is by apart = rw (is, by) (ap (λ m. copies m at) (sym (eqb-true n number is)))
-other_stays copies number gateway new n at true true is by (inl apart) = absurd (apart (eqb-true n number is))
-other_stays copies number gateway new n at true true is by (inr apart) = absurd (apart ((bytes_eq-Decides at gateway).0 by))
+-- a reception at another gateway, or of another uplink, is the one that was there
+other_stays : (receptions : ℕ → List ℕ → Option Reception) (number : ℕ) (gateway : List ℕ) (new : Reception) (n : ℕ) (at : List ℕ) (same named : Bool) → (n == number) ≡ same → bytes_eq at gateway ≡ named
+    → (n ≢ number) ⊎ (at ≢ gateway) → receptions_with receptions number gateway new n at ≡ receptions n at
+other_stays receptions number gateway new n at false named is by apart = rw is refl
+other_stays receptions number gateway new n at true false is by apart = rw (is, by) (ap (λ m. receptions m at) (sym (eqb-true n number is)))
+other_stays receptions number gateway new n at true true is by (inl apart) = absurd (apart (eqb-true n number is))
+other_stays receptions number gateway new n at true true is by (inr apart) = absurd (apart ((bytes_eq-Decides at gateway).0 by))
 
 -- a state that differs in the copies alone, and there in this one
-keeps_with : (s : State) (report : Report) (number : ℕ) (uplink : Uplink) (copies : ℕ → List ℕ → Option Reception) → item_at s.uplinks number ≡ Some uplink → uplink.octets ≡ report.octets
-    → copies number report.gateway ≡ Some (unwrap_or (s.copies number report.gateway) (reception_of report))
-    → ((n : ℕ) (gateway : List ℕ) → (n ≢ number) ⊎ (gateway ≢ report.gateway) → copies n gateway ≡ s.copies n gateway) → KeepsCopy report number s (record s { copies = copies })
-keeps_with s report number uplink copies there octets own others = record {
+keeps_with : (s : State) (report : Report) (number : ℕ) (uplink : Uplink) (receptions : ℕ → List ℕ → Option Reception) → item_at s.uplinks number ≡ Some uplink → uplink.octets ≡ report.octets
+    → receptions number report.gateway ≡ Some (unwrap_or (s.receptions number report.gateway) (reception_of report))
+    → ((n : ℕ) (gateway : List ℕ) → (n ≢ number) ⊎ (gateway ≢ report.gateway) → receptions n gateway ≡ s.receptions n gateway) → KeepsReception report number s (record s { receptions = receptions })
+keeps_with s report number uplink receptions there octets own others = record {
   uplink = uplink;
   there = there;
   octets = octets;
@@ -96,16 +96,16 @@ keeps_with s report number uplink copies there octets own others = record {
 }
 
 copy_keeps : (s : State) (report : Report) (number : ℕ) (uplink : Uplink) (at : Option Reception) → item_at s.uplinks number ≡ Some uplink → uplink.octets ≡ report.octets
-    → s.copies number report.gateway ≡ at → KeepsCopy report number s (state_with s (copy_added number at report))
-copy_keeps s report number uplink (Some old) there octets is = keeps_with s report number uplink s.copies there octets (rw is refl) (λ n gateway apart. refl)
+    → s.receptions number report.gateway ≡ at → KeepsReception report number s (state_with s (reception_added number at report))
+copy_keeps s report number uplink (Some old) there octets is = keeps_with s report number uplink s.receptions there octets (rw is refl) (λ n gateway apart. refl)
 copy_keeps s report number uplink None there octets is =
-    keeps_with s report number uplink (copies_with s.copies number report.gateway (reception_of report)) there octets
+    keeps_with s report number uplink (receptions_with s.receptions number report.gateway (reception_of report)) there octets
     (rw (is, eq-eqb number number refl, (bytes_eq-Decides report.gateway report.gateway).1 refl) refl)
-    (λ n gateway apart. other_stays s.copies number report.gateway (reception_of report) n gateway (n == number) (bytes_eq gateway report.gateway) refl refl apart)
+    (λ n gateway apart. other_stays s.receptions number report.gateway (reception_of report) n gateway (n == number) (bytes_eq gateway report.gateway) refl refl apart)
 
 -- what the checks decide, where it is answered as a copy
 abbrev Keeps : State → Report → Checked Decision → Type 0
-Keeps s report checked = (number : ℕ) → copied_uplink (decision_or_refusal checked).1 ≡ Some number → KeepsCopy report number s (state_with s (decision_or_refusal checked).0)
+Keeps s report checked = (number : ℕ) → copied_uplink (decision_or_refusal checked).1 ≡ Some number → KeepsReception report number s (state_with s (decision_or_refusal checked).0)
 
 after_wants : (s : State) (report : Report) (b : Bool) (r : Refusal) (rest : Checked Decision) → Keeps s report rest → Keeps s report (wants b r >> rest)
 after_wants s report true r rest h = h
@@ -132,8 +132,8 @@ unfolding original_join
 join_found_keeps c s report join band None is = none_keeps s report (join_added c s report join band) (join_added_tells_none c s report join band)
 join_found_keeps c s report join band (Some found) is = λ number e.
     let first = with_octets report.octets _ found is in
-    subst (λ n. KeepsCopy report n s (state_with s (copy_added found.0 (s.copies found.0 report.gateway) report))) (same_Some found.0 number e)
-    (copy_keeps s report found.0 found.1 (s.copies found.0 report.gateway) (first_is (is_join_with s.sessions join.dev_eui join.nonce) s.uplinks found first.0).0 first.1 refl)
+    subst (λ n. KeepsReception report n s (state_with s (reception_added found.0 (s.receptions found.0 report.gateway) report))) (same_Some found.0 number e)
+    (copy_keeps s report found.0 found.1 (s.receptions found.0 report.gateway) (first_is (is_join_with s.sessions join.dev_eui join.nonce) s.uplinks found first.0).0 first.1 refl)
 
 join_keeps : (c : Settings) (s : State) (report : Report) (verdict : JoinVerdict) → Keeps s report (join_heard c s report verdict)
 unfolding join_heard
@@ -157,8 +157,8 @@ unfolding original_data
 data_found_keeps s report frame session dev_eui counter band None is = none_keeps s report (data_added s report frame session dev_eui counter band) (data_added_tells_none s report frame session dev_eui counter band)
 data_found_keeps s report frame session dev_eui counter band (Some found) is = λ number e.
     let first = with_octets report.octets _ found is in
-    subst (λ n. KeepsCopy report n s (state_with s (copy_added found.0 (s.copies found.0 report.gateway) report))) (same_Some found.0 number e)
-    (copy_keeps s report found.0 found.1 (s.copies found.0 report.gateway) (first_is (is_data_with session counter) s.uplinks found first.0).0 first.1 refl)
+    subst (λ n. KeepsReception report n s (state_with s (reception_added found.0 (s.receptions found.0 report.gateway) report))) (same_Some found.0 number e)
+    (copy_keeps s report found.0 found.1 (s.receptions found.0 report.gateway) (first_is (is_data_with session counter) s.uplinks found first.0).0 first.1 refl)
 
 frame_keeps : (c : Settings) (s : State) (report : Report) (verdict : Option ℕ) → Keeps s report (frame_heard c s report verdict)
 unfolding frame_heard
@@ -209,7 +209,7 @@ limit_tells_none s e gateway limit = search rules
 
 abbrev KeepsOne : State → Message → Checked Decision → Type 0
 KeepsOne s m checked = (number : ℕ) → copied_uplink (decision_or_refusal checked).1 ≡ Some number
-    → (report : Report) × (report_heard m ≡ Some report) × KeepsCopy report number s (state_with s (decision_or_refusal checked).0)
+    → (report : Report) × (report_heard m ≡ Some report) × KeepsReception report number s (state_with s (decision_or_refusal checked).0)
 
 never : (s : State) (m : Message) (checked : Checked Decision) → TellsNone checked → KeepsOne s m checked
 never s m checked none = λ number e. let both : None ≡ Some number = sym none ∙ e in cc

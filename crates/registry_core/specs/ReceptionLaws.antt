@@ -16,10 +16,10 @@ use Rattle.registry_core.specs.Step.{step}
 use Rattle.registry_core.specs.Uplinks.{reception_of}
 
 -- whatever was heard, no message changes a reception that is stored
-abbrev pub CopiesStay : Type 0
-CopiesStay = (c : Settings) (heard : List Envelope) (e : Envelope) (number : ℕ) (gateway : List ℕ) (copy : Reception)
+abbrev pub ReceptionsStay : Type 0
+ReceptionsStay = (c : Settings) (heard : List Envelope) (e : Envelope) (number : ℕ) (gateway : List ℕ) (reception : Reception)
     → let s : State = state_of c heard in
-    s.copies number gateway ≡ Some copy → (step c s e).0.copies number gateway ≡ Some copy
+    s.receptions number gateway ≡ Some reception → (step c s e).0.receptions number gateway ≡ Some reception
 
 -- what a gateway reports in the message
 abbrev pub report_heard : Message → Option Report
@@ -35,14 +35,14 @@ copied_uplink _ = None
 
 -- The report is a copy of the uplink with this number. The gateway's reception of it stays if there is one, and else becomes this one.
 -- Everything else is as it was before.
-pub record KeepsCopy (report : Report) (number : ℕ) (before after : State) : Type 0 where
+pub record KeepsReception (report : Report) (number : ℕ) (before after : State) : Type 0 where
   pub uplink : Uplink
   pub there : item_at before.uplinks number ≡ Some uplink
   pub octets : uplink.octets ≡ report.octets
-  pub own : after.copies number report.gateway
-      ≡ Some (unwrap_or (before.copies number report.gateway) (reception_of report))
+  pub own : after.receptions number report.gateway
+      ≡ Some (unwrap_or (before.receptions number report.gateway) (reception_of report))
   pub others : (n : ℕ) (gateway : List ℕ) → (n ≢ number) ⊎ (gateway ≢ report.gateway)
-      → after.copies n gateway ≡ before.copies n gateway
+      → after.receptions n gateway ≡ before.receptions n gateway
   pub senders : after.senders ≡ before.senders
   pub owners : after.owners ≡ before.owners
   pub gateways : after.gateways ≡ before.gateways
@@ -56,4 +56,4 @@ pub record KeepsCopy (report : Report) (number : ℕ) (before after : State) : T
 abbrev pub CopiesAddOneAtMost : Type 0
 CopiesAddOneAtMost = (c : Settings) (s : State) (e : Envelope) (number : ℕ)
     → copied_uplink (step c s e).1 ≡ Some number
-    → (report : Report) × (report_heard e.message ≡ Some report) × KeepsCopy report number s (step c s e).0
+    → (report : Report) × (report_heard e.message ≡ Some report) × KeepsReception report number s (step c s e).0

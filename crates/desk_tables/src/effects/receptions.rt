@@ -4,13 +4,13 @@ ghost use Rattle.sqlite.specs.Held.{state};
 ghost use Rattle.desk_tables.specs.steps.Effects.{WritesEffect};
 
 use crate::effects::basis::{Basis, as_json_integer};
-use desk_rows::{RowFault, insert_copy};
+use desk_rows::{RowFault, insert_reception};
 use radio_core::Name;
 use registry_core::{Effect, Reception};
 use sqlite::{Alter, Transaction};
 
 /// Writes the reception of the uplink with this number.
-pub(crate) fn add_copy<S: Alter>(
+pub(crate) fn add_reception<S: Alter>(
     tx: &mut Transaction<'_, S>,
     uplink: u64,
     gateway: &Name,
@@ -19,8 +19,8 @@ pub(crate) fn add_copy<S: Alter>(
 ) -> Result<(), RowFault>
     ensures same_reference { tx.new.conn.ghost_name ≡ tx.old.conn.ghost_name }
     ensures writes { WritesEffect (state S.Store tx.old.conn.now) (state S.Store tx.new.conn.now) result
-        (Effect.AddsCopy uplink gateway.now reception.now) basis }
+        (Effect.AddsReception uplink gateway.now reception.now) basis }
 {
     as_json_integer(uplink)?;
-    insert_copy(tx, uplink, gateway, reception)
+    insert_reception(tx, uplink, gateway, reception)
 }
