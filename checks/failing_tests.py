@@ -54,7 +54,7 @@ TESTS = {
     "desk_tables/a_desk_without_its_operator": "tests::rows_over_tables",
     "desk_tables/a_floor_raised_by_a_join": "tests::rows_over_tables",
     "desk_tables/a_migration_that_drops_the_replies": "tests::migrating::a_desk_is_moved_with_all_it_holds",
-    "desk_tables/a_store_that_is_down_tells_its_counts": "tests::fuses::a_desk_whose_log_stops",
+    "desk_tables/a_failed_store_tells_its_counts": "tests::fuses::a_desk_whose_log_stops",
     "desk_tables/the_first_bands_limit_for_every_band": "tests::rows_over_tables",
     "desk_engine/a_months_last_microsecond_in_the_next": "tests::rows_over_lists",
     "desk_engine/an_import_hears_the_first_again": "tests::rows_over_lists",

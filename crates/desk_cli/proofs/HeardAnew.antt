@@ -50,7 +50,7 @@ kept_nothing c = refl
 module _ {R : Type 0} (h : Ghosts R) (c : Settings) (old new : Tables R) (closed : Held R) where
   -- what the database of a desk holds that was new, and heard some messages
   pub log_was_heard : HearsSome (meaning_of h) old new → ((meaning_of h).sound old → IsStore (meaning_of h) old c (opening_kept c)) → IsHeard c [] → (meaning_of h).sound new
-      → ((kept : Kept) → (meaning_of h).sound new → (meaning_of h).down new ≡ false → (meaning_of h).holds new kept
+      → ((kept : Kept) → (meaning_of h).sound new → (meaning_of h).failed new ≡ false → (meaning_of h).holds new kept
       → IsOfDesk ((meaning_of h).configuration new) kept (state h closed).now × ((state h closed).now ≡ (state h closed).committed))
       → (heard : List Envelope) × IsHeard c heard × IsOfDesk c (kept_after c heard) (state h closed).now
   log_was_heard heard made nothing sound ends =
@@ -62,7 +62,7 @@ module _ {R : Type 0} (h : Ghosts R) (c : Settings) (old new : Tables R) (closed
         order = record { list = nothing; kept = subst (m.holds old) (sym (kept_nothing c)) store.holds };
       } in
       let after : IsInOrder m c new (heard.after c []) = heard.hears.order c [] start in
-      let up : m.down new ≡ false = heard.hears.call.shut ∙ store.up in (
+      let up : m.failed new ≡ false = heard.hears.call.shut ∙ store.up in (
         heard.after c [],
         after.list,
         subst (λ s. IsOfDesk s (kept_after c (heard.after c [])) (state h closed).now) (heard.hears.call.same ∙ store.configuration) (ends (kept_after c (heard.after c [])) sound up after.kept).0,

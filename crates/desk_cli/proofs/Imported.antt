@@ -38,7 +38,7 @@ undoubted m c heard old new was call all doubt leaves = record {
     order = leaves.order;
     crash = λ before survives. elim (leaves.crash before survives) [
       | inl own ↦ inl own
-      | inr in_doubt ↦ absurd (true≢false (sym in_doubt.2.is_down ∙ (unshut_by m old new call refl ∙ was.store.up)))
+      | inr in_doubt ↦ absurd (true≢false (sym in_doubt.2.is_failed ∙ (unshut_by m old new call refl ∙ was.store.up)))
     ];
   };
   still = unshut_by m old new call refl;

@@ -12,7 +12,7 @@ use Rattle.desk_cli.specs.declared.faults.Fault.TheVariants.{Exists, NotADesk, S
 pub told_or_unavailable : {T : Type 0} (fault wanted : StoreFault) (f : Fault) → f ≡ fault_of_store fault → (fault ≡ wanted) ⊎ IsUnavailability fault
     → (err {T = T} f ≡ Err (fault_of_store wanted)) ⊎ (err {T = T} f ≡ Err Unavailable)
 told_or_unavailable fault wanted f is (inl same) = inl (ap Err (is ∙ ap fault_of_store same))
-told_or_unavailable fault wanted f is (inr down) = inr (ap Err (is ∙ is_unavailable fault down))
+told_or_unavailable fault wanted f is (inr failed) = inr (ap Err (is ∙ is_unavailable fault failed))
 
 -- the command's error for a store's error is one of four
 pub says_fault : {T : Type 0} (fault : StoreFault) (f : Fault) → f ≡ fault_of_store fault

@@ -51,8 +51,8 @@ pub opened_in_order : {K : Type 0} (m : Meaning K) (c : Settings) (heard : List 
 opened_in_order m c heard old new was sound = record { its = sym was.store.configuration; sound = sound; order = record { list = was.list; kept = was.store.holds } }
 
 -- it is failed only by a disk error
-pub unshut_by : {K : Type 0} (m : Meaning K) (old new : K) {disk not_a_desk : Bool} → IsCall m old new disk not_a_desk → disk ≡ false → m.down new ≡ m.down old
-unshut_by m old new call is = call.shut ∙ ap (λ disk. disk || m.down old) is
+pub unshut_by : {K : Type 0} (m : Meaning K) (old new : K) {disk not_a_desk : Bool} → IsCall m old new disk not_a_desk → disk ≡ false → m.failed new ≡ m.failed old
+unshut_by m old new call is = call.shut ∙ ap (λ disk. disk || m.failed old) is
 
 module _ {S : Type 0} (g : Ghosts S) (c : Settings) (before : List Envelope) (old new : Tables S) (was : WasOpened (meaning_of g) old c before) where
   -- what is called on it then is called on a store in order
@@ -64,8 +64,8 @@ module _ {S : Type 0} (g : Ghosts S) (c : Settings) (before : List Envelope) (ol
     its = same ∙ was.store.configuration
 
     -- the connection of a desk that is up
-    pub closed : (heard : List Envelope) → (meaning_of g).down new ≡ (meaning_of g).down old → (meaning_of g).sound new → engine.IsInOrder (meaning_of g) c new heard
-        → ((kept : Kept) → (meaning_of g).sound new → (meaning_of g).down new ≡ false → (meaning_of g).holds new kept
+    pub closed : (heard : List Envelope) → (meaning_of g).failed new ≡ (meaning_of g).failed old → (meaning_of g).sound new → engine.IsInOrder (meaning_of g) c new heard
+        → ((kept : Kept) → (meaning_of g).sound new → (meaning_of g).failed new ≡ false → (meaning_of g).holds new kept
         → IsOfDesk ((meaning_of g).configuration new) kept (state g conn).now × ((state g conn).now ≡ (state g conn).committed))
         → HasHeard c heard (state g conn).now × ((state g conn).now ≡ (state g conn).committed)
     closed heard is sound order closes =
@@ -73,7 +73,7 @@ module _ {S : Type 0} (g : Ghosts S) (c : Settings) (before : List Envelope) (ol
         (record { list = order.list; tables = subst (λ d. IsOfDesk d (kept_after c heard) (state g conn).now) its back.0 }, back.1)
 
     -- what a crash leaves
-    pub left : (heard : List Envelope) (doubt : Option Envelope) → Survives (meaning_of g) c new heard (doubt_after ((meaning_of g).down old) None doubt)
+    pub left : (heard : List Envelope) (doubt : Option Envelope) → Survives (meaning_of g) c new heard (doubt_after ((meaning_of g).failed old) None doubt)
         → ((all : List Kept) → (meaning_of g).leaves new all → (trees : Trees) → (state g conn).may_leave trees
         → (kept : Kept) × IsOneOf all kept × AreOfDesk ((meaning_of g).configuration new) kept trees)
         → IsLeft g conn c heard doubt
@@ -93,7 +93,7 @@ module _ {S : Type 0} (g : Ghosts S) (c : Settings) (before : List Envelope) (ol
         here : (trees : Trees) (kept other : Kept) → kept ≡ other → AreOfDesk ((meaning_of g).configuration new) kept trees → AreOfDesk c other trees
         here trees kept other is order = subst (λ k. AreOfDesk c k trees) is (subst (λ d. AreOfDesk d kept trees) its order)
 
-        its_doubt : (e : Envelope) → doubt_after ((meaning_of g).down old) None doubt ≡ Some e → doubt ≡ Some e
+        its_doubt : (e : Envelope) → doubt_after ((meaning_of g).failed old) None doubt ≡ Some e → doubt ≡ Some e
         its_doubt e is = rw was.store.up at is
 
     -- the connection that a command on the desk gives back
@@ -104,7 +104,7 @@ module _ {S : Type 0} (g : Ghosts S) (c : Settings) (before : List Envelope) (ol
       pub is_left : (heard : List Envelope) (doubt : Option Envelope) → StoreLeaves (meaning_of g) c before old new heard doubt → IsLeft g conn c heard doubt
       is_left heard doubt given = left heard doubt (given.crash None (survives g c before old was settled was_sound)) leaves
 
-      pub keeps : ((kept : Kept) → (meaning_of g).sound new → (meaning_of g).down new ≡ false → (meaning_of g).holds new kept
+      pub keeps : ((kept : Kept) → (meaning_of g).sound new → (meaning_of g).failed new ≡ false → (meaning_of g).holds new kept
           → IsOfDesk ((meaning_of g).configuration new) kept (state g conn).now × ((state g conn).now ≡ (state g conn).committed))
           → (heard : List Envelope) → StoreKeeps (meaning_of g) c before old new heard → KeepsHeard g conn c heard
       keeps closes heard given =

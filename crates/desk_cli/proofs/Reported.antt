@@ -17,9 +17,9 @@ module _ {K : Type 0} (m : Meaning K) (c : Settings) (heard : List Envelope) (ol
     order = record { list = was.list; kept = read.held (kept_after c heard) sound was.store.holds };
     crash = λ doubt survives. elim survives [
       | inl own ↦ inl (read.left (kept_after c heard) _ sound was.store.holds own)
-      | inr in_doubt ↦ absurd (true≢false (sym in_doubt.2.is_down ∙ was.store.up))
+      | inr in_doubt ↦ absurd (true≢false (sym in_doubt.2.is_failed ∙ was.store.up))
     ];
   }
 
   pub is_kept_as_it_was : is_disk fault ≡ false → StoreKeeps m c heard old new heard
-  is_kept_as_it_was is = record { leaves = is_left_as_it_was; still = read.shut ∙ ap (λ disk. disk || m.down old) is }
+  is_kept_as_it_was is = record { leaves = is_left_as_it_was; still = read.shut ∙ ap (λ disk. disk || m.failed old) is }

@@ -6,10 +6,10 @@ use Rattle.desk_store.specs.declared.faults.StoreFault.{StoreFault}
 use Rattle.desk_store.specs.Calls.{IsOfReading, IsRead, is_disk, is_not_a_desk}
 use Rattle.desk_cli.specs.steps.Unsound.{unsound}
 
-pub read_by : {K : Type 0} → (configuration : K → Settings) → (down not_a_desk : K → Bool) → (old new : K) → (fault : Option StoreFault)
-    → configuration new ≡ configuration old → down new ≡ (is_disk fault || down old) → not_a_desk new ≡ (is_not_a_desk fault || not_a_desk old)
-    → IsOfReading fault → IsRead (unsound configuration down not_a_desk) old new fault
-read_by configuration down not_a_desk old new fault same shut not_a_desk_now reading = record {
+pub read_by : {K : Type 0} → (configuration : K → Settings) → (failed not_a_desk : K → Bool) → (old new : K) → (fault : Option StoreFault)
+    → configuration new ≡ configuration old → failed new ≡ (is_disk fault || failed old) → not_a_desk new ≡ (is_not_a_desk fault || not_a_desk old)
+    → IsOfReading fault → IsRead (unsound configuration failed not_a_desk) old new fault
+read_by configuration failed not_a_desk old new fault same shut not_a_desk_now reading = record {
   same = same;
   was_sound = λ sound. sound;
   shut = shut;

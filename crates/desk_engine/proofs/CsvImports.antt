@@ -85,7 +85,7 @@ module _ {K : Type 0} (m : Meaning K) (c : Settings) (heard : List Envelope) (ol
       let doubt : doubt_at_stop es os stopped ≡ None = no_doubt es os stopped none in
       let leaves : StoreLeaves m c heard old new (heard_in_order c heard es) None =
       subst (λ envelopes. StoreLeaves m c heard old new (heard_in_order c heard envelopes) None) (all_of whole) (subst (StoreLeaves m c heard old new (heard_in_order c heard (take (length os) es))) doubt leaves_first) in
-      record { leaves = leaves; still = store.call.shut ∙ ap (λ s. is_disk s || m.down old) none }
+      record { leaves = leaves; still = store.call.shut ∙ ap (λ s. is_disk s || m.failed old) none }
 
   -- the answers couldn't be written, of all or of the first
   pub unwritten : (why : Option StoreFault) → stopped ≡ why → (why ≡ None → length os ≡ length es) → IfSome why IsUnavailability

@@ -12,7 +12,7 @@ use Rattle.desk_store.specs.declared.faults.StoreFault.{StoreFault}
 use Rattle.desk_store.specs.declared.faults.StoreFault.TheVariants.{Size}
 use Rattle.desk_store.specs.declared.keeper.Loaded.{Loaded}
 use Rattle.desk_store.specs.declared.keeper.Loaded.TheVariants.{Stranger, Heard, Fresh}
-use Rattle.desk_store.specs.Calls.{ForHeld, IsOfCalls, IsRead, TellsDown, is_disk, is_not_a_desk}
+use Rattle.desk_store.specs.Calls.{ForHeld, IsOfCalls, IsRead, TellsFailed, is_disk, is_not_a_desk}
 use Rattle.desk_store.specs.Looks.{Loads}
 use Rattle.desk_store.specs.Meaning.{Meaning}
 use Rattle.desk_wire.specs.Answers.{head_of_envelope}
@@ -96,7 +96,7 @@ module _ {K : Type 0} (m : Meaning K) where
 
   -- ---- a new pair
 
-  fresh_after : (old mid new : K) (e : Envelope) (view : View) (o : Outcome) → WasAsked m old mid e (Fresh view) → m.down old ≡ false → HearsFresh m mid new e view o
+  fresh_after : (old mid new : K) (e : Envelope) (view : View) (o : Outcome) → WasAsked m old mid e (Fresh view) → m.failed old ≡ false → HearsFresh m mid new e view o
       → (c : Settings) (heard : List Envelope) → WasInOrder m c heard old new → IsHeardAfter m c heard e new o × IsOutcome (told_of_envelope c heard e) o
   unfolding kept_after
   fresh_after old mid new e view o asked up fresh c heard was =
@@ -106,7 +106,7 @@ module _ {K : Type 0} (m : Meaning K) where
       let hears = fresh.hears c heard (there c heard old mid new asked.read sound was) (asked.read.shut ∙ up) loaded.0 loaded.1 in
       (is_heard m c heard e new o known loaded.0 hears, new_outcome m c heard e new o known loaded.0 hears)
 
-  fresh_store : KeepsRules m → (old mid new : K) (e : Envelope) (view : View) (o : Outcome) → WasAsked m old mid e (Fresh view) → m.down old ≡ false → HearsFresh m mid new e view o
+  fresh_store : KeepsRules m → (old mid new : K) (e : Envelope) (view : View) (o : Outcome) → WasAsked m old mid e (Fresh view) → m.failed old ≡ false → HearsFresh m mid new e view o
       → HearsStore old new e o
   fresh_store rules old mid new e view o asked up fresh =
       let call = fresh.call in
@@ -126,10 +126,10 @@ module _ {K : Type 0} (m : Meaning K) where
   -- ---- all
 
   -- a store whose look-up succeeded wasn't failed
-  pub found_up : (old : K) (r : Result Loaded StoreFault) (found : Loaded) → TellsDown m old r → r ≡ Ok found → m.down old ≡ false
-  found_up old r found down is = was_up m old r down (ap is_ok is)
+  pub found_up : (old : K) (r : Result Loaded StoreFault) (found : Loaded) → TellsFailed m old r → r ≡ Ok found → m.failed old ≡ false
+  found_up old r found failed is = was_up m old r failed (ap is_ok is)
 
-  pub loaded_store : KeepsRules m → (old mid new : K) (e : Envelope) (found : Loaded) (o : Outcome) → WasAsked m old mid e found → m.down old ≡ false → HearsLoaded m mid new e found o
+  pub loaded_store : KeepsRules m → (old mid new : K) (e : Envelope) (found : Loaded) (o : Outcome) → WasAsked m old mid e found → m.failed old ≡ false → HearsLoaded m mid new e found o
       → HearsStore old new e o
   loaded_store rules old mid new e Stranger o asked up hears =
       subst (λ k. HearsStore old k e o) (sym hears.0) (quiet_store rules old mid e o asked.read (says_quiet _ o hears.1) (stranger_stays old mid e o asked))
@@ -138,7 +138,7 @@ module _ {K : Type 0} (m : Meaning K) where
   loaded_store rules old mid new e (Fresh view) o asked up hears = fresh_store rules old mid new e view o asked up hears
 
   pub loaded_told : MessageReadsBack → SameMessageTells → (old mid new : K) (e : Envelope) (found : Loaded) (o : Outcome) → IsSettings (m.configuration old) → IsEnvelope e
-      → WasAsked m old mid e found → m.down old ≡ false → HearsLoaded m mid new e found o
+      → WasAsked m old mid e found → m.failed old ≡ false → HearsLoaded m mid new e found o
       → (c : Settings) (heard : List Envelope) → WasInOrder m c heard old new → IsOutcome (told_of_envelope c heard e) o
   loaded_told back tells old mid new e Stranger o settings in_range asked up hears c heard was =
       stranger_told old mid e o asked hears.1 c heard (subst (λ k. WasInOrder m c heard old k) hears.0 was)

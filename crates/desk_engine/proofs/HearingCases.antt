@@ -18,7 +18,7 @@ use Rattle.registry_core.specs.Step.{decision_of, step}
 use Rattle.registry_core.specs.Viewed.{IsView}
 use Rattle.desk_store.specs.declared.faults.StoreFault.{StoreFault}
 use Rattle.desk_store.specs.declared.faults.StoreFault.TheVariants.{Memory, Disk, Size}
-use Rattle.desk_store.specs.Calls.{IsOfCalls, IsUnavailability, TellsDown, is_disk, is_not_a_desk}
+use Rattle.desk_store.specs.Calls.{IsOfCalls, IsUnavailability, TellsFailed, is_disk, is_not_a_desk}
 use Rattle.desk_store.specs.Kept.{CanAdd, entry_of, texts_of}
 use Rattle.desk_store.specs.Meaning.{Meaning}
 use Rattle.desk_wire.specs.Answers.{answer_text, head_of_envelope}
@@ -185,10 +185,10 @@ is_heard m c heard e new o known none hears = record {
 }
 
 -- a call with an answer found the store up
-pub was_up : {K : Type 0} {T : Type 0} (m : Meaning K) (old : K) (r : Result T StoreFault) → TellsDown m old r → is_ok r ≡ true → m.down old ≡ false
-was_up m old r tells answered = elim (cases_Bool (m.down old)) [
+pub was_up : {K : Type 0} {T : Type 0} (m : Meaning K) (old : K) (r : Result T StoreFault) → TellsFailed m old r → is_ok r ≡ true → m.failed old ≡ false
+was_up m old r tells answered = elim (cases_Bool (m.failed old)) [
   | inr up ↦ up
-  | inl is_down ↦ let k : true ≡ false = sym answered ∙ ap is_ok (tells is_down) in cc
+  | inl is_failed ↦ let k : true ≡ false = sym answered ∙ ap is_ok (tells is_failed) in cc
 ]
 
 -- ---- the commit
@@ -223,19 +223,19 @@ decided_by c own heard e view effect message answer m a its messaged answered ma
 
 -- after an error the store represents what it did, and the message is in flight if the error is `Disk`
 pub survives_fault : {K : Type 0} (m : Meaning K) (c : Settings) (new : K) (heard : List Envelope) (e : Envelope) (fault : StoreFault)
-    → m.down new ≡ is_disk (Some fault)
-    → (m.down new ≡ false → m.leaves new (kept_after c heard ∷ []))
+    → m.failed new ≡ is_disk (Some fault)
+    → (m.failed new ≡ false → m.leaves new (kept_after c heard ∷ []))
     → (most_heard ≤ length (kept_after c heard).entries → m.leaves new (kept_after c heard ∷ []))
     → (length heard < most_heard → IsHeard c (heard ++ e ∷ []))
     → (fault ≡ Disk → m.leaves new (kept_after c heard ∷ kept_after c (heard ++ e ∷ []) ∷ []))
     → Survives m c new heard (doubt_of e (Unavailable fault))
 survives_fault m c new heard e Disk shut alone full list doubt = elim (cases_lt (length heard) most_heard) [
-  | inl room ↦ inr (e, refl, record { is_down = shut; list = list room; left = doubt refl })
+  | inl room ↦ inr (e, refl, record { is_failed = shut; list = list room; left = doubt refl })
   | inr no_room ↦ let n = length-kept_after c heard in inl (full (omega arith))
 ]
 survives_fault m c new heard e fault shut alone full list doubt = inl (alone shut)
 
 -- a store without room for an entry has none for an envelope
-pub no_room : {K : Type 0} (m : Meaning K) (c : Settings) (new : K) (heard : List Envelope) → (most_heard ≤ length (kept_after c heard).entries) ⊎ m.sized new → HasNoRoom m new heard
+pub no_room : {K : Type 0} (m : Meaning K) (c : Settings) (new : K) (heard : List Envelope) → (most_heard ≤ length (kept_after c heard).entries) ⊎ m.out_of_space new → HasNoRoom m new heard
 no_room m c new heard (inl full) = let n = length-kept_after c heard in inl (omega arith)
-no_room m c new heard (inr sized) = inr sized
+no_room m c new heard (inr out_of_space) = inr out_of_space

@@ -49,14 +49,14 @@ module _ {K : Type 0} (m : Meaning K) where
   -- what a crash leaves stays, with its in-flight message
   pub survives_reads : (c : Settings) (heard : List Envelope) (doubt now : Option Envelope) (old new : K) (fault : Option StoreFault)
       → IsRead m old new fault → m.sound new → m.holds old (kept_after c heard)
-      → Survives m c old heard doubt → Survives m c new heard (doubt_after (m.down old) doubt now)
+      → Survives m c old heard doubt → Survives m c new heard (doubt_after (m.failed old) doubt now)
   survives_reads c heard doubt now old new fault reads sound held (inl alone) = inl (reads.left _ _ sound held alone)
   survives_reads c heard doubt now old new fault reads sound held (inr (e, in_doubt, d)) =
       inr (
         e,
-        ap (λ b. doubt_after b doubt now) d.is_down ∙ in_doubt,
+        ap (λ b. doubt_after b doubt now) d.is_failed ∙ in_doubt,
         record {
-          is_down = reads.shut ∙ ap (λ b. is_disk fault || b) d.is_down ∙ or_true (is_disk fault);
+          is_failed = reads.shut ∙ ap (λ b. is_disk fault || b) d.is_failed ∙ or_true (is_disk fault);
           list = d.list;
           left = reads.left _ _ sound held d.left;
         },
@@ -72,7 +72,7 @@ module _ {K : Type 0} (m : Meaning K) where
     call = record { same = reads.same; was_sound = reads.was_sound; shut = rw disk_is reads.shut; not_a_desk_now = rw not_a_desk_is reads.not_a_desk_now };
     order = λ c heard was. subst (λ l. IsInOrder m c new l) (sym (same c heard was)) (stays c heard was);
     crash = λ c heard doubt was s.
-        subst (λ l. Survives m c new l (doubt_after (m.down old) doubt (doubtful c))) (sym (same c heard was))
+        subst (λ l. Survives m c new l (doubt_after (m.failed old) doubt (doubtful c))) (sym (same c heard was))
         (survives_reads c heard doubt (doubtful c) old new fault reads was.sound was.order.kept s);
     rules = λ c heard was. keeps c heard new was.sound (stays c heard was);
   }
@@ -111,8 +111,8 @@ module _ {K : Type 0} (m : Meaning K) where
     call = h.call;
     order = λ c heard was. subst (λ l. IsInOrder m c new l) (sym (same c heard was)) (h.order c heard was);
     crash = λ c heard doubt was s.
-        subst (λ l. Survives m c new l (doubt_after (m.down old) doubt (doubted c))) (sym (same c heard was))
-        (subst (λ d. Survives m c new (after c heard) (doubt_after (m.down old) doubt d)) (sym (in_doubt c heard was)) (h.crash c heard doubt was s));
+        subst (λ l. Survives m c new l (doubt_after (m.failed old) doubt (doubted c))) (sym (same c heard was))
+        (subst (λ d. Survives m c new (after c heard) (doubt_after (m.failed old) doubt d)) (sym (in_doubt c heard was)) (h.crash c heard doubt was s));
     rules = h.rules;
   }
 
@@ -123,13 +123,13 @@ module _ {K : Type 0} (m : Meaning K) where
     call = record {
       same = second.call.same ∙ first.call.same;
       was_sound = λ sound. first.call.was_sound (second.call.was_sound sound);
-      shut = second.call.shut ∙ ap (λ b. disk || b) first.call.shut ∙ or_after first_disk disk (m.down old);
+      shut = second.call.shut ∙ ap (λ b. disk || b) first.call.shut ∙ or_after first_disk disk (m.failed old);
       not_a_desk_now = second.call.not_a_desk_now ∙ ap (λ b. not_a_desk || b) first.call.not_a_desk_now ∙ or_after first_not_a_desk not_a_desk (m.not_a_desk old);
     };
     order = λ c heard was. second.order c (first_after c heard) (there c heard was);
     crash = λ c heard doubt was s.
         subst (λ d. Survives m c new (after c (first_after c heard)) d)
-        (doubts (m.down old) first_disk (m.down mid) doubt (first_doubt c) (doubtful c) first.call.shut)
+        (doubts (m.failed old) first_disk (m.failed mid) doubt (first_doubt c) (doubtful c) first.call.shut)
         (second.crash c (first_after c heard) _ (there c heard was) (first.crash c heard doubt (here c heard was) s));
     rules = λ c heard was. second.rules c (first_after c heard) (there c heard was);
   }

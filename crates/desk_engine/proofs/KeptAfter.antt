@@ -63,7 +63,7 @@ rules_of law c heard kept same = subst (λ (k : Kept). GoesByRules k.facts) same
 
 -- a store that isn't failed represents at most one thing
 abbrev pub HoldsOne : {K : Type 0} → Meaning K → Type 0
-HoldsOne {K} m = (keeper : K) (a b : Kept) → m.sound keeper → m.down keeper ≡ false → m.holds keeper a → m.holds keeper b → a ≡ b
+HoldsOne {K} m = (keeper : K) (a b : Kept) → m.sound keeper → m.failed keeper ≡ false → m.holds keeper a → m.holds keeper b → a ≡ b
 
 -- so what a store represents satisfies the rules, if it is that of a log
 pub holds_rules : {K : Type 0} (m : Meaning K) → HoldsOne m → RulesAreKept → (c : Settings) (heard : List Envelope) (keeper : K) → m.sound keeper

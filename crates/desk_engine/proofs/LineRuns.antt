@@ -71,7 +71,7 @@ heard_read-unavailable c heard (Err fault) = refl
 
 module _ {K : Type 0} (m : Meaning K) (c : Settings) where
   -- these lines were heard, and then more
-  pub hears-then : (heard : List Envelope) (old mid new : K) (lines more : List (List ℕ)) (now : Option Envelope) → m.down mid ≡ m.down old
+  pub hears-then : (heard : List Envelope) (old mid new : K) (lines more : List (List ℕ)) (now : Option Envelope) → m.failed mid ≡ m.failed old
       → HasHeardLines m c heard old mid lines None → HasHeardLines m c (heard_lines c heard lines) mid new more now
       → HasHeardLines m c heard old new (lines ++ more) now
   hears-then heard old mid new lines more now up first second =
@@ -79,13 +79,13 @@ module _ {K : Type 0} (m : Meaning K) (c : Settings) where
       record {
         order = subst (λ h. IsInOrder m c new h) (sym joined) second.order;
         crash = λ doubt s.
-            subst (λ h. Survives m c new h (doubt_after (m.down old) doubt now)) (sym joined)
+            subst (λ h. Survives m c new h (doubt_after (m.failed old) doubt now)) (sym joined)
             (subst (λ d. Survives m c new (heard_lines c (heard_lines c heard lines) more) d)
-            (ap (λ b. doubt_after b (doubt_after (m.down old) doubt None) now) up ∙ doubt_again (m.down old) doubt now)
-            (second.crash (doubt_after (m.down old) doubt None) (first.crash doubt s)));
+            (ap (λ b. doubt_after b (doubt_after (m.failed old) doubt None) now) up ∙ doubt_again (m.failed old) doubt now)
+            (second.crash (doubt_after (m.failed old) doubt None) (first.crash doubt s)));
       }
 
-  pub answers-then : (heard : List Envelope) (old mid new : K) (w u v : Option (List ℕ)) (lines more : List (List ℕ)) (now : Option Envelope) → m.down mid ≡ m.down old
+  pub answers-then : (heard : List Envelope) (old mid new : K) (w u v : Option (List ℕ)) (lines more : List (List ℕ)) (now : Option Envelope) → m.failed mid ≡ m.failed old
       → HasAnswered m c heard old mid w u lines None → HasAnswered m c (heard_lines c heard lines) mid new u v more now
       → HasAnswered m c heard old new w v (lines ++ more) now
   answers-then heard old mid new w u v lines more now up first second = record {
@@ -99,7 +99,7 @@ module _ {K : Type 0} (m : Meaning K) (c : Settings) where
       → HasHeardLines m c heard old new (line ∷ []) now
   hears-whole heard old new line now h = record {
     order = subst (λ k. IsInOrder m c new k) (parts.heard_line-part c heard line) h.order;
-    crash = λ doubt s. subst (λ k. Survives m c new k (doubt_after (m.down old) doubt now)) (parts.heard_line-part c heard line) (h.crash doubt s);
+    crash = λ doubt s. subst (λ k. Survives m c new k (doubt_after (m.failed old) doubt now)) (parts.heard_line-part c heard line) (h.crash doubt s);
   }
 
   answers-whole : (heard : List Envelope) (old new : K) (w v : Option (List ℕ)) (line : List ℕ) (now : Option Envelope)
@@ -127,7 +127,7 @@ module _ {K : Type 0} (m : Meaning K) (c : Settings) where
   pub takes-told : (T : Type 0) (heard : List Envelope) (old new : K) (w v : Option (List ℕ)) (line text : List ℕ) (o : Outcome) (r : Result T Stop)
       → (length line == 0) ≡ false → is_unavailable o ≡ false → text_of (told_of_text c heard line) ≡ text → IsInOrder m c new (heard_after c heard (delivery_of_line line))
       → ((doubt : Option Envelope) → Survives m c old heard doubt
-      → Survives m c new (heard_after c heard (delivery_of_line line)) (doubt_after (m.down old) doubt (doubt_of_text c line o)))
+      → Survives m c new (heard_after c heard (delivery_of_line line)) (doubt_after (m.failed old) doubt (doubt_of_text c line o)))
       → OnOk r (Appends w v (text ++ line_feed ∷ [])) → IfErr r (λ stop. stop ≡ Write)
       → TakesLine m c heard old new w v line r
   takes-told T heard old new w v [] text o r some up told order crash written failed = cc
@@ -136,7 +136,7 @@ module _ {K : Type 0} (m : Meaning K) (c : Settings) where
       (record {
         order = order;
         crash = λ doubt s.
-            subst (λ d. Survives m c new (heard_after c heard (delivery_of_line (x ∷ line))) (doubt_after (m.down old) doubt d)) (no_doubt c (x ∷ line) o up)
+            subst (λ d. Survives m c new (heard_after c heard (delivery_of_line (x ∷ line))) (doubt_after (m.failed old) doubt d)) (no_doubt c (x ∷ line) o up)
             (crash doubt s);
       }) written failed
 
@@ -144,7 +144,7 @@ module _ {K : Type 0} (m : Meaning K) (c : Settings) where
   pub takes-unavailable : (T : Type 0) (heard : List Envelope) (old new : K) (w : Option (List ℕ)) (line : List ℕ) (fault : StoreFault)
       → (length line == 0) ≡ false → IsUnavailability fault → IsInOrder m c new (heard_after c heard (delivery_of line (outcome.Unavailable fault)))
       → ((doubt : Option Envelope) → Survives m c old heard doubt
-      → Survives m c new (heard_after c heard (delivery_of line (outcome.Unavailable fault))) (doubt_after (m.down old) doubt (doubt_of_text c line (outcome.Unavailable fault))))
+      → Survives m c new (heard_after c heard (delivery_of line (outcome.Unavailable fault))) (doubt_after (m.failed old) doubt (doubt_of_text c line (outcome.Unavailable fault))))
       → (fault ≡ Size → HasNoRoom m new heard)
       → TakesLine m c heard old new w w {T = T} line (Err (Unavailable fault))
   takes-unavailable T heard old new w line fault some is order crash size =
@@ -154,7 +154,7 @@ module _ {K : Type 0} (m : Meaning K) (c : Settings) where
           hears = record {
             order = subst (λ h. IsInOrder m c new h) same order;
             crash = λ doubt s.
-                subst (λ h. Survives m c new h (doubt_after (m.down old) doubt (doubt_of_text c line (outcome.Unavailable fault)))) same (crash doubt s);
+                subst (λ h. Survives m c new h (doubt_after (m.failed old) doubt (doubt_of_text c line (outcome.Unavailable fault)))) same (crash doubt s);
           };
           answers = Appends-nil w;
         },
@@ -207,7 +207,7 @@ module _ {K : Type 0} (m : Meaning K) (c : Settings) where
 
   -- an LF was met
   pub goes-ended : (heard : List Envelope) (start mid new : K) (w u v : Option (List ℕ)) (input line slice next : List ℕ)
-      → next ≡ [] → m.down new ≡ m.down mid
+      → next ≡ [] → m.failed new ≡ m.failed mid
       → HasReadTo m c heard start mid w u input line → slice ≡ line
       → HasAnswered m c (heard_lines c heard (whole_lines input)) mid new u v (slice ∷ []) None
       → HasReadTo m c heard start new w v (input ++ line_feed ∷ []) next

@@ -100,15 +100,15 @@ module _ {K : Type 0} (m : Meaning K) where
   }
 
   -- of stores whose media have no size of their own
-  pub most_heard_at_sizes : ((k : K) → ¬ (m.sized k)) → (c : Settings) (heard : List Envelope) (old new : K) (ts : List (List ℕ)) (os : List Outcome)
+  pub most_heard_at_sizes : ((k : K) → ¬ (m.out_of_space k)) → (c : Settings) (heard : List Envelope) (old new : K) (ts : List (List ℕ)) (os : List Outcome)
       → AreDelivered m c heard old new ts os → SizesAreMostHeard c heard ts os
-  most_heard_at_sizes unsized c heard old new [] [] told = tt
-  most_heard_at_sizes unsized c heard old new (t ∷ ts) (o ∷ os) told = (
-    λ is. elim (told.1.size is) [ inl full ↦ full | inr sized ↦ absurd (unsized told.0 sized) ],
-    most_heard_at_sizes unsized c (heard_after c heard (delivery_of t o)) told.0 new ts os told.2,
+  most_heard_at_sizes not_out_of_space c heard old new [] [] told = tt
+  most_heard_at_sizes not_out_of_space c heard old new (t ∷ ts) (o ∷ os) told = (
+    λ is. elim (told.1.size is) [ inl full ↦ full | inr out_of_space ↦ absurd (not_out_of_space told.0 out_of_space) ],
+    most_heard_at_sizes not_out_of_space c (heard_after c heard (delivery_of t o)) told.0 new ts os told.2,
   )
-  most_heard_at_sizes unsized c heard old new [] (o ∷ os) told = absurd told
-  most_heard_at_sizes unsized c heard old new (t ∷ ts) [] told = absurd told
+  most_heard_at_sizes not_out_of_space c heard old new [] (o ∷ os) told = absurd told
+  most_heard_at_sizes not_out_of_space c heard old new (t ∷ ts) [] told = absurd told
 
 -- the texts, as far as the loop has come
 pub seen_more : (ts : List (Bor (List ℕ))) (i : ℕ) (d : Bor (List ℕ)) → i < length ts → map (λ t. t.now) (take (i + 1) ts) ≡ map (λ t. t.now) (take i ts) ++ (get_or ts i d).now ∷ []

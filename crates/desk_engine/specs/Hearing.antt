@@ -13,7 +13,7 @@ pub record Hears {K : Type 0} (m : Meaning K) (old new : K) (disk not_a_desk : B
   pub call : IsCall m old new disk not_a_desk
   pub order : (c : Settings) (heard : List Envelope) → WasInOrder m c heard old new → IsInOrder m c new (after c heard)
   pub crash : (c : Settings) (heard : List Envelope) (doubt : Option Envelope) → WasInOrder m c heard old new → Survives m c old heard doubt
-      → Survives m c new (after c heard) (doubt_after (m.down old) doubt (doubtful c))
+      → Survives m c new (after c heard) (doubt_after (m.failed old) doubt (doubtful c))
   pub rules : (c : Settings) (heard : List Envelope) → WasInOrder m c heard old new → HoldsRules m new
 
 -- ---- the same, of a call that returned how it ended
@@ -22,9 +22,9 @@ module _ {K : Type 0} (m : Meaning K) (c : Settings) (heard : List Envelope) (ol
   -- the store represents this log, and a crash leaves it, or it with the in-flight message
   pub record StoreLeaves (after : List Envelope) (now : Option Envelope) : Type 0 where
     pub order : IsInOrder m c new after
-    pub crash : (doubt : Option Envelope) → Survives m c old heard doubt → Survives m c new after (doubt_after (m.down old) doubt now)
+    pub crash : (doubt : Option Envelope) → Survives m c old heard doubt → Survives m c new after (doubt_after (m.failed old) doubt now)
 
   -- the store is failed only if it was before, and a crash leaves this log
   pub record StoreKeeps (after : List Envelope) : Type 0 where
     pub leaves : StoreLeaves after None
-    pub still : m.down new ≡ m.down old
+    pub still : m.failed new ≡ m.failed old

@@ -35,15 +35,15 @@ pub record WasInOrder {K : Type 0} (m : Meaning K) (c : Settings) (heard : List 
 
 -- the log has as many messages as it may have, or the store's medium named its own size in the last call that wrote
 abbrev pub HasNoRoom : {K : Type 0} → Meaning K → K → List Envelope → Type 0
-HasNoRoom m keeper heard = (most_heard ≤ length heard) ⊎ m.sized keeper
+HasNoRoom m keeper heard = (most_heard ≤ length heard) ⊎ m.out_of_space keeper
 
 -- whatever a store that isn't failed represents satisfies the registry's rules
 abbrev pub HoldsRules : {K : Type 0} → Meaning K → K → Type 0
-HoldsRules m keeper = (kept : Kept) → m.down keeper ≡ false → m.holds keeper kept → GoesByRules kept.facts
+HoldsRules m keeper = (kept : Kept) → m.failed keeper ≡ false → m.holds keeper kept → GoesByRules kept.facts
 
 -- the store is failed, the in-flight message could be added to the log, and a crash leaves the log without it or with it
 pub record IsInDoubt {K : Type 0} (m : Meaning K) (c : Settings) (keeper : K) (heard : List Envelope) (e : Envelope) : Type 0 where
-  pub is_down : m.down keeper ≡ true
+  pub is_failed : m.failed keeper ≡ true
   pub list : IsHeard c (heard ++ e ∷ [])
   pub left : m.leaves keeper (kept_after c heard ∷ kept_after c (heard ++ e ∷ []) ∷ [])
 
@@ -56,4 +56,4 @@ Survives m c keeper heard doubt =
 
 -- the in-flight message of a store that was failed before stays the same
 abbrev pub doubt_after : Bool → Option Envelope → Option Envelope → Option Envelope
-doubt_after was_down before now = if was_down then before else now
+doubt_after was_failed before now = if was_failed then before else now

@@ -9,10 +9,10 @@ use Rattle.desk_engine.specs.Hearing.{StoreKeeps}
 
 module _ {K : Type 0} (m : Meaning K) (c : Settings) (heard : List Envelope) (keeper : K) where
   -- a crash leaves the same log as before: a store that isn't failed has no in-flight message
-  still_survives : (down : Bool) → m.down keeper ≡ down → (doubt : Option Envelope) → Survives m c keeper heard doubt
-      → Survives m c keeper heard (doubt_after down doubt None)
+  still_survives : (failed : Bool) → m.failed keeper ≡ failed → (doubt : Option Envelope) → Survives m c keeper heard doubt
+      → Survives m c keeper heard (doubt_after failed doubt None)
   still_survives true is doubt survives = survives
-  still_survives false is doubt survives = elim survives [ inl own ↦ inl own | inr in_doubt ↦ absurd (true≢false (sym in_doubt.2.is_down ∙ is)) ]
+  still_survives false is doubt survives = elim survives [ inl own ↦ inl own | inr in_doubt ↦ absurd (true≢false (sym in_doubt.2.is_failed ∙ is)) ]
 
   pub stays : WasInOrder m c heard keeper keeper → StoreKeeps m c heard keeper keeper heard
-  stays was = record { leaves = record { order = was.order; crash = still_survives (m.down keeper) refl }; still = refl }
+  stays was = record { leaves = record { order = was.order; crash = still_survives (m.failed keeper) refl }; still = refl }

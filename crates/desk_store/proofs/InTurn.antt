@@ -10,7 +10,7 @@ pub read_then : {K : Type 0} (m : Meaning K) (a b c : K) (fault : Option StoreFa
 read_then m a b c fault one two = record {
   same = two.same ∙ one.same;
   was_sound = λ sound. one.was_sound (two.was_sound sound);
-  shut = two.shut ∙ ap (λ down. is_disk fault || down) one.shut;
+  shut = two.shut ∙ ap (λ failed. is_disk fault || failed) one.shut;
   not_a_desk_now = two.not_a_desk_now ∙ ap (λ not_a_desk. is_not_a_desk fault || not_a_desk) one.not_a_desk_now;
   reading = two.reading;
   held = λ kept sound holds. two.held kept sound (one.held kept (two.was_sound sound) holds);

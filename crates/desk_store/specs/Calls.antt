@@ -51,7 +51,7 @@ module _ {K : Type 0} where
   pub record IsCall (m : Meaning K) (old new : K) (disk not_a_desk : Bool) : Type 0 where
     pub same : m.configuration new ≡ m.configuration old
     pub was_sound : m.sound new → m.sound old
-    pub shut : m.down new ≡ disk || m.down old
+    pub shut : m.failed new ≡ disk || m.failed old
     pub not_a_desk_now : m.not_a_desk new ≡ not_a_desk || m.not_a_desk old
 
   -- One or more reading calls in a row, or none, which ended with this error or with none. What the store represents, what a crash leaves
@@ -59,7 +59,7 @@ module _ {K : Type 0} where
   pub record IsRead (m : Meaning K) (old new : K) (fault : Option StoreFault) : Type 0 where
     pub same : m.configuration new ≡ m.configuration old
     pub was_sound : m.sound new → m.sound old
-    pub shut : m.down new ≡ is_disk fault || m.down old
+    pub shut : m.failed new ≡ is_disk fault || m.failed old
     pub not_a_desk_now : m.not_a_desk new ≡ is_not_a_desk fault || m.not_a_desk old
     pub reading : IsOfReading fault
     pub held : (kept : Kept) → m.sound new → m.holds old kept → m.holds new kept
@@ -76,5 +76,5 @@ module _ {K : Type 0} where
   Tells m old new result P = ForHeld m old new (λ kept. IfOk result (P kept))
 
   -- a failed store returns `Disk`
-  abbrev pub TellsDown : {T : Type 0} → Meaning K → K → Result T StoreFault → Type 0
-  TellsDown m old result = m.down old ≡ true → result ≡ Err Disk
+  abbrev pub TellsFailed : {T : Type 0} → Meaning K → K → Result T StoreFault → Type 0
+  TellsFailed m old result = m.failed old ≡ true → result ≡ Err Disk

@@ -87,9 +87,9 @@ rests_on old new db same it = record { settled = settled_on old new same it.sett
 
 -- ---- a store after a look-up
 
-module _ {S : Type 0} (g : Ghosts S) (old : Tables S) (conn : Held S) (down not_a_desk : Bool) where
+module _ {S : Type 0} (g : Ghosts S) (old : Tables S) (conn : Held S) (failed not_a_desk : Bool) where
   abbrev later : Tables S
-  later = record old { conn = conn; down = down; not_a_desk = not_a_desk }
+  later = record old { conn = conn; failed = failed; not_a_desk = not_a_desk }
 
   stands_on : (kept : Kept) → IsAsBefore (state g old.conn) (state g conn) → Stands g old kept → Stands g later kept
   stands_on kept same it = record {
@@ -129,7 +129,7 @@ of_reading Refused = tt
 
 -- ---- a look-up that answered, and one that failed
 
-module _ {S : Type 0} (g : Ghosts S) (old : Tables S) (mid : Held S) (up : old.down ≡ false) where
+module _ {S : Type 0} (g : Ghosts S) (old : Tables S) (mid : Held S) (up : old.failed ≡ false) where
   asked : Tables S
   asked = record old { conn = mid }
 
@@ -144,11 +144,11 @@ module _ {S : Type 0} (g : Ghosts S) (old : Tables S) (mid : Held S) (up : old.d
         let stands = holds up in
         let has = stands.desk.in_order.held.ten.schema in
         let open_was = stands.settled.open_still in
-        stands_on g old mid old.down old.not_a_desk kept
+        stands_on g old mid old.failed old.not_a_desk kept
         (unchanged_before (state g old.conn) (state g mid) stands.settled (read.survives has open_was clean) (read.leaves has open_was clean)) stands;
     left = λ kept all clean holds left.
         let stands = holds up in
-        leaves_on g old mid old.down old.not_a_desk all clean (read.survives stands.desk.in_order.held.ten.schema stands.settled.open_still clean) left;
+        leaves_on g old mid old.failed old.not_a_desk all clean (read.survives stands.desk.in_order.held.ten.schema stands.settled.open_still clean) left;
     unavailable = λ kept clean holds. tt;
     rests = λ db clean rests still.
         let was = rests up in
@@ -163,15 +163,15 @@ module _ {S : Type 0} (g : Ghosts S) (old : Tables S) (mid : Held S) (up : old.d
       (in_order : HasCleanDisk (state g mid) → IsTrue (state g old.conn).is_open → (state g old.conn).step_limit ≡ None
       → (r : Rows) → Holds (state g old.conn).now r → IsEven fault) where
     abbrev after : Tables S
-    after = record old { conn = new; down = is_disk (Some told) || old.down; not_a_desk = is_not_a_desk (Some told) || old.not_a_desk }
+    after = record old { conn = new; failed = is_disk (Some told) || old.failed; not_a_desk = is_not_a_desk (Some told) || old.not_a_desk }
 
     early : HasCleanDisk (state g new) → HasCleanDisk (state g mid)
     early clean = omega (arith, settles.survives.clean, clean)
 
-    not_disk : (is_disk (Some told) || old.down) ≡ false → is_disk (Some told) ≡ false
+    not_disk : (is_disk (Some told) || old.failed) ≡ false → is_disk (Some told) ≡ false
     not_disk still = go (is_disk (Some told)) still
       where
-        go : (b : Bool) → (b || old.down) ≡ false → b ≡ false
+        go : (b : Bool) → (b || old.failed) ≡ false → b ≡ false
         go false is = refl
         go true is = absurd (true≢false is)
 
@@ -186,13 +186,13 @@ module _ {S : Type 0} (g : Ghosts S) (old : Tables S) (mid : Held S) (up : old.d
           let stands = holds up in
           let has = stands.desk.in_order.held.ten.schema in
           let open_was = stands.settled.open_still in
-          stands_on g old new (is_disk (Some told) || old.down) (is_not_a_desk (Some told) || old.not_a_desk) kept
+          stands_on g old new (is_disk (Some told) || old.failed) (is_not_a_desk (Some told) || old.not_a_desk) kept
           (failed_before (state g old.conn) (state g mid) (state g new) (reading_fault fault) told stands.settled read
           (read.survives has open_was (early clean)) (read.leaves has open_was (early clean)) settles clean (not_disk still)) stands;
       left = λ kept all clean holds left.
           let stands = holds up in
           let first = read.survives stands.desk.in_order.held.ten.schema stands.settled.open_still (early clean) in
-          leaves_on g old new (is_disk (Some told) || old.down) (is_not_a_desk (Some told) || old.not_a_desk) all clean
+          leaves_on g old new (is_disk (Some told) || old.failed) (is_not_a_desk (Some told) || old.not_a_desk) all clean
           (survives_then (state g old.conn) (state g mid) (state g new) (λ _. ⊥) (λ _. ⊥) (λ _. ⊥) (λ _ db none. none) (λ _ db none. none) first settles.survives) left;
       unavailable = λ kept clean holds.
           let stands = holds up in
@@ -210,7 +210,7 @@ module _ {S : Type 0} (g : Ghosts S) (old : Tables S) (mid : Held S) (up : old.d
 -- ---- what a look-up of a store returns, and what several in a row do
 
 module _ {S T : Type 0} (g : Ghosts S) (old : Tables S) (mid : Held S) (new : Tables S) where
-  pub read_asked : (answer : Result T RowFault) (result : Result T StoreFault) (Says : Rows → T → Type 0) → old.down ≡ false
+  pub read_asked : (answer : Result T RowFault) (result : Result T StoreFault) (Says : Rows → T → Type 0) → old.failed ≡ false
       → Asks (state g old.conn) (state g mid) answer (λ _. Unit {0}) (λ _. Unit {0}) Says → IsTold g (record old { conn = mid }) new answer result
       → calls.IsRead (meaning_of g) old new (fault_in result)
   read_asked (Ok x) result Says up asks told = subst (λ r. calls.IsRead (meaning_of g) old new (fault_in r)) (sym told.0)
@@ -219,7 +219,7 @@ module _ {S T : Type 0} (g : Ghosts S) (old : Tables S) (mid : Held S) (new : Ta
       (subst (λ k. calls.IsRead (meaning_of g) old k (Some t)) (sym fails.same)
       (failed g old mid up new.conn fault t asks.read fails.settles (λ clean open_was unlimited r has. asks.in_order clean open_was unlimited r has tt tt)))
 
-  pub kept_asked : (answer : Result T RowFault) (result : Result T StoreFault) (P : Kept → T → Type 0) → old.down ≡ false
+  pub kept_asked : (answer : Result T RowFault) (result : Result T StoreFault) (P : Kept → T → Type 0) → old.failed ≡ false
       → Asks (state g old.conn) (state g mid) answer (λ _. Unit {0}) (λ _. Unit {0}) (OfKept P) → IsTold g (record old { conn = mid }) new answer result
       → Tells (meaning_of g) old new result P
   kept_asked (Ok x) result P up asks told = λ kept clean holds.
@@ -230,12 +230,12 @@ module _ {S T : Type 0} (g : Ghosts S) (old : Tables S) (mid : Held S) (new : Ta
       (says old.config kept (record { are = stands.desk.in_order.are; entries = stands.desk.in_order.entries; in_range = stands.desk.in_order.held.ten.in_range; few = stands.desk.few }))
   kept_asked (Err fault) result P up asks (t, is, fails) = λ kept clean holds. subst (λ r. IfOk r (P kept)) (sym is) tt
 
-  pub answered_by_rows : (answer : Result T RowFault) (result : Result T StoreFault) (Says : Rows → T → Type 0) → old.down ≡ false
+  pub answered_by_rows : (answer : Result T RowFault) (result : Result T StoreFault) (Says : Rows → T → Type 0) → old.failed ≡ false
       → Reads (state g old.conn) (state g mid) answer Says → IsTold g (record old { conn = mid }) new answer result
       → calls.IsRead (meaning_of g) old new (fault_in result)
   answered_by_rows answer result Says up reads told = read_asked answer result Says up (asks_one reads) told
 
-  pub answered_by_kept : (answer : Result T RowFault) (result : Result T StoreFault) (P : Kept → T → Type 0) → old.down ≡ false
+  pub answered_by_kept : (answer : Result T RowFault) (result : Result T StoreFault) (P : Kept → T → Type 0) → old.failed ≡ false
       → Reads (state g old.conn) (state g mid) answer (OfKept P) → IsTold g (record old { conn = mid }) new answer result
       → Tells (meaning_of g) old new result P
   answered_by_kept answer result P up reads told = kept_asked answer result P up (asks_one reads) told
@@ -248,7 +248,7 @@ told_ok {T = T} g mid new (Ok y) x told =
     (ap (λ z. let found : Result T RowFault = Ok z in found) same, told.1)
 told_ok g mid new (Err fault) x (t, is, fails) = absurd (cc)
 
-module _ {S T : Type 0} (g : Ghosts S) (old : Tables S) (mid : Held S) (up : old.down ≡ false) (x : T) (Says : Rows → T → Type 0) (seen : Seen)
+module _ {S T : Type 0} (g : Ghosts S) (old : Tables S) (mid : Held S) (up : old.failed ≡ false) (x : T) (Says : Rows → T → Type 0) (seen : Seen)
     (reads : Reads (state g old.conn) (state g mid) (Ok x) Says) (so : (r : Rows) → Says r x → IsSeen r old.seen → IsSeen r seen) where
   seen_held : (kept : Kept) → HasCleanDisk (state g mid) → Stands g old kept → Stands g (record old { conn = mid }) kept
       → Stands g (record old { conn = mid; seen = seen }) kept
@@ -281,7 +281,7 @@ module _ {S T : Type 0} (g : Ghosts S) (old : Tables S) (mid : Held S) (up : old
 
 -- a look-up that answered, and how the store then changes what it has seen
 pub answered_and_seen : {S T : Type 0} (g : Ghosts S) (old : Tables S) (mid : Held S) (new : Tables S) (answer : Result T RowFault) (x : T)
-    (Says : Rows → T → Type 0) (change : Seen → Seen) → old.down ≡ false → Reads (state g old.conn) (state g mid) answer Says
+    (Says : Rows → T → Type 0) (change : Seen → Seen) → old.failed ≡ false → Reads (state g old.conn) (state g mid) answer Says
     → IsTold g (record old { conn = mid }) new answer (Ok x) → ((r : Rows) → Says r x → IsSeen r old.seen → IsSeen r (change old.seen))
     → calls.IsRead (meaning_of g) old (record new { seen = change new.seen }) None
 answered_and_seen g old mid new answer x Says change up reads told so =
@@ -305,11 +305,11 @@ unread g s = record {
 
 -- ---- a failed store looks up nothing
 
-pub down_read : {S : Type 0} (g : Ghosts S) (s : Tables S) → s.down ≡ true → calls.IsRead (meaning_of g) s s (Some told_as.Disk)
-down_read g s down = record {
+pub failed_read : {S : Type 0} (g : Ghosts S) (s : Tables S) → s.failed ≡ true → calls.IsRead (meaning_of g) s s (Some told_as.Disk)
+failed_read g s failed = record {
   same = refl;
   was_sound = λ sound. sound;
-  shut = down;
+  shut = failed;
   not_a_desk_now = refl;
   reading = tt;
   held = λ kept sound holds. holds;

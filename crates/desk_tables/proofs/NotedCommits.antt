@@ -59,7 +59,7 @@ first_false true b is = absurd (true≢false is)
 
 -- ---- a store and what a transaction did
 
-module _ {S : Type 0} (g : Ghosts S) (old : Tables S) (e : Envelope) (message : List ℕ) (effect : Effect) (answer : List ℕ) (up : old.down ≡ false)
+module _ {S : Type 0} (g : Ghosts S) (old : Tables S) (e : Envelope) (message : List ℕ) (effect : Effect) (answer : List ℕ) (up : old.failed ≡ false)
     (room : old.heard < most_heard) (follow : RowsFollowFacts) (keys : KeysAreFree) (changed : ChangedRowsAreThere)
     (settled : (s : S) (db : Trees) → IsTrue (g.view s).is_open → g.recovers s db → db ≡ (g.view s).committed) where
   abbrev known : Known
@@ -104,7 +104,7 @@ module _ {S : Type 0} (g : Ghosts S) (old : Tables S) (e : Envelope) (message : 
 
   module _ (mid : Held S) (done : Unit {0}) (commits : CommitsTo mid (Ok done)) (counts : Counts) (counted : CountsWith effect old.counts counts) where
     abbrev after : Tables S
-    after = record old { conn = mid; sized = false; heard = old.heard + 1; counts = counts; seen = seen_after old.seen }
+    after = record old { conn = mid; out_of_space = false; heard = old.heard + 1; counts = counts; seen = seen_after old.seen }
 
     stands_after : (kept : Kept) → HasCleanDisk (state g mid) → Stands g old kept → CanAdd kept e effect
         → Stands g after (with_entry kept e message effect answer)
@@ -145,7 +145,7 @@ module _ {S : Type 0} (g : Ghosts S) (old : Tables S) (e : Envelope) (message : 
     commit_made = record {
       call = record { same = refl; was_sound = λ clean. omega (arith, commits.clean, clean); shut = refl; not_a_desk_now = refl };
       told = tt;
-      down = λ is. absurd (true≢false (sym is ∙ up));
+      failed = λ is. absurd (true≢false (sym is ∙ up));
       added = λ kept clean holds can still. stands_after kept clean (holds up) can;
       neither = λ kept clean holds. tt;
       fault = λ kept clean holds can. tt;
@@ -161,7 +161,7 @@ module _ {S : Type 0} (g : Ghosts S) (old : Tables S) (e : Envelope) (message : 
 
   module _ (mid new : Held S) (fault : RowFault) (told : StoreFault) (commits : CommitsTo mid (Err fault)) (settles : Settles (state g mid) (state g new) fault told) where
     abbrev undone : Tables S
-    undone = record old { conn = new; down = is_disk (Some told) || old.down; not_a_desk = is_not_a_desk (Some told) || old.not_a_desk; sized = is_size told }
+    undone = record old { conn = new; failed = is_disk (Some told) || old.failed; not_a_desk = is_not_a_desk (Some told) || old.not_a_desk; out_of_space = is_size told }
 
     early : HasCleanDisk (state g new) → HasCleanDisk (state g mid)
     early clean = omega (arith, settles.survives.clean, clean)
@@ -226,9 +226,9 @@ module _ {S : Type 0} (g : Ghosts S) (old : Tables S) (e : Envelope) (message : 
     commit_undone = record {
       call = record { same = refl; was_sound = first; shut = refl; not_a_desk_now = refl };
       told = disk_or_as told (store_fault fault) (λ f. IsOfCalls (Some f)) tt (of_calls fault) settles.same;
-      down = λ is. absurd (true≢false (sym is ∙ up));
+      failed = λ is. absurd (true≢false (sym is ∙ up));
       added = λ kept clean holds can. tt;
-      neither = λ kept clean holds still. stands_still kept clean (holds up) (first_false (is_disk (Some told)) old.down still);
+      neither = λ kept clean holds still. stands_still kept clean (holds up) (first_false (is_disk (Some told)) old.failed still);
       fault = λ kept clean holds can.
           let it = holds up in
           let r = it.desk.in_order.rows in
@@ -239,8 +239,8 @@ module _ {S : Type 0} (g : Ghosts S) (old : Tables S) (e : Envelope) (message : 
       no_room = λ kept clean holds was most. let less = few kept (holds up) in absurd (omega (arith, most, less));
       doubt = λ kept clean holds can was is. leaves_either kept clean holds can;
       stays = λ all clean is left. absurd (true≢false (sym is ∙ up));
-      undone = λ db clean rests still. rests_still db clean (rests up) (first_false (is_disk (Some told)) old.down still);
-      rests = λ db clean rests. (db, λ still. rests_still db clean (rests up) (first_false (is_disk (Some told)) old.down still));
+      undone = λ db clean rests still. rests_still db clean (rests up) (first_false (is_disk (Some told)) old.failed still);
+      rests = λ db clean rests. (db, λ still. rests_still db clean (rests up) (first_false (is_disk (Some told)) old.failed still));
     }
 
   -- ---- either

@@ -21,34 +21,34 @@ use Rattle.desk_tables.proofs.LookUps.{disk_or_as}
 
 module _ {S : Type 0} (g : Ghosts S) (old : Tables S) (e : Envelope) (message : List ℕ) (effect : Effect) (answer : List ℕ) where
   -- it is failed
-  pub commit_down : old.down ≡ true → IsCommit (meaning_of g) old old e message effect answer (Err Disk)
-  commit_down down = record {
-    call = record { same = refl; was_sound = λ clean. clean; shut = down; not_a_desk_now = refl };
+  pub commit_failed : old.failed ≡ true → IsCommit (meaning_of g) old old e message effect answer (Err Disk)
+  commit_failed failed = record {
+    call = record { same = refl; was_sound = λ clean. clean; shut = failed; not_a_desk_now = refl };
     told = tt;
-    down = λ is. refl;
+    failed = λ is. refl;
     added = λ kept clean holds can. tt;
     neither = λ kept clean holds. holds;
     fault = λ kept clean holds can. tt;
     size = λ kept clean holds is. absurd (cc);
-    no_room = λ kept clean holds up most. absurd (true≢false (sym down ∙ up));
-    doubt = λ kept clean holds can up is. absurd (true≢false (sym down ∙ up));
+    no_room = λ kept clean holds up most. absurd (true≢false (sym failed ∙ up));
+    doubt = λ kept clean holds can up is. absurd (true≢false (sym failed ∙ up));
     stays = λ all clean is left. left;
     undone = λ db clean rests. rests;
     rests = λ db clean rests. (db, rests);
   }
 
-  module _ (up : old.down ≡ false) where
+  module _ (up : old.failed ≡ false) where
     -- it is in a transaction: it represents nothing
     commit_inside : (new : Held S) (told : StoreFault) → (state g old.conn).in_transaction ≡ true → Settles (state g old.conn) (state g new) Refused told
         → IsCommit (meaning_of g) old
-        (record old { conn = new; down = is_disk (Some told) || old.down; not_a_desk = is_not_a_desk (Some told) || old.not_a_desk })
+        (record old { conn = new; failed = is_disk (Some told) || old.failed; not_a_desk = is_not_a_desk (Some told) || old.not_a_desk })
         e message effect answer (Err told)
     commit_inside new told inside settles =
         let never = λ (kept : Kept) (holds : HoldsKept g old kept). let e : ⊥ = true≢false (sym inside ∙ (holds up).settled.autocommit) in e in
         record {
           call = record { same = refl; was_sound = λ clean. omega (arith, settles.survives.clean, clean); shut = refl; not_a_desk_now = refl };
           told = disk_or_as told (store_fault Refused) (λ f. IsOfCalls (Some f)) tt tt settles.same;
-          down = λ is. absurd (true≢false (sym is ∙ up));
+          failed = λ is. absurd (true≢false (sym is ∙ up));
           added = λ kept clean holds can. tt;
           neither = λ kept clean holds. absurd (never kept holds);
           fault = λ kept clean holds can. absurd (never kept holds);
@@ -71,7 +71,7 @@ module _ {S : Type 0} (g : Ghosts S) (old : Tables S) (e : Envelope) (message : 
     commit_full settled full = record {
       call = record { same = refl; was_sound = λ clean. clean; shut = refl; not_a_desk_now = refl };
       told = tt;
-      down = λ is. absurd (true≢false (sym is ∙ up));
+      failed = λ is. absurd (true≢false (sym is ∙ up));
       added = λ kept clean holds can. tt;
       neither = λ kept clean holds. holds;
       fault = λ kept clean holds can. tt;

@@ -11,7 +11,7 @@ use Rattle.desk_store.specs.Meaning.{Meaning}
 -- a store of this configuration, not failed, which has returned no `NotADesk` and represents this, with no change in progress
 pub record IsStore {K : Type 0} (m : Meaning K) (k : K) (c : Settings) (kept : Kept) : Type 0 where
   pub configuration : m.configuration k ≡ c
-  pub up : m.down k ≡ false
+  pub up : m.failed k ≡ false
   pub known : m.not_a_desk k ≡ false
   pub holds : m.holds k kept
   pub rests : (stored : m.Stored) × m.rests k stored

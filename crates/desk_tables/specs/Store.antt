@@ -47,7 +47,7 @@ module _ {S : Type 0} (g : Ghosts S) (k : Tables S) where
 
   -- of a failed store this states nothing
   abbrev pub HoldsKept : Kept → Type 0
-  HoldsKept kept = k.down ≡ false → Stands kept
+  HoldsKept kept = k.failed ≡ false → Stands kept
 
   -- each database that a crash may leave is of a desk that represents one of these
   abbrev pub Leaves : List Kept → Type 0
@@ -55,16 +55,16 @@ module _ {S : Type 0} (g : Ghosts S) (k : Tables S) where
 
   -- its connection is at rest over this database; of a failed store this states nothing
   abbrev pub Rests : Database → Type 0
-  Rests db = k.down ≡ false → IsAtRest (state g k.conn) db
+  Rests db = k.failed ≡ false → IsAtRest (state g k.conn) db
 
 -- what a store over the tables means
 abbrev pub meaning_of : {S : Type 0} → Ghosts S → Meaning (Tables S)
 meaning_of g = record {
   configuration = λ k. k.config;
   sound = IsSound g;
-  down = λ k. k.down;
+  failed = λ k. k.failed;
   not_a_desk = λ k. k.not_a_desk;
-  sized = λ k. IsTrue k.sized;
+  out_of_space = λ k. IsTrue k.out_of_space;
   holds = HoldsKept g;
   leaves = Leaves g;
   Stored = Database;
@@ -84,7 +84,7 @@ one_kept c db a b h i =
 module _ {S : Type 0} (g : Ghosts S) where
   -- If the store isn't failed, a crash leaves what it represents.
   pub own_law : ((s : S) (db : Trees) → IsTrue (g.view s).is_open → g.recovers s db → db ≡ (g.view s).committed)
-      → (k : Tables S) (kept : Kept) → IsSound g k → k.down ≡ false → HoldsKept g k kept → Leaves g k (kept ∷ [])
+      → (k : Tables S) (kept : Kept) → IsSound g k → k.failed ≡ false → HoldsKept g k kept → Leaves g k (kept ∷ [])
   own_law settled k kept clean up holds = λ db may.
       let stands = holds up in
       let trees : (state g k.conn).now.trees ≡ db = ap (λ (d : Database). d.trees) stands.settled.committed ∙ sym (settled k.conn.store db stands.settled.open_still may) in
@@ -93,7 +93,7 @@ module _ {S : Type 0} (g : Ghosts S) where
       (kept, inl refl, subst (IsOfDesk k.config kept) same stands.desk)
 
   -- If the store isn't failed, it represents at most one thing.
-  pub one_law : (k : Tables S) (a b : Kept) → IsSound g k → k.down ≡ false → HoldsKept g k a → HoldsKept g k b → a ≡ b
+  pub one_law : (k : Tables S) (a b : Kept) → IsSound g k → k.failed ≡ false → HoldsKept g k a → HoldsKept g k b → a ≡ b
   one_law k a b clean up one other = one_kept k.config (state g k.conn).now a b (one up).desk.in_order (other up).desk.in_order
 
 module _ {S : Type 0} (is_clean : S → Bool) (recovers : S → Trees → Type 0) where

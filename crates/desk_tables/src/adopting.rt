@@ -63,9 +63,9 @@ impl<S: Alter> Tables<S> {
                 conn,
                 alloc,
                 config,
-                down: false,
+                failed: false,
                 not_a_desk: false,
-                sized: false,
+                out_of_space: false,
                 heard: 0,
                 counts: Counts {
                     sessions: 0,
@@ -141,16 +141,16 @@ impl<S: Alter> Tables<S> {
         config: Config,
         counted: (u64, Counts),
     ) -> Tables<S>
-        ensures { result ≡ record { conn = conn; alloc = alloc; config = config; down = false; not_a_desk = false; sized = false; heard = counted.0; counts = counted.1; seen = nothing } }
+        ensures { result ≡ record { conn = conn; alloc = alloc; config = config; failed = false; not_a_desk = false; out_of_space = false; heard = counted.0; counts = counted.1; seen = nothing } }
     {
         let (heard, counts) = counted;
         Tables {
             conn,
             alloc,
             config,
-            down: false,
+            failed: false,
             not_a_desk: false,
-            sized: false,
+            out_of_space: false,
             heard,
             counts,
             seen: NOTHING,
@@ -162,11 +162,11 @@ impl<S: Alter> Tables<S> {
     /// of the store.
     pub fn close(self) -> Connection<S>
         ensures sound { HasCleanDisk (state S.Store result) → (meaning_of S.Store).sound self }
-        ensures in_order { (kept : Kept) → (meaning_of S.Store).sound self → (meaning_of S.Store).down self ≡ false → (meaning_of S.Store).holds self kept
+        ensures in_order { (kept : Kept) → (meaning_of S.Store).sound self → (meaning_of S.Store).failed self ≡ false → (meaning_of S.Store).holds self kept
             → IsOfDesk ((meaning_of S.Store).configuration self) kept (state S.Store result).now × ((state S.Store result).now ≡ (state S.Store result).committed) }
-        ensures rest { (kept : Kept) → (meaning_of S.Store).sound self → (meaning_of S.Store).down self ≡ false → (meaning_of S.Store).holds self kept
+        ensures rest { (kept : Kept) → (meaning_of S.Store).sound self → (meaning_of S.Store).failed self ≡ false → (meaning_of S.Store).holds self kept
             → (result.in_transaction ≡ false) × (result.step_limit ≡ None) }
-        ensures stored { (db : Database) → (meaning_of S.Store).sound self → (meaning_of S.Store).down self ≡ false → (meaning_of S.Store).rests self db
+        ensures stored { (db : Database) → (meaning_of S.Store).sound self → (meaning_of S.Store).failed self ≡ false → (meaning_of S.Store).rests self db
             → ((state S.Store result).now ≡ db) × ((state S.Store result).committed ≡ db) }
         ensures left { (all : List Kept) → (meaning_of S.Store).leaves self all → (trees : Trees) → (state S.Store result).may_leave trees
             → (kept : Kept) × IsOneOf all kept × AreOfDesk ((meaning_of S.Store).configuration self) kept trees }

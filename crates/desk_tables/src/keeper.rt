@@ -46,7 +46,7 @@ impl<S: Alter> Tables<S> {
     {
         match answer {
             Ok(()) => {
-                self.sized = false;
+                self.out_of_space = false;
                 self.heard += 1;
                 self.counts = counts_with(self.counts, effect);
                 self.seen = self.seen.after_commit();
@@ -54,7 +54,7 @@ impl<S: Alter> Tables<S> {
             }
             Err(fault) => {
                 let told = self.fail(fault);
-                self.sized = is_size(told);
+                self.out_of_space = is_size(told);
                 Err(told)
             }
         }
@@ -73,7 +73,7 @@ impl<S: Alter> Tables<S> {
         rows_follow_facts();
         keys_are_free();
         changed_rows_are_there();
-        if self.down {
+        if self.failed {
             return Err(StoreFault::Disk);
         }
         // A store that represents something has committed everything.

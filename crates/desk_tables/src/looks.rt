@@ -34,7 +34,7 @@ impl<S: Alter> Looks for Tables<S> {
     }
 
     fn role_of(&mut self, name: &Name) -> Result<Option<Role>, StoreFault> {
-        if self.down {
+        if self.failed {
             return Err(StoreFault::Disk);
         }
         if let Some(role) = self.seen.role_seen(name) {
@@ -51,7 +51,7 @@ impl<S: Alter> Looks for Tables<S> {
     }
 
     fn texts_of(&mut self, envelope: &Envelope) -> Result<Option<EntryTexts>, StoreFault> {
-        if self.down {
+        if self.failed {
             return Err(StoreFault::Disk);
         }
         let answer = texts::texts_of(&mut self.conn, envelope);
@@ -59,7 +59,7 @@ impl<S: Alter> Looks for Tables<S> {
     }
 
     fn entry(&mut self, number: u64) -> Result<Option<EntryTexts>, StoreFault> {
-        if self.down {
+        if self.failed {
             return Err(StoreFault::Disk);
         }
         let answer = texts::entry(&mut self.conn, number);
@@ -67,7 +67,7 @@ impl<S: Alter> Looks for Tables<S> {
     }
 
     fn has_owner(&mut self, name: &Name) -> Result<bool, StoreFault> {
-        if self.down {
+        if self.failed {
             return Err(StoreFault::Disk);
         }
         let answer = owner_is_known(&mut self.conn, name);
@@ -75,7 +75,7 @@ impl<S: Alter> Looks for Tables<S> {
     }
 
     fn has_gateway(&mut self, name: &Name) -> Result<bool, StoreFault> {
-        if self.down {
+        if self.failed {
             return Err(StoreFault::Disk);
         }
         let answer = gateway_is_known(&mut self.conn, name);
@@ -83,7 +83,7 @@ impl<S: Alter> Looks for Tables<S> {
     }
 
     fn device(&mut self, dev_eui: Eui) -> Result<Option<Device>, StoreFault> {
-        if self.down {
+        if self.failed {
             return Err(StoreFault::Disk);
         }
         let answer = desk_rows::device(&mut self.conn, dev_eui);
@@ -91,7 +91,7 @@ impl<S: Alter> Looks for Tables<S> {
     }
 
     fn last_nonce(&mut self, device: Eui) -> Result<Option<u16>, StoreFault> {
-        if self.down {
+        if self.failed {
             return Err(StoreFault::Disk);
         }
         let answer = desk_rows::last_nonce(&mut self.conn, device);
@@ -99,7 +99,7 @@ impl<S: Alter> Looks for Tables<S> {
     }
 
     fn session(&mut self, number: u64) -> Result<Option<Session>, StoreFault> {
-        if self.down {
+        if self.failed {
             return Err(StoreFault::Disk);
         }
         let answer = sessions::session(&mut self.conn, number);
@@ -113,7 +113,7 @@ impl<S: Alter> Looks for Tables<S> {
     }
 
     fn last_counter(&mut self, session: u64) -> Result<Option<u32>, StoreFault> {
-        if self.down {
+        if self.failed {
             return Err(StoreFault::Disk);
         }
         let answer = sessions::last_counter(&mut self.conn, session);
@@ -127,7 +127,7 @@ impl<S: Alter> Looks for Tables<S> {
     }
 
     fn is_below_floor(&mut self, device: Eui, session: u64) -> Result<bool, StoreFault> {
-        if self.down {
+        if self.failed {
             return Err(StoreFault::Disk);
         }
         let answer = sessions::is_below_floor(&mut self.conn, device, session);
@@ -141,7 +141,7 @@ impl<S: Alter> Looks for Tables<S> {
     }
 
     fn join_with(&mut self, device: Eui, nonce: u16) -> Result<Option<(u64, Uplink)>, StoreFault> {
-        if self.down {
+        if self.failed {
             return Err(StoreFault::Disk);
         }
         let answer = uplinks::join_with(&mut self.conn, device, nonce);
@@ -153,7 +153,7 @@ impl<S: Alter> Looks for Tables<S> {
         session: u64,
         counter: u32,
     ) -> Result<Option<(u64, Uplink)>, StoreFault> {
-        if self.down {
+        if self.failed {
             return Err(StoreFault::Disk);
         }
         if self.seen.is_after(session, counter) {
@@ -164,7 +164,7 @@ impl<S: Alter> Looks for Tables<S> {
     }
 
     fn uplink(&mut self, number: u64) -> Result<Option<Uplink>, StoreFault> {
-        if self.down {
+        if self.failed {
             return Err(StoreFault::Disk);
         }
         let answer = uplinks::uplink(&mut self.conn, number);
@@ -176,7 +176,7 @@ impl<S: Alter> Looks for Tables<S> {
         uplink: u64,
         gateway: &Name,
     ) -> Result<Option<Reception>, StoreFault> {
-        if self.down {
+        if self.failed {
             return Err(StoreFault::Disk);
         }
         let answer = uplinks::reception_at(&mut self.conn, uplink, gateway);
@@ -184,7 +184,7 @@ impl<S: Alter> Looks for Tables<S> {
     }
 
     fn is_answered(&mut self, uplink: u64) -> Result<bool, StoreFault> {
-        if self.down {
+        if self.failed {
             return Err(StoreFault::Disk);
         }
         let answer = uplinks::is_answered(&mut self.conn, uplink);
@@ -192,7 +192,7 @@ impl<S: Alter> Looks for Tables<S> {
     }
 
     fn next_down(&mut self, session: u64) -> Result<u64, StoreFault> {
-        if self.down {
+        if self.failed {
             return Err(StoreFault::Disk);
         }
         let answer = sessions::next_down(&mut self.conn, session);
@@ -200,7 +200,7 @@ impl<S: Alter> Looks for Tables<S> {
     }
 
     fn booking(&mut self, number: u64) -> Result<Option<Booking>, StoreFault> {
-        if self.down {
+        if self.failed {
             return Err(StoreFault::Disk);
         }
         let answer = uplinks::booking(&mut self.conn, number);
@@ -208,7 +208,7 @@ impl<S: Alter> Looks for Tables<S> {
     }
 
     fn near(&mut self, gateway: &Name, start: u64) -> Result<Vec<NearBooking>, StoreFault> {
-        if self.down {
+        if self.failed {
             return Err(StoreFault::Disk);
         }
         arranged_rows_tell();
@@ -218,7 +218,7 @@ impl<S: Alter> Looks for Tables<S> {
     }
 
     fn limit_of(&mut self, gateway: &Name, band: Band) -> Result<u64, StoreFault> {
-        if self.down {
+        if self.failed {
             return Err(StoreFault::Disk);
         }
         let answer = limits::limit_of(&mut self.conn, gateway, band);
@@ -226,14 +226,14 @@ impl<S: Alter> Looks for Tables<S> {
     }
 
     fn counts(&mut self) -> Result<Counts, StoreFault> {
-        if self.down {
+        if self.failed {
             return Err(StoreFault::Disk);
         }
         Ok(self.counts)
     }
 
     fn next_device(&mut self, owner: &Name, after: Option<Eui>) -> Result<Option<Eui>, StoreFault> {
-        if self.down {
+        if self.failed {
             return Err(StoreFault::Disk);
         }
         arranged_rows_tell();
@@ -249,7 +249,7 @@ impl<S: Alter> Looks for Tables<S> {
         from: i64,
         to: i64,
     ) -> Result<Vec<Span>, StoreFault> {
-        if self.down {
+        if self.failed {
             return Err(StoreFault::Disk);
         }
         arranged_rows_tell();
@@ -259,7 +259,7 @@ impl<S: Alter> Looks for Tables<S> {
     }
 
     fn bookings_of(&mut self, gateway: &Name, band: Band) -> Result<Vec<Span>, StoreFault> {
-        if self.down {
+        if self.failed {
             return Err(StoreFault::Disk);
         }
         arranged_rows_tell();
@@ -269,7 +269,7 @@ impl<S: Alter> Looks for Tables<S> {
     }
 
     fn senders(&mut self) -> Result<Vec<Name>, StoreFault> {
-        if self.down {
+        if self.failed {
             return Err(StoreFault::Disk);
         }
         listed_rows_tell();
@@ -278,7 +278,7 @@ impl<S: Alter> Looks for Tables<S> {
     }
 
     fn owners(&mut self) -> Result<Vec<Name>, StoreFault> {
-        if self.down {
+        if self.failed {
             return Err(StoreFault::Disk);
         }
         listed_rows_tell();
@@ -287,7 +287,7 @@ impl<S: Alter> Looks for Tables<S> {
     }
 
     fn gateways(&mut self) -> Result<Vec<Name>, StoreFault> {
-        if self.down {
+        if self.failed {
             return Err(StoreFault::Disk);
         }
         listed_rows_tell();
@@ -296,7 +296,7 @@ impl<S: Alter> Looks for Tables<S> {
     }
 
     fn devices(&mut self) -> Result<Vec<Eui>, StoreFault> {
-        if self.down {
+        if self.failed {
             return Err(StoreFault::Disk);
         }
         listed_rows_tell();
@@ -305,7 +305,7 @@ impl<S: Alter> Looks for Tables<S> {
     }
 
     fn sessions_of(&mut self, device: Eui) -> Result<Vec<u64>, StoreFault> {
-        if self.down {
+        if self.failed {
             return Err(StoreFault::Disk);
         }
         let answer = desk_rows::sessions_of(self.alloc, &mut self.conn, device);
@@ -313,7 +313,7 @@ impl<S: Alter> Looks for Tables<S> {
     }
 
     fn last_start(&mut self, session: u64) -> Result<Option<u64>, StoreFault> {
-        if self.down {
+        if self.failed {
             return Err(StoreFault::Disk);
         }
         let answer = sessions::last_start(&mut self.conn, session);
@@ -321,7 +321,7 @@ impl<S: Alter> Looks for Tables<S> {
     }
 
     fn uplinks_between(&mut self, device: Eui, from: i64, to: i64) -> Result<Vec<u64>, StoreFault> {
-        if self.down {
+        if self.failed {
             return Err(StoreFault::Disk);
         }
         listed_rows_tell();
@@ -330,7 +330,7 @@ impl<S: Alter> Looks for Tables<S> {
     }
 
     fn gateways_of(&mut self, uplink: u64) -> Result<Vec<Name>, StoreFault> {
-        if self.down {
+        if self.failed {
             return Err(StoreFault::Disk);
         }
         let answer = uplinks::gateways_of(self.alloc, &mut self.conn, uplink);
@@ -343,7 +343,7 @@ impl<S: Alter> Looks for Tables<S> {
         from: i64,
         to: i64,
     ) -> Result<Vec<u64>, StoreFault> {
-        if self.down {
+        if self.failed {
             return Err(StoreFault::Disk);
         }
         listed_rows_tell();
@@ -352,7 +352,7 @@ impl<S: Alter> Looks for Tables<S> {
     }
 
     fn last_transaction(&mut self, sender: &Name) -> Result<Option<u64>, StoreFault> {
-        if self.down {
+        if self.failed {
             return Err(StoreFault::Disk);
         }
         let answer = desk_rows::last_transaction(&mut self.conn, sender);

@@ -18,11 +18,11 @@ pub struct Tables<S: Alter> {
     pub(crate) alloc: Global,
     pub(crate) config: Config,
     /// A call returned `Disk`.
-    pub(crate) down: bool,
+    pub(crate) failed: bool,
     /// A call returned `NotADesk`.
     pub(crate) not_a_desk: bool,
     /// The medium named its own size in the last call that wrote.
-    pub(crate) sized: bool,
+    pub(crate) out_of_space: bool,
     /// The number of messages that were heard.
     pub(crate) heard: u64,
     pub(crate) counts: Counts,
@@ -36,7 +36,7 @@ impl<S: Alter> Tables<S> {
         ensures { Fails S.Store self.old self.new fault result }
     {
         let told = settle(&mut self.conn, fault);
-        self.down = is_disk(told) || self.down;
+        self.failed = is_disk(told) || self.failed;
         self.not_a_desk = is_not_a_desk(told) || self.not_a_desk;
         told
     }

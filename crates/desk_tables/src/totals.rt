@@ -1,7 +1,7 @@
 //! Counts of all things that a desk stores.
 ghost use Rattle.std.specs.Prelude.{◌≡◌, bytes_eq, is_some, length};
 ghost use Rattle.sqlite.specs.Held.{state};
-ghost use Rattle.desk_store.specs.Calls.{IsRead, Tells, TellsDown, fault_in};
+ghost use Rattle.desk_store.specs.Calls.{IsRead, Tells, TellsFailed, fault_in};
 ghost use Rattle.desk_store.specs.Parts.{AreCounts};
 ghost use Rattle.desk_tables.specs.Store.{meaning_of};
 ghost use Rattle.desk_tables.specs.Totals.{AreTotals, HaveIt};
@@ -72,10 +72,10 @@ impl<S: Alter> Tables<S> {
     /// turns out not to be a desk.
     pub fn totals(&mut self) -> Result<Totals, StoreFault>
         ensures read { IsRead (meaning_of S.Store) self.old self.new (fault_in result) }
-        ensures down { TellsDown (meaning_of S.Store) self.old result }
+        ensures failed { TellsFailed (meaning_of S.Store) self.old result }
         ensures told { Tells (meaning_of S.Store) self.old self.new result AreTotals }
     {
-        if self.down {
+        if self.failed {
             return Err(StoreFault::Disk);
         }
         let answer = totals_in(&mut self.conn, self.counts, self.heard);

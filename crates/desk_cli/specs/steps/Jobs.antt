@@ -39,7 +39,7 @@ module _ {S : Type 0} (g : Ghosts S) (c : Settings) (heard : List Envelope) (bac
     pub sound : (meaning_of g).sound new
     pub same : (meaning_of g).configuration new ≡ (meaning_of g).configuration old
     pub did : Does old new
-    pub in_order : (kept : Kept) → (meaning_of g).sound new → (meaning_of g).down new ≡ false → (meaning_of g).holds new kept
+    pub in_order : (kept : Kept) → (meaning_of g).sound new → (meaning_of g).failed new ≡ false → (meaning_of g).holds new kept
         → IsOfDesk ((meaning_of g).configuration new) kept (state g back).now × ((state g back).now ≡ (state g back).committed)
     pub left : (all : List Kept) → (meaning_of g).leaves new all → (trees : Trees) → (state g back).may_leave trees
         → (kept : Kept) × IsOneOf all kept × AreOfDesk ((meaning_of g).configuration new) kept trees

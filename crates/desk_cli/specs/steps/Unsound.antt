@@ -4,12 +4,12 @@ use Rattle.registry_core.specs.Settings.{Settings}
 use Rattle.desk_store.specs.Meaning.{Meaning}
 
 abbrev pub unsound : {K : Type 0} → (K → Settings) → (K → Bool) → (K → Bool) → Meaning K
-unsound configuration down not_a_desk = record {
+unsound configuration failed not_a_desk = record {
   configuration = configuration;
   sound = λ k. ⊥;
-  down = down;
+  failed = failed;
   not_a_desk = not_a_desk;
-  sized = λ k. ⊥;
+  out_of_space = λ k. ⊥;
   holds = λ k kept. ⊥;
   leaves = λ k all. ⊥;
   Stored = Unit {0};

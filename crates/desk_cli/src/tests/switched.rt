@@ -48,7 +48,7 @@ pub(crate) struct Switched<K: Keeper> {
     failure: Failure,
     /// This many calls pass before the one that fails; none where it has failed.
     calls: Option<u64>,
-    is_down: bool,
+    is_failed: bool,
     is_not_a_desk: bool,
     /// Whether the call that failed had committed a message.
     pub(crate) has_committed: bool,
@@ -61,7 +61,7 @@ impl<K: Keeper> Switched<K> {
             inner,
             failure,
             calls: Some(calls),
-            is_down: false,
+            is_failed: false,
             is_not_a_desk: false,
             has_committed: false,
         }
@@ -75,13 +75,13 @@ impl<K: Keeper> Switched<K> {
     /// Counts a call. An error where it fails before it has done anything.
     fn turn(&mut self) -> Result<(), StoreFault>
         ensures inner { self.new.inner ≡ self.old.inner }
-        ensures shut { self.new.is_down ≡ is_disk (fault_in result) || self.old.is_down }
+        ensures shut { self.new.is_failed ≡ is_disk (fault_in result) || self.old.is_failed }
         ensures not_a_desk_now { self.new.is_not_a_desk ≡ is_not_a_desk (fault_in result) || self.old.is_not_a_desk }
         ensures reading { IsOfReading (fault_in result) }
         ensures told { IsOfCalls (fault_in result) }
-        ensures down { self.old.is_down ≡ true → result ≡ Err StoreFault.Disk }
+        ensures failed { self.old.is_failed ≡ true → result ≡ Err StoreFault.Disk }
     {
-        if self.is_down {
+        if self.is_failed {
             return Err(StoreFault::Disk);
         }
         match self.calls {
@@ -97,7 +97,7 @@ impl<K: Keeper> Switched<K> {
     /// The call fails.
     fn fail(&mut self) -> Result<(), StoreFault>
         ensures inner { self.new.inner ≡ self.old.inner }
-        ensures shut { self.new.is_down ≡ is_disk (fault_in result) || self.old.is_down }
+        ensures shut { self.new.is_failed ≡ is_disk (fault_in result) || self.old.is_failed }
         ensures not_a_desk_now { self.new.is_not_a_desk ≡ is_not_a_desk (fault_in result) || self.old.is_not_a_desk }
         ensures reading { IsOfReading (fault_in result) }
         ensures told { IsOfCalls (fault_in result) }
@@ -106,7 +106,7 @@ impl<K: Keeper> Switched<K> {
         match self.failure {
             Failure::Memory => Err(StoreFault::Memory),
             Failure::Disk | Failure::DiskAfter => {
-                self.is_down = true;
+                self.is_failed = true;
                 Err(StoreFault::Disk)
             }
             Failure::NotADesk => {
@@ -120,11 +120,11 @@ impl<K: Keeper> Switched<K> {
     fn noted<T: Drop>(&mut self, answer: Result<T, StoreFault>) -> Result<T, StoreFault>
         ensures answer { result ≡ answer }
         ensures inner { self.new.inner ≡ self.old.inner }
-        ensures shut { self.new.is_down ≡ is_disk (fault_in answer) || self.old.is_down }
+        ensures shut { self.new.is_failed ≡ is_disk (fault_in answer) || self.old.is_failed }
         ensures not_a_desk_now { self.new.is_not_a_desk ≡ is_not_a_desk (fault_in answer) || self.old.is_not_a_desk }
     {
         match &answer {
-            Err(StoreFault::Disk) => self.is_down = true,
+            Err(StoreFault::Disk) => self.is_failed = true,
             Err(StoreFault::NotADesk) => self.is_not_a_desk = true,
             _ => {}
         }
@@ -143,7 +143,7 @@ macro_rules! in_turn {
 
 impl<K: Keeper> Looks for Switched<K> {
     // It is never sound, so that no clause on values speaks of it.
-    ghost meaning = { unsound (λ k. K.meaning.configuration k.inner.value) (λ k. k.is_down) (λ k. k.is_not_a_desk) };
+    ghost meaning = { unsound (λ k. K.meaning.configuration k.inner.value) (λ k. k.is_failed) (λ k. k.is_not_a_desk) };
 
     fn config(&self) -> &Config {
         self.inner.config()
@@ -353,7 +353,7 @@ impl<K: Keeper> Keeper for Switched<K> {
         answer: &[u8],
     ) -> Result<(), StoreFault> {
         let fails_after = self.failure == Failure::DiskAfter && self.calls == Some(0);
-        if fails_after && !self.is_down {
+        if fails_after && !self.is_failed {
             let answer = self.inner.commit(envelope, message, effect, answer);
             self.noted(answer)?;
             self.has_committed = true;

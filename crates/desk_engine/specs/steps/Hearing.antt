@@ -68,7 +68,7 @@ module _ {K : Type 0} (m : Meaning K) (old new : K) (e : Envelope) where
     pub told : IsOfCalls (outcome_fault o)
     pub refused : IfRefused o (λ refusal. ⊥)
     pub size : (c : Settings) (heard : List Envelope) → WasInOrder m c heard old new → outcome_fault o ≡ Some Size → HasNoRoom m new heard
-    pub hears : (c : Settings) (heard : List Envelope) → WasInOrder m c heard old new → m.down old ≡ false → entry_of e (entries_of c heard) ≡ None
+    pub hears : (c : Settings) (heard : List Envelope) → WasInOrder m c heard old new → m.failed old ≡ false → entry_of e (entries_of c heard) ≡ None
         → IsView c (state_of c heard) e view → HearsNew m c heard e new o
 
   -- What is true, by what the store knew about the message. A message of an unknown sender and one that was heard before leave the store as

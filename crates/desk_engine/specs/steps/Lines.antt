@@ -44,7 +44,7 @@ module _ {K : Type 0} (m : Meaning K) (c : Settings) (heard : List Envelope) (ol
 
   -- The lines of this input are answered, and this is buffered of the line after them.
   pub record HasReadTo (input line : List ℕ) : Type 0 where
-    pub up : m.down new ≡ m.down old
+    pub up : m.failed new ≡ m.failed old
     pub begun : line ≡ part (last_line input)
     pub answered : HasAnswered m c heard old new before after (whole_lines input) None
 

@@ -9,7 +9,7 @@ use Rattle.sqlite.specs.Held.{state}
 use Rattle.desk_store.specs.declared.faults.StoreFault.{StoreFault}
 use Rattle.desk_store.specs.declared.faults.StoreFault.TheVariants.{Disk, Size}
 use Rattle.desk_store.specs.declared.looks.Counts.{Counts}
-use Rattle.desk_store.specs.Calls.{ForHeld, IsCall, IsOfCalls, IsUnavailability, TellsDown, fault_in, is_disk, is_not_a_desk}
+use Rattle.desk_store.specs.Calls.{ForHeld, IsCall, IsOfCalls, IsUnavailability, TellsFailed, fault_in, is_disk, is_not_a_desk}
 use Rattle.desk_store.specs.Kept.{CanAdd, Kept, with_entry}
 use Rattle.desk_store.specs.Meaning.{Meaning}
 use Rattle.desk_store.specs.Parts.{AreCounts}
@@ -37,13 +37,13 @@ module _ {S : Type 0} (g : Ghosts S) where
   pub record KeepsFault (old new : Tables S) (fault : RowFault) (told : StoreFault) : Type 0 where
     pub settles : Settles (state g old.conn) (state g new.conn) fault told
     pub same : new
-        ≡ record old { conn = new.conn; down = is_disk (Some told) || old.down; not_a_desk = is_not_a_desk (Some told) || old.not_a_desk; sized = is_size told }
+        ≡ record old { conn = new.conn; failed = is_disk (Some told) || old.failed; not_a_desk = is_not_a_desk (Some told) || old.not_a_desk; out_of_space = is_size told }
 
   -- the store counts one more message and what the effect adds, and its cache has what is still so; or it notes the error for which there
   -- is none
   abbrev pub IsNoted : Effect → Tables S → Tables S → Result (Unit {0}) RowFault → Result (Unit {0}) StoreFault → Type 0
   IsNoted effect old new (Ok done) result = (result ≡ Ok done)
-      × (new ≡ record old { sized = false; heard = old.heard + 1; counts = new.counts; seen = seen_after old.seen }) × CountsWith effect old.counts new.counts
+      × (new ≡ record old { out_of_space = false; heard = old.heard + 1; counts = new.counts; seen = seen_after old.seen }) × CountsWith effect old.counts new.counts
   IsNoted effect old new (Err fault) result = (told : StoreFault) × (result ≡ Err told) × KeepsFault old new fault told
 
 -- ---- a commit
@@ -53,15 +53,15 @@ pub record IsCommit {K : Type 0} (m : Meaning K) (old new : K) (e : Envelope) (m
     (result : Result (Unit {0}) StoreFault) : Type 0 where
   pub call : IsCall m old new (is_disk (fault_in result)) (is_not_a_desk (fault_in result))
   pub told : IsOfCalls (fault_in result)
-  pub down : TellsDown m old result
+  pub failed : TellsFailed m old result
   pub added : ForHeld m old new (λ kept. CanAdd kept e effect → OnOk result (m.holds new (with_entry kept e message effect answer)))
   pub neither : ForHeld m old new (λ kept. OnErr result (m.holds new kept))
   pub fault : ForHeld m old new (λ kept. CanAdd kept e effect → IfErr result IsUnavailability)
-  pub size : ForHeld m old new (λ kept. result ≡ Err Size → (most_heard ≤ length kept.entries) ⊎ m.sized new)
-  pub no_room : ForHeld m old new (λ kept. m.down old ≡ false → most_heard ≤ length kept.entries
+  pub size : ForHeld m old new (λ kept. result ≡ Err Size → (most_heard ≤ length kept.entries) ⊎ m.out_of_space new)
+  pub no_room : ForHeld m old new (λ kept. m.failed old ≡ false → most_heard ≤ length kept.entries
       → (is_ok result ≡ false) × m.leaves new (kept ∷ []))
-  pub doubt : ForHeld m old new (λ kept. CanAdd kept e effect → m.down old ≡ false → IsErrOf result Disk
+  pub doubt : ForHeld m old new (λ kept. CanAdd kept e effect → m.failed old ≡ false → IsErrOf result Disk
       → m.leaves new (kept ∷ with_entry kept e message effect answer ∷ []))
-  pub stays : (all : List Kept) → m.sound new → m.down old ≡ true → m.leaves old all → m.leaves new all
+  pub stays : (all : List Kept) → m.sound new → m.failed old ≡ true → m.leaves old all → m.leaves new all
   pub undone : (stored : m.Stored) → m.sound new → m.rests old stored → OnErr result (m.rests new stored)
   pub rests : (stored : m.Stored) → m.sound new → m.rests old stored → (after : m.Stored) × m.rests new after

@@ -38,7 +38,7 @@ module _ {S : Type 0} (g : Ghosts S) where
   -- and the store notes whether it is `Disk` or `NotADesk`
   pub record Fails (old new : Tables S) (fault : RowFault) (told : StoreFault) : Type 0 where
     pub settles : Settles (state g old.conn) (state g new.conn) fault told
-    pub same : new ≡ record old { conn = new.conn; down = is_disk (Some told) || old.down; not_a_desk = is_not_a_desk (Some told) || old.not_a_desk }
+    pub same : new ≡ record old { conn = new.conn; failed = is_disk (Some told) || old.failed; not_a_desk = is_not_a_desk (Some told) || old.not_a_desk }
 
   -- the result of a look-up for a result of the connection
   abbrev pub IsTold : {T : Type 0} → Tables S → Tables S → Result T RowFault → Result T StoreFault → Type 0

@@ -25,7 +25,7 @@ returns-in-Ok-clause-rules c =
 
 pub returns-in-Ok-clause-sizes : goal.returns-in-Ok-clause-sizes
 returns-in-Ok-clause-sizes c =
-    most_heard_at_sizes lists_meaning (λ k sized. sized) c.args.config [] _ _ _ _
+    most_heard_at_sizes lists_meaning (λ k out_of_space. out_of_space) c.args.config [] _ _ _ _
     (c.in-Ok.ensures.sizes c.args.config [] (was_made c.args.config _ _ _ (c.nothing_is_heard.ensures c.args.config) c.deref_mut.ensures.value c.in_ok-lists.ensures.opens c.in_ok-lists.ensures.config))
 
 pub returns-in-Ok-clause-repeats : goal.returns-in-Ok-clause-repeats

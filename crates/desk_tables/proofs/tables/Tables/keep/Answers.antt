@@ -1,11 +1,11 @@
 -- Three ways out: the store is failed, the log is full, or the transaction ended and its result is noted.
 use Rattle.std.proofs.Common.{arith}
 use Rattle.desk_tables.proofs.NotedCommits.{commit_noted}
-use Rattle.desk_tables.proofs.RefusedCommits.{commit_down, commit_full}
+use Rattle.desk_tables.proofs.RefusedCommits.{commit_failed, commit_full}
 use Rattle.desk_tables.proofs.tables.Tables.keep.Goals as goal
 
 pub returns-then-self : goal.returns-then-self
-returns-then-self g c = commit_down g.S.Store c.args.self.now _ _ _ _ c.if-self.true
+returns-then-self g c = commit_failed g.S.Store c.args.self.now _ _ _ _ c.if-self.true
 
 pub returns-then-self-2 : goal.returns-then-self-2
 returns-then-self-2 g c = commit_full g.S.Store c.args.self.now _ _ _ _ c.if-self.false g.met.S.Store.settled c.if-self-2.true
