@@ -50,10 +50,10 @@ module _ (c : Settings) (heard : List Envelope) (sender : List ℕ) (Kept : List
   -- A read failed: there is no answer, so no record was heard.
   pub read_failed : ((doubt : Option Envelope) → Left heard doubt → Kept heard) → ImportEndsBy c heard sender Kept Left rest_before rest before after end.Read
       → ImportsBy c heard sender Kept Left rest_before rest before after (err {T = T} File)
-  read_failed settles by = inl (record {
+  read_failed kept_by by = inl (record {
     input = by.input;
     read = by.read;
-    kept = settles by.doubt (subst (λ es. Left (heard_in_order c heard es) by.doubt) (none_answered c heard (take by.count by.envelopes) by.answers.0) by.left_is);
+    kept = kept_by by.doubt (subst (λ es. Left (heard_in_order c heard es) by.doubt) (none_answered c heard (take by.count by.envelopes) by.answers.0) by.left_is);
     unwritten = by.answers.1;
   })
 

@@ -20,8 +20,8 @@ abbrev pub option_rule : Text → Text → Rule
 option_rule name default = record (new_rule name) { long = Some name; value_names = 1; defaults = default ∷ [] }
 
 -- an option of one value that is required
-abbrev pub needed_rule : Text → Rule
-needed_rule name = record (new_rule name) { long = Some name; value_names = 1; required = true }
+abbrev pub required_rule : Text → Rule
+required_rule name = record (new_rule name) { long = Some name; value_names = 1; required = true }
 
 -- an option of one value that may be left out
 abbrev pub optional_rule : Text → Rule

@@ -121,7 +121,7 @@ impl<P: Listening, C: Clock, G: Write> Listening for Logged<'_, P, C, G> {
     ghost meaning = { record {
       comes = λ before after reader writer. P.meaning.comes before.port after.port reader.below writer.below × (after.log ≡ before.log);
       fails = λ before after. P.meaning.fails before.port after.port × (after.log ≡ before.log);
-      goes = λ before after reader writer end. P.meaning.goes before.port after.port reader.below writer.below end
+      finishes = λ before after reader writer end. P.meaning.finishes before.port after.port reader.below writer.below end
           × Logs G.contents before.log after.log end reader.record writer.record;
     } };
 

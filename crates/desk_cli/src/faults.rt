@@ -163,14 +163,14 @@ pub(crate) fn end<F: Write>(faults: &mut F, done: Result<(), Fault>) -> Ending
     match done {
         Ok(()) => Ending::Done,
         Err(fault) => {
-            tell(faults, fault);
+            print_fault(faults, fault);
             fault.ending()
         }
     }
 }
 
 /// Writes the error's line, or as much of it as can be written.
-fn tell<F: Write>(faults: &mut F, fault: Fault)
+fn print_fault<F: Write>(faults: &mut F, fault: Fault)
     ensures { IsBegun (F.contents faults.old) (F.contents faults.new) (fault_line fault) }
 {
     match line_of(fault) {

@@ -42,7 +42,7 @@ pub(crate) trait Job {
 
 /// Does the job with the desk of the connection's database, and gives the connection back. Nothing is read or written before the desk is
 /// open. A database that is not a desk of schema 2 is refused, and stays as it is.
-pub(crate) fn by_store<S: Alter, J: Job, R: Read, W: Write>(
+pub(crate) fn run_job<S: Alter, J: Job, R: Read, W: Write>(
     alloc: Global,
     conn: Connection<S>,
     job: &J,

@@ -11,7 +11,7 @@ ghost use Rattle.desk_engine.specs.Log.{message_number};
 ghost use Rattle.desk_cli.specs.Numbers.{connections_of, port_of};
 ghost use Rattle.desk_cli.specs.steps.CommandLine.{AddsWord, IsCommand};
 ghost use Rattle.desk_cli.specs.steps.Options.{behind};
-ghost use Rattle.desk_cli.specs.Options.{config_of, flag_rule, is_set, list_in, name_of, needed_rule, option_rule, optional_rule, place_rule, placed, settings_from, value_at, value_or, with_settings};
+ghost use Rattle.desk_cli.specs.Options.{config_of, flag_rule, is_set, list_in, name_of, option_rule, optional_rule, place_rule, placed, required_rule, settings_from, value_at, value_or, with_settings};
 
 use crate::numbers::{connections_of, port_of};
 use crate::usage::BadValue;
@@ -83,8 +83,13 @@ pub(crate) fn option<'a>(
 }
 
 /// Returns an option of one value that has to be given.
-pub(crate) fn needed<'a>(alloc: Global, name: &'a str, form: &'a str, help: &'a str) -> Arg<'a>
-    ensures rule { rule_of result ≡ needed_rule name.entry.now }
+pub(crate) fn required_option<'a>(
+    alloc: Global,
+    name: &'a str,
+    form: &'a str,
+    help: &'a str,
+) -> Arg<'a>
+    ensures rule { rule_of result ≡ required_rule name.entry.now }
     ensures local { result.global ≡ false }
 {
     Arg::new(alloc, name)

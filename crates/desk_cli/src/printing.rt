@@ -19,7 +19,7 @@ ghost use Rattle.desk_cli.specs.steps.Printing.{IsPrinted, shown, unasked};
 
 use crate::endings::Ending;
 use crate::faults::{Fault, end};
-use crate::jobs::{Job, by_store};
+use crate::jobs::{Job, run_job};
 use desk_engine::{ReportFault, write_whole};
 use desk_store::Keeper;
 use sqlite::{Alter, Connection};
@@ -79,7 +79,7 @@ fn print_by_store<S: Alter, Q: Report, W: Write>(
         → RefusesFile S.Store conn result.1 (Keeps (W.contents answers.old) (W.contents answers.new)) result.0 }
     ensures clean { HasCleanDisk (state S.Store result.1) → HasCleanDisk (state S.Store conn) }
 {
-    by_store(alloc, conn, &Printed(report), &mut io::empty(), answers)
+    run_job(alloc, conn, &Printed(report), &mut io::empty(), answers)
 }
 
 /// The job that prints the report.

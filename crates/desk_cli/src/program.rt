@@ -103,7 +103,7 @@ pub fn run_given<
         Ok(strings) => run_strings(
             alloc, &strings, files, network, reader, answers, faults, progress,
         ),
-        Err(why) => (tell(&why, faults), None),
+        Err(why) => (print_usage(&why, faults), None),
     }
 }
 
@@ -132,7 +132,7 @@ fn run_strings<
         → (reader.new ≡ reader.old) × (answers.new ≡ answers.old) × (result.1 ≡ None) }
 {
     let Ok(words) = words_of(alloc, strings) else {
-        return (tell(&Usage::Memory, faults), None);
+        return (print_usage(&Usage::Memory, faults), None);
     };
     match read_words(alloc, &words) {
         Ok(command) => {
@@ -140,12 +140,12 @@ fn run_strings<
                 alloc, &command, files, network, reader, answers, faults, progress,
             )
         }
-        Err(usage) => (tell(&usage, faults), None),
+        Err(usage) => (print_usage(&usage, faults), None),
     }
 }
 
 /// Writes what is wrong with the arguments.
-fn tell<F: Write>(usage: &Usage, faults: &mut F) -> Ending
+fn print_usage<F: Write>(usage: &Usage, faults: &mut F) -> Ending
     ensures { TellsUsage F.contents faults.old faults.new result usage.now }
 {
     match usage {

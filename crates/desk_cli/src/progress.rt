@@ -131,7 +131,7 @@ struct Lines<'a, C, G> {
 impl<C: Clock, G: Write> Lines<'_, C, G> {
     /// Counts the lines that end in these octets, and shows the number if it is due. No octets mean the end of the input: the number is
     /// cleared.
-    fn note(&mut self, octets: &[u8]) {
+    fn count_lines(&mut self, octets: &[u8]) {
         if octets.is_empty() {
             self.shown.clear();
             return;
@@ -169,7 +169,7 @@ impl<R: Read, C: Clock, G: Write> Read for Counted<'_, R, C, G> {
     fn read(&mut self, buf: &mut [u8]) -> io::Result<usize> {
         let count = self.below.read(buf)?;
         if let Some(lines) = &mut self.lines {
-            lines.note(&buf[..count]);
+            lines.count_lines(&buf[..count]);
         }
         Ok(count)
     }

@@ -206,31 +206,31 @@ module _ {K : Type 0} (m : Meaning K) (c : Settings) where
   }
 
   -- an LF was met
-  pub goes-ended : (heard : List Envelope) (start mid new : K) (w u v : Option (List ℕ)) (input line slice next : List ℕ)
+  pub advances-ended : (heard : List Envelope) (start mid new : K) (w u v : Option (List ℕ)) (input line slice next : List ℕ)
       → next ≡ [] → m.failed new ≡ m.failed mid
       → HasReadTo m c heard start mid w u input line → slice ≡ line
       → HasAnswered m c (heard_lines c heard (whole_lines input)) mid new u v (slice ∷ []) None
       → HasReadTo m c heard start new w v (input ++ line_feed ∷ []) next
-  goes-ended heard start mid new w u v input line slice next none up stands same took = record {
+  advances-ended heard start mid new w u v input line slice next none up stands same took = record {
     up = up ∙ stands.up;
     begun = none ∙ ap part (sym (cuts.last_line-line_feed input));
     answered = subst (λ lines. HasAnswered m c heard start new w v lines None) (sym (cuts.whole_lines-line_feed input))
         (ends-done heard start mid new w u v input line slice stands same took);
   }
 
-  pub goes-stopped : (T : Type 0) (stop : Stop) (heard : List Envelope) (start mid new : K) (w u v : Option (List ℕ)) (input line slice : List ℕ)
+  pub advances-stopped : (T : Type 0) (stop : Stop) (heard : List Envelope) (start mid new : K) (w u v : Option (List ℕ)) (input line slice : List ℕ)
       → HasReadTo m c heard start mid w u input line → slice ≡ line
       → TakesLine m c (heard_lines c heard (whole_lines input)) mid new u v {T = T} slice (Err stop)
       → (more : List ℕ) → LinesEndBy m c heard start new w v ((input ++ line_feed ∷ []) ++ more) (lines_end_of stop)
-  goes-stopped T stop heard start mid new w u v input line slice stands same took more =
+  advances-stopped T stop heard start mid new w u v input line slice stands same took more =
       ends-stopped T stop heard start mid new w u v input ((input ++ line_feed ∷ []) ++ more) line slice (cuts.beginning-ended input more) stands same took
 
   -- other octets were buffered
-  pub goes-on : (heard : List Envelope) (start mid : K) (w u : Option (List ℕ)) (input line octets next : List ℕ)
+  pub advances-on : (heard : List Envelope) (start mid : K) (w u : Option (List ℕ)) (input line octets next : List ℕ)
       → has_line_feed octets ≡ false → next ≡ line_with line octets
       → HasReadTo m c heard start mid w u input line
       → HasReadTo m c heard start mid w u (input ++ octets) next
-  goes-on heard start mid w u input line octets next other grown stands = record {
+  advances-on heard start mid w u input line octets next other grown stands = record {
     up = stands.up;
     begun = grown ∙ ap (λ l. line_with l octets) stands.begun ∙ parts.line_with-part (last_line input) octets
         ∙ ap part (sym (cuts.last_line-octets input octets other));
@@ -238,11 +238,11 @@ module _ {K : Type 0} (m : Meaning K) (c : Settings) where
   }
 
   -- there was no memory for them
-  pub goes-without : (heard : List Envelope) (start mid : K) (w u : Option (List ℕ)) (input line octets : List ℕ)
+  pub advances-without : (heard : List Envelope) (start mid : K) (w u : Option (List ℕ)) (input line octets : List ℕ)
       → has_line_feed octets ≡ false → octets ≢ []
       → HasReadTo m c heard start mid w u input line
       → (more : List ℕ) → LinesEndBy m c heard start mid w u ((input ++ octets) ++ more) (lines_end_of (Unavailable Memory))
-  goes-without heard start mid w u input line octets other some stands more =
+  advances-without heard start mid w u input line octets other some stands more =
       let next = cuts.next_line (input ++ octets) more in
       let begun : last_line (input ++ octets) ≡ last_line input ++ octets = cuts.last_line-octets input octets other in
       record {

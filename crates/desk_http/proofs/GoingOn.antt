@@ -29,16 +29,16 @@ on_blank octets newline line left is begun =
 
 -- an octet that ends no line is read on
 pub on_in_line : (old octets : List ℕ) (x : ℕ) → MayGoOn old → octets ≡ old ++ x ∷ [] → x ≢ line_feed → MayGoOn octets
-on_in_line old octets x goes e other line left is begun =
+on_in_line old octets x going e other line left is begun =
     elim (last_or_before old line left x line_feed (sym e ∙ is)) [
       | inl last ↦ absurd (other last.0)
-      | inr before ↦ goes line before.0 before.1 begun
+      | inr before ↦ going line before.0 before.1 begun
     ]
 
 -- so is one after which the octets may become a head
 pub on_at_end : (old octets : List ℕ) (x : ℕ) → MayGoOn old → octets ≡ old ++ x ∷ [] → MayBecomeRequest octets → MayGoOn octets
-on_at_end old octets x goes e may line left is begun =
+on_at_end old octets x going e may line left is begun =
     elim (last_or_before old line left x line_feed (sym e ∙ is)) [
       | inl last ↦ let whole : octets ≡ line ++ line_feed ∷ [] = cc (e, last.0, last.1) in subst MayBecomeRequest whole may
-      | inr before ↦ goes line before.0 before.1 begun
+      | inr before ↦ going line before.0 before.1 begun
     ]

@@ -20,10 +20,10 @@ within (x ∷ front) tail (y ∷ octets) left e short =
     (found.0, cc)
 
 pub no_head_is_none : NoHeadIsNone
-no_head_is_none octets left after h (bad before last e goes overflows) reads limits = omega (arith, overflows left h after reads, limits.1)
-no_head_is_none octets left after h (cut_off some none goes ended) reads limits =
+no_head_is_none octets left after h (bad before last e going overflows) reads limits = omega (arith, overflows left h after reads, limits.1)
+no_head_is_none octets left after h (cut_off some none going ended) reads limits =
     none h after (reads.0, sym (append-nil octets) ∙ ap (λ l. octets ++ l) (sym ended) ∙ reads.1)
-no_head_is_none octets left after h (too_long none goes long) reads limits =
+no_head_is_none octets left after h (too_long none going long) reads limits =
     let short : length (print_request h) ≤ length octets = omega (arith, long, limits.0) in
     let middle = within (print_request h) after octets left reads.1 short in
     none h middle.0 (reads.0, middle.1)

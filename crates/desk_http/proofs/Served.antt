@@ -186,7 +186,7 @@ module _ {K : Type 0} (m : Meaning K) (in_order : CallsHearInOrder m) (reads : R
               × (request : Request) × (body : List ℕ) × IsReadAs input (remaining one.left) request body × Answers c heard before now request body response)
               _ _ _ one.end _
               (λ response served. (served.0, served.1, served.2, served.3, served.4, request_answers old new served.2 served.3 response served.5 was)) one.served;
-          goes = one.goes;
+          finishes = one.finishes;
         }
 
     each_answers : {L R W : Type 0} (l : Connections L R W) (remaining : R → Option (List ℕ)) (contents : W → Option (List ℕ)) (n : ℕ) (old new : K) (before after : L)

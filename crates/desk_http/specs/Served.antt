@@ -23,14 +23,14 @@ pub record Connections (L R W : Type 0) : Type 1 where
   -- an accept failed, and no connection came
   pub fails : L → L → Type 0
   -- this connection was finished, with what is left to read and what was written, after it was served with this end
-  pub goes : L → L → R → W → ServeEnd → Type 0
+  pub finishes : L → L → R → W → ServeEnd → Type 0
 
 -- of sockets, for example, nothing is known
 abbrev pub unknown : {L R W : Type 0} → Connections L R W
 unknown = record {
   comes = λ before after reader writer. Unit {0};
   fails = λ before after. Unit {0};
-  goes = λ before after reader writer end. Unit {0};
+  finishes = λ before after reader writer end. Unit {0};
 }
 
 -- ---- accepts
@@ -76,7 +76,7 @@ module _ {L R W K : Type 0} (l : Connections L R W) (remaining : R → Option (L
     pub end : ServeEnd
     pub comes : ComesNext l before meanwhile reader writer
     pub served : ServesOnce old new reader left writer written end
-    pub goes : l.goes meanwhile after left written end
+    pub finishes : l.finishes meanwhile after left written end
 
   -- n connections were served, one after another
   abbrev pub ServesEach : ℕ → K → K → L → L → Type 0

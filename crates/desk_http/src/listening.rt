@@ -36,5 +36,5 @@ pub trait Listening {
         writer: Self::Writer,
         end: ServeEnd,
     ) -> io::Result<()>
-        ensures goes { meaning.goes self.old self.new reader writer end };
+        ensures finishes { meaning.finishes self.old self.new reader writer end };
 }

@@ -40,7 +40,7 @@ impl Answers {
     }
 
     /// Counts a booking that is added at the end of the others.
-    pub(crate) fn note(&mut self, booking: &Booking) -> Result<(), AllocError>
+    pub(crate) fn add(&mut self, booking: &Booking) -> Result<(), AllocError>
         ensures noted { (bookings : List Booking) → length bookings < 2 ^ 63 → AreCounted bookings self.old
             → OnOk result (AreCounted (bookings ++ booking.now ∷ []) self.new) }
         ensures succeeds { 1 ≤ spare self.old.named.counts → 1 ≤ spare self.old.standing.counts → IsOk result }

@@ -78,8 +78,8 @@ impl Bookings {
         self.answers.make_room()?;
         let number = self.items.len() as u64 + 1;
         self.starts
-            .note(booking.gateway, place_of(&booking, number))?;
-        self.answers.note(&booking)?;
+            .add(booking.gateway, place_of(&booking, number))?;
+        self.answers.add(&booking)?;
         self.items.push(booking)?;
         Ok(())
     }

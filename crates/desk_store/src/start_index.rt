@@ -33,7 +33,7 @@ impl<K: Copy + Eq + Hash + Drop> StartIndex<K> {
     }
 
     /// Adds the place of an item of this key, which comes after all others in number; or changes nothing.
-    pub(crate) fn note(&mut self, key: K, place: Place) -> Result<(), AllocError>
+    pub(crate) fn add(&mut self, key: K, place: Place) -> Result<(), AllocError>
         ensures noted { Rises (λ place. place.start) (places_in K.eq self.old key)
             → OnOk result ((other : K) → places_in K.eq self.new other
             ≡ (if K.eq key other then put_after (λ place. place.start) place (places_in K.eq self.old key)
@@ -42,12 +42,12 @@ impl<K: Copy + Eq + Hash + Drop> StartIndex<K> {
     {
         match self.keys.get_mut(&key) {
             Some(places) => put(places, place),
-            None => self.note_first(key, place),
+            None => self.add_first(key, place),
         }
     }
 
     /// Adds the place of a key's first item, or changes nothing.
-    fn note_first(&mut self, key: K, place: Place) -> Result<(), AllocError>
+    fn add_first(&mut self, key: K, place: Place) -> Result<(), AllocError>
         ensures noted { OnOk result ((other : K) → places_in K.eq self.new other
             ≡ (if K.eq key other then place ∷ [] else places_in K.eq self.old other)) }
         ensures err { OnErr result ((other : K) → places_in K.eq self.new other ≡ places_in K.eq self.old other) }

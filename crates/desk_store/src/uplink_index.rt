@@ -43,23 +43,23 @@ impl UplinkIndex {
     }
 
     /// Adds an uplink that comes at the end of the others, with this number.
-    pub(crate) fn note(&mut self, uplink: &Uplink, number: u64) -> Result<(), AllocError>
+    pub(crate) fn add(&mut self, uplink: &Uplink, number: u64) -> Result<(), AllocError>
         ensures noted { (uplinks : List Uplink) → number ≡ length uplinks + 1 → IsIndexOf uplinks self.old
             → OnOk result (IsIndexOf (uplinks ++ uplink.now ∷ []) self.new) }
         ensures succeeds { 1 ≤ index_room self.old → IsOk result }
     {
         match uplink.kind {
-            Kind::Join => note_first(&mut self.joins, uplink.session, uplink.counter, number),
+            Kind::Join => add_first(&mut self.joins, uplink.session, uplink.counter, number),
             Kind::Data => {
-                note_first(&mut self.frames, uplink.session, uplink.counter, number)?;
-                note_last(&mut self.counters, uplink.session, uplink.counter)
+                add_first(&mut self.frames, uplink.session, uplink.counter, number)?;
+                set_last(&mut self.counters, uplink.session, uplink.counter)
             }
         }
     }
 }
 
 /// Gives the pair the number, unless it has one.
-fn note_first(
+fn add_first(
     numbers: &mut IndexMap<(u64, u32), u64>,
     session: u64,
     counter: u32,
@@ -75,11 +75,7 @@ fn note_first(
 }
 
 /// Gives the session the counter, unless it has a greater one.
-fn note_last(
-    counters: &mut IndexMap<u64, u32>,
-    session: u64,
-    counter: u32,
-) -> Result<(), AllocError>
+fn set_last(counters: &mut IndexMap<u64, u32>, session: u64, counter: u32) -> Result<(), AllocError>
     ensures noted { OnOk result ((other : ℕ) → get nat_eq counters.new other
         ≡ (if session == other then Some (option_map_or (max counter) (get nat_eq counters.old other) counter) else get nat_eq counters.old other)) }
     ensures succeeds { 1 ≤ spare counters.old → IsOk result }

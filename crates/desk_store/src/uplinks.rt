@@ -79,11 +79,11 @@ impl Uplinks {
         self.items.reserve(1)?;
         self.index.make_room()?;
         let number = self.items.len() as u64 + 1;
-        self.starts.note(
+        self.starts.add(
             (uplink.session, uplink.band.get()),
             place_of(&uplink, number),
         )?;
-        self.index.note(&uplink, number)?;
+        self.index.add(&uplink, number)?;
         self.items.push(uplink)?;
         Ok(())
     }

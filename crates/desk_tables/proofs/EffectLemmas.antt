@@ -13,8 +13,8 @@ use Rattle.sqlite.specs.State.{State}
 use Rattle.desk_tables.specs.Seen.{IsFloorOf, IsSeen, IsSessionAt}
 use Rattle.desk_tables.specs.declared.seen.Seen.{Seen}
 use Rattle.desk_tables.specs.steps.Calls.{Asks}
-use Rattle.desk_tables.specs.declared.effects.basis.Basis.{Basis}
-use Rattle.desk_tables.specs.steps.Effects.{AreWhole, HasSession, IsBasis, IsRaised}
+use Rattle.desk_tables.specs.declared.effects.input.EffectInput.{EffectInput}
+use Rattle.desk_tables.specs.steps.Effects.{AreWhole, HasSession, IsInput, IsRaised}
 use Rattle.desk_tables.proofs.CallLemmas.{asks_then}
 
 -- the only row that passes is the first one
@@ -27,8 +27,8 @@ find_only p (x ∷ xs) row only = go (p x) refl only (find_only p xs row)
     go false is h rest = let e = rw is at h in rw is (rest e)
 
 -- and so is what it is written by
-abbrev pub AsksBasis : State → State → Result Basis RowFault → Effect → Type 0
-AsksBasis old new result effect = Asks old new result (IsThereFor effect) (AreWhole effect) (IsBasis effect)
+abbrev pub AsksInput : State → State → Result EffectInput RowFault → Effect → Type 0
+AsksInput old new result effect = Asks old new result (IsThereFor effect) (AreWhole effect) (IsInput effect)
 
 -- ---- floors
 

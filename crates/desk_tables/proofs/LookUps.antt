@@ -25,7 +25,7 @@ use Rattle.desk_tables.specs.declared.tables.Tables.{Tables}
 use Rattle.desk_tables.specs.steps.Calls.{Asks}
 use Rattle.desk_tables.specs.steps.LookUps.{OfKept}
 use Rattle.desk_tables.specs.steps.Faults.{store_fault}
-use Rattle.desk_tables.specs.steps.Settling.{IsTold, Settles, reading_fault}
+use Rattle.desk_tables.specs.steps.CheckedFaults.{IsCheckedFault, IsTold, reading_fault}
 use Rattle.desk_tables.proofs.CallLemmas.{asks_one}
 
 -- ---- a connection after a look-up
@@ -55,18 +55,18 @@ mid_is old mid (inr back) was up =
     let parts = back.undone up in (parts.0 ∙ sym was, parts.1, parts.0 ∙ sym parts.1)
 
 failed_before : (old mid new : State) (fault : RowFault) (told : StoreFault) → IsSettled old → IsReadingCall old mid false
-    → Survives old mid (λ _. ⊥) → IsUnchanged old mid ⊎ IsRolledBack old mid → Settles mid new fault told → HasCleanDisk new → is_disk (Some told) ≡ false
+    → Survives old mid (λ _. ⊥) → IsUnchanged old mid ⊎ IsRolledBack old mid → IsCheckedFault mid new fault told → HasCleanDisk new → is_disk (Some told) ≡ false
     → IsAsBefore old new
-failed_before old mid new fault told was read survives left settles clean not_disk =
-    let stays = settles.stands clean not_disk in
+failed_before old mid new fault told was read survives left checked clean not_disk =
+    let stays = checked.stands clean not_disk in
     let at = mid_is old mid left was.committed stays.was_open in
     let on = stays.kept at.2 in
     record {
       open_still = stays.open_still;
-      mode = settles.mode (read.mode was.autocommit);
+      mode = checked.mode (read.mode was.autocommit);
       now_is = on.0 ∙ at.0;
       committed_is = on.1 ∙ at.1;
-      limit = settles.survives.limit ∙ survives.limit;
+      limit = checked.survives.limit ∙ survives.limit;
     }
 
 -- a connection at rest has the desk's schema
@@ -159,14 +159,14 @@ module _ {S : Type 0} (g : Ghosts S) (old : Tables S) (mid : Held S) (up : old.f
   }
 
   module _ (new : Held S) (fault : RowFault) (told : StoreFault) (read : IsReadingCall (state g old.conn) (state g mid) false)
-      (settles : Settles (state g mid) (state g new) (reading_fault fault) told)
+      (checked : IsCheckedFault (state g mid) (state g new) (reading_fault fault) told)
       (in_order : HasCleanDisk (state g mid) → IsTrue (state g old.conn).is_open → (state g old.conn).step_limit ≡ None
       → (r : Rows) → Holds (state g old.conn).now r → IsEven fault) where
     abbrev after : Tables S
     after = record old { conn = new; failed = is_disk (Some told) || old.failed; not_a_desk = is_not_a_desk (Some told) || old.not_a_desk }
 
     early : HasCleanDisk (state g new) → HasCleanDisk (state g mid)
-    early clean = omega (arith, settles.survives.clean, clean)
+    early clean = omega (arith, checked.survives.clean, clean)
 
     not_disk : (is_disk (Some told) || old.failed) ≡ false → is_disk (Some told) ≡ false
     not_disk still = go (is_disk (Some told)) still
@@ -178,33 +178,33 @@ module _ {S : Type 0} (g : Ghosts S) (old : Tables S) (mid : Held S) (up : old.f
     failed : calls.IsRead (meaning_of g) old after (Some told)
     failed = record {
       same = refl;
-      was_sound = λ clean. omega (arith, read.clean, settles.survives.clean, clean);
+      was_sound = λ clean. omega (arith, read.clean, checked.survives.clean, clean);
       shut = refl;
       not_a_desk_now = refl;
-      reading = disk_or_as told (store_fault (reading_fault fault)) (λ f. IsOfReading (Some f)) tt (of_reading fault) settles.same;
+      reading = disk_or_as told (store_fault (reading_fault fault)) (λ f. IsOfReading (Some f)) tt (of_reading fault) checked.same;
       held = λ kept clean holds still.
           let stands = holds up in
           let has = stands.desk.in_order.held.ten.schema in
           let open_was = stands.settled.open_still in
           stands_on g old new (is_disk (Some told) || old.failed) (is_not_a_desk (Some told) || old.not_a_desk) kept
           (failed_before (state g old.conn) (state g mid) (state g new) (reading_fault fault) told stands.settled read
-          (read.survives has open_was (early clean)) (read.leaves has open_was (early clean)) settles clean (not_disk still)) stands;
+          (read.survives has open_was (early clean)) (read.leaves has open_was (early clean)) checked clean (not_disk still)) stands;
       left = λ kept all clean holds left.
           let stands = holds up in
           let first = read.survives stands.desk.in_order.held.ten.schema stands.settled.open_still (early clean) in
           leaves_on g old new (is_disk (Some told) || old.failed) (is_not_a_desk (Some told) || old.not_a_desk) all clean
-          (survives_then (state g old.conn) (state g mid) (state g new) (λ _. ⊥) (λ _. ⊥) (λ _. ⊥) (λ _ db none. none) (λ _ db none. none) first settles.survives) left;
+          (survives_then (state g old.conn) (state g mid) (state g new) (λ _. ⊥) (λ _. ⊥) (λ _. ⊥) (λ _ db none. none) (λ _ db none. none) first checked.survives) left;
       unavailable = λ kept clean holds.
           let stands = holds up in
           let even = in_order (early clean) stands.settled.open_still stands.settled.unlimited stands.desk.in_order.rows stands.desk.in_order.held in
-          disk_or_as told (store_fault (reading_fault fault)) IsUnavailability tt (is_unavailable_reading fault even) settles.same;
+          disk_or_as told (store_fault (reading_fault fault)) IsUnavailability tt (is_unavailable_reading fault even) checked.same;
       rests = λ db clean rests still.
           let was = rests up in
           let has = has_schema (state g old.conn) db was in
           let open_was = was.settled.open_still in
           rests_on (state g old.conn) (state g new) db
           (failed_before (state g old.conn) (state g mid) (state g new) (reading_fault fault) told was.settled read
-          (read.survives has open_was (early clean)) (read.leaves has open_was (early clean)) settles clean (not_disk still)) was;
+          (read.survives has open_was (early clean)) (read.leaves has open_was (early clean)) checked clean (not_disk still)) was;
     }
 
 -- ---- what a look-up of a store returns, and what several in a row do
@@ -217,7 +217,7 @@ module _ {S T : Type 0} (g : Ghosts S) (old : Tables S) (mid : Held S) (new : Ta
       (subst (λ k. calls.IsRead (meaning_of g) old k None) (sym told.1) (answered g old mid up asks.read))
   read_asked (Err fault) result Says up asks (t, is, fails) = subst (λ r. calls.IsRead (meaning_of g) old new (fault_in r)) (sym is)
       (subst (λ k. calls.IsRead (meaning_of g) old k (Some t)) (sym fails.same)
-      (failed g old mid up new.conn fault t asks.read fails.settles (λ clean open_was unlimited r has. asks.in_order clean open_was unlimited r has tt tt)))
+      (failed g old mid up new.conn fault t asks.read fails.checked (λ clean open_was unlimited r has. asks.in_order clean open_was unlimited r has tt tt)))
 
   pub kept_asked : (answer : Result T RowFault) (result : Result T StoreFault) (P : Kept → T → Type 0) → old.failed ≡ false
       → Asks (state g old.conn) (state g mid) answer (λ _. Unit {0}) (λ _. Unit {0}) (OfKept P) → IsTold g (record old { conn = mid }) new answer result

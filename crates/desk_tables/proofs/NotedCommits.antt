@@ -25,13 +25,13 @@ use Rattle.desk_rows.specs.order.Keys.{ChangedRowsAreThere, KeysAreFree}
 use Rattle.desk_tables.specs.InOrder.{IsOfDesk}
 use Rattle.desk_tables.specs.Seen.{AreSeen, seen_after}
 use Rattle.desk_tables.specs.Store.{HoldsKept, IsAtRest, IsSettled, Leaves, Stands, meaning_of, own_law}
-use Rattle.desk_tables.specs.declared.effects.basis.Known.{Known}
+use Rattle.desk_tables.specs.declared.effects.input.Known.{Known}
 use Rattle.desk_tables.specs.declared.tables.Tables.{Tables}
 use Rattle.desk_tables.specs.steps.Calls.{Commits, IsReady}
 use Rattle.desk_tables.specs.steps.Effects.{IsOpenToBoth, IsThereAndKnown, reply_row}
 use Rattle.desk_tables.specs.steps.Faults.{store_fault}
 use Rattle.desk_tables.specs.steps.Keeper.{CountsWith, IsCommit, IsNoted}
-use Rattle.desk_tables.specs.steps.Settling.{Settles, is_size}
+use Rattle.desk_tables.specs.steps.CheckedFaults.{IsCheckedFault, is_size}
 use Rattle.desk_tables.proofs.CommitLemmas.{rows_in_order, rows_open}
 use Rattle.desk_tables.proofs.CountLemmas.{are_few, one_longer}
 use Rattle.desk_tables.proofs.LookUps.{disk_or_as, has_schema}
@@ -159,29 +159,29 @@ module _ {S : Type 0} (g : Ghosts S) (old : Tables S) (e : Envelope) (message : 
 
   -- ---- it failed
 
-  module _ (mid new : Held S) (fault : RowFault) (told : StoreFault) (commits : CommitsTo mid (Err fault)) (settles : Settles (state g mid) (state g new) fault told) where
+  module _ (mid new : Held S) (fault : RowFault) (told : StoreFault) (commits : CommitsTo mid (Err fault)) (checked : IsCheckedFault (state g mid) (state g new) fault told) where
     abbrev undone : Tables S
     undone = record old { conn = new; failed = is_disk (Some told) || old.failed; not_a_desk = is_not_a_desk (Some told) || old.not_a_desk; out_of_space = is_size told }
 
     early : HasCleanDisk (state g new) → HasCleanDisk (state g mid)
-    early clean = omega (arith, settles.survives.clean, clean)
+    early clean = omega (arith, checked.survives.clean, clean)
 
     first : HasCleanDisk (state g new) → HasCleanDisk (state g old.conn)
-    first clean = omega (arith, commits.clean, settles.survives.clean, clean)
+    first clean = omega (arith, commits.clean, checked.survives.clean, clean)
 
     -- the connection is still open, and nothing is written
     still_settled : HasCleanDisk (state g new) → (was : IsReady (state g old.conn)) → (state g old.conn).step_limit ≡ None → is_disk (Some told) ≡ false
         → IsSettled (state g new) × ((state g new).now ≡ (state g old.conn).now)
     still_settled clean was unlimited not_disk =
-        let stays = settles.stands clean not_disk in
+        let stays = checked.stands clean not_disk in
         let back = commits.neither (early clean) was stays.was_open in
         let at : (state g mid).now ≡ (state g mid).committed = back.0 ∙ was.committed ∙ sym back.1 in
         let on = stays.kept at in (
           record {
             open_still = stays.open_still;
-            autocommit = settles.mode commits.mode;
+            autocommit = checked.mode commits.mode;
             committed = on.0 ∙ at ∙ sym on.1;
-            unlimited = settles.survives.limit ∙ commits.limit (early clean) was ∙ unlimited;
+            unlimited = checked.survives.limit ∙ commits.limit (early clean) was ∙ unlimited;
           },
           on.0 ∙ back.0,
         )
@@ -210,7 +210,7 @@ module _ {S : Type 0} (g : Ghosts S) (old : Tables S) (e : Envelope) (message : 
         let r = it.desk.in_order.rows in
         let alone = own_law g settled old kept (first clean) up holds in
         let crash = commits.crash (early clean) (ready kept it) r it.desk.in_order.held (there kept it can.effect_fits) in
-        λ db may. elim (settles.survives.crash clean db may) [
+        λ db may. elim (checked.survives.crash clean db may) [
           | inl before ↦ elim (crash.crash (early clean) db before) [
             | inl still ↦ let own = alone db still in (own.0, elim own.1 [ inl same ↦ inl same | inr none ↦ absurd none ], own.2)
             | inr is ↦ (
@@ -225,7 +225,7 @@ module _ {S : Type 0} (g : Ghosts S) (old : Tables S) (e : Envelope) (message : 
     commit_undone : IsCommit (meaning_of g) old undone e message effect answer (Err told)
     commit_undone = record {
       call = record { same = refl; was_sound = first; shut = refl; not_a_desk_now = refl };
-      told = disk_or_as told (store_fault fault) (λ f. IsOfCalls (Some f)) tt (of_calls fault) settles.same;
+      told = disk_or_as told (store_fault fault) (λ f. IsOfCalls (Some f)) tt (of_calls fault) checked.same;
       failed = λ is. absurd (true≢false (sym is ∙ up));
       added = λ kept clean holds can. tt;
       neither = λ kept clean holds still. stands_still kept clean (holds up) (first_false (is_disk (Some told)) old.failed still);
@@ -234,7 +234,7 @@ module _ {S : Type 0} (g : Ghosts S) (old : Tables S) (e : Envelope) (message : 
           let r = it.desk.in_order.rows in
           let open_to = rows_open e message effect answer old.config kept r it.desk.in_order.are it.desk.in_order.entries keys changed (few kept it) can in
           let even = commits.in_order (early clean) (ready kept it) it.settled.unlimited r it.desk.in_order.held (there kept it can.effect_fits) open_to in
-          disk_or_as told (store_fault fault) IsUnavailability tt (is_unavailable_writing fault even) settles.same;
+          disk_or_as told (store_fault fault) IsUnavailability tt (is_unavailable_writing fault even) checked.same;
       size = λ kept clean holds is. inr (let named : told ≡ NoRoom = cc in ap is_size named);
       no_room = λ kept clean holds was most. let less = few kept (holds up) in absurd (omega (arith, most, less));
       doubt = λ kept clean holds can was is. leaves_either kept clean holds can;
@@ -250,4 +250,4 @@ module _ {S : Type 0} (g : Ghosts S) (old : Tables S) (e : Envelope) (message : 
   commit_noted mid new (Ok done) result commits noted = subst (λ r. IsCommit (meaning_of g) old new e message effect answer r) (sym noted.0)
       (subst (λ k. IsCommit (meaning_of g) old k e message effect answer (Ok done)) (sym noted.1) (commit_made mid done commits new.counts noted.2))
   commit_noted mid new (Err fault) result commits (told, is, undone) = subst (λ r. IsCommit (meaning_of g) old new e message effect answer r) (sym is)
-      (subst (λ k. IsCommit (meaning_of g) old k e message effect answer (Err told)) (sym undone.same) (commit_undone mid new.conn fault told commits undone.settles))
+      (subst (λ k. IsCommit (meaning_of g) old k e message effect answer (Err told)) (sym undone.same) (commit_undone mid new.conn fault told commits undone.checked))

@@ -16,7 +16,7 @@ use Rattle.desk_tables.specs.Store.{HoldsKept, meaning_of, own_law}
 use Rattle.desk_tables.specs.declared.tables.Tables.{Tables}
 use Rattle.desk_tables.specs.steps.Faults.{store_fault}
 use Rattle.desk_tables.specs.steps.Keeper.{IsCommit}
-use Rattle.desk_tables.specs.steps.Settling.{Fails, Settles}
+use Rattle.desk_tables.specs.steps.CheckedFaults.{Fails, IsCheckedFault}
 use Rattle.desk_tables.proofs.LookUps.{disk_or_as}
 
 module _ {S : Type 0} (g : Ghosts S) (old : Tables S) (e : Envelope) (message : List ℕ) (effect : Effect) (answer : List ℕ) where
@@ -39,15 +39,15 @@ module _ {S : Type 0} (g : Ghosts S) (old : Tables S) (e : Envelope) (message : 
 
   module _ (up : old.failed ≡ false) where
     -- it is in a transaction: it represents nothing
-    commit_inside : (new : Held S) (told : StoreFault) → (state g old.conn).in_transaction ≡ true → Settles (state g old.conn) (state g new) Refused told
+    commit_inside : (new : Held S) (told : StoreFault) → (state g old.conn).in_transaction ≡ true → IsCheckedFault (state g old.conn) (state g new) Refused told
         → IsCommit (meaning_of g) old
         (record old { conn = new; failed = is_disk (Some told) || old.failed; not_a_desk = is_not_a_desk (Some told) || old.not_a_desk })
         e message effect answer (Err told)
-    commit_inside new told inside settles =
+    commit_inside new told inside checked =
         let never = λ (kept : Kept) (holds : HoldsKept g old kept). let e : ⊥ = true≢false (sym inside ∙ (holds up).settled.autocommit) in e in
         record {
-          call = record { same = refl; was_sound = λ clean. omega (arith, settles.survives.clean, clean); shut = refl; not_a_desk_now = refl };
-          told = disk_or_as told (store_fault Refused) (λ f. IsOfCalls (Some f)) tt tt settles.same;
+          call = record { same = refl; was_sound = λ clean. omega (arith, checked.survives.clean, clean); shut = refl; not_a_desk_now = refl };
+          told = disk_or_as told (store_fault Refused) (λ f. IsOfCalls (Some f)) tt tt checked.same;
           failed = λ is. absurd (true≢false (sym is ∙ up));
           added = λ kept clean holds can. tt;
           neither = λ kept clean holds. absurd (never kept holds);
@@ -63,7 +63,7 @@ module _ {S : Type 0} (g : Ghosts S) (old : Tables S) (e : Envelope) (message : 
     pub commit_refused : (new : Tables S) (told : StoreFault) → (state g old.conn).in_transaction ≡ true → Fails g old new Refused told
         → IsCommit (meaning_of g) old new e message effect answer (Err told)
     commit_refused new told inside fails =
-        subst (λ k. IsCommit (meaning_of g) old k e message effect answer (Err told)) (sym fails.same) (commit_inside new.conn told inside fails.settles)
+        subst (λ k. IsCommit (meaning_of g) old k e message effect answer (Err told)) (sym fails.same) (commit_inside new.conn told inside fails.checked)
 
     -- as many messages were heard as may ever be
     pub commit_full : ((s : S) (db : Trees) → IsTrue (g.view s).is_open → g.recovers s db → db ≡ (g.view s).committed) → most_heard ≤ old.heard

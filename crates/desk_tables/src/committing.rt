@@ -4,11 +4,11 @@ ghost use Rattle.sqlite.specs.Held.{state};
 ghost use Rattle.desk_rows.specs.declared.faults.RowFault.TheVariants.{Size};
 ghost use Rattle.desk_rows.specs.order.Changes.{rows_with};
 ghost use Rattle.desk_tables.specs.steps.Calls.{Asks, Commits, Makes};
-ghost use Rattle.desk_tables.specs.steps.Effects.{AreWhole, IsBasis, IsOpenToBoth, IsThereAndKnown, reply_row};
+ghost use Rattle.desk_tables.specs.steps.Effects.{AreWhole, IsInput, IsOpenToBoth, IsThereAndKnown, reply_row};
 
-use crate::effects::basis::{Basis, Known, basis_of};
+use crate::checked_faults::reading_fault;
+use crate::effects::input::{EffectInput, Known, input_of};
 use crate::effects::writing::write_effect;
-use crate::settle::reading_fault;
 use desk_rows::{RowFault, fault_of, insert_reply};
 use registry_core::{Effect, Envelope};
 use sqlite::{Alter, Connection, Transaction};
@@ -20,13 +20,13 @@ fn write_all<S: Alter>(
     message: &[u8],
     effect: &Effect,
     answer: &[u8],
-    basis: Basis,
+    input: EffectInput,
 ) -> Result<(), RowFault>
     ensures same_reference { tx.new.conn.ghost_name ≡ tx.old.conn.ghost_name }
-    ensures makes { Makes (state S.Store tx.old.conn.now) (state S.Store tx.new.conn.now) result (λ r. IsBasis effect.now r basis)
+    ensures makes { Makes (state S.Store tx.old.conn.now) (state S.Store tx.new.conn.now) result (λ r. IsInput effect.now r input)
         (IsOpenToBoth effect.now envelope.now) (rows_with effect.now (reply_row envelope.now message.now answer.now)) }
 {
-    write_effect(tx, effect, basis)?;
+    write_effect(tx, effect, input)?;
     insert_reply(tx, &envelope.sender, envelope.transaction, message, answer)
 }
 
@@ -37,14 +37,14 @@ fn transact<S: Alter>(
     message: &[u8],
     effect: &Effect,
     answer: &[u8],
-    basis: Basis,
+    input: EffectInput,
 ) -> Result<(), RowFault>
     requires { conn.old.in_transaction ≡ false }
-    ensures { Commits (state S.Store conn.old) (state S.Store conn.new) result (λ r. IsBasis effect.now r basis)
+    ensures { Commits (state S.Store conn.old) (state S.Store conn.new) result (λ r. IsInput effect.now r input)
         (IsOpenToBoth effect.now envelope.now) (rows_with effect.now (reply_row envelope.now message.now answer.now)) }
 {
     let mut tx = conn.transaction();
-    write_all(&mut tx, envelope, message, effect, answer, basis)?;
+    write_all(&mut tx, envelope, message, effect, answer, input)?;
     match tx.commit() {
         Ok(()) => Ok(()),
         Err(error) => Err(fault_of(error)),
@@ -52,16 +52,16 @@ fn transact<S: Alter>(
 }
 
 /// Reads what the effect's rows need. No error of this is `Size`.
-fn basis_read<S: Alter>(
+fn input_read<S: Alter>(
     conn: &mut Connection<S>,
     known: &Known,
     effect: &Effect,
-) -> Result<Basis, RowFault>
-    ensures asks { Asks (state S.Store conn.old) (state S.Store conn.new) result (IsThereAndKnown effect.now known.now) (AreWhole effect.now) (IsBasis effect.now) }
+) -> Result<EffectInput, RowFault>
+    ensures asks { Asks (state S.Store conn.old) (state S.Store conn.new) result (IsThereAndKnown effect.now known.now) (AreWhole effect.now) (IsInput effect.now) }
     ensures no_size { result ≢ Err Size }
 {
-    match basis_of(conn, known, effect) {
-        Ok(basis) => Ok(basis),
+    match input_of(conn, known, effect) {
+        Ok(input) => Ok(input),
         Err(fault) => Err(reading_fault(fault)),
     }
 }
@@ -79,6 +79,6 @@ pub(crate) fn commit_rows<S: Alter>(
     ensures { Commits (state S.Store conn.old) (state S.Store conn.new) result (IsThereAndKnown effect.now known.now)
         (IsOpenToBoth effect.now envelope.now) (rows_with effect.now (reply_row envelope.now message.now answer.now)) }
 {
-    let basis = basis_read(conn, known, effect)?;
-    transact(conn, envelope, message, effect, answer, basis)
+    let input = input_read(conn, known, effect)?;
+    transact(conn, envelope, message, effect, answer, input)
 }

@@ -1,6 +1,6 @@
 //! The rows that each effect writes, and what they need of the rows that are there.
-pub(crate) mod basis;
 mod bookings;
+pub(crate) mod input;
 mod limits;
 mod receptions;
 mod sessions;

@@ -4,9 +4,9 @@ ghost use Rattle.registry_core.specs.Heard.{most_heard};
 ghost use Rattle.desk_tables.specs.Store.{common_law, meaning_of, one_law, own_law};
 ghost use Rattle.desk_tables.specs.steps.Keeper.{CountsWith, IsCommit, IsNoted};
 
+use crate::checked_faults::is_size;
 use crate::committing::commit_rows;
-use crate::effects::basis::Known;
-use crate::settle::is_size;
+use crate::effects::input::Known;
 use crate::tables::Tables;
 use desk_rows::RowFault;
 use desk_rows::order::{changed_rows_are_there, keys_are_free, rows_follow_facts};
@@ -40,7 +40,11 @@ fn counts_with(counts: Counts, effect: &Effect) -> Counts
 
 impl<S: Alter> Tables<S> {
     /// Notes how a transaction ended: one more message was heard, or the error for which it wasn't.
-    fn note(&mut self, effect: &Effect, answer: Result<(), RowFault>) -> Result<(), StoreFault>
+    fn note_outcome(
+        &mut self,
+        effect: &Effect,
+        answer: Result<(), RowFault>,
+    ) -> Result<(), StoreFault>
         requires { self.old.heard < most_heard }
         ensures { IsNoted S.Store effect.now self.old self.new answer result }
     {
@@ -61,7 +65,7 @@ impl<S: Alter> Tables<S> {
     }
 
     /// Applies the effect to the facts and adds an entry at the end of the log, or does neither.
-    fn keep(
+    fn commit_message(
         &mut self,
         envelope: &Envelope,
         message: &[u8],
@@ -88,7 +92,7 @@ impl<S: Alter> Tables<S> {
             seen: self.seen,
         };
         let done = commit_rows(&mut self.conn, &known, envelope, message, effect, answer);
-        self.note(effect, done)
+        self.note_outcome(effect, done)
     }
 }
 
@@ -106,6 +110,6 @@ impl<S: Alter> Keeper for Tables<S> {
         effect: &Effect,
         answer: &[u8],
     ) -> Result<(), StoreFault> {
-        self.keep(envelope, message, effect, answer)
+        self.commit_message(envelope, message, effect, answer)
     }
 }

@@ -2,6 +2,7 @@
 #![tactic(auto)]
 
 mod adopting;
+mod checked_faults;
 mod committing;
 mod counting;
 mod desk_shape;
@@ -13,7 +14,6 @@ mod making;
 mod migrating;
 mod opening;
 mod seen;
-mod settle;
 mod shape;
 mod tables;
 mod totals;

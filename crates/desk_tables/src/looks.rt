@@ -41,7 +41,7 @@ impl<S: Alter> Looks for Tables<S> {
             return Ok(Some(role));
         }
         let answer = desk_rows::role_of(&mut self.conn, name);
-        match self.tell(answer) {
+        match self.store_result(answer) {
             Ok(found) => {
                 self.seen.role = seen_role(name, found);
                 Ok(found)
@@ -55,7 +55,7 @@ impl<S: Alter> Looks for Tables<S> {
             return Err(StoreFault::Disk);
         }
         let answer = texts::texts_of(&mut self.conn, envelope);
-        self.tell(answer)
+        self.store_result(answer)
     }
 
     fn entry(&mut self, number: u64) -> Result<Option<EntryTexts>, StoreFault> {
@@ -63,7 +63,7 @@ impl<S: Alter> Looks for Tables<S> {
             return Err(StoreFault::Disk);
         }
         let answer = texts::entry(&mut self.conn, number);
-        self.tell(answer)
+        self.store_result(answer)
     }
 
     fn has_owner(&mut self, name: &Name) -> Result<bool, StoreFault> {
@@ -71,7 +71,7 @@ impl<S: Alter> Looks for Tables<S> {
             return Err(StoreFault::Disk);
         }
         let answer = owner_is_known(&mut self.conn, name);
-        self.tell(answer)
+        self.store_result(answer)
     }
 
     fn has_gateway(&mut self, name: &Name) -> Result<bool, StoreFault> {
@@ -79,7 +79,7 @@ impl<S: Alter> Looks for Tables<S> {
             return Err(StoreFault::Disk);
         }
         let answer = gateway_is_known(&mut self.conn, name);
-        self.tell(answer)
+        self.store_result(answer)
     }
 
     fn device(&mut self, dev_eui: Eui) -> Result<Option<Device>, StoreFault> {
@@ -87,7 +87,7 @@ impl<S: Alter> Looks for Tables<S> {
             return Err(StoreFault::Disk);
         }
         let answer = desk_rows::device(&mut self.conn, dev_eui);
-        self.tell(answer)
+        self.store_result(answer)
     }
 
     fn last_nonce(&mut self, device: Eui) -> Result<Option<u16>, StoreFault> {
@@ -95,7 +95,7 @@ impl<S: Alter> Looks for Tables<S> {
             return Err(StoreFault::Disk);
         }
         let answer = desk_rows::last_nonce(&mut self.conn, device);
-        self.tell(answer)
+        self.store_result(answer)
     }
 
     fn session(&mut self, number: u64) -> Result<Option<Session>, StoreFault> {
@@ -103,7 +103,7 @@ impl<S: Alter> Looks for Tables<S> {
             return Err(StoreFault::Disk);
         }
         let answer = sessions::session(&mut self.conn, number);
-        match self.tell(answer) {
+        match self.store_result(answer) {
             Ok(found) => {
                 self.seen.session = seen_session(number, &found);
                 Ok(found)
@@ -117,7 +117,7 @@ impl<S: Alter> Looks for Tables<S> {
             return Err(StoreFault::Disk);
         }
         let answer = sessions::last_counter(&mut self.conn, session);
-        match self.tell(answer) {
+        match self.store_result(answer) {
             Ok(found) => {
                 self.seen.counter = seen_counter(session, found);
                 Ok(found)
@@ -131,7 +131,7 @@ impl<S: Alter> Looks for Tables<S> {
             return Err(StoreFault::Disk);
         }
         let answer = sessions::is_below_floor(&mut self.conn, device, session);
-        match self.tell(answer) {
+        match self.store_result(answer) {
             Ok(found) => {
                 self.seen.floor = seen_floor(device, found.1);
                 Ok(found.0)
@@ -145,7 +145,7 @@ impl<S: Alter> Looks for Tables<S> {
             return Err(StoreFault::Disk);
         }
         let answer = uplinks::join_with(&mut self.conn, device, nonce);
-        self.tell(answer)
+        self.store_result(answer)
     }
 
     fn data_with(
@@ -160,7 +160,7 @@ impl<S: Alter> Looks for Tables<S> {
             return Ok(None);
         }
         let answer = sessions::data_with(&mut self.conn, session, counter);
-        self.tell(answer)
+        self.store_result(answer)
     }
 
     fn uplink(&mut self, number: u64) -> Result<Option<Uplink>, StoreFault> {
@@ -168,7 +168,7 @@ impl<S: Alter> Looks for Tables<S> {
             return Err(StoreFault::Disk);
         }
         let answer = uplinks::uplink(&mut self.conn, number);
-        self.tell(answer)
+        self.store_result(answer)
     }
 
     fn reception_at(
@@ -180,7 +180,7 @@ impl<S: Alter> Looks for Tables<S> {
             return Err(StoreFault::Disk);
         }
         let answer = uplinks::reception_at(&mut self.conn, uplink, gateway);
-        self.tell(answer)
+        self.store_result(answer)
     }
 
     fn is_answered(&mut self, uplink: u64) -> Result<bool, StoreFault> {
@@ -188,7 +188,7 @@ impl<S: Alter> Looks for Tables<S> {
             return Err(StoreFault::Disk);
         }
         let answer = uplinks::is_answered(&mut self.conn, uplink);
-        self.tell(answer)
+        self.store_result(answer)
     }
 
     fn next_down(&mut self, session: u64) -> Result<u64, StoreFault> {
@@ -196,7 +196,7 @@ impl<S: Alter> Looks for Tables<S> {
             return Err(StoreFault::Disk);
         }
         let answer = sessions::next_down(&mut self.conn, session);
-        self.tell(answer)
+        self.store_result(answer)
     }
 
     fn booking(&mut self, number: u64) -> Result<Option<Booking>, StoreFault> {
@@ -204,7 +204,7 @@ impl<S: Alter> Looks for Tables<S> {
             return Err(StoreFault::Disk);
         }
         let answer = uplinks::booking(&mut self.conn, number);
-        self.tell(answer)
+        self.store_result(answer)
     }
 
     fn near(&mut self, gateway: &Name, start: u64) -> Result<Vec<NearBooking>, StoreFault> {
@@ -214,7 +214,7 @@ impl<S: Alter> Looks for Tables<S> {
         arranged_rows_tell();
         orders_hold();
         let answer = desk_rows::near(self.alloc, &mut self.conn, gateway, start);
-        self.tell(answer)
+        self.store_result(answer)
     }
 
     fn limit_of(&mut self, gateway: &Name, band: Band) -> Result<u64, StoreFault> {
@@ -222,7 +222,7 @@ impl<S: Alter> Looks for Tables<S> {
             return Err(StoreFault::Disk);
         }
         let answer = limits::limit_of(&mut self.conn, gateway, band);
-        self.tell(answer)
+        self.store_result(answer)
     }
 
     fn counts(&mut self) -> Result<Counts, StoreFault> {
@@ -239,7 +239,7 @@ impl<S: Alter> Looks for Tables<S> {
         arranged_rows_tell();
         orders_hold();
         let answer = desk_rows::next_device(&mut self.conn, owner, after);
-        self.tell(answer)
+        self.store_result(answer)
     }
 
     fn uplinks_of(
@@ -255,7 +255,7 @@ impl<S: Alter> Looks for Tables<S> {
         arranged_rows_tell();
         orders_hold();
         let answer = desk_rows::uplinks_of(self.alloc, &mut self.conn, device, band, from, to);
-        self.tell(answer)
+        self.store_result(answer)
     }
 
     fn bookings_of(&mut self, gateway: &Name, band: Band) -> Result<Vec<Span>, StoreFault> {
@@ -265,7 +265,7 @@ impl<S: Alter> Looks for Tables<S> {
         arranged_rows_tell();
         orders_hold();
         let answer = desk_rows::bookings_of(self.alloc, &mut self.conn, gateway, band);
-        self.tell(answer)
+        self.store_result(answer)
     }
 
     fn senders(&mut self) -> Result<Vec<Name>, StoreFault> {
@@ -274,7 +274,7 @@ impl<S: Alter> Looks for Tables<S> {
         }
         listed_rows_tell();
         let answer = sender_names(self.alloc, &mut self.conn);
-        self.tell(answer)
+        self.store_result(answer)
     }
 
     fn owners(&mut self) -> Result<Vec<Name>, StoreFault> {
@@ -283,7 +283,7 @@ impl<S: Alter> Looks for Tables<S> {
         }
         listed_rows_tell();
         let answer = owner_names(self.alloc, &mut self.conn);
-        self.tell(answer)
+        self.store_result(answer)
     }
 
     fn gateways(&mut self) -> Result<Vec<Name>, StoreFault> {
@@ -292,7 +292,7 @@ impl<S: Alter> Looks for Tables<S> {
         }
         listed_rows_tell();
         let answer = gateway_names(self.alloc, &mut self.conn);
-        self.tell(answer)
+        self.store_result(answer)
     }
 
     fn devices(&mut self) -> Result<Vec<Eui>, StoreFault> {
@@ -301,7 +301,7 @@ impl<S: Alter> Looks for Tables<S> {
         }
         listed_rows_tell();
         let answer = device_euis(self.alloc, &mut self.conn);
-        self.tell(answer)
+        self.store_result(answer)
     }
 
     fn sessions_of(&mut self, device: Eui) -> Result<Vec<u64>, StoreFault> {
@@ -309,7 +309,7 @@ impl<S: Alter> Looks for Tables<S> {
             return Err(StoreFault::Disk);
         }
         let answer = desk_rows::sessions_of(self.alloc, &mut self.conn, device);
-        self.tell(answer)
+        self.store_result(answer)
     }
 
     fn last_start(&mut self, session: u64) -> Result<Option<u64>, StoreFault> {
@@ -317,7 +317,7 @@ impl<S: Alter> Looks for Tables<S> {
             return Err(StoreFault::Disk);
         }
         let answer = sessions::last_start(&mut self.conn, session);
-        self.tell(answer)
+        self.store_result(answer)
     }
 
     fn uplinks_between(&mut self, device: Eui, from: i64, to: i64) -> Result<Vec<u64>, StoreFault> {
@@ -326,7 +326,7 @@ impl<S: Alter> Looks for Tables<S> {
         }
         listed_rows_tell();
         let answer = desk_rows::uplinks_between(self.alloc, &mut self.conn, device, from, to);
-        self.tell(answer)
+        self.store_result(answer)
     }
 
     fn gateways_of(&mut self, uplink: u64) -> Result<Vec<Name>, StoreFault> {
@@ -334,7 +334,7 @@ impl<S: Alter> Looks for Tables<S> {
             return Err(StoreFault::Disk);
         }
         let answer = uplinks::gateways_of(self.alloc, &mut self.conn, uplink);
-        self.tell(answer)
+        self.store_result(answer)
     }
 
     fn bookings_between(
@@ -348,7 +348,7 @@ impl<S: Alter> Looks for Tables<S> {
         }
         listed_rows_tell();
         let answer = desk_rows::bookings_between(self.alloc, &mut self.conn, gateway, from, to);
-        self.tell(answer)
+        self.store_result(answer)
     }
 
     fn last_transaction(&mut self, sender: &Name) -> Result<Option<u64>, StoreFault> {
@@ -356,6 +356,6 @@ impl<S: Alter> Looks for Tables<S> {
             return Err(StoreFault::Disk);
         }
         let answer = desk_rows::last_transaction(&mut self.conn, sender);
-        self.tell(answer)
+        self.store_result(answer)
     }
 }

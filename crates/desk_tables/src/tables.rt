@@ -1,10 +1,10 @@
 //! The store over tables.
 ghost use Rattle.std.specs.Prelude.{◌≡◌, true, false, OnOk, IfErr};
 ghost use Rattle.desk_store.specs.declared.faults.StoreFault.TheVariants.{Disk};
-ghost use Rattle.desk_tables.specs.steps.Settling.{Fails, IsTold};
+ghost use Rattle.desk_tables.specs.steps.CheckedFaults.{Fails, IsTold};
 
+use crate::checked_faults::{checked_fault, is_disk, is_not_a_desk, reading_fault};
 use crate::seen::Seen;
-use crate::settle::{is_disk, is_not_a_desk, reading_fault, settle};
 use desk_rows::RowFault;
 use desk_store::{Counts, StoreFault};
 use registry_core::Config;
@@ -35,14 +35,14 @@ impl<S: Alter> Tables<S> {
     pub(crate) fn fail(&mut self, fault: RowFault) -> StoreFault
         ensures { Fails S.Store self.old self.new fault result }
     {
-        let told = settle(&mut self.conn, fault);
+        let told = checked_fault(&mut self.conn, fault);
         self.failed = is_disk(told) || self.failed;
         self.not_a_desk = is_not_a_desk(told) || self.not_a_desk;
         told
     }
 
     /// Returns the result of a look-up for that of the connection, and notes its error.
-    pub(crate) fn tell<T>(&mut self, answer: Result<T, RowFault>) -> Result<T, StoreFault>
+    pub(crate) fn store_result<T>(&mut self, answer: Result<T, RowFault>) -> Result<T, StoreFault>
         ensures { IsTold S.Store self.old self.new answer result }
     {
         match answer {

@@ -79,6 +79,6 @@ impl<S: Alter> Tables<S> {
             return Err(StoreFault::Disk);
         }
         let answer = totals_in(&mut self.conn, self.counts, self.heard);
-        self.tell(answer)
+        self.store_result(answer)
     }
 }

@@ -3,7 +3,7 @@ use Rattle.std.specs.Prelude.{◌⊎◌, List, Ok, codes, ℕ, Option, Result, E
 use Rattle.clap.specs.Simple.{App, new_app, with_rule}
 use Rattle.clap.specs.Walk.{Row}
 use Rattle.desk_cli.specs.Named.{Named, import, named_as}
-use Rattle.desk_cli.specs.Options.{◌>>=◌, name_of, needed_rule, or_bad, place_rule, placed, value_at}
+use Rattle.desk_cli.specs.Options.{◌>>=◌, name_of, required_rule, or_bad, place_rule, placed, value_at}
 use Rattle.desk_cli.specs.declared.usage.BadValue.TheVariants.{Sender}
 use Rattle.std.specs.Io.KnownBytes.{Appends, Consumes, Keeps}
 use Rattle.registry_core.specs.declared.messages.Envelope.{Envelope}
@@ -18,7 +18,7 @@ abbrev pub import_app : App
 import_app =
     with_rule (with_rule (new_app (codes "import"))
     (place_rule (codes "file")))
-    (needed_rule (codes "sender"))
+    (required_rule (codes "sender"))
 
 -- what they name
 abbrev pub import_named : List Row → Named

@@ -6,7 +6,7 @@ use Rattle.clap.specs.Simple.{App, new_app, with_rule}
 use Rattle.clap.specs.Walk.{Row}
 use Rattle.desk_cli.specs.Named.{Named, named_as, serve}
 use Rattle.desk_cli.specs.Numbers.{connections_of, port_of}
-use Rattle.desk_cli.specs.Options.{◌>>=◌, flag_rule, is_set, needed_rule, or_bad, place_rule, placed, value_at}
+use Rattle.desk_cli.specs.Options.{◌>>=◌, flag_rule, is_set, required_rule, or_bad, place_rule, placed, value_at}
 use Rattle.registry_core.specs.declared.messages.Envelope.{Envelope}
 use Rattle.registry_core.specs.Settings.{Settings}
 use Rattle.desk_engine.specs.Deliveries.{heard_all}
@@ -22,8 +22,8 @@ abbrev pub serve_app : App
 serve_app =
     with_rule (with_rule (with_rule (with_rule (new_app (codes "serve"))
     (place_rule (codes "file")))
-    (needed_rule (codes "port")))
-    (needed_rule (codes "count")))
+    (required_rule (codes "port")))
+    (required_rule (codes "count")))
     (flag_rule (codes "log"))
 
 -- what they name

@@ -20,7 +20,7 @@ use super::Command;
 use crate::answering::answer_lines;
 use crate::endings::Ending;
 use crate::faults::{Fault, end};
-use crate::jobs::{Job, by_store};
+use crate::jobs::{Job, run_job};
 use crate::options::{command_on_file, placed};
 use crate::usage::Usage;
 use clap::ArgMatches;
@@ -91,7 +91,7 @@ fn hear_lines<S: Alter, R: Read, W: Write>(
         → RefusesFile S.Store conn result.1 (Keeps (R.remaining reader.old) (R.remaining reader.new) × Keeps (W.contents answers.old) (W.contents answers.new)) result.0 }
     ensures clean { HasCleanDisk (state S.Store result.1) → HasCleanDisk (state S.Store conn) }
 {
-    by_store(alloc, conn, &Hear, reader, answers)
+    run_job(alloc, conn, &Hear, reader, answers)
 }
 
 /// Answers the messages of the reader, one a line.

@@ -19,8 +19,8 @@ ghost use Rattle.desk_cli.specs.steps.Jobs.{imports};
 use super::Command;
 use crate::endings::Ending;
 use crate::faults::{Fault, end};
-use crate::jobs::{Job, by_store};
-use crate::options::{command_on_file, name_at, needed, placed, with_word};
+use crate::jobs::{Job, run_job};
+use crate::options::{command_on_file, name_at, placed, required_option, with_word};
 use crate::usage::{BadValue, Usage};
 use clap::ArgMatches;
 use desk_engine::{ImportEnd, Progress, import_report};
@@ -36,7 +36,7 @@ pub(crate) fn import_app<'a>(alloc: Global) -> Result<clap::Command<'a>, AllocEr
 {
     let about = "Answers the records of a gateway's CSV report on standard input, one a line";
     let example = "Example:\n  desk import town.db --sender office < report.csv";
-    let sender = needed(alloc, "sender", "NAME", "Who sends the report");
+    let sender = required_option(alloc, "sender", "NAME", "Who sends the report");
     with_word(command_on_file(alloc, "import", about, example), sender)
 }
 
@@ -102,7 +102,7 @@ fn hear_report<S: Alter, R: Read, W: Write, P: Progress>(
         → RefusesFile S.Store conn result.1 (Keeps (R.remaining reader.old) (R.remaining reader.new) × Keeps (W.contents answers.old) (W.contents answers.new)) result.0 }
     ensures clean { HasCleanDisk (state S.Store result.1) → HasCleanDisk (state S.Store conn) }
 {
-    by_store(alloc, conn, &Import { sender, progress }, reader, answers)
+    run_job(alloc, conn, &Import { sender, progress }, reader, answers)
 }
 
 /// Hears the reader's report as this sender's.

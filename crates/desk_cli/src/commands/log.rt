@@ -20,7 +20,7 @@ ghost use Rattle.desk_cli.specs.steps.Jobs.{logs};
 use super::Command;
 use crate::endings::Ending;
 use crate::faults::{Fault, end};
-use crate::jobs::{Job, by_store};
+use crate::jobs::{Job, run_job};
 use crate::options::{
     command_on_file, flag, is_set, number_at, number_or_greatest, option, optional, placed,
     with_word,
@@ -132,7 +132,7 @@ fn print_log<S: Alter, W: Write>(
     ensures clean { HasCleanDisk (state S.Store result.1) → HasCleanDisk (state S.Store conn) }
 {
     let log = Log { from, count, which };
-    by_store(alloc, conn, &log, &mut io::empty(), answers)
+    run_job(alloc, conn, &log, &mut io::empty(), answers)
 }
 
 /// Prints at most `count` messages of the log, from this number on, or their answers.

@@ -24,10 +24,10 @@ ghost use Rattle.desk_cli.specs.commands.Serving.{ServesBy, listening_line, serv
 use super::Command;
 use crate::endings::Ending;
 use crate::faults::{Fault, end};
-use crate::jobs::{Job, by_store};
+use crate::jobs::{Job, run_job};
 use crate::network::Network;
 use crate::options::{
-    command_on_file, connections_at, flag, is_set, needed, placed, port_at, with_word,
+    command_on_file, connections_at, flag, is_set, placed, port_at, required_option, with_word,
 };
 use crate::usage::{BadValue, Usage};
 use clap::ArgMatches;
@@ -53,9 +53,9 @@ pub(crate) fn serve_app<'a>(alloc: Global) -> Result<clap::Command<'a>, AllocErr
     ensures { IsCommand serve_app result }
 {
     let about = "Serves messages, reports and the log over HTTP on 127.0.0.1";
-    let port = needed(alloc, "port", "P", "The port, 1 to 65535");
+    let port = required_option(alloc, "port", "P", "The port, 1 to 65535");
     let many = "How many connections, one after another, 1 to 1000000";
-    let count = needed(alloc, "count", "N", many);
+    let count = required_option(alloc, "count", "N", many);
     let command = with_word(command_on_file(alloc, "serve", about, EXAMPLE), port);
     let counted = with_word(command, count);
     with_word(counted, flag(alloc, "log", LOG))
@@ -137,7 +137,7 @@ fn serve_desk<S: Alter, B: Network, W: Write>(
         connections,
         log,
     };
-    by_store(alloc, conn, &job, &mut io::empty(), answers)
+    run_job(alloc, conn, &job, &mut io::empty(), answers)
 }
 
 /// Binds the port and serves `connections` connections at it.

@@ -36,7 +36,7 @@ impl Record {
     }
 
     /// Records octets that were sent.
-    fn note(&mut self, octets: &[u8])
+    fn add_octets(&mut self, octets: &[u8])
         ensures count { self.new.count ≡ min (self.old.count + length octets.now) (2 ^ 64 - 1) }
     {
         self.count = self.count.saturating_add(octets.len() as u64);
@@ -64,11 +64,11 @@ impl<S> Recorder<S> {
     }
 
     /// Records octets that were sent.
-    fn note(&mut self, octets: &[u8])
+    fn add_octets(&mut self, octets: &[u8])
         ensures { self.new.below ≡ self.old.below }
     {
         if let Some(record) = &mut self.record {
-            record.note(octets);
+            record.add_octets(octets);
         }
     }
 }
@@ -79,7 +79,7 @@ impl<S: Read> Read for Recorder<S> {
 
     fn read(&mut self, buf: &mut [u8]) -> io::Result<usize> {
         let count = self.below.read(buf)?;
-        self.note(&buf[..count]);
+        self.add_octets(&buf[..count]);
         Ok(count)
     }
 }
@@ -90,7 +90,7 @@ impl<S: Write> Write for Recorder<S> {
 
     fn write(&mut self, buf: &[u8]) -> io::Result<usize> {
         let count = self.below.write(buf)?;
-        self.note(&buf[..count]);
+        self.add_octets(&buf[..count]);
         Ok(count)
     }
 

@@ -17,9 +17,9 @@ use Rattle.desk_rows.specs.declared.faults.RowFault.{RowFault}
 use Rattle.sqlite.specs.State.{State}
 use Rattle.desk_tables.specs.steps.Calls.{Makes}
 use Rattle.desk_tables.specs.Seen.{IsSeen}
-use Rattle.desk_tables.specs.declared.effects.basis.Known.{Known}
-use Rattle.desk_tables.specs.declared.effects.basis.Basis.{Basis}
-use Rattle.desk_tables.specs.declared.effects.basis.Basis.TheVariants as basis
+use Rattle.desk_tables.specs.declared.effects.input.Known.{Known}
+use Rattle.desk_tables.specs.declared.effects.input.EffectInput.{EffectInput}
+use Rattle.desk_tables.specs.declared.effects.input.EffectInput.TheVariants as input
 
 -- the row of a message with its answer
 abbrev pub reply_row : Envelope → List ℕ → List ℕ → ReplyRow
@@ -47,30 +47,30 @@ CountsInSession booking r session counter =
 abbrev pub IsNextDown : ℕ → Rows → ℕ → Type 0
 IsNextDown number r counter = (row : SessionRow) × (item_at r.sessions number ≡ Some row) × (counter ≡ row.next_down + 1)
 
-abbrev pub IsBasisOfSession : Rows → Basis → Type 0
-IsBasisOfSession r (basis.Session number) = number ≡ length r.uplinks + 1
-IsBasisOfSession r _ = ⊥
+abbrev pub IsInputOfSession : Rows → EffectInput → Type 0
+IsInputOfSession r (input.Session number) = number ≡ length r.uplinks + 1
+IsInputOfSession r _ = ⊥
 
-abbrev pub IsBasisOfUplink : Uplink → Rows → Basis → Type 0
-IsBasisOfUplink uplink r (basis.Uplink number raises) = (number ≡ length r.uplinks + 1) × IsRaised uplink.session r raises
-IsBasisOfUplink uplink r _ = ⊥
+abbrev pub IsInputOfUplink : Uplink → Rows → EffectInput → Type 0
+IsInputOfUplink uplink r (input.Uplink number raises) = (number ≡ length r.uplinks + 1) × IsRaised uplink.session r raises
+IsInputOfUplink uplink r _ = ⊥
 
-abbrev pub IsBasisOfBooking : Booking → Rows → Basis → Type 0
-IsBasisOfBooking booking r (basis.Booking session kind counter) =
+abbrev pub IsInputOfBooking : Booking → Rows → EffectInput → Type 0
+IsInputOfBooking booking r (input.Booking session kind counter) =
     (booking_row r.uplinks booking ≡ record { booking = booking; session = session; kind = kind }) × CountsInSession booking r session counter
-IsBasisOfBooking booking r _ = ⊥
+IsInputOfBooking booking r _ = ⊥
 
-abbrev pub IsBasisOfLimit : List ℕ → Limit → Rows → Basis → Type 0
-IsBasisOfLimit gateway limit r (basis.Limit is_set) = is_set ≡ has_limit gateway (band_number limit.band) r.limits
-IsBasisOfLimit gateway limit r _ = ⊥
+abbrev pub IsInputOfLimit : List ℕ → Limit → Rows → EffectInput → Type 0
+IsInputOfLimit gateway limit r (input.Limit is_set) = is_set ≡ has_limit gateway (band_number limit.band) r.limits
+IsInputOfLimit gateway limit r _ = ⊥
 
 -- what was read is what the effect needs of the rows
-abbrev pub IsBasis : Effect → Rows → Basis → Type 0
-IsBasis (AddsSession session uplink gateway reception) r basis = IsBasisOfSession r basis
-IsBasis (AddsUplink uplink gateway reception) r basis = IsBasisOfUplink uplink r basis
-IsBasis (AddsBooking booking) r basis = IsBasisOfBooking booking r basis
-IsBasis (SetsLimit gateway limit) r basis = IsBasisOfLimit gateway limit r basis
-IsBasis effect r basis = Unit {0}
+abbrev pub IsInput : Effect → Rows → EffectInput → Type 0
+IsInput (AddsSession session uplink gateway reception) r input = IsInputOfSession r input
+IsInput (AddsUplink uplink gateway reception) r input = IsInputOfUplink uplink r input
+IsInput (AddsBooking booking) r input = IsInputOfBooking booking r input
+IsInput (SetsLimit gateway limit) r input = IsInputOfLimit gateway limit r input
+IsInput effect r input = Unit {0}
 
 -- this is the number of uplinks, and the cache is right
 pub record IsKnown (r : Rows) (known : Known) : Type 0 where
@@ -111,5 +111,5 @@ pub record IsOpenToBoth (effect : Effect) (e : Envelope) (r : Rows) : Type 0 whe
   pub reply : IsFree (is_reply e.sender e.transaction) r.replies
 
 -- the effect is written, with what was read for it
-abbrev pub WritesEffect : State → State → Result (Unit {0}) RowFault → Effect → Basis → Type 0
-WritesEffect old new result effect basis = Makes old new result (λ r. IsBasis effect r basis) (IsOpenTo effect) (rows_changed effect)
+abbrev pub WritesEffect : State → State → Result (Unit {0}) RowFault → Effect → EffectInput → Type 0
+WritesEffect old new result effect input = Makes old new result (λ r. IsInput effect r input) (IsOpenTo effect) (rows_changed effect)

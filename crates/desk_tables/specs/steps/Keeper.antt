@@ -16,7 +16,7 @@ use Rattle.desk_store.specs.Parts.{AreCounts}
 use Rattle.desk_rows.specs.declared.faults.RowFault.{RowFault}
 use Rattle.desk_tables.specs.Seen.{seen_after}
 use Rattle.desk_tables.specs.declared.tables.Tables.{Tables}
-use Rattle.desk_tables.specs.steps.Settling.{Settles, is_size}
+use Rattle.desk_tables.specs.steps.CheckedFaults.{IsCheckedFault, is_size}
 
 -- ---- counts
 
@@ -35,7 +35,7 @@ CountsWith effect old new = (s : State) → AreFew s → AreCounts s old → Are
 module _ {S : Type 0} (g : Ghosts S) where
   -- the error is settled, and the store notes the error that it returns
   pub record KeepsFault (old new : Tables S) (fault : RowFault) (told : StoreFault) : Type 0 where
-    pub settles : Settles (state g old.conn) (state g new.conn) fault told
+    pub checked : IsCheckedFault (state g old.conn) (state g new.conn) fault told
     pub same : new
         ≡ record old { conn = new.conn; failed = is_disk (Some told) || old.failed; not_a_desk = is_not_a_desk (Some told) || old.not_a_desk; out_of_space = is_size told }
 

@@ -5,7 +5,7 @@ ghost use Rattle.desk_rows.specs.order.Changes.{kind_at, session_of_uplink, sess
 ghost use Rattle.desk_tables.specs.steps.Calls.{Makes};
 ghost use Rattle.desk_tables.specs.steps.Effects.{CountsInSession, WritesEffect};
 
-use crate::effects::basis::{Basis, as_json_integer};
+use crate::effects::input::{EffectInput, as_json_integer};
 use desk_rows::{RowFault, end_booking, insert_booking, set_next_down};
 use registry_core::{Booking, Effect, Whole};
 use sqlite::{Alter, Transaction};
@@ -32,16 +32,16 @@ fn count_down<S: Alter>(
 pub(crate) fn add_booking<S: Alter>(
     tx: &mut Transaction<'_, S>,
     booking: &Booking,
-    basis: Basis,
+    input: EffectInput,
 ) -> Result<(), RowFault>
     ensures same_reference { tx.new.conn.ghost_name ≡ tx.old.conn.ghost_name }
-    ensures writes { WritesEffect (state S.Store tx.old.conn.now) (state S.Store tx.new.conn.now) result (Effect.AddsBooking booking.now) basis }
+    ensures writes { WritesEffect (state S.Store tx.old.conn.now) (state S.Store tx.new.conn.now) result (Effect.AddsBooking booking.now) input }
 {
-    let Basis::Booking {
+    let EffectInput::Booking {
         session,
         kind,
         counter,
-    } = basis
+    } = input
     else {
         return Err(RowFault::Row);
     };
@@ -55,10 +55,10 @@ pub(crate) fn end<S: Alter>(
     tx: &mut Transaction<'_, S>,
     number: u64,
     sent: bool,
-    basis: Basis,
+    input: EffectInput,
 ) -> Result<(), RowFault>
     ensures same_reference { tx.new.conn.ghost_name ≡ tx.old.conn.ghost_name }
-    ensures writes { WritesEffect (state S.Store tx.old.conn.now) (state S.Store tx.new.conn.now) result (Effect.EndsBooking number sent) basis }
+    ensures writes { WritesEffect (state S.Store tx.old.conn.now) (state S.Store tx.new.conn.now) result (Effect.EndsBooking number sent) input }
 {
     end_booking(tx, as_json_integer(number)?, sent)
 }

@@ -3,7 +3,7 @@ ghost use Rattle.std.specs.Prelude.{◌≡◌};
 ghost use Rattle.sqlite.specs.Held.{state};
 ghost use Rattle.desk_tables.specs.steps.Effects.{WritesEffect};
 
-use crate::effects::basis::Basis;
+use crate::effects::input::EffectInput;
 use desk_rows::{RowFault, change_limit, insert_limit};
 use radio_core::Name;
 use registry_core::{BandLimit, Effect};
@@ -14,12 +14,12 @@ pub(crate) fn set_limit<S: Alter>(
     tx: &mut Transaction<'_, S>,
     gateway: &Name,
     limit: BandLimit,
-    basis: Basis,
+    input: EffectInput,
 ) -> Result<(), RowFault>
     ensures same_reference { tx.new.conn.ghost_name ≡ tx.old.conn.ghost_name }
-    ensures writes { WritesEffect (state S.Store tx.old.conn.now) (state S.Store tx.new.conn.now) result (Effect.SetsLimit gateway.now limit) basis }
+    ensures writes { WritesEffect (state S.Store tx.old.conn.now) (state S.Store tx.new.conn.now) result (Effect.SetsLimit gateway.now limit) input }
 {
-    let Basis::Limit { is_set } = basis else {
+    let EffectInput::Limit { is_set } = input else {
         return Err(RowFault::Row);
     };
     if is_set {

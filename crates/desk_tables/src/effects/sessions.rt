@@ -3,7 +3,7 @@ ghost use Rattle.std.specs.Prelude.{◌≡◌};
 ghost use Rattle.sqlite.specs.Held.{state};
 ghost use Rattle.desk_tables.specs.steps.Effects.{WritesEffect};
 
-use crate::effects::basis::{Basis, as_json_integer};
+use crate::effects::input::{EffectInput, as_json_integer};
 use crate::effects::uplinks::add_with_reception;
 use desk_rows::{RowFault, insert_session};
 use radio_core::Name;
@@ -17,13 +17,13 @@ pub(crate) fn add_session<S: Alter>(
     uplink: &Uplink,
     gateway: &Name,
     reception: &Reception,
-    basis: Basis,
+    input: EffectInput,
 ) -> Result<(), RowFault>
     ensures same_reference { tx.new.conn.ghost_name ≡ tx.old.conn.ghost_name }
     ensures writes { WritesEffect (state S.Store tx.old.conn.now) (state S.Store tx.new.conn.now) result
-        (Effect.AddsSession session uplink.now gateway.now reception.now) basis }
+        (Effect.AddsSession session uplink.now gateway.now reception.now) input }
 {
-    let Basis::Session { number } = basis else {
+    let EffectInput::Session { number } = input else {
         return Err(RowFault::Row);
     };
     as_json_integer(uplink.session)?;

@@ -8,7 +8,7 @@ ghost use Rattle.desk_rows.specs.order.Keys.{IsFree};
 ghost use Rattle.desk_tables.specs.steps.Calls.{Makes};
 ghost use Rattle.desk_tables.specs.steps.Effects.{IsRaised, WritesEffect};
 
-use crate::effects::basis::{Basis, as_json_integer};
+use crate::effects::input::{EffectInput, as_json_integer};
 use desk_rows::{RowFault, insert_reception, insert_uplink, set_floor};
 use radio_core::{Eui, Name};
 use registry_core::{Effect, Reception, Uplink, Whole};
@@ -54,13 +54,13 @@ pub(crate) fn add_uplink<S: Alter>(
     uplink: &Uplink,
     gateway: &Name,
     reception: &Reception,
-    basis: Basis,
+    input: EffectInput,
 ) -> Result<(), RowFault>
     ensures same_reference { tx.new.conn.ghost_name ≡ tx.old.conn.ghost_name }
     ensures writes { WritesEffect (state S.Store tx.old.conn.now) (state S.Store tx.new.conn.now) result
-        (Effect.AddsUplink uplink.now gateway.now reception.now) basis }
+        (Effect.AddsUplink uplink.now gateway.now reception.now) input }
 {
-    let Basis::Uplink { number, raises } = basis else {
+    let EffectInput::Uplink { number, raises } = input else {
         return Err(RowFault::Row);
     };
     raise_floor(tx, raises, as_json_integer(uplink.session)?)?;

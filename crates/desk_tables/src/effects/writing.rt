@@ -3,8 +3,8 @@ ghost use Rattle.std.specs.Prelude.{◌≡◌};
 ghost use Rattle.sqlite.specs.Held.{state};
 ghost use Rattle.desk_tables.specs.steps.Effects.{WritesEffect};
 
-use crate::effects::basis::Basis;
 use crate::effects::bookings::{add_booking, end};
+use crate::effects::input::EffectInput;
 use crate::effects::limits::set_limit;
 use crate::effects::receptions::add_reception;
 use crate::effects::sessions::add_session;
@@ -19,10 +19,10 @@ use sqlite::{Alter, Transaction};
 pub(crate) fn write_effect<S: Alter>(
     tx: &mut Transaction<'_, S>,
     effect: &Effect,
-    basis: Basis,
+    input: EffectInput,
 ) -> Result<(), RowFault>
     ensures same_reference { tx.new.conn.ghost_name ≡ tx.old.conn.ghost_name }
-    ensures writes { WritesEffect (state S.Store tx.old.conn.now) (state S.Store tx.new.conn.now) result effect.now basis }
+    ensures writes { WritesEffect (state S.Store tx.old.conn.now) (state S.Store tx.new.conn.now) result effect.now input }
 {
     match effect {
         Effect::Nothing => Ok(()),
@@ -36,19 +36,19 @@ pub(crate) fn write_effect<S: Alter>(
             uplink,
             gateway,
             reception,
-        } => add_session(tx, *session, uplink, gateway, reception, basis),
+        } => add_session(tx, *session, uplink, gateway, reception, input),
         Effect::AddsUplink {
             uplink,
             gateway,
             reception,
-        } => add_uplink(tx, uplink, gateway, reception, basis),
+        } => add_uplink(tx, uplink, gateway, reception, input),
         Effect::AddsReception {
             uplink,
             gateway,
             reception,
-        } => add_reception(tx, *uplink, gateway, reception, basis),
-        Effect::AddsBooking { booking } => add_booking(tx, booking, basis),
-        Effect::EndsBooking { booking, sent } => end(tx, *booking, *sent, basis),
-        Effect::SetsLimit { gateway, limit } => set_limit(tx, gateway, *limit, basis),
+        } => add_reception(tx, *uplink, gateway, reception, input),
+        Effect::AddsBooking { booking } => add_booking(tx, booking, input),
+        Effect::EndsBooking { booking, sent } => end(tx, *booking, *sent, input),
+        Effect::SetsLimit { gateway, limit } => set_limit(tx, gateway, *limit, input),
     }
 }

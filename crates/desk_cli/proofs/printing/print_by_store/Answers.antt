@@ -11,10 +11,10 @@ use Rattle.desk_cli.proofs.printing.print_by_store.Goals as goal
 
 pub returns-clause-prints : goal.returns-clause-prints
 returns-clause-prints g c = λ clean config heard kept.
-    let back = c.by_store.result.1 in
+    let back = c.run_job.result.1 in
     let is_answer = g.Q.Report.is_answer c.args.report.now in
     either g.S.Store g.met.S.Store.settled config heard back (prints is_answer)
-    (λ left rest before after r. PrintsBy (KeepsHeard g.S.Store back config heard) (IsLeft g.S.Store back config heard None) before after (is_answer config heard) r) _ _ _ _ c.by_store.result.0
-    (λ by. printed_by (kept_by _ g.met.S.Store.settled _ _ _ by heard) (left_by _ g.met.S.Store.settled _ _ _ by heard None) _ _ _ c.by_store.result.0 by.did)
+    (λ left rest before after r. PrintsBy (KeepsHeard g.S.Store back config heard) (IsLeft g.S.Store back config heard None) before after (is_answer config heard) r) _ _ _ _ c.run_job.result.0
+    (λ by. printed_by (kept_by _ g.met.S.Store.settled _ _ _ by heard) (left_by _ g.met.S.Store.settled _ _ _ by heard None) _ _ _ c.run_job.result.0 by.did)
     (λ left. prints_unopened _ _ _ _ Unavailable refl left (Keeps-refl _) (g.met.Q.Report.unopened c.args.report.now config heard))
-    (c.by_store.ensures.does clean config heard kept)
+    (c.run_job.ensures.does clean config heard kept)

@@ -8,5 +8,5 @@ use Rattle.desk_cli.proofs.program.run_strings.Goals as goal
 
 pub returns-in-Err-clause-runs : goal.returns-in-Err-clause-runs
 returns-in-Err-clause-runs g c =
-    runs_nothing _ _ _ g.S.Store (g.N.FileOpener.paths c.args.files) _ _ _ (map string_bytes c.args.strings.now) c.in-Err.usage c.tell-in-Err.result
-    (subst (λ words. TellsNamed (named_by words) (Err c.in-Err.usage)) (ap texts c.deref.ensures.value ∙ c.in-Ok.ensures) c.in-Err.ensures) c.tell-in-Err.ensures
+    runs_nothing _ _ _ g.S.Store (g.N.FileOpener.paths c.args.files) _ _ _ (map string_bytes c.args.strings.now) c.in-Err.usage c.print_usage-in-Err.result
+    (subst (λ words. TellsNamed (named_by words) (Err c.in-Err.usage)) (ap texts c.deref.ensures.value ∙ c.in-Ok.ensures) c.in-Err.ensures) c.print_usage-in-Err.ensures

@@ -10,9 +10,9 @@ use Rattle.desk_cli.proofs.commands.hear.hear_lines.Goals as goal
 
 pub returns-clause-hears : goal.returns-clause-hears
 returns-clause-hears g c = λ clean config heard kept.
-    let back = c.by_store.result.1 in
+    let back = c.run_job.result.1 in
     either g.S.Store g.met.S.Store.settled config heard back answers
-    (λ left rest before after r. AnswersBy config heard (KeepsHeard g.S.Store back config) (IsLeft g.S.Store back config) left rest before after r) _ _ _ _ c.by_store.result.0
-    (λ by. carried config heard _ _ _ _ (kept_by _ g.met.S.Store.settled _ _ _ by) (left_by _ g.met.S.Store.settled _ _ _ by) _ _ _ _ c.by_store.result.0 by.did)
+    (λ left rest before after r. AnswersBy config heard (KeepsHeard g.S.Store back config) (IsLeft g.S.Store back config) left rest before after r) _ _ _ _ c.run_job.result.0
+    (λ by. carried config heard _ _ _ _ (kept_by _ g.met.S.Store.settled _ _ _ by) (left_by _ g.met.S.Store.settled _ _ _ by) _ _ _ _ c.run_job.result.0 by.did)
     (λ left. answers_unopened config heard (KeepsHeard g.S.Store back config) (IsLeft g.S.Store back config) _ _ Unavailable refl left)
-    (c.by_store.ensures.does clean config heard kept)
+    (c.run_job.ensures.does clean config heard kept)

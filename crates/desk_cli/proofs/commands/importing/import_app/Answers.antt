@@ -2,4 +2,4 @@
 use Rattle.desk_cli.proofs.commands.importing.import_app.Goals as goal
 
 pub returns : goal.returns
-returns c = c.with_word.ensures _ _ c.command_on_file.ensures c.needed-sender.ensures.rule c.needed-sender.ensures.local
+returns c = c.with_word.ensures _ _ c.command_on_file.ensures c.required_option-sender.ensures.rule c.required_option-sender.ensures.local

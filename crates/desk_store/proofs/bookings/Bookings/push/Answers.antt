@@ -21,8 +21,8 @@ invariant_of-self-2 c =
     let R : List Place → Type 0 = Rises (λ place. place.start) in
     let rise = subst R (sym (c.self.invariant.0.places booking.gateway)) (places_rise start (λ b. bytes_eq b.gateway booking.gateway) items) in
     let noted = index_noted start bytes_eq (λ b. b.gateway) (λ a b. (bytes_eq-Decides a b).0) items booking booking.gateway c.place_of.result
-    (places_in bytes_eq c.self.inside.starts) (places_in bytes_eq c.note.new.self) refl
-    (c.place_of.ensures ∙ (λ i. record { start = booking.span.start; number = count i + 1 })) c.self.invariant.0 (c.in_ok-note.ensures.noted rise) in
+    (places_in bytes_eq c.self.inside.starts) (places_in bytes_eq c.add.new.self) refl
+    (c.place_of.ensures ∙ (λ i. record { start = booking.span.start; number = count i + 1 })) c.self.invariant.0 (c.in_ok-add.ensures.noted rise) in
     let all : c.push.new.self.items ≡ items ++ booking ∷ [] = search rules in
-    let P : List Booking → Type 0 = λ bookings. IsBookingIndex bookings c.note.new.self × AreCounted bookings c.note-2.new.self in
-    subst P (sym all) (noted, c.in_ok-note-2.ensures.noted items few (c.make_room.ensures.same items c.self.invariant.1))
+    let P : List Booking → Type 0 = λ bookings. IsBookingIndex bookings c.add.new.self × AreCounted bookings c.add-2.new.self in
+    subst P (sym all) (noted, c.in_ok-add-2.ensures.noted items few (c.make_room.ensures.same items c.self.invariant.1))

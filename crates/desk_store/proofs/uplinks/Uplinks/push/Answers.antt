@@ -12,13 +12,13 @@ use Rattle.desk_store.proofs.Placed.{index_noted, index_same, places_rise}
 use Rattle.desk_store.proofs.UplinksTold.{pair_alike}
 use Rattle.desk_store.proofs.uplinks.Uplinks.push.Goals as goal
 
-pub invariant_of-self-in_err-note : goal.invariant_of-self-in_err-note
-invariant_of-self-in_err-note c =
+pub invariant_of-self-in_err-add : goal.invariant_of-self-in_err-add
+invariant_of-self-in_err-add c =
     let items = c.self.inside.items.items in
     let room = index_unchanged items c.self.inside.index c.make_room.new.self c.self.invariant.0 c.make_room.ensures.joins c.make_room.ensures.frames c.make_room.ensures.counters in
-    let starts : AreStarts items c.note.new.self =
-    index_same (λ (u : Uplink). pos u.start) same_numbers key_of items (places_in same_numbers c.self.inside.starts) (places_in same_numbers c.note.new.self) c.self.invariant.1 c.in_err-note.ensures.err in
-    let P : List Uplink → Type 0 = λ uplinks. IsIndexOf uplinks c.make_room.new.self × AreStarts uplinks c.note.new.self in
+    let starts : AreStarts items c.add.new.self =
+    index_same (λ (u : Uplink). pos u.start) same_numbers key_of items (places_in same_numbers c.self.inside.starts) (places_in same_numbers c.add.new.self) c.self.invariant.1 c.in_err-add.ensures.err in
+    let P : List Uplink → Type 0 = λ uplinks. IsIndexOf uplinks c.make_room.new.self × AreStarts uplinks c.add.new.self in
     subst P (sym c.reserve.ensures.items) (room, starts)
 
 pub invariant_of-self-2 : goal.invariant_of-self-2
@@ -32,11 +32,11 @@ invariant_of-self-2 c =
     let rise = subst R (sym (c.self.invariant.1.places (key_of uplink))) (places_rise start (λ u. same_numbers (key_of u) (key_of uplink)) items) in
     let room = index_unchanged items c.self.inside.index c.make_room.new.self c.self.invariant.0 c.make_room.ensures.joins c.make_room.ensures.frames c.make_room.ensures.counters in
     let key_is : (uplink.session, c.get.result) ≡ key_of uplink = (λ i. (uplink.session, c.get.ensures i)) in
-    let starts : AreStarts (items ++ uplink ∷ []) c.note.new.self =
+    let starts : AreStarts (items ++ uplink ∷ []) c.add.new.self =
     index_noted start same_numbers key_of pair_alike items uplink (uplink.session, c.get.result) c.place_of.result
-    (places_in same_numbers c.self.inside.starts) (places_in same_numbers c.note.new.self) key_is
+    (places_in same_numbers c.self.inside.starts) (places_in same_numbers c.add.new.self) key_is
     (c.place_of.ensures ∙ (λ i. record { start = pos uplink.start; number = count i + 1 })) c.self.invariant.1
-    (c.in_ok-note.ensures.noted (rw key_is rise)) in
+    (c.in_ok-add.ensures.noted (rw key_is rise)) in
     let all : c.push.new.self.items ≡ items ++ uplink ∷ [] = search rules in
-    let P : List Uplink → Type 0 = λ uplinks. IsIndexOf uplinks c.note-2.new.self × AreStarts uplinks c.note.new.self in
-    subst P (sym all) (c.in_ok-note-2.ensures.noted items last room, starts)
+    let P : List Uplink → Type 0 = λ uplinks. IsIndexOf uplinks c.add-2.new.self × AreStarts uplinks c.add.new.self in
+    subst P (sym all) (c.in_ok-add-2.ensures.noted items last room, starts)

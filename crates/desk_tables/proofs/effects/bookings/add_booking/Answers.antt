@@ -4,7 +4,7 @@ use Rattle.registry_core.specs.Wholes.{IsWhole}
 use Rattle.desk_rows.specs.Rows.{Rows, BookingRow}
 use Rattle.desk_rows.specs.order.Changes.{kind_at, session_of_uplink, sessions_counted}
 use Rattle.desk_rows.specs.order.Keys.{HasRowid}
-use Rattle.desk_tables.specs.steps.Effects.{IsBasisOfBooking}
+use Rattle.desk_tables.specs.steps.Effects.{IsInputOfBooking}
 use Rattle.desk_tables.proofs.CallLemmas.{makes_one, makes_then}
 use Rattle.desk_tables.proofs.effects.bookings.add_booking.Goals as goal
 
@@ -12,7 +12,7 @@ pub returns-clause-writes : goal.returns-clause-writes
 returns-clause-writes g c =
     let b = c.args.booking.now in
     let small : IsWhole b.uplink = c.in_ok-as_json_integer.ensures.1 in
-    let found = λ (r : Rows) (of : IsBasisOfBooking b r c.args.basis). subst (IsBasisOfBooking b r) c.in-Booking.is of in
+    let found = λ (r : Rows) (of : IsInputOfBooking b r c.args.input). subst (IsInputOfBooking b r) c.in-Booking.is of in
     makes_then c.in_ok-count_down.ensures.makes
     (makes_one {Of = λ _. Unit {0}} {May = λ r. HasRowid r.bookings} c.insert_booking.ensures.changes
     (λ r of. (omega (arith, small), omega (arith, c.get.ensures.same, c.get.ensures.range))) (λ r of may. (tt, may)) (λ r of. refl))

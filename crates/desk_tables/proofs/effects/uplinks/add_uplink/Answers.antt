@@ -4,13 +4,13 @@ use Rattle.registry_core.specs.Wholes.{IsWhole}
 use Rattle.desk_rows.specs.Rows.{Rows, is_reception}
 use Rattle.desk_rows.specs.order.Changes.{devices_raised, with_uplink_row}
 use Rattle.desk_rows.specs.order.Keys.{IsFree}
-use Rattle.desk_tables.specs.steps.Effects.{IsBasisOfUplink, IsRaised}
+use Rattle.desk_tables.specs.steps.Effects.{IsInputOfUplink, IsRaised}
 use Rattle.desk_tables.proofs.CallLemmas.{failed_with, makes_failed, makes_then}
 use Rattle.desk_tables.proofs.effects.uplinks.add_uplink.Goals as goal
 
 pub returns-in_err-raise_floor-clause-writes : goal.returns-in_err-raise_floor-clause-writes
 returns-in_err-raise_floor-clause-writes g c =
-    let found = λ (r : Rows) (of : IsBasisOfUplink c.args.uplink.now r c.args.basis). subst (IsBasisOfUplink c.args.uplink.now r) c.in-Uplink.is of in
+    let found = λ (r : Rows) (of : IsInputOfUplink c.args.uplink.now r c.args.input). subst (IsInputOfUplink c.args.uplink.now r) c.in-Uplink.is of in
     makes_failed (failed_with c.from_residual-in_err-raise_floor.result c.from_residual-in_err-raise_floor.ensures.1) c.in_err-raise_floor.ensures.makes
     (λ r of. subst (λ n. IsRaised n r c.in-Uplink.raises) (sym c.in_ok-as_json_integer.ensures.0) (found r of).1) (λ r of may. may.whole.2)
 
@@ -18,7 +18,7 @@ pub returns-clause-writes : goal.returns-clause-writes
 returns-clause-writes g c =
     let u = c.args.uplink.now in
     let small : IsWhole u.session = c.in_ok-as_json_integer.ensures.1 in
-    let found = λ (r : Rows) (of : IsBasisOfUplink u r c.args.basis). subst (IsBasisOfUplink u r) c.in-Uplink.is of in
+    let found = λ (r : Rows) (of : IsInputOfUplink u r c.args.input). subst (IsInputOfUplink u r) c.in-Uplink.is of in
     makes_then c.in_ok-raise_floor.ensures.makes c.add_with_reception.ensures.makes
     (λ r of. subst (λ n. IsRaised n r c.in-Uplink.raises) (sym c.in_ok-as_json_integer.ensures.0) (found r of).1) (λ r of may. may.whole.2)
     (λ r of. ((found r of).0, small))

@@ -7,7 +7,7 @@ use Rattle.desk_tables.proofs.Reading.{says_also}
 use Rattle.desk_tables.proofs.looks.TablesLooks.uplinks_between.Goals as goal
 
 pub returns-clause-read : goal.returns-clause-read
-returns-clause-read g c = answered_by_rows _ _ _ _ _ _ _ c.if-self.false c.uplinks_between-answer.ensures c.tell.ensures
+returns-clause-read g c = answered_by_rows _ _ _ _ _ _ _ c.if-self.false c.uplinks_between-answer.ensures c.store_result.ensures
 
 pub returns-clause-told : goal.returns-clause-told
 returns-clause-told g c =
@@ -16,4 +16,4 @@ returns-clause-told g c =
     answered_by_kept _ _ _ _ _ _ _ c.if-self.false (says_also _ _ _ _ _ (λ r numbers is config kept tell.
     subst (AreUplinksFrom kept.facts c.args.device c.args.from c.args.to) (sym is)
     ((c.listed_rows_tell.ensures config kept.facts r tell.are).uplinks c.args.device c.args.from c.args.to))
-    (rw (to_z-of_z w64 c.args.from from, to_z-of_z w64 c.args.to to) at c.uplinks_between-answer.ensures)) c.tell.ensures
+    (rw (to_z-of_z w64 c.args.from from, to_z-of_z w64 c.args.to to) at c.uplinks_between-answer.ensures)) c.store_result.ensures

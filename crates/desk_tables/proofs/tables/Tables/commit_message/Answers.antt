@@ -2,7 +2,7 @@
 use Rattle.std.proofs.Common.{arith}
 use Rattle.desk_tables.proofs.NotedCommits.{commit_noted}
 use Rattle.desk_tables.proofs.RefusedCommits.{commit_failed, commit_full}
-use Rattle.desk_tables.proofs.tables.Tables.keep.Goals as goal
+use Rattle.desk_tables.proofs.tables.Tables.commit_message.Goals as goal
 
 pub returns-then-self : goal.returns-then-self
 returns-then-self g c = commit_failed g.S.Store c.args.self.now _ _ _ _ c.if-self.true
@@ -12,5 +12,5 @@ returns-then-self-2 g c = commit_full g.S.Store c.args.self.now _ _ _ _ c.if-sel
 
 pub returns : goal.returns
 returns g c = commit_noted g.S.Store c.args.self.now _ _ _ _ c.if-self.false (omega (arith, c.if-self-2.false)) c.rows_follow_facts.ensures c.keys_are_free.ensures
-    c.changed_rows_are_there.ensures g.met.S.Store.settled c.commit_rows-done.new.conn c.note.new.self c.commit_rows-done.result c.note.result
-    c.commit_rows-done.ensures c.note.ensures
+    c.changed_rows_are_there.ensures g.met.S.Store.settled c.commit_rows-done.new.conn c.note_outcome.new.self c.commit_rows-done.result c.note_outcome.result
+    c.commit_rows-done.ensures c.note_outcome.ensures

@@ -1,7 +1,7 @@
 -- A desk that opened is closed as the job left it; for one that didn't, nothing was read or written, and its file is as it was.
 use Rattle.std.proofs.Common.{Err, arith, ap, inl, inr, refl}
 use Rattle.std.proofs.KnownBytes.{Keeps-refl}
-use Rattle.desk_cli.proofs.jobs.by_store.Goals as goal
+use Rattle.desk_cli.proofs.jobs.run_job.Goals as goal
 
 pub returns-in-Ok : goal.returns-in-Ok
 returns-in-Ok g c = record {

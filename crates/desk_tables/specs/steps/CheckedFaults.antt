@@ -23,7 +23,7 @@ pub record StaysOpen (old new : State) : Type 0 where
   pub kept : old.now ≡ old.committed → (new.now ≡ old.now) × (new.committed ≡ old.committed)
 
 -- The store's error is that of the connection if the connection is still open, and else `Disk`.
-pub record Settles (old new : State) (fault : RowFault) (told : StoreFault) : Type 0 where
+pub record IsCheckedFault (old new : State) (fault : RowFault) (told : StoreFault) : Type 0 where
   pub survives : Survives old new (λ _. ⊥)
   pub mode : old.in_transaction ≡ false → new.in_transaction ≡ false
   pub same : is_disk (Some told) ≡ false → told ≡ store_fault fault
@@ -37,7 +37,7 @@ is_size _ = false
 module _ {S : Type 0} (g : Ghosts S) where
   -- and the store notes whether it is `Disk` or `NotADesk`
   pub record Fails (old new : Tables S) (fault : RowFault) (told : StoreFault) : Type 0 where
-    pub settles : Settles (state g old.conn) (state g new.conn) fault told
+    pub checked : IsCheckedFault (state g old.conn) (state g new.conn) fault told
     pub same : new ≡ record old { conn = new.conn; failed = is_disk (Some told) || old.failed; not_a_desk = is_not_a_desk (Some told) || old.not_a_desk }
 
   -- the result of a look-up for a result of the connection

@@ -2,7 +2,7 @@
 use Rattle.std.proofs.Common.{Ok, Some, None, sym}
 use Rattle.desk_tables.proofs.CallLemmas.{asks_as}
 use Rattle.desk_tables.proofs.EffectLemmas.{raised_asked}
-use Rattle.desk_tables.proofs.effects.basis.raised_by.Goals as goal
+use Rattle.desk_tables.proofs.effects.input.raised_by.Goals as goal
 
 pub returns-then-is_above : goal.returns-then-is_above
 returns-then-is_above g c = asks_as (Ok (Some c.in_ok-device.field-0.device)) (raised_asked c.args.uplink.now c.args.seen.now c.in_ok-device.ensures c.in_ok-floor.ensures)

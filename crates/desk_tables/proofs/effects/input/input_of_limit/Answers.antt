@@ -2,10 +2,10 @@
 use Rattle.std.proofs.Common.{◌∙◌, Ok, ap, is_some}
 use Rattle.radio_core.specs.Bands.{band_number}
 use Rattle.desk_rows.specs.order.Changes.{has_limit}
-use Rattle.desk_tables.specs.declared.effects.basis.Basis.TheVariants.{Limit}
+use Rattle.desk_tables.specs.declared.effects.input.EffectInput.TheVariants.{Limit}
 use Rattle.desk_tables.proofs.CallLemmas.{asks_as, asks_one}
 use Rattle.desk_tables.proofs.LimitLemmas.{found_there}
-use Rattle.desk_tables.proofs.effects.basis.basis_of_limit.Goals as goal
+use Rattle.desk_tables.proofs.effects.input.input_of_limit.Goals as goal
 
 pub returns : goal.returns
 returns g c = asks_as (Ok (Limit c.is_some.result)) (asks_one c.in_ok-set.ensures) (λ r _. tt)

@@ -8,9 +8,9 @@ ghost use Rattle.sqlite.specs.Held.{state};
 ghost use Rattle.desk_rows.specs.Rows.{SessionRow, is_device};
 ghost use Rattle.desk_rows.specs.order.Keys.{CountsOne, HasOnly, RaisesOne};
 ghost use Rattle.desk_tables.specs.Seen.{IsFloorOf, IsSeen, IsSessionAt};
-ghost use Rattle.desk_tables.specs.declared.effects.basis.Basis.TheVariants as basis;
+ghost use Rattle.desk_tables.specs.declared.effects.input.EffectInput.TheVariants as input;
 ghost use Rattle.desk_tables.specs.steps.Calls.{Asks};
-ghost use Rattle.desk_tables.specs.steps.Effects.{AreWhole, HasSession, IsBasis, IsBasisOfBooking, IsBasisOfLimit, IsBasisOfUplink, IsKnown, IsNextDown, IsRaised, IsThereAndKnown};
+ghost use Rattle.desk_tables.specs.steps.Effects.{AreWhole, HasSession, IsInput, IsInputOfBooking, IsInputOfLimit, IsInputOfUplink, IsKnown, IsNextDown, IsRaised, IsThereAndKnown};
 
 use crate::seen::Seen;
 use desk_rows::{RowFault, floor_of, limit_at, next_down, session, uplink};
@@ -27,7 +27,7 @@ pub(crate) struct Known {
 
 /// What an effect's rows need besides the effect.
 #[derive(Clone, Copy)]
-pub(crate) enum Basis {
+pub(crate) enum EffectInput {
     Nothing,
     /// The number of the session's join uplink.
     Session {
@@ -189,17 +189,17 @@ fn counter_for<S: Alter>(
     }
 }
 
-fn basis_of_booking<S: Alter>(
+fn input_of_booking<S: Alter>(
     conn: &mut Connection<S>,
     booking: &Booking,
-) -> Result<Basis, RowFault>
+) -> Result<EffectInput, RowFault>
     ensures { Asks (state S.Store conn.old) (state S.Store conn.new) result (CountsOne booking.now) (AreWhole (Effect.AddsBooking booking.now))
-        (IsBasisOfBooking booking.now) }
+        (IsInputOfBooking booking.now) }
 {
     let found = uplink_at(conn, booking.uplink)?;
     let session = as_json_integer(found.session)?;
     let counter = counter_for(conn, session, found.kind)?;
-    Ok(Basis::Booking {
+    Ok(EffectInput::Booking {
         session,
         kind: found.kind,
         counter,
@@ -207,63 +207,63 @@ fn basis_of_booking<S: Alter>(
 }
 
 /// Returns the number of the new session's join uplink.
-fn basis_of_session(known: &Known) -> Result<Basis, RowFault>
-    ensures { MatchResult result (λ made. made ≡ basis.Session (known.now.uplinks + 1)) (λ fault. ¬ IsWhole (known.now.uplinks + 1)) }
+fn input_of_session(known: &Known) -> Result<EffectInput, RowFault>
+    ensures { MatchResult result (λ made. made ≡ input.Session (known.now.uplinks + 1)) (λ fault. ¬ IsWhole (known.now.uplinks + 1)) }
 {
-    Ok(Basis::Session {
+    Ok(EffectInput::Session {
         number: next_uplink(known.uplinks)?,
     })
 }
 
 /// Returns the number of the new uplink, with the device whose floor rises.
-fn numbered(uplinks: u64, raises: Option<Eui>) -> Result<Basis, RowFault>
-    ensures { MatchResult result (λ made. made ≡ basis.Uplink (uplinks + 1) raises) (λ fault. ¬ IsWhole (uplinks + 1)) }
+fn numbered(uplinks: u64, raises: Option<Eui>) -> Result<EffectInput, RowFault>
+    ensures { MatchResult result (λ made. made ≡ input.Uplink (uplinks + 1) raises) (λ fault. ¬ IsWhole (uplinks + 1)) }
 {
-    Ok(Basis::Uplink {
+    Ok(EffectInput::Uplink {
         number: next_uplink(uplinks)?,
         raises,
     })
 }
 
-fn basis_of_uplink<S: Alter>(
+fn input_of_uplink<S: Alter>(
     conn: &mut Connection<S>,
     known: &Known,
     uplink: &Uplink,
-) -> Result<Basis, RowFault>
+) -> Result<EffectInput, RowFault>
     ensures { Asks (state S.Store conn.old) (state S.Store conn.new) result (λ r. RaisesOne uplink.now r × IsKnown r known.now)
         (λ r. IsWhole uplink.now.session × IsWhole (length r.uplinks + 1))
-        (IsBasisOfUplink uplink.now) }
+        (IsInputOfUplink uplink.now) }
 {
     let raises = raised_by(conn, &known.seen, uplink)?;
     numbered(known.uplinks, raises)
 }
 
-fn basis_of_limit<S: Alter>(
+fn input_of_limit<S: Alter>(
     conn: &mut Connection<S>,
     gateway: &Name,
     limit: BandLimit,
-) -> Result<Basis, RowFault>
-    ensures { Asks (state S.Store conn.old) (state S.Store conn.new) result (λ r. Unit {0}) (λ r. Unit {0}) (IsBasisOfLimit gateway.now limit) }
+) -> Result<EffectInput, RowFault>
+    ensures { Asks (state S.Store conn.old) (state S.Store conn.new) result (λ r. Unit {0}) (λ r. Unit {0}) (IsInputOfLimit gateway.now limit) }
 {
     let set = limit_at(conn, gateway, limit.band())?;
-    Ok(Basis::Limit {
+    Ok(EffectInput::Limit {
         is_set: set.is_some(),
     })
 }
 
 /// Returns what the effect's rows need.
-pub(crate) fn basis_of<S: Alter>(
+pub(crate) fn input_of<S: Alter>(
     conn: &mut Connection<S>,
     known: &Known,
     effect: &Effect,
-) -> Result<Basis, RowFault>
-    ensures { Asks (state S.Store conn.old) (state S.Store conn.new) result (IsThereAndKnown effect.now known.now) (AreWhole effect.now) (IsBasis effect.now) }
+) -> Result<EffectInput, RowFault>
+    ensures { Asks (state S.Store conn.old) (state S.Store conn.new) result (IsThereAndKnown effect.now known.now) (AreWhole effect.now) (IsInput effect.now) }
 {
     match effect {
-        Effect::AddsSession { .. } => basis_of_session(known),
-        Effect::AddsUplink { uplink, .. } => basis_of_uplink(conn, known, uplink),
-        Effect::AddsBooking { booking } => basis_of_booking(conn, booking),
-        Effect::SetsLimit { gateway, limit } => basis_of_limit(conn, gateway, *limit),
-        _ => Ok(Basis::Nothing),
+        Effect::AddsSession { .. } => input_of_session(known),
+        Effect::AddsUplink { uplink, .. } => input_of_uplink(conn, known, uplink),
+        Effect::AddsBooking { booking } => input_of_booking(conn, booking),
+        Effect::SetsLimit { gateway, limit } => input_of_limit(conn, gateway, *limit),
+        _ => Ok(EffectInput::Nothing),
     }
 }

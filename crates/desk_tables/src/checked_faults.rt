@@ -2,7 +2,7 @@
 ghost use Rattle.std.specs.Prelude.{◌≡◌, Some};
 ghost use Rattle.sqlite.specs.Held.{state};
 ghost use Rattle.desk_store.specs.Calls.{is_disk, is_not_a_desk};
-ghost use Rattle.desk_tables.specs.steps.Settling.{Settles, is_size, reading_fault};
+ghost use Rattle.desk_tables.specs.steps.CheckedFaults.{IsCheckedFault, is_size, reading_fault};
 
 use crate::faults::store_fault;
 use desk_rows::RowFault;
@@ -11,8 +11,8 @@ use sqlite::{Alter, Connection};
 
 /// Returns the store's error. Whatever the error was, it may have closed the connection: if a statement can't be prepared now, it is
 /// `Disk`.
-pub(crate) fn settle<S: Alter>(conn: &mut Connection<S>, fault: RowFault) -> StoreFault
-    ensures { Settles (state S.Store conn.old) (state S.Store conn.new) fault result }
+pub(crate) fn checked_fault<S: Alter>(conn: &mut Connection<S>, fault: RowFault) -> StoreFault
+    ensures { IsCheckedFault (state S.Store conn.old) (state S.Store conn.new) fault result }
 {
     match conn.prepare("SELECT 1") {
         Ok(_) => store_fault(fault),

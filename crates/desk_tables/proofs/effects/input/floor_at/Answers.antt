@@ -4,7 +4,7 @@ use Rattle.desk_rows.specs.Rows.{is_device}
 use Rattle.desk_rows.specs.declared.faults.RowFault.TheVariants.{Row}
 use Rattle.desk_tables.proofs.CallLemmas.{asks_as, asks_one}
 use Rattle.desk_tables.proofs.EffectLemmas.{find_only}
-use Rattle.desk_tables.proofs.effects.basis.floor_at.Goals as goal
+use Rattle.desk_tables.proofs.effects.input.floor_at.Goals as goal
 
 pub returns-in-None : goal.returns-in-None
 returns-in-None g c = asks_as (Err Row) (asks_one c.in_ok-floor.ensures) (λ r _. tt) (λ r _ _. tt)
