@@ -4,7 +4,7 @@ use Rattle.sqlite.specs.Held.{Held}
 use Rattle.sqlite_trees.specs.declared.store.Store.{Ghosts}
 use Rattle.registry_core.specs.declared.messages.Envelope.{Envelope}
 use Rattle.registry_core.specs.Settings.{Settings}
-use Rattle.registry_core.specs.Wholes.{greatest_whole}
+use Rattle.registry_core.specs.JsonIntegers.{greatest_json_integer}
 use Rattle.desk_engine.specs.Lines.{all_lines, answer_lines, heard_lines, input_of}
 use Rattle.desk_engine.specs.Log.{log_of}
 use Rattle.desk_engine.specs.declared.log.LogText.{LogText}
@@ -13,7 +13,7 @@ use Rattle.desk_cli.specs.OnTables.{KeepsHeard}
 
 -- what `log` prints of a desk if no part is asked for
 abbrev pub whole_log : LogText → Settings → List Envelope → List ℕ
-whole_log which c heard = input_of (log_of which c heard 1 greatest_whole) []
+whole_log which c heard = input_of (log_of which c heard 1 greatest_json_integer) []
 
 -- Take a desk's file (`conn`), and the lines that `log` prints of it. A new desk with the same four options answers them as `log --answers`
 -- prints. A file (`other`) whose desk has heard these lines alone has exactly the tables of a desk that has heard what the first has.

@@ -48,7 +48,7 @@ use migrating::{migrate_app, migrate_of};
 pub use month_reports::{downlinks_command, receptions_command};
 use month_reports::{downlinks_app, downlinks_of, receptions_app, receptions_of};
 use radio_core::Name;
-use registry_core::{Config, Whole};
+use registry_core::{Config, JsonInteger};
 pub use reports::{bands_command, report_command, room_command};
 use reports::{bands_app, bands_of, report_app, report_of, room_app, room_of};
 pub use serving::serve_command;
@@ -132,8 +132,8 @@ pub enum Command<'a> {
     /// Prints at most `count` messages that the desk has heard, from number `from` on, or their answers, one a line.
     Log {
         file: &'a str,
-        from: Whole,
-        count: Whole,
+        from: JsonInteger,
+        count: JsonInteger,
         which: LogText,
     },
     /// Prints the configuration of a desk's file, and how many rows of each kind it has.

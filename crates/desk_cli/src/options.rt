@@ -6,7 +6,7 @@ ghost use Rattle.clap.specs.Walk.{first_of, rows_of, rule_of};
 ghost use Rattle.clap.specs.declared.builder.command.Command.TheViews.{out-Command as fields_of};
 ghost use Rattle.desk_wire.specs.Decimals.{count_in};
 ghost use Rattle.desk_wire.specs.Hexadecimal.{addr_in};
-ghost use Rattle.registry_core.specs.Wholes.{greatest_whole};
+ghost use Rattle.registry_core.specs.JsonIntegers.{greatest_json_integer};
 ghost use Rattle.desk_engine.specs.Log.{message_number};
 ghost use Rattle.desk_cli.specs.Numbers.{connections_of, port_of};
 ghost use Rattle.desk_cli.specs.steps.CommandLine.{AddsWord, IsCommand};
@@ -19,7 +19,7 @@ use clap::{Arg, ArgAction, ArgMatches};
 use desk_engine::{ListOf, message_number};
 use desk_wire::{addr_of, count_of};
 use radio_core::Name;
-use registry_core::{Config, GREATEST_WHOLE, Whole};
+use registry_core::{Config, GREATEST_JSON_INTEGER, JsonInteger};
 use std::alloc::{AllocError, Global};
 
 /// Returns a command without arguments: its name, what it does, and an example.
@@ -214,19 +214,19 @@ pub(crate) fn list_at(options: &ArgMatches<'_>, place: &str) -> Option<ListOf>
 }
 
 /// Returns the number that an option has, or `None` if it isn't there or isn't a number in the form.
-pub(crate) fn number_at(options: &ArgMatches<'_>, option: &str) -> Option<Whole>
+pub(crate) fn number_at(options: &ArgMatches<'_>, option: &str) -> Option<JsonInteger>
     ensures { result ≡ value_at message_number option.now (rows_of (found_of options.now)) }
 {
     message_number(option_text(options, option)?)
 }
 
 /// Returns the number that an option has, or the greatest if the option is left out.
-pub(crate) fn number_or_greatest(options: &ArgMatches<'_>, option: &str) -> Option<Whole>
-    ensures { result ≡ value_or message_number greatest_whole option.now (rows_of (found_of options.now)) }
+pub(crate) fn number_or_greatest(options: &ArgMatches<'_>, option: &str) -> Option<JsonInteger>
+    ensures { result ≡ value_or message_number greatest_json_integer option.now (rows_of (found_of options.now)) }
 {
     match option_text(options, option) {
         Some(text) => message_number(text),
-        None => Whole::new(GREATEST_WHOLE),
+        None => JsonInteger::new(GREATEST_JSON_INTEGER),
     }
 }
 

@@ -33,7 +33,7 @@ use crate::network::Network;
 use desk_engine::{ListOf, LogText, Progress};
 use radio_core::Name;
 use registry_core::laws::rules_are_kept;
-use registry_core::{Config, Whole};
+use registry_core::{Config, JsonInteger};
 use sqlite::{Alter, Connection};
 use std::alloc::Global;
 use std::io::{Read, Write};
@@ -401,8 +401,8 @@ fn log_file<S: Alter, N: FileOpener<S>, W: Write, F: Write>(
     alloc: Global,
     files: N,
     file: &str,
-    from: Whole,
-    count: Whole,
+    from: JsonInteger,
+    count: JsonInteger,
     which: LogText,
     answers: &mut W,
     faults: &mut F,

@@ -5,7 +5,7 @@ use Rattle.registry_core.specs.declared.messages.Envelope.{Envelope}
 use Rattle.registry_core.specs.Heard.{IsHeard, answers_of}
 use Rattle.registry_core.specs.Ranges.{IsSettings}
 use Rattle.registry_core.specs.Settings.{Settings}
-use Rattle.registry_core.specs.Wholes.{greatest_whole}
+use Rattle.registry_core.specs.JsonIntegers.{greatest_json_integer}
 use Rattle.desk_store.specs.declared.faults.StoreFault.{StoreFault}
 use Rattle.desk_store.specs.Calls.{IsUnavailability}
 use Rattle.desk_wire.specs.Answers.{answer_text, head_of_envelope}
@@ -25,7 +25,7 @@ use Rattle.desk_engine.specs.Told.{AnswerText}
 
 -- the message number that a text writes: one to sixteen digits, from 1 to 2^53 - 1
 abbrev pub message_number : List ℕ → Option ℕ
-message_number text = decimal_in text >>= only_if (λ n. nat_le 1 n && nat_le n greatest_whole)
+message_number text = decimal_in text >>= only_if (λ n. nat_le 1 n && nat_le n greatest_json_integer)
 
 -- at most `most` items, from this number on; the first item has the number 1
 abbrev pub numbered_from : {X : Type 0} → ℕ → ℕ → List X → List X

@@ -11,7 +11,7 @@ ghost use Rattle.desk_engine.specs.steps.Logs.{log_line, log_lines};
 use crate::writes::write_octets;
 use desk_store::{EntryTexts, Keeper, StoreFault};
 use desk_wire::decimal_of;
-use registry_core::Whole;
+use registry_core::JsonInteger;
 use std::io::Write;
 
 /// Which text of each message a log has.
@@ -35,14 +35,14 @@ pub enum LogEnd {
 }
 
 /// Returns the message number that a text writes: one to sixteen decimal digits, 1 to 9,007,199,254,740,991. `None` for any other text.
-pub fn message_number(text: &str) -> Option<Whole>
+pub fn message_number(text: &str) -> Option<JsonInteger>
     ensures { result ≡ message_number text.now }
 {
     let number = decimal_of(text.as_bytes())?;
     if number == 0 {
         return None;
     }
-    Whole::new(number)
+    JsonInteger::new(number)
 }
 
 /// Writes the texts of the messages from number `from` on, at most `most` of them, or of their answers, in the order in which the
@@ -52,8 +52,8 @@ pub fn message_number(text: &str) -> Option<Whole>
 /// It loads one message at a time, and doesn't flush the writer. Returns how that ended.
 pub fn write_log<K: Keeper, W: Write>(
     keeper: &mut K,
-    from: Whole,
-    most: Whole,
+    from: JsonInteger,
+    most: JsonInteger,
     which: LogText,
     writer: &mut W,
 ) -> LogEnd
@@ -67,8 +67,8 @@ pub fn write_log<K: Keeper, W: Write>(
 /// Writes the log by the entries that the store has.
 fn write_entries<K: Keeper, W: Write>(
     keeper: &mut K,
-    from: Whole,
-    most: Whole,
+    from: JsonInteger,
+    most: JsonInteger,
     which: LogText,
     writer: &mut W,
 ) -> LogEnd

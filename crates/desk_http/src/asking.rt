@@ -13,7 +13,7 @@ use crate::targets::{Route, method_of, names_of, path_of, route_of};
 use desk_engine::{ListOf, LogText, message_number};
 use httparse::spans::HeaderSpan;
 use matchit::InsertError;
-use registry_core::Whole;
+use registry_core::JsonInteger;
 use std::alloc::Global;
 
 /// What a request's head asks for, or why it is refused at once.
@@ -35,7 +35,7 @@ pub(crate) enum Asked {
     BandReport,
     Room,
     /// The log from this message on.
-    Log(LogText, Whole),
+    Log(LogText, JsonInteger),
     Listing(ListOf),
     Device,
     Receptions,

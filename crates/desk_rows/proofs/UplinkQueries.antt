@@ -29,7 +29,7 @@ use Rattle.registry_core.specs.Listing.{uplink_start}
 use Rattle.registry_core.specs.Numbered.{item_at}
 use Rattle.registry_core.specs.Ranges.{IsEui}
 use Rattle.registry_core.specs.Reports.{interval_of, is_in_band}
-use Rattle.registry_core.specs.Wholes.{IsWhole}
+use Rattle.registry_core.specs.JsonIntegers.{IsJsonInteger}
 use Rattle.desk_rows.specs.Calls.{Reads}
 use Rattle.desk_rows.specs.Rows.{IsSession, IsUplink, SessionRow, eui, number, session_cells, uplink_cells}
 use Rattle.desk_rows.specs.Schema.{desk_schema}
@@ -49,8 +49,8 @@ use Rattle.desk_rows.proofs.SpanQueries.{int_below, int_from}
 use Rattle.desk_rows.proofs.StatementTexts.{lookup_is}
 use Rattle.desk_rows.proofs.Terms.{and_true, eui_equal, number_equal, same}
 
-whole_start : (n : ℕ) → IsWhole n → IsStart (pos n)
-whole_start n whole = record { least = omega (arith, ints, whole); below = omega (arith, ints, whole) }
+json_integer_start : (n : ℕ) → IsJsonInteger n → IsStart (pos n)
+json_integer_start n whole = record { least = omega (arith, ints, whole); below = omega (arith, ints, whole) }
 
 module _ (dev_eui : ℕ) (low : IsEui dev_eui) (from to : ℤ) where
   -- the session is the device's, to SQL
@@ -129,7 +129,7 @@ pub reads_uplinks : (dev_eui : ℕ) → IsEui dev_eui → (band : Band) (from to
 reads_uplinks dev_eui low band from to found = reads_range dev_eui low from to (number (band_number band) ∷ []) _ _
     (is_in_band band) (λ sessions. is_uplink_of sessions dev_eui band from to) (λ sessions u. refl) band_lookup refl refl
     (λ b. and_true _ ∙ number_equal (band_number b.1.1.band) (band_number band)) span_shown IsSpan (λ b. interval_of b.1) (λ b. refl)
-    (λ b fits. (whole_start b.1.start fits.start, fits.airtime)) found
+    (λ b fits. (json_integer_start b.1.start fits.start, fits.airtime)) found
 
 -- ---- all of them
 

@@ -19,7 +19,7 @@ use Rattle.registry_core.specs.declared.messages.Role.TheVariants.{Operator, Rad
 use Rattle.registry_core.specs.Limits.{Limit}
 use Rattle.registry_core.specs.Ranges.{IsEui, IsName}
 use Rattle.registry_core.specs.Settings.{Settings}
-use Rattle.registry_core.specs.Wholes.{IsWhole}
+use Rattle.registry_core.specs.JsonIntegers.{IsJsonInteger}
 use Rattle.sqlite_value.specs.declared.value.Value.{Value}
 use Rattle.sqlite_value.specs.declared.value.Value.TheVariants.{Null, Int, Text, Blob}
 use Rattle.sqlite_schema.specs.declared.schema.Schema.{Schema}
@@ -198,12 +198,12 @@ pub record IsSession (s : SessionRow) : Type 0 where
 pub record IsUplink (u : Uplink) : Type 0 where
   pub counter : u.counter < 2 ^ 32
   pub octets : length u.octets ≤ 255
-  pub start : IsWhole u.start
+  pub start : IsJsonInteger u.start
   pub airtime : u.airtime < 2 ^ 32
 
 pub record IsReceptionRow (c : ReceptionRow) : Type 0 where
   pub gateway : IsName c.gateway
-  pub end : IsWhole c.reception.end
+  pub end : IsJsonInteger c.reception.end
   pub freq : c.reception.rate.freq < 2 ^ 32
 
 pub record IsBooking (b : BookingRow) : Type 0 where

@@ -21,7 +21,7 @@ use crate::queries::{FromRow, find, find_all, is_found};
 use crate::values::{band, integer, json_integer, kind, len, standing, start, text, unsigned};
 use crate::writes::write;
 use radio_core::Name;
-use registry_core::{Booking, Kind, Standing, Whole};
+use registry_core::{Booking, JsonInteger, Kind, Standing};
 use sqlite::{Alter, Connection, Row, Transaction};
 use std::alloc::Global;
 
@@ -53,7 +53,7 @@ impl FromRow for Booking {
 /// Returns the booking with this number, from 1; `None` if there is none.
 pub fn booking<S: Alter>(
     conn: &mut Connection<S>,
-    number: Whole,
+    number: JsonInteger,
 ) -> Result<Option<Booking>, RowFault>
     ensures { Reads (state S.Store conn.old) (state S.Store conn.new) result (λ r booking. booking ≡ option_map (λ row. row.booking) (item_at r.bookings number)) }
 {
@@ -73,7 +73,10 @@ fn answer_text() -> &'static str
 }
 
 /// Returns whether a booking that isn't dropped answers the uplink.
-pub fn is_answered<S: Alter>(conn: &mut Connection<S>, uplink: Whole) -> Result<bool, RowFault>
+pub fn is_answered<S: Alter>(
+    conn: &mut Connection<S>,
+    uplink: JsonInteger,
+) -> Result<bool, RowFault>
     ensures { Reads (state S.Store conn.old) (state S.Store conn.new) result (λ r answered. answered ≡ list_any (λ row. is_answer_to uplink row.booking) r.bookings) }
 {
     is_found(conn, answer_text(), &[json_integer(uplink)])
@@ -160,7 +163,7 @@ fn ended(sent: bool) -> Standing
 /// Ends the booking with this number: marks it as sent, or else as dropped.
 pub fn end_booking<S: Alter>(
     tx: &mut Transaction<'_, S>,
-    number: Whole,
+    number: JsonInteger,
     sent: bool,
 ) -> Result<(), RowFault>
     ensures same_reference { tx.new.conn.ghost_name ≡ tx.old.conn.ghost_name }

@@ -8,7 +8,7 @@ ghost use Rattle.duty_core.specs.Use.{Interval};
 ghost use Rattle.radio_core.specs.Bands.{band_number};
 ghost use Rattle.radio_core.specs.DataRates.{dr_number};
 ghost use Rattle.registry_core.specs.Ranges.{IsEui, IsName};
-ghost use Rattle.registry_core.specs.Wholes.{IsWhole};
+ghost use Rattle.registry_core.specs.JsonIntegers.{IsJsonInteger};
 ghost use Rattle.desk_rows.specs.Faults.{IsEven};
 ghost use Rattle.desk_rows.specs.steps.Errors.{ReadsAt, StandsAt};
 ghost use Rattle.desk_rows.specs.Rows.{eui, kind_number, number, role_number, standing_number};
@@ -16,7 +16,7 @@ ghost use Rattle.desk_rows.specs.Rows.{eui, kind_number, number, role_number, st
 use crate::faults::{RowFault, read_fault};
 use duty_core::Span;
 use radio_core::{Band, DataRate, Eui, Name, Octets};
-use registry_core::{Kind, Role, Standing, Whole};
+use registry_core::{JsonInteger, Kind, Role, Standing};
 use sqlite::Row;
 use sqlite_value::value::ValueRef;
 
@@ -63,11 +63,11 @@ pub(crate) fn short_at(row: &Row, at: usize) -> Result<u16, RowFault>
     }
 }
 
-pub(crate) fn whole_at(row: &Row, at: usize) -> Result<Whole, RowFault>
-    ensures reads { ReadsAt number IsWhole row.now at result }
+pub(crate) fn json_integer_at(row: &Row, at: usize) -> Result<JsonInteger, RowFault>
+    ensures reads { ReadsAt number IsJsonInteger row.now at result }
     ensures stands { StandsAt number row.now at result }
 {
-    match Whole::new(number_at(row, at)?) {
+    match JsonInteger::new(number_at(row, at)?) {
         Some(n) => Ok(n),
         None => Err(RowFault::Row),
     }

@@ -23,7 +23,7 @@ use crate::queries::{FromRow, find, find_all};
 use crate::values::{blob, json_integer, octets_of, text};
 use crate::writes::write;
 use radio_core::{Eui, Name};
-use registry_core::{Device, Whole};
+use registry_core::{Device, JsonInteger};
 use sqlite::{Alter, Connection, Row, Transaction};
 use sqlite_value::value::ValueRef;
 use std::alloc::Global;
@@ -247,7 +247,7 @@ pub fn move_device<S: Alter>(
 pub fn set_floor<S: Alter>(
     tx: &mut Transaction<'_, S>,
     dev_eui: Eui,
-    session: Whole,
+    session: JsonInteger,
 ) -> Result<(), RowFault>
     ensures same_reference { tx.new.conn.ghost_name ≡ tx.old.conn.ghost_name }
     ensures changes { Changes (state S.Store tx.old.conn.now) (state S.Store tx.new.conn.now) result (Unit {0})

@@ -4,7 +4,7 @@ ghost use Rattle.std.specs.List.{list_any};
 ghost use Rattle.sqlite.specs.Held.{state};
 ghost use Rattle.desk_rows.specs.Calls.{Changes, Reads};
 ghost use Rattle.registry_core.specs.declared.facts.Reception.{Reception};
-ghost use Rattle.registry_core.specs.Wholes.{IsWhole};
+ghost use Rattle.registry_core.specs.JsonIntegers.{IsJsonInteger};
 ghost use Rattle.desk_rows.specs.Rows.{is_reception};
 ghost use Rattle.desk_rows.specs.order.Listed.{gateways_listed};
 ghost use Rattle.desk_rows.specs.steps.Shown.{reception_shown};
@@ -12,13 +12,13 @@ ghost use Rattle.desk_rows.specs.steps.Texts.{AsksFor, InsertsRow, gateways_aske
 ghost use Rattle.sqlite_sql.specs.Term.{lit, col};
 ghost use Rattle.sqlite_value.specs.declared.value.Value.TheVariants.{Null};
 
-use crate::columns::{data_rate_at, whole_at, word_at};
+use crate::columns::{data_rate_at, json_integer_at, word_at};
 use crate::faults::RowFault;
 use crate::queries::{FromRow, find, find_all};
 use crate::values::{data_rate, json_integer, text, unsigned, word};
 use crate::writes::write;
 use radio_core::{Name, Rate};
-use registry_core::{Reception, Whole};
+use registry_core::{JsonInteger, Reception};
 use sqlite::{Alter, Connection, Row, Transaction};
 use std::alloc::Global;
 
@@ -29,10 +29,10 @@ impl FromRow for Reception {
 
     ghost shows = { reception_shown };
 
-    ghost InRange = { λ reception. IsWhole reception.end × (reception.rate.freq < 2 ^ 32) };
+    ghost InRange = { λ reception. IsJsonInteger reception.end × (reception.rate.freq < 2 ^ 32) };
 
     fn from_row(row: &Row) -> Result<Reception, RowFault> {
-        let end = whole_at(row, 0)?;
+        let end = json_integer_at(row, 0)?;
         let freq = word_at(row, 1)?;
         let dr = data_rate_at(row, 2)?;
         Ok(Reception {
@@ -45,7 +45,7 @@ impl FromRow for Reception {
 /// Returns the reception of an uplink at a gateway, `None` if there is none.
 pub fn reception_at<S: Alter>(
     conn: &mut Connection<S>,
-    uplink: Whole,
+    uplink: JsonInteger,
     gateway: &Name,
 ) -> Result<Option<Reception>, RowFault>
     ensures { Reads (state S.Store conn.old) (state S.Store conn.new) result (λ r reception. reception ≡ option_map (λ row. row.reception) (find (is_reception uplink gateway.now) r.receptions)) }
@@ -69,7 +69,7 @@ fn gateways_text() -> &'static str
 pub fn gateways_of<S: Alter>(
     alloc: Global,
     conn: &mut Connection<S>,
-    uplink: Whole,
+    uplink: JsonInteger,
 ) -> Result<Vec<Name>, RowFault>
     ensures { Reads (state S.Store conn.old) (state S.Store conn.new) result (λ r all. all.items ≡ gateways_listed uplink r.receptions) }
 {

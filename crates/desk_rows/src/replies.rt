@@ -17,7 +17,7 @@ use crate::queries::{FromRow, find};
 use crate::values::{blob, json_integer, text, word};
 use crate::writes::write;
 use radio_core::Name;
-use registry_core::Whole;
+use registry_core::JsonInteger;
 use sqlite::{Alter, Connection, Row, Transaction};
 
 /// The texts of a message that was heard and of its answer.
@@ -74,7 +74,7 @@ fn numbered_reply_text() -> &'static str
 /// Returns the texts of the message with this number, from 1 in the order of hearing; `None` if there is none.
 pub fn texts_at<S: Alter>(
     conn: &mut Connection<S>,
-    number: Whole,
+    number: JsonInteger,
 ) -> Result<Option<ReplyTexts>, RowFault>
     ensures { Reads (state S.Store conn.old) (state S.Store conn.new) result
         (λ r texts. option_map kept_texts texts ≡ option_map reply_texts (item_at r.replies number)) }

@@ -19,7 +19,7 @@ use crate::queries::{FromRow, find, find_all};
 use crate::values::{blob, json_integer, octets_of, short};
 use crate::writes::write;
 use radio_core::Eui;
-use registry_core::{Session, Whole};
+use registry_core::{JsonInteger, Session};
 use sqlite::{Alter, Connection, Row, Transaction};
 use std::alloc::Global;
 
@@ -42,7 +42,7 @@ impl FromRow for Session {
 /// Returns the session with this number, from 1; `None` if there is none.
 pub fn session<S: Alter>(
     conn: &mut Connection<S>,
-    number: Whole,
+    number: JsonInteger,
 ) -> Result<Option<Session>, RowFault>
     ensures { Reads (state S.Store conn.old) (state S.Store conn.new) result (λ r session. session ≡ option_map (λ row. row.session) (item_at r.sessions number)) }
 {
@@ -62,7 +62,10 @@ fn next_down_text() -> &'static str
 }
 
 /// Returns how many bookings answer the data uplinks of the session with this number, `None` if there is none.
-pub fn next_down<S: Alter>(conn: &mut Connection<S>, number: Whole) -> Result<Option<u64>, RowFault>
+pub fn next_down<S: Alter>(
+    conn: &mut Connection<S>,
+    number: JsonInteger,
+) -> Result<Option<u64>, RowFault>
     ensures { Reads (state S.Store conn.old) (state S.Store conn.new) result (λ r counter. counter ≡ option_map (λ row. row.next_down) (item_at r.sessions number)) }
 {
     find(conn, next_down_text(), &[json_integer(number)])
@@ -164,8 +167,8 @@ pub fn insert_session<S: Alter>(
 /// Sets how many bookings answer the data uplinks of the session with this number.
 pub fn set_next_down<S: Alter>(
     tx: &mut Transaction<'_, S>,
-    session: Whole,
-    next_down: Whole,
+    session: JsonInteger,
+    next_down: JsonInteger,
 ) -> Result<(), RowFault>
     ensures same_reference { tx.new.conn.ghost_name ≡ tx.old.conn.ghost_name }
     ensures changes { Changes (state S.Store tx.old.conn.now) (state S.Store tx.new.conn.now) result (Unit {0})

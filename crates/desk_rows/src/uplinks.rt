@@ -13,13 +13,13 @@ ghost use Rattle.desk_rows.specs.steps.Latest.{last_start_asked};
 ghost use Rattle.desk_rows.specs.steps.Shown.{uplink_shown};
 ghost use Rattle.desk_rows.specs.steps.Texts.{AsksFor, uplinks_between_asked};
 
-use crate::columns::{band_at, frame_column, kind_at, number_at, whole_at, word_at};
+use crate::columns::{band_at, frame_column, json_integer_at, kind_at, number_at, word_at};
 use crate::faults::RowFault;
 use crate::queries::{FromRow, find, find_all};
 use crate::values::{band, blob, frame, integer, json_integer, kind, octets_of, unsigned, word};
 use crate::writes::write;
 use radio_core::Eui;
-use registry_core::{Kind, Uplink, Whole};
+use registry_core::{JsonInteger, Kind, Uplink};
 use sqlite::{Alter, Connection, Row, Transaction};
 use std::alloc::Global;
 
@@ -38,7 +38,7 @@ impl FromRow for (u64, Uplink) {
         let kind = kind_at(row, 2)?;
         let counter = word_at(row, 3)?;
         let octets = frame_column(row, 4)?;
-        let start = whole_at(row, 5)?;
+        let start = json_integer_at(row, 5)?;
         let airtime = word_at(row, 6)?;
         let band = band_at(row, 7)?;
         let uplink = Uplink {
@@ -57,7 +57,7 @@ impl FromRow for (u64, Uplink) {
 /// Returns the number and the uplink with this number, from 1; `None` if there is none.
 pub fn uplink<S: Alter>(
     conn: &mut Connection<S>,
-    number: Whole,
+    number: JsonInteger,
 ) -> Result<Option<(u64, Uplink)>, RowFault>
     ensures { Reads (state S.Store conn.old) (state S.Store conn.new) result (λ r found. found ≡ option_map (λ uplink. (number, uplink)) (item_at r.uplinks number)) }
 {
@@ -71,7 +71,7 @@ pub fn uplink<S: Alter>(
 /// Returns the uplink of a session of this kind with this counter, and its number; `None` if there is none.
 pub fn uplink_with<S: Alter>(
     conn: &mut Connection<S>,
-    session: Whole,
+    session: JsonInteger,
     of: Kind,
     counter: u32,
 ) -> Result<Option<(u64, Uplink)>, RowFault>
@@ -113,7 +113,7 @@ impl FromRow for u32 {
 /// Returns the last counter of a session's data uplinks, `None` if it has none.
 pub fn last_counter<S: Alter>(
     conn: &mut Connection<S>,
-    session: Whole,
+    session: JsonInteger,
 ) -> Result<Option<u32>, RowFault>
     ensures { Reads (state S.Store conn.old) (state S.Store conn.new) result (λ r counter. counter ≡ last_counter r.uplinks session) }
 {
@@ -135,7 +135,7 @@ fn last_start_text() -> &'static str
 /// Returns the greatest start of a session's uplinks, joins and data, in microseconds since 1970 UTC; `None` if it has none.
 pub fn last_start<S: Alter>(
     conn: &mut Connection<S>,
-    session: Whole,
+    session: JsonInteger,
 ) -> Result<Option<u64>, RowFault>
     ensures { Reads (state S.Store conn.old) (state S.Store conn.new) result (λ r start. start ≡ last_start r.uplinks session) }
 {

@@ -7,12 +7,12 @@ ghost use Rattle.duty_core.specs.Range.{IsStart};
 ghost use Rattle.radio_core.specs.Bands.{band_number};
 ghost use Rattle.radio_core.specs.DataRates.{dr_number};
 ghost use Rattle.registry_core.specs.Ranges.{IsEui, IsName};
-ghost use Rattle.registry_core.specs.Wholes.{IsWhole};
+ghost use Rattle.registry_core.specs.JsonIntegers.{IsJsonInteger};
 ghost use Rattle.desk_rows.specs.Rows.{kind_number, number, role_number, standing_number};
 
 use duty_core::Span;
 use radio_core::{Band, DataRate, Eui, Name, Octets};
-use registry_core::{Kind, Role, Standing, Whole};
+use registry_core::{JsonInteger, Kind, Role, Standing};
 use sqlite_value::value::ValueRef;
 
 pub(crate) fn text(name: &Name) -> ValueRef<'_>
@@ -53,9 +53,9 @@ pub(crate) fn unsigned(n: u64) -> ValueRef<'static>
     }
 }
 
-pub(crate) fn json_integer(n: Whole) -> ValueRef<'static>
+pub(crate) fn json_integer(n: JsonInteger) -> ValueRef<'static>
     ensures same { owned result ≡ number n }
-    ensures range { IsWhole n }
+    ensures range { IsJsonInteger n }
 {
     ValueRef::Int(n.get() as i64)
 }

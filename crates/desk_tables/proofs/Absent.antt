@@ -14,7 +14,7 @@ use Rattle.registry_core.specs.Listing.{AreNames, has_reception, is_of_session, 
 use Rattle.registry_core.specs.Numbered.{first_from, first_that, greatest, item_at}
 use Rattle.registry_core.specs.Settings.{Settings}
 use Rattle.registry_core.specs.State.{State}
-use Rattle.registry_core.specs.Wholes.{IsWhole}
+use Rattle.registry_core.specs.JsonIntegers.{IsJsonInteger}
 use Rattle.desk_store.specs.Kept.{Kept}
 use Rattle.desk_rows.specs.Rows.{Rows, BookingRow, ReceptionRow, SessionRow, is_reception, is_uplink, kind_number}
 use Rattle.desk_rows.specs.order.Facts.{sessions_in}
@@ -62,7 +62,7 @@ and_false : (b : Bool) → (b && false) ≡ false
 and_false true = refl
 and_false false = refl
 
-module _ (c : Settings) (kept : Kept) (r : Rows) (tell : RowsTell c kept r) (n : ℕ) (beyond : ¬ IsWhole n) where
+module _ (c : Settings) (kept : Kept) (r : Rows) (tell : RowsTell c kept r) (n : ℕ) (beyond : ¬ IsJsonInteger n) where
   -- more than there are messages
   above : length r.replies < n
   above = let same : length kept.entries ≡ length r.replies = ap length tell.entries ∙ length-map r.replies entry_in in omega (arith, same, tell.few, beyond)

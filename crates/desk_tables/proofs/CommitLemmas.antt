@@ -19,7 +19,7 @@ use Rattle.desk_tables.specs.InOrder.{AreInOrder, entry_in}
 use Rattle.desk_tables.specs.steps.Effects.{IsOpenToBoth, reply_row}
 use Rattle.desk_tables.proofs.CountLemmas.{as_many}
 use Rattle.desk_tables.proofs.Entries.{entry_found}
-use Rattle.desk_tables.proofs.WholeLemmas.{numbers_are_whole}
+use Rattle.desk_tables.proofs.JsonIntegerLemmas.{numbers_are_json_integers}
 
 -- of an effect that fits, and a message that wasn't heard, while there is room for a message more
 are_open : KeysAreFree → ChangedRowsAreThere → (c : Settings) (facts : State) (r : Rows) (effect : Effect) (e : Envelope) → AreRowsOf c facts r
@@ -27,7 +27,7 @@ are_open : KeysAreFree → ChangedRowsAreThere → (c : Settings) (facts : State
 are_open keys changed c facts r effect e rows fits room new =
     let free = keys c facts r effect rows fits room in
     record {
-      change = record { free = free.0; there = changed c facts r effect rows fits; whole = numbers_are_whole c facts r effect rows fits room };
+      change = record { free = free.0; there = changed c facts r effect rows fits; json_integers = numbers_are_json_integers c facts r effect rows fits room };
       reply = record { key = new; room = free.1 };
     }
 

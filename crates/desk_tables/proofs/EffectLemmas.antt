@@ -8,13 +8,13 @@ use Rattle.registry_core.specs.Numbered.{item_at}
 use Rattle.desk_rows.specs.Rows.{Rows, DeviceRow, SessionRow, is_device}
 use Rattle.desk_rows.specs.declared.faults.RowFault.{RowFault}
 use Rattle.desk_rows.specs.order.Keys.{HasOnly, IsThereFor, RaisesOne, floor_set}
-use Rattle.registry_core.specs.Wholes.{IsWhole}
+use Rattle.registry_core.specs.JsonIntegers.{IsJsonInteger}
 use Rattle.sqlite.specs.State.{State}
 use Rattle.desk_tables.specs.Seen.{IsFloorOf, IsSeen, IsSessionAt}
 use Rattle.desk_tables.specs.declared.seen.Seen.{Seen}
 use Rattle.desk_tables.specs.steps.Calls.{Asks}
 use Rattle.desk_tables.specs.declared.effects.input.EffectInput.{EffectInput}
-use Rattle.desk_tables.specs.steps.Effects.{AreWhole, HasSession, IsInput, IsRaised}
+use Rattle.desk_tables.specs.steps.Effects.{AreJsonIntegers, HasSession, IsInput, IsRaised}
 use Rattle.desk_tables.proofs.CallLemmas.{asks_then}
 
 -- the only row that passes is the first one
@@ -28,7 +28,7 @@ find_only p (x ∷ xs) row only = go (p x) refl only (find_only p xs row)
 
 -- and so is what it is written by
 abbrev pub AsksInput : State → State → Result EffectInput RowFault → Effect → Type 0
-AsksInput old new result effect = Asks old new result (IsThereFor effect) (AreWhole effect) (IsInput effect)
+AsksInput old new result effect = Asks old new result (IsThereFor effect) (AreJsonIntegers effect) (IsInput effect)
 
 -- ---- floors
 
@@ -67,9 +67,9 @@ device_there uplink r one {session = session} there = device_of uplink r one ses
 
 -- the session of the uplink was asked for, and then its device's floor
 pub raised_asked : {a b c : State} {session : Session} {floor : Option ℕ} (uplink : Uplink) (seen : Seen)
-    → Asks a b (Ok session) (λ r. IsSeen r seen) (λ r. IsWhole uplink.session × HasSession uplink.session r) (λ r. IsSessionAt r uplink.session)
+    → Asks a b (Ok session) (λ r. IsSeen r seen) (λ r. IsJsonInteger uplink.session × HasSession uplink.session r) (λ r. IsSessionAt r uplink.session)
     → Asks b c (Ok floor) (λ r. IsSeen r seen) (λ r. HasOnly (is_device session.device) r.devices) (λ r. IsFloorOf r session.device)
-    → Asks a c (Ok floor) (λ r. RaisesOne uplink r × IsSeen r seen) (λ r. IsWhole uplink.session) (RaisesIf uplink.session session.device)
+    → Asks a c (Ok floor) (λ r. RaisesOne uplink r × IsSeen r seen) (λ r. IsJsonInteger uplink.session) (RaisesIf uplink.session session.device)
 raised_asked {session = session} uplink seen one two = asks_then one two (λ r of. of.1) (λ r of there. of.1)
     (λ r of may there. device_there uplink r of.0 there)
     (λ r of there floor told. raised uplink r of.0 session (session_is uplink r of.0 session there) floor told)

@@ -7,6 +7,7 @@ pub mod CountLemmas
 pub mod EffectLemmas
 pub mod Entries
 pub mod HaveItLemmas
+pub mod JsonIntegerLemmas
 pub mod LimitLemmas
 pub mod LookUps
 pub mod MigratingLemmas
@@ -18,4 +19,3 @@ pub mod RefusedCommits
 pub mod SeenLemmas
 pub mod ShapeLemmas
 pub mod Telling
-pub mod WholeLemmas

@@ -4,7 +4,7 @@ ghost use Rattle.sqlite.specs.Held.{state};
 ghost use Rattle.desk_rows.specs.declared.faults.RowFault.TheVariants.{Size};
 ghost use Rattle.desk_rows.specs.order.Changes.{rows_with};
 ghost use Rattle.desk_tables.specs.steps.Calls.{Asks, Commits, Makes};
-ghost use Rattle.desk_tables.specs.steps.Effects.{AreWhole, IsInput, IsOpenToBoth, IsThereAndKnown, reply_row};
+ghost use Rattle.desk_tables.specs.steps.Effects.{AreJsonIntegers, IsInput, IsOpenToBoth, IsThereAndKnown, reply_row};
 
 use crate::checked_faults::reading_fault;
 use crate::effects::input::{EffectInput, Known, input_of};
@@ -57,7 +57,7 @@ fn input_read<S: Alter>(
     known: &Known,
     effect: &Effect,
 ) -> Result<EffectInput, RowFault>
-    ensures asks { Asks (state S.Store conn.old) (state S.Store conn.new) result (IsThereAndKnown effect.now known.now) (AreWhole effect.now) (IsInput effect.now) }
+    ensures asks { Asks (state S.Store conn.old) (state S.Store conn.new) result (IsThereAndKnown effect.now known.now) (AreJsonIntegers effect.now) (IsInput effect.now) }
     ensures no_size { result ≢ Err Size }
 {
     match input_of(conn, known, effect) {

@@ -31,7 +31,7 @@ use Rattle.desk_wire.specs.Laws.{MessagesFit}
 use Rattle.desk_wire.specs.Windows.{window_number}
 use Rattle.desk_wire.specs.Writing.{heard_value, message_text, message_value}
 use Rattle.desk_wire.specs.Hexadecimal.{octet_digits, eui_digits}
-use Rattle.desk_wire.specs.Members.{whole_or_null}
+use Rattle.desk_wire.specs.Members.{integer_or_null}
 use Rattle.desk_wire.specs.Roles.{role_name}
 use Rattle.desk_wire.specs.Verdicts.{join_verdict_name}
 use Rattle.desk_wire.proofs.Sizes.{AreSmall, count_of, quoted_size, small_members}
@@ -98,7 +98,7 @@ small_boolean : (b : Bool) → IsSmall (boolean b)
 small_boolean true = omega arith
 small_boolean false = omega arith
 
-small_verdict : (v : Option ℕ) → IfSome v (λ n. n < 2 ^ 32) → IsSmall (whole_or_null v)
+small_verdict : (v : Option ℕ) → IfSome v (λ n. n < 2 ^ 32) → IsSmall (integer_or_null v)
 small_verdict None h = omega arith
 small_verdict (Some n) h = small_number n (omega (arith, h))
 
@@ -140,7 +140,7 @@ module _ (r s : List ℕ) (t : ℕ) (a : IsName r) (b : IsName s) (low : t < 2 ^
   message_fits (DeviceAdd dev_eui join_eui owner) is = ((omega arith, small_eui dev_eui, (omega arith, small_eui join_eui, (omega arith, small_text (codes "DeviceAdd") (omega arith), (omega arith, small_name owner is.2, (omega arith, version, (omega arith, small_name r a, (omega arith, small_name s b, (omega arith, number_is, tt)))))))), omega arith)
   message_fits (DeviceMove dev_eui owner) is = ((omega arith, small_eui dev_eui, (omega arith, small_text (codes "DeviceMove") (omega arith), (omega arith, small_name owner is.1, (omega arith, version, (omega arith, small_name r a, (omega arith, small_name s b, (omega arith, number_is, tt))))))), omega arith)
   message_fits (JoinHeard report verdict) is = heard (codes "JoinHeard") (omega arith) report is (string (join_verdict_name verdict)) (small_text (join_verdict_name verdict) (verdict_short verdict))
-  message_fits (FrameHeard report verdict) is = heard (codes "FrameHeard") (omega arith) report is.0 (whole_or_null verdict) (small_verdict verdict is.1)
+  message_fits (FrameHeard report verdict) is = heard (codes "FrameHeard") (omega arith) report is.0 (integer_or_null verdict) (small_verdict verdict is.1)
   message_fits (DownBook uplink gateway window octets) is = ((omega arith, small_name gateway is.1, (omega arith, small_text (codes "DownBook") (omega arith), (omega arith, small_octets octets is.2, (omega arith, version, (omega arith, small_name r a, (omega arith, small_name s b, (omega arith, number_is, (omega arith, small_number uplink (omega (arith, is.0)), (omega arith, small_number (window_number window) (window_low window), tt))))))))), omega arith)
   message_fits (DownDone booking sent) is = ((omega arith, small_number booking (omega (arith, is)), (omega arith, small_text (codes "DownDone") (omega arith), (omega arith, version, (omega arith, small_name r a, (omega arith, small_name s b, (omega arith, small_boolean sent, (omega arith, number_is, tt))))))), omega arith)
   message_fits (LimitSet gateway limit) is = ((omega arith, small_text (band_name limit.band) (band_short limit.band), (omega arith, small_name gateway is.0, (omega arith, small_number limit.most (omega (arith, is.1, limit_low limit.band)), (omega arith, small_text (codes "LimitSet") (omega arith), (omega arith, version, (omega arith, small_name r a, (omega arith, small_name s b, (omega arith, number_is, tt)))))))), omega arith)

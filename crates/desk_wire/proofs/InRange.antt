@@ -9,9 +9,9 @@ use Rattle.radio_core.specs.Names.{is_name}
 use Rattle.registry_core.specs.declared.messages.Message.{Message}
 use Rattle.registry_core.specs.Limits.{IsLimit}
 use Rattle.registry_core.specs.Ranges.{IsName, IsOctets, IsEui, IsReport, IsMessage, IsEnvelope}
-use Rattle.registry_core.specs.Wholes.{whole_limit}
+use Rattle.registry_core.specs.JsonIntegers.{json_integer_limit}
 use Rattle.desk_wire.specs.Bodies.{sender_add_of, owner_add_of, gateway_add_of, device_add_of, device_move_of, join_heard_of, frame_heard_of, down_book_of, down_done_of, limit_set_of}
-use Rattle.desk_wire.specs.Members.{text_at, name_at, unsigned_at, whole_at, is_null_at, whole_or_null_at, data_rate_at, octets_at, type_name_at, eui_at, role_at, join_verdict_at, window_at, band_named_at, limit_at, boolean_at}
+use Rattle.desk_wire.specs.Members.{text_at, name_at, unsigned_at, json_integer_at, is_null_at, integer_or_null_at, data_rate_at, octets_at, type_name_at, eui_at, role_at, join_verdict_at, window_at, band_named_at, limit_at, boolean_at}
 use Rattle.desk_wire.specs.Reading.{reads_value, value_of, envelope_of, common_members_of, envelope_addressed, message_of, with_message}
 use Rattle.desk_wire.specs.Reports.{rate_of, report_of}
 use Rattle.desk_wire.specs.Laws.{ReadsInRange}
@@ -26,8 +26,8 @@ use Rattle.desk_wire.proofs.Kept.{Keeps, any, after, mapped, made, missing, test
 name_kept : (member : List ℕ) (value : Data) → Keeps IsName (name_at member value)
 name_kept member value = tested is_name (text_at member value)
 
-whole_kept : (member : List ℕ) (limit : ℕ) (value : Data) → Keeps (λ n. n < limit) (whole_at member limit value)
-whole_kept member limit value =
+json_integer_kept : (member : List ℕ) (limit : ℕ) (value : Data) → Keeps (λ n. n < limit) (json_integer_at member limit value)
+json_integer_kept member limit value =
     let below : ℕ → Bool = λ n. nat_lt n limit in
     record { holds = λ n same. ltb-true n limit ((tested below (unsigned_at member value)).holds n same) }
 
@@ -36,10 +36,10 @@ number_or_null_kept : (limit : ℕ) (found : Option ℕ) (b : Bool) → Keeps (�
 number_or_null_kept limit found true kept = made tt
 number_or_null_kept limit found false kept = mapped Some kept (λ n below. below)
 
-whole_or_null_kept : (member : List ℕ) (limit : ℕ) (value : Data)
-    → Keeps (λ number. IfSome number (λ n. n < limit)) (whole_or_null_at member limit value)
-whole_or_null_kept member limit value =
-    number_or_null_kept limit (whole_at member limit value) (is_null_at member value) (whole_kept member limit value)
+integer_or_null_kept : (member : List ℕ) (limit : ℕ) (value : Data)
+    → Keeps (λ number. IfSome number (λ n. n < limit)) (integer_or_null_at member limit value)
+integer_or_null_kept member limit value =
+    number_or_null_kept limit (json_integer_at member limit value) (is_null_at member value) (json_integer_kept member limit value)
 
 octets_at_kept : (member : List ℕ) (value : Data) → Keeps IsOctets (octets_at member value)
 octets_at_kept member value = after _ (any (text_at member value)) (λ text _. octets_kept text)
@@ -59,7 +59,7 @@ common_members_kept value =
     after _ (any (text_at (codes "ProtocolVersion") value)) (λ version _.
     after _ (name_kept (codes "SenderID") value) (λ sender s.
     after _ (any (name_at (codes "ReceiverID") value)) (λ receiver _.
-    after _ (whole_kept (codes "TransactionID") (2 ^ 32) value) (λ transaction t.
+    after _ (json_integer_kept (codes "TransactionID") (2 ^ 32) value) (λ transaction t.
     after _ (any (type_name_at (codes "MessageType") value)) (λ type_name _.
     made (record { sender = s; transaction = t }))))))
 
@@ -68,7 +68,7 @@ common_members_kept value =
 rate_kept : (value : Data) → Keeps (λ rate. rate.freq < 2 ^ 32) (rate_of value)
 unfolding rate_of
 rate_kept value =
-    after _ (whole_kept (codes "Freq") (2 ^ 32) value) (λ freq f.
+    after _ (json_integer_kept (codes "Freq") (2 ^ 32) value) (λ freq f.
     after _ (any (data_rate_at (codes "DataRate") value)) (λ dr _.
     made f))
 
@@ -76,7 +76,7 @@ report_kept : (value : Data) → Keeps IsReport (report_of value)
 unfolding report_of
 report_kept value =
     after _ (name_kept (codes "Gateway") value) (λ gateway g.
-    after _ (whole_kept (codes "Time") whole_limit value) (λ time t.
+    after _ (json_integer_kept (codes "Time") json_integer_limit value) (λ time t.
     after _ (rate_kept value) (λ rate r.
     after _ (octets_at_kept (codes "PHYPayload") value) (λ octets o.
     made (record { gateway = g; time = omega arith; freq = r; octets = o })))))
@@ -124,13 +124,13 @@ frame_heard_kept : (value : Data) → Keeps IsMessage (frame_heard_of value)
 unfolding frame_heard_of
 frame_heard_kept value =
     after _ (report_kept value) (λ report r.
-    after _ (whole_or_null_kept (codes "Verdict") (2 ^ 32) value) (λ verdict v.
+    after _ (integer_or_null_kept (codes "Verdict") (2 ^ 32) value) (λ verdict v.
     made (r, v)))
 
 down_book_kept : (value : Data) → Keeps IsMessage (down_book_of value)
 unfolding down_book_of
 down_book_kept value =
-    after _ (whole_kept (codes "Uplink") whole_limit value) (λ uplink u.
+    after _ (json_integer_kept (codes "Uplink") json_integer_limit value) (λ uplink u.
     after _ (name_kept (codes "Gateway") value) (λ gateway g.
     after _ (any (window_at (codes "Window") value)) (λ window _.
     after _ (octets_at_kept (codes "PHYPayload") value) (λ octets o.
@@ -139,7 +139,7 @@ down_book_kept value =
 down_done_kept : (value : Data) → Keeps IsMessage (down_done_of value)
 unfolding down_done_of
 down_done_kept value =
-    after _ (whole_kept (codes "Booking") whole_limit value) (λ booking b.
+    after _ (json_integer_kept (codes "Booking") json_integer_limit value) (λ booking b.
     after _ (any (boolean_at (codes "Sent") value)) (λ sent _.
     made (omega (arith, b))))
 

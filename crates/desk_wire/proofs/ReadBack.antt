@@ -25,11 +25,11 @@ use Rattle.registry_core.specs.declared.windows.Window.{Window}
 use Rattle.registry_core.specs.declared.windows.Window.TheVariants.{First, Second}
 use Rattle.registry_core.specs.Limits.{IsLimit, Limit}
 use Rattle.registry_core.specs.Ranges.{IsName, IsReport, IsMessage}
-use Rattle.registry_core.specs.Wholes.{whole_limit, IsWhole}
+use Rattle.registry_core.specs.JsonIntegers.{json_integer_limit, IsJsonInteger}
 use Rattle.desk_wire.specs.Bands.{band_name, band_named}
 use Rattle.desk_wire.specs.Bodies.{sender_add_of, owner_add_of, gateway_add_of, device_add_of, device_move_of, join_heard_of, frame_heard_of, down_book_of, down_done_of, limit_set_of}
 use Rattle.desk_wire.specs.Hexadecimal.{octet_digits, eui_digits}
-use Rattle.desk_wire.specs.Members.{whole_or_null_at, whole_or_null}
+use Rattle.desk_wire.specs.Members.{integer_or_null_at, integer_or_null}
 use Rattle.desk_wire.specs.Reading.{reads, reads_value, value_of, envelope_of, common_members_of, envelope_addressed, message_of}
 use Rattle.desk_wire.specs.Reports.{rate_of, report_of}
 use Rattle.desk_wire.specs.Roles.{role_name, role_named}
@@ -62,8 +62,8 @@ IsUtf8-band_name B4 = IsUtf8-are_ascii _ refl
 IsUtf8-band_name B5 = IsUtf8-are_ascii _ refl
 IsUtf8-band_name B6 = IsUtf8-are_ascii _ refl
 
-whole_fits : (n : ℕ) → IsWhole n → n < 2 ^ 64
-whole_fits n h = omega (arith, h)
+json_integer_fits : (n : ℕ) → IsJsonInteger n → n < 2 ^ 64
+json_integer_fits n h = omega (arith, h)
 
 -- each number of a report fits 64 bits
 record FitsWords (report : Report) : Type 0 where
@@ -72,11 +72,11 @@ record FitsWords (report : Report) : Type 0 where
   dr : dr_number report.rate.dr < 2 ^ 64
 
 fits_words : (report : Report) → IsReport report → FitsWords report
-fits_words report h = record { time = whole_fits report.time h.time; freq = omega (arith, h.freq); dr = omega (arith, dr_number-fits report.rate.dr) }
+fits_words report h = record { time = json_integer_fits report.time h.time; freq = omega (arith, h.freq); dr = omega (arith, dr_number-fits report.rate.dr) }
 
-whole_or_null-plain : (number : Option ℕ) → IfSome number (λ n. n < 2 ^ 32) → IsPlain (whole_or_null number)
-whole_or_null-plain (Some n) fits = omega (arith, fits)
-whole_or_null-plain None fits = tt
+integer_or_null-plain : (number : Option ℕ) → IfSome number (λ n. n < 2 ^ 32) → IsPlain (integer_or_null number)
+integer_or_null-plain (Some n) fits = omega (arith, fits)
+integer_or_null-plain None fits = tt
 
 window_fits : (window : Window) → window_number window < 2 ^ 64
 window_fits First = omega arith
@@ -149,16 +149,16 @@ module _ (receiver sender : List ℕ) (n : ℕ) (r : IsName receiver) (s : IsNam
   plain (JoinHeard report verdict) h =
       heard-plain (codes "JoinHeard") report (string (join_verdict_name verdict)) refl h (IsUtf8-join_verdict_name verdict)
   plain (FrameHeard report verdict) h =
-      heard-plain (codes "FrameHeard") report (whole_or_null verdict) refl h.0 (whole_or_null-plain verdict h.1)
+      heard-plain (codes "FrameHeard") report (integer_or_null verdict) refl h.0 (integer_or_null-plain verdict h.1)
   plain (DownBook uplink gateway window octets) h =
       (text_member (codes "Gateway") gateway refl (IsUtf8-name gateway h.1)
       (typed (codes "DownBook") refl
       (text_member (codes "PHYPayload") (octet_digits octets) refl (IsUtf8-octet_digits octets)
       (addressed (sent (numbered
-      (number_member (codes "Uplink") uplink refl (whole_fits uplink h.0)
+      (number_member (codes "Uplink") uplink refl (json_integer_fits uplink h.0)
       (number_member (codes "Window") (window_number window) refl (window_fits window) nothing_plain)))))))).members
   plain (DownDone booking was_sent) h =
-      (number_member (codes "Booking") booking refl (whole_fits booking h)
+      (number_member (codes "Booking") booking refl (json_integer_fits booking h)
       (typed (codes "DownDone") refl (addressed (sent
       (plain_member (codes "Sent") (boolean was_sent) refl tt
       (numbered nothing_plain)))))).members
@@ -170,12 +170,12 @@ module _ (receiver sender : List ℕ) (n : ℕ) (r : IsName receiver) (s : IsNam
 
 -- ---- the text is read as the value
 
-of_json-whole_or_null : (number : Option ℕ) → IfSome number (λ n. n < 2 ^ 32)
-    → let d : Data = whole_or_null number in of_json (outline d) ≡ Some d
-of_json-whole_or_null (Some n) fits =
+of_json-integer_or_null : (number : Option ℕ) → IfSome number (λ n. n < 2 ^ 32)
+    → let d : Data = integer_or_null number in of_json (outline d) ≡ Some d
+of_json-integer_or_null (Some n) fits =
     let small : n < 2 ^ 64 = omega (arith, fits) in
     rw (number_of-decimal n small) refl
-of_json-whole_or_null None fits = refl
+of_json-integer_or_null None fits = refl
 
 of_json-heard_value : (receiver sender : List ℕ) (n : ℕ) (type_name : List ℕ) (report : Report) (verdict : Data)
     → n < 2 ^ 64 → IsReport report → of_json (outline verdict) ≡ Some verdict
@@ -195,11 +195,11 @@ of_json-outline receiver sender n (DeviceMove dev_eui owner) fits h = rw (number
 of_json-outline receiver sender n (JoinHeard report verdict) fits h =
     of_json-heard_value receiver sender n (codes "JoinHeard") report (string (join_verdict_name verdict)) fits h refl
 of_json-outline receiver sender n (FrameHeard report verdict) fits h =
-    of_json-heard_value receiver sender n (codes "FrameHeard") report (whole_or_null verdict) fits h.0 (of_json-whole_or_null verdict h.1)
+    of_json-heard_value receiver sender n (codes "FrameHeard") report (integer_or_null verdict) fits h.0 (of_json-integer_or_null verdict h.1)
 of_json-outline receiver sender n (DownBook uplink gateway window octets) fits h =
-    rw (number_of-decimal n fits, number_of-decimal uplink (whole_fits uplink h.0), number_of-decimal (window_number window) (window_fits window)) refl
+    rw (number_of-decimal n fits, number_of-decimal uplink (json_integer_fits uplink h.0), number_of-decimal (window_number window) (window_fits window)) refl
 of_json-outline receiver sender n (DownDone booking sent) fits h =
-    rw (number_of-decimal n fits, number_of-decimal booking (whole_fits booking h)) refl
+    rw (number_of-decimal n fits, number_of-decimal booking (json_integer_fits booking h)) refl
 of_json-outline receiver sender n (LimitSet gateway limit) fits h =
     rw (number_of-decimal n fits, number_of-decimal limit.most (most_fits limit h.1)) refl
 
@@ -265,13 +265,13 @@ band_named-band_name B4 = refl
 band_named-band_name B5 = refl
 band_named-band_name B6 = refl
 
-whole_below : (n : ℕ) → IsWhole n → nat_lt n whole_limit ≡ true
-whole_below n h = lt-ltb n whole_limit (omega (arith, h))
+json_integer_below : (n : ℕ) → IsJsonInteger n → nat_lt n json_integer_limit ≡ true
+json_integer_below n h = lt-ltb n json_integer_limit (omega (arith, h))
 
-whole_or_null_at-verdict : (receiver sender : List ℕ) (n : ℕ) (report : Report) (verdict : Option ℕ) → IfSome verdict (λ counter. counter < 2 ^ 32)
-    → whole_or_null_at (codes "Verdict") (2 ^ 32) (message_value receiver sender n (FrameHeard report verdict)) ≡ Some verdict
-whole_or_null_at-verdict receiver sender n report (Some counter) fits = rw (lt-ltb counter (2 ^ 32) fits) refl
-whole_or_null_at-verdict receiver sender n report None fits = refl
+integer_or_null_at-verdict : (receiver sender : List ℕ) (n : ℕ) (report : Report) (verdict : Option ℕ) → IfSome verdict (λ counter. counter < 2 ^ 32)
+    → integer_or_null_at (codes "Verdict") (2 ^ 32) (message_value receiver sender n (FrameHeard report verdict)) ≡ Some verdict
+integer_or_null_at-verdict receiver sender n report (Some counter) fits = rw (lt-ltb counter (2 ^ 32) fits) refl
+integer_or_null_at-verdict receiver sender n report None fits = refl
 
 report_of-heard_value : (receiver sender : List ℕ) (n : ℕ) (type_name : List ℕ) (report : Report) (verdict : Data) → IsReport report
     → report_of (heard_value receiver sender n type_name report verdict) ≡ Some report
@@ -279,7 +279,7 @@ unfolding report_of rate_of
 report_of-heard_value receiver sender n type_name report verdict h =
     rw (
       h.gateway,
-      whole_below report.time h.time,
+      json_integer_below report.time h.time,
       lt-ltb report.rate.freq (2 ^ 32) h.freq,
       data_rate_numbered-dr_number report.rate.dr,
       octets_in-octet_digits report.octets h.octets.each h.octets.few,
@@ -298,17 +298,17 @@ message_of-message receiver sender n (JoinHeard report verdict) m =
     rw (report_of-heard_value receiver sender n (codes "JoinHeard") report verdict_value m, join_verdict_named-join_verdict_name verdict) refl
 message_of-message receiver sender n (FrameHeard report verdict) m =
     rw (
-      report_of-heard_value receiver sender n (codes "FrameHeard") report (whole_or_null verdict) m.0,
-      whole_or_null_at-verdict receiver sender n report verdict m.1,
+      report_of-heard_value receiver sender n (codes "FrameHeard") report (integer_or_null verdict) m.0,
+      integer_or_null_at-verdict receiver sender n report verdict m.1,
     ) refl
 message_of-message receiver sender n (DownBook uplink gateway window octets) m =
     rw (
-      whole_below uplink m.0,
+      json_integer_below uplink m.0,
       m.1,
       window_numbered-window_number window,
       octets_in-octet_digits octets m.2.each m.2.few,
     ) refl
-message_of-message receiver sender n (DownDone booking sent) b = rw (whole_below booking b) refl
+message_of-message receiver sender n (DownDone booking sent) b = rw (json_integer_below booking b) refl
 message_of-message receiver sender n (LimitSet gateway limit) m = rw (m.0, band_named-band_name limit.band, le-leb limit.most (limit_of limit.band) m.1) refl
 
 -- ---- the whole

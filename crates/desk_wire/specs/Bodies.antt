@@ -3,8 +3,8 @@ use Rattle.std.specs.Prelude.{◌^◌, Option, Some, codes}
 use Rattle.serde_json.specs.Data.{Data}
 use Rattle.registry_core.specs.declared.messages.Message.{Message}
 use Rattle.registry_core.specs.declared.messages.Message.TheVariants.{SenderAdd, OwnerAdd, GatewayAdd, DeviceAdd, DeviceMove, JoinHeard, FrameHeard, DownBook, DownDone, LimitSet}
-use Rattle.registry_core.specs.Wholes.{whole_limit}
-use Rattle.desk_wire.specs.Members.{name_at, whole_at, whole_or_null_at, octets_at, eui_at, role_at, join_verdict_at, window_at, band_named_at, limit_at, boolean_at}
+use Rattle.registry_core.specs.JsonIntegers.{json_integer_limit}
+use Rattle.desk_wire.specs.Members.{name_at, json_integer_at, integer_or_null_at, octets_at, eui_at, role_at, join_verdict_at, window_at, band_named_at, limit_at, boolean_at}
 use Rattle.desk_wire.specs.Optional.{◌>>=◌}
 use Rattle.desk_wire.specs.Reports.{report_of}
 
@@ -48,12 +48,12 @@ join_heard_of value = do
 unfoldable pub frame_heard_of : Data → Option Message
 frame_heard_of value = do
   report ← report_of value
-  verdict ← whole_or_null_at (codes "Verdict") (2 ^ 32) value
+  verdict ← integer_or_null_at (codes "Verdict") (2 ^ 32) value
   Some (FrameHeard report verdict)
 
 unfoldable pub down_book_of : Data → Option Message
 down_book_of value = do
-  uplink ← whole_at (codes "Uplink") whole_limit value
+  uplink ← json_integer_at (codes "Uplink") json_integer_limit value
   gateway ← name_at (codes "Gateway") value
   window ← window_at (codes "Window") value
   octets ← octets_at (codes "PHYPayload") value
@@ -61,7 +61,7 @@ down_book_of value = do
 
 unfoldable pub down_done_of : Data → Option Message
 down_done_of value = do
-  booking ← whole_at (codes "Booking") whole_limit value
+  booking ← json_integer_at (codes "Booking") json_integer_limit value
   sent ← boolean_at (codes "Sent") value
   Some (DownDone booking sent)
 

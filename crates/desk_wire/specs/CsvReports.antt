@@ -10,7 +10,7 @@ use Rattle.registry_core.specs.declared.messages.Envelope.{Envelope}
 use Rattle.registry_core.specs.declared.messages.Message.{Message}
 use Rattle.registry_core.specs.declared.messages.Message.TheVariants.{JoinHeard, FrameHeard}
 use Rattle.registry_core.specs.declared.messages.Report.{Report}
-use Rattle.registry_core.specs.Wholes.{whole_limit}
+use Rattle.registry_core.specs.JsonIntegers.{json_integer_limit}
 use Rattle.desk_wire.specs.DataRates.{data_rate_numbered}
 use Rattle.desk_wire.specs.Decimals.{decimal_below, decimal_in}
 use Rattle.desk_wire.specs.Hexadecimal.{octets_in}
@@ -39,7 +39,7 @@ counter_or_none text = option_map Some (decimal_below (2 ^ 32) text)
 unfoldable pub report_in : List (List ℕ) → Option Report
 report_in fields = do
   gateway ← field_at fields 2 >>= only_if is_name
-  time ← field_at fields 3 >>= decimal_below whole_limit
+  time ← field_at fields 3 >>= decimal_below json_integer_limit
   freq ← field_at fields 4 >>= decimal_below (2 ^ 32)
   dr ← field_at fields 5 >>= decimal_in >>= data_rate_numbered
   octets ← field_at fields 6 >>= octets_in

@@ -36,17 +36,17 @@ abbrev pub unsigned_at : List ℕ → Data → Option ℕ
 unsigned_at member value = get member value >>= as_number >>= as_u64
 
 -- an integer below the limit
-abbrev pub whole_at : List ℕ → ℕ → Data → Option ℕ
-whole_at member limit value = unsigned_at member value >>= only_if (λ n. nat_lt n limit)
+abbrev pub json_integer_at : List ℕ → ℕ → Data → Option ℕ
+json_integer_at member limit value = unsigned_at member value >>= only_if (λ n. nat_lt n limit)
 
 -- the member is null, or isn't there
 abbrev pub is_null_at : List ℕ → Data → Bool
 is_null_at member value = is_some (as_null (unwrap_or (get member value) null))
 
 -- an integer below the limit, or null
-abbrev pub whole_or_null_at : List ℕ → ℕ → Data → Option (Option ℕ)
-whole_or_null_at member limit value =
-    if is_null_at member value then Some None else option_map Some (whole_at member limit value)
+abbrev pub integer_or_null_at : List ℕ → ℕ → Data → Option (Option ℕ)
+integer_or_null_at member limit value =
+    if is_null_at member value then Some None else option_map Some (json_integer_at member limit value)
 
 -- an integer, 0 to 7
 abbrev pub data_rate_at : List ℕ → Data → Option DataRate
@@ -90,6 +90,6 @@ boolean_at member value = get member value >>= as_bool
 -- ---- members for a value that is written
 
 -- the value of an integer, or null
-abbrev pub whole_or_null : Option ℕ → Data
-whole_or_null (Some n) = number (unsigned n)
-whole_or_null None = null
+abbrev pub integer_or_null : Option ℕ → Data
+integer_or_null (Some n) = number (unsigned n)
+integer_or_null None = null

@@ -7,7 +7,7 @@ use Rattle.serde_json.specs.Read.{read}
 use Rattle.registry_core.specs.declared.messages.Envelope.{Envelope}
 use Rattle.registry_core.specs.declared.messages.Message.{Message}
 use Rattle.desk_wire.specs.Bodies.{sender_add_of, owner_add_of, gateway_add_of, device_add_of, device_move_of, join_heard_of, frame_heard_of, down_book_of, down_done_of, limit_set_of}
-use Rattle.desk_wire.specs.Members.{text_at, name_at, type_name_at, whole_at}
+use Rattle.desk_wire.specs.Members.{text_at, name_at, type_name_at, json_integer_at}
 use Rattle.desk_wire.specs.Optional.{◌>>=◌}
 use Rattle.desk_wire.specs.declared.heads.Head.{Head}
 use Rattle.desk_wire.specs.declared.faults.WireFault.{WireFault}
@@ -22,7 +22,7 @@ common_members_of value = do
   version ← text_at (codes "ProtocolVersion") value
   sender ← name_at (codes "SenderID") value
   receiver ← name_at (codes "ReceiverID") value
-  transaction ← whole_at (codes "TransactionID") (2 ^ 32) value
+  transaction ← json_integer_at (codes "TransactionID") (2 ^ 32) value
   type_name ← type_name_at (codes "MessageType") value
   Some (record {
     is_current = bytes_eq version (codes "1.0");

@@ -3,8 +3,8 @@ use Rattle.std.specs.Prelude.{◌^◌, Option, Some, codes}
 use Rattle.serde_json.specs.Data.{Data}
 use Rattle.radio_core.specs.declared.data_rates.Rate.{Rate}
 use Rattle.registry_core.specs.declared.messages.Report.{Report}
-use Rattle.registry_core.specs.Wholes.{whole_limit}
-use Rattle.desk_wire.specs.Members.{name_at, whole_at, data_rate_at, octets_at}
+use Rattle.registry_core.specs.JsonIntegers.{json_integer_limit}
+use Rattle.desk_wire.specs.Members.{name_at, json_integer_at, data_rate_at, octets_at}
 use Rattle.desk_wire.specs.Optional.{◌>>=◌}
 
 -- ---- reading
@@ -12,7 +12,7 @@ use Rattle.desk_wire.specs.Optional.{◌>>=◌}
 -- the frequency in hertz, and the data rate
 unfoldable pub rate_of : Data → Option Rate
 rate_of value = do
-  freq ← whole_at (codes "Freq") (2 ^ 32) value
+  freq ← json_integer_at (codes "Freq") (2 ^ 32) value
   dr ← data_rate_at (codes "DataRate") value
   Some (record { freq = freq; dr = dr })
 
@@ -20,7 +20,7 @@ rate_of value = do
 unfoldable pub report_of : Data → Option Report
 report_of value = do
   gateway ← name_at (codes "Gateway") value
-  time ← whole_at (codes "Time") whole_limit value
+  time ← json_integer_at (codes "Time") json_integer_limit value
   rate ← rate_of value
   octets ← octets_at (codes "PHYPayload") value
   Some (record { gateway = gateway; time = time; rate = rate; octets = octets })

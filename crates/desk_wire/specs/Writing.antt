@@ -9,7 +9,7 @@ use Rattle.registry_core.specs.declared.messages.Message.TheVariants.{SenderAdd,
 use Rattle.registry_core.specs.declared.messages.Report.{Report}
 use Rattle.desk_wire.specs.Bands.{band_name}
 use Rattle.desk_wire.specs.Hexadecimal.{octet_digits, eui_digits}
-use Rattle.desk_wire.specs.Members.{whole_or_null}
+use Rattle.desk_wire.specs.Members.{integer_or_null}
 use Rattle.desk_wire.specs.Roles.{role_name}
 use Rattle.desk_wire.specs.Verdicts.{join_verdict_name}
 use Rattle.desk_wire.specs.Windows.{window_number}
@@ -79,7 +79,7 @@ message_value receiver sender transaction (DeviceMove dev_eui owner) = object
 message_value receiver sender transaction (JoinHeard report verdict) =
     heard_value receiver sender transaction (codes "JoinHeard") report (string (join_verdict_name verdict))
 message_value receiver sender transaction (FrameHeard report verdict) =
-    heard_value receiver sender transaction (codes "FrameHeard") report (whole_or_null verdict)
+    heard_value receiver sender transaction (codes "FrameHeard") report (integer_or_null verdict)
 message_value receiver sender transaction (DownBook uplink gateway window octets) = object
     (member (codes "Gateway") (string gateway)
     (member (codes "MessageType") (string (codes "DownBook"))

@@ -4,8 +4,8 @@ ghost use Rattle.desk_wire.specs.steps.TreeData.{view};
 ghost use Rattle.desk_wire.specs.Bodies.{sender_add_of, owner_add_of, gateway_add_of, device_add_of, device_move_of, join_heard_of, frame_heard_of, down_book_of, down_done_of, limit_set_of};
 
 use crate::members::{
-    band_at, boolean_at, eui_at, join_verdict_at, limit_at, name_at, octets_at, role_at,
-    u32_or_null_at, whole_at, window_at,
+    band_at, boolean_at, eui_at, join_verdict_at, json_integer_at, limit_at, name_at, octets_at,
+    role_at, u32_or_null_at, window_at,
 };
 use crate::reports::report_of;
 use json::Value;
@@ -81,7 +81,7 @@ pub(crate) fn frame_heard_of(value: &Value<'_>) -> Option<Message>
 pub(crate) fn down_book_of(value: &Value<'_>) -> Option<Message>
     ensures { result ≡ down_book_of (view value.now) }
 {
-    let uplink = whole_at(value, "Uplink")?;
+    let uplink = json_integer_at(value, "Uplink")?;
     let gateway = name_at(value, "Gateway")?;
     let window = window_at(value, "Window")?;
     let octets = octets_at(value, "PHYPayload")?;
@@ -97,7 +97,7 @@ pub(crate) fn down_book_of(value: &Value<'_>) -> Option<Message>
 pub(crate) fn down_done_of(value: &Value<'_>) -> Option<Message>
     ensures { result ≡ down_done_of (view value.now) }
 {
-    let booking = whole_at(value, "Booking")?;
+    let booking = json_integer_at(value, "Booking")?;
     let sent = boolean_at(value, "Sent")?;
     Some(Message::DownDone { booking, sent })
 }

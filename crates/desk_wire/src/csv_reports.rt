@@ -2,7 +2,7 @@
 ghost use Rattle.std.specs.Prelude.{◌≡◌, ◌∷◌, ◌++◌, ◌+◌, ℕ, [], suc, IfOk, IfErr, OnOk, true, if◌then◌else◌};
 ghost use Rattle.csv.specs.Records.{fields_of};
 ghost use Rattle.desk_wire.specs.CsvReports.{counter_or_none, envelope_in, envelopes_from, has_field, heard_in, is_header, most_records, reads_report, report_in, report_of_records, IsReportUnlessMemory};
-ghost use Rattle.desk_wire.specs.steps.CsvReports.{data_rate_field, name_field, octets_field, rows_left, u32_field, whole_field, IsReading};
+ghost use Rattle.desk_wire.specs.steps.CsvReports.{data_rate_field, name_field, octets_field, rows_left, u32_field, json_integer_field, IsReading};
 
 use crate::csv_faults::CsvFault;
 use crate::decimals::{decimal_of, u32_of};
@@ -10,7 +10,7 @@ use crate::hexadecimal::octets_of;
 use crate::verdicts::join_verdict_named;
 use csv::{ByteRecord, Reader, ReaderBuilder};
 use radio_core::{DataRate, Name, Octets, Rate};
-use registry_core::{Envelope, Message, Report, Whole};
+use registry_core::{Envelope, JsonInteger, Message, Report};
 use std::alloc::Global;
 
 /// The greatest length of a report, in octets (this project's limit).
@@ -35,10 +35,10 @@ fn name_at(row: &ByteRecord, place: usize) -> Option<Name>
     Name::new(row.get(place)?)
 }
 
-fn whole_at(row: &ByteRecord, place: usize) -> Option<Whole>
-    ensures { result ≡ whole_field place (fields_of row.now) }
+fn json_integer_at(row: &ByteRecord, place: usize) -> Option<JsonInteger>
+    ensures { result ≡ json_integer_field place (fields_of row.now) }
 {
-    Whole::new(decimal_of(row.get(place)?)?)
+    JsonInteger::new(decimal_of(row.get(place)?)?)
 }
 
 fn u32_at(row: &ByteRecord, place: usize) -> Option<u32>
@@ -64,7 +64,7 @@ fn report_of(row: &ByteRecord) -> Option<Report>
     ensures { result ≡ report_in (fields_of row.now) }
 {
     let gateway = name_at(row, 2)?;
-    let time = whole_at(row, 3)?;
+    let time = json_integer_at(row, 3)?;
     let freq = u32_at(row, 4)?;
     let dr = data_rate_at(row, 5)?;
     let octets = octets_at(row, 6)?;

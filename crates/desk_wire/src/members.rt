@@ -1,8 +1,8 @@
 //! Reads the members of a JSON object, each in its form.
 ghost use Rattle.std.specs.Prelude.{◌≡◌, ◌^◌, option_map};
 ghost use Rattle.desk_wire.specs.steps.TreeData.{view};
-ghost use Rattle.registry_core.specs.Wholes.{whole_limit};
-ghost use Rattle.desk_wire.specs.Members.{text_at, name_at, type_name_at, whole_at, is_null_at, whole_or_null_at, data_rate_at, octets_at, eui_at, role_at, join_verdict_at, window_at, band_named_at, limit_at, boolean_at};
+ghost use Rattle.registry_core.specs.JsonIntegers.{json_integer_limit};
+ghost use Rattle.desk_wire.specs.Members.{text_at, name_at, type_name_at, json_integer_at, is_null_at, integer_or_null_at, data_rate_at, octets_at, eui_at, role_at, join_verdict_at, window_at, band_named_at, limit_at, boolean_at};
 
 use crate::bands::band_named;
 use crate::documents::{boolean_of, is_null, member_at, text_of, unsigned_of};
@@ -13,7 +13,7 @@ use crate::verdicts::join_verdict_named;
 use crate::windows::window_numbered;
 use json::Value;
 use radio_core::{Band, DataRate, Eui, Name, Octets};
-use registry_core::{BandLimit, JoinVerdict, Role, Whole, Window};
+use registry_core::{BandLimit, JoinVerdict, JsonInteger, Role, Window};
 
 pub(crate) fn text_at<'v>(value: &'v Value<'_>, member: &str) -> Option<&'v str>
     ensures { option_map (λ text. text.now) result ≡ text_at member.now (view value.now) }
@@ -34,7 +34,7 @@ pub(crate) fn type_name_at(value: &Value<'_>, member: &str) -> Option<TypeName>
 }
 
 pub(crate) fn u32_at(value: &Value<'_>, member: &str) -> Option<u32>
-    ensures { result ≡ whole_at member.now (2 ^ 32) (view value.now) }
+    ensures { result ≡ json_integer_at member.now (2 ^ 32) (view value.now) }
 {
     u32::try_from(unsigned_of(member_at(value, member)?)?).ok()
 }
@@ -51,7 +51,7 @@ fn is_null_at(value: &Value<'_>, member: &str) -> bool
 
 /// Returns an integer below 2^32, or `Some(None)` if the member is `null` or isn't there.
 pub(crate) fn u32_or_null_at(value: &Value<'_>, member: &str) -> Option<Option<u32>>
-    ensures { result ≡ whole_or_null_at member.now (2 ^ 32) (view value.now) }
+    ensures { result ≡ integer_or_null_at member.now (2 ^ 32) (view value.now) }
 {
     if is_null_at(value, member) {
         Some(None)
@@ -60,10 +60,10 @@ pub(crate) fn u32_or_null_at(value: &Value<'_>, member: &str) -> Option<Option<u
     }
 }
 
-pub(crate) fn whole_at(value: &Value<'_>, member: &str) -> Option<Whole>
-    ensures { result ≡ whole_at member.now whole_limit (view value.now) }
+pub(crate) fn json_integer_at(value: &Value<'_>, member: &str) -> Option<JsonInteger>
+    ensures { result ≡ json_integer_at member.now json_integer_limit (view value.now) }
 {
-    Whole::new(unsigned_of(member_at(value, member)?)?)
+    JsonInteger::new(unsigned_of(member_at(value, member)?)?)
 }
 
 pub(crate) fn data_rate_at(value: &Value<'_>, member: &str) -> Option<DataRate>

@@ -3,7 +3,7 @@ ghost use Rattle.std.specs.Prelude.{◌≡◌};
 ghost use Rattle.desk_wire.specs.steps.TreeData.{view};
 ghost use Rattle.desk_wire.specs.Reports.{rate_of, report_of};
 
-use crate::members::{data_rate_at, name_at, octets_at, u32_at, whole_at};
+use crate::members::{data_rate_at, json_integer_at, name_at, octets_at, u32_at};
 use json::Value;
 use radio_core::Rate;
 use registry_core::Report;
@@ -22,7 +22,7 @@ pub(crate) fn report_of(value: &Value<'_>) -> Option<Report>
     ensures { result ≡ report_of (view value.now) }
 {
     let gateway = name_at(value, "Gateway")?;
-    let time = whole_at(value, "Time")?;
+    let time = json_integer_at(value, "Time")?;
     let rate = rate_of(value)?;
     let octets = octets_at(value, "PHYPayload")?;
     Some(Report {

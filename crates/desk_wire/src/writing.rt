@@ -12,7 +12,7 @@ use crate::roles::role_name;
 use crate::verdicts::join_verdict_name;
 use crate::windows::window_number;
 use radio_core::{Eui, Name, Octets};
-use registry_core::{BandLimit, Envelope, JoinVerdict, Message, Report, Role, Whole, Window};
+use registry_core::{BandLimit, Envelope, JoinVerdict, JsonInteger, Message, Report, Role, Window};
 use std::alloc::{AllocError, Global};
 
 /// Writes the text of an envelope for the receiver: compact JSON, with the members in byte order of their names, and EUIs in lower case
@@ -246,7 +246,7 @@ fn down_book(
     alloc: Global,
     envelope: &Envelope,
     receiver: &Name,
-    uplink: Whole,
+    uplink: JsonInteger,
     gateway: &Name,
     window: Window,
     octets: &Octets,
@@ -272,7 +272,7 @@ fn down_done(
     alloc: Global,
     envelope: &Envelope,
     receiver: &Name,
-    booking: Whole,
+    booking: JsonInteger,
     sent: bool,
 ) -> Result<ObjectText, AllocError>
     ensures { IfOk result (λ out. out ≡ json_tokens (outline (message_value receiver.now

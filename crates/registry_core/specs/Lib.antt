@@ -13,6 +13,7 @@ pub mod Fits
 pub mod Frames
 pub mod Heard
 pub mod Joins
+pub mod JsonIntegers
 pub mod Laws
 pub mod LimitLaws
 pub mod Limits
@@ -33,6 +34,5 @@ pub mod Step
 pub mod UplinkLaws
 pub mod Uplinks
 pub mod Viewed
-pub mod Wholes
 pub mod Windows
 pub mod steps

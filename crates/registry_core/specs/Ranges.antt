@@ -7,7 +7,7 @@ use Rattle.registry_core.specs.declared.messages.Message.TheVariants.{SenderAdd,
 use Rattle.registry_core.specs.declared.messages.Report.{Report}
 use Rattle.registry_core.specs.Limits.{IsLimit}
 use Rattle.registry_core.specs.Settings.{Settings, IsBlock}
-use Rattle.registry_core.specs.Wholes.{IsWhole}
+use Rattle.registry_core.specs.JsonIntegers.{IsJsonInteger}
 
 abbrev pub IsName : List ℕ → Type 0
 IsName text = IsTrue (is_name text)
@@ -23,7 +23,7 @@ pub record IsOctets (octets : List ℕ) : Type 0 where
 
 pub record IsReport (report : Report) : Type 0 where
   pub gateway : IsName report.gateway
-  pub time : IsWhole report.time
+  pub time : IsJsonInteger report.time
   pub freq : report.rate.freq < 2 ^ 32
   pub octets : IsOctets report.octets
 
@@ -35,8 +35,8 @@ IsMessage (DeviceAdd dev_eui join_eui owner) = IsEui dev_eui × IsEui join_eui �
 IsMessage (DeviceMove dev_eui owner) = IsEui dev_eui × IsName owner
 IsMessage (JoinHeard report verdict) = IsReport report
 IsMessage (FrameHeard report verdict) = IsReport report × IfSome verdict (λ counter. counter < 2 ^ 32)
-IsMessage (DownBook uplink gateway window octets) = IsWhole uplink × IsName gateway × IsOctets octets
-IsMessage (DownDone booking sent) = IsWhole booking
+IsMessage (DownBook uplink gateway window octets) = IsJsonInteger uplink × IsName gateway × IsOctets octets
+IsMessage (DownDone booking sent) = IsJsonInteger booking
 IsMessage (LimitSet gateway limit) = IsName gateway × IsLimit limit
 
 pub record IsEnvelope (e : Envelope) : Type 0 where

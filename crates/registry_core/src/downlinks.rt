@@ -14,8 +14,8 @@ use crate::effects::Effect;
 use crate::facts::{Booking, Standing};
 use crate::frames::downlink_at;
 use crate::hours::fit_with;
+use crate::json_integers::JsonInteger;
 use crate::views::View;
-use crate::wholes::Whole;
 use crate::windows::{Window, receive};
 use duty_core::laws::{computed_forms_tell, near_ones_test};
 use duty_core::{Span, clear};
@@ -24,7 +24,7 @@ use radio_core::{Band, Name, Octets, Rate, airtime, band_of};
 
 /// Decides whether a gateway is to answer an uplink that it received, in a receive window.
 pub(crate) fn down_book(
-    uplink: Whole,
+    uplink: JsonInteger,
     gateway: &Name,
     window: Window,
     octets: &Octets,
@@ -106,7 +106,7 @@ fn on_air(start: u64, rate: Rate, octets: &Octets) -> Span
 /// Decides a message that ends a booking: its downlink was sent, or else the booking is dropped.
 #[tactic(auto, unfolding(crate::specs::steps::DownlinksByView::down_done_by))]
 pub(crate) fn down_done(
-    booking: Whole,
+    booking: JsonInteger,
     sent: bool,
     view: &View,
 ) -> Result<(Effect, Answer), Refusal>

@@ -1,5 +1,5 @@
 //! The registry's facts: a device, a session, an uplink with its receptions, and a booking.
-use crate::wholes::Whole;
+use crate::json_integers::JsonInteger;
 use duty_core::Span;
 use radio_core::{Band, Eui, Name, Octets, Rate};
 
@@ -34,7 +34,7 @@ pub struct Uplink {
     pub kind: Kind,
     pub counter: u32,
     pub octets: Octets,
-    pub start: Whole,
+    pub start: JsonInteger,
     pub airtime: u32,
     pub band: Band,
 }
@@ -42,7 +42,7 @@ pub struct Uplink {
 /// The reception of an uplink at one gateway: when its last symbol ended, in microseconds since 1970 UTC, and its frequency and data rate.
 #[derive(Clone, Copy)]
 pub struct Reception {
-    pub end: Whole,
+    pub end: JsonInteger,
     pub rate: Rate,
 }
 

@@ -1,6 +1,6 @@
 //! Messages, as values.
+use crate::json_integers::JsonInteger;
 use crate::limits::BandLimit;
-use crate::wholes::Whole;
 use crate::windows::Window;
 use radio_core::{Eui, Name, Octets, Rate};
 
@@ -26,7 +26,7 @@ pub enum JoinVerdict {
 #[derive(Clone, Copy)]
 pub struct Report {
     pub gateway: Name,
-    pub time: Whole,
+    pub time: JsonInteger,
     pub rate: Rate,
     pub octets: Octets,
 }
@@ -71,14 +71,14 @@ pub enum Message {
     },
     /// Asks the gateway to answer the uplink with this number in the window.
     DownBook {
-        uplink: Whole,
+        uplink: JsonInteger,
         gateway: Name,
         window: Window,
         octets: Octets,
     },
     /// The downlink of the booking with this number was sent, or it wasn't.
     DownDone {
-        booking: Whole,
+        booking: JsonInteger,
         sent: bool,
     },
     /// Sets the limit of the gateway's band.

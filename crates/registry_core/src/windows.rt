@@ -3,7 +3,7 @@ ghost use Rattle.std.specs.Prelude.{◌≡◌, ◌^◌, ◌<◌};
 ghost use Rattle.registry_core.specs.Windows.{delay, rate_in, window_of};
 
 use crate::facts::Kind;
-use crate::wholes::Whole;
+use crate::json_integers::JsonInteger;
 use radio_core::{DataRate, Rate};
 
 /// One of the two receive windows that a device opens after it has sent.
@@ -18,7 +18,7 @@ pub enum Window {
 /// Returns when a downlink in the window begins, in microseconds since 1970 UTC, and its frequency in hertz and data rate: the receive
 /// windows of Class A (LoRaWAN L2 1.0.4, section 3.3; RP002-1.0.4, EU863-870). `end` is when the last symbol of the uplink ended at the
 /// gateway, and `rate` its frequency and data rate there.
-pub fn receive(kind: Kind, end: Whole, rate: Rate, window: Window) -> (u64, Rate)
+pub fn receive(kind: Kind, end: JsonInteger, rate: Rate, window: Window) -> (u64, Rate)
     ensures window { result ≡ window_of kind end rate window }
     ensures range { result.0 < 2 ^ 62 }
 {

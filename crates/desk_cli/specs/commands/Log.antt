@@ -3,7 +3,7 @@ use Rattle.std.specs.Prelude.{◌⊎◌, ℕ, Bool, true, false, List, [], Optio
 use Rattle.std.specs.Io.KnownBytes.{Appends}
 use Rattle.clap.specs.Simple.{App, new_app, with_rule}
 use Rattle.clap.specs.Walk.{Row}
-use Rattle.registry_core.specs.Wholes.{greatest_whole}
+use Rattle.registry_core.specs.JsonIntegers.{greatest_json_integer}
 use Rattle.desk_engine.specs.Lines.{input_of}
 use Rattle.desk_engine.specs.Log.{WritesPart, WritesWhole, message_number}
 use Rattle.desk_engine.specs.declared.log.LogText.{LogText}
@@ -28,12 +28,12 @@ abbrev pub which_text : Bool → LogText
 which_text true = Answer
 which_text false = Message
 
--- What they name. Without `--count` the log is printed to its end: no desk hears more than `greatest_whole` messages.
+-- What they name. Without `--count` the log is printed to its end: no desk hears more than `greatest_json_integer` messages.
 abbrev pub log_named : List Row → Named
 log_named rows = named_as do
   file ← placed (codes "file") rows
   from ← or_bad (value_at message_number (codes "from") rows) FirstMessage
-  count ← or_bad (value_or message_number greatest_whole (codes "count") rows) Messages
+  count ← or_bad (value_or message_number greatest_json_integer (codes "count") rows) Messages
   Ok (log file from count (which_text (is_set (codes "answers") rows)))
 
 -- ---- what it does

@@ -8,7 +8,7 @@ use desk_engine::laws::calls_hear_in_order;
 use desk_engine::{Outcome, Progress, deliver};
 use desk_rows::texts_at;
 use desk_store::{Keeper, StoreFault};
-use registry_core::Whole;
+use registry_core::JsonInteger;
 use sqlite::{Alter, Connection};
 use std::alloc::Global;
 
@@ -29,7 +29,7 @@ pub(crate) fn hear_log<S: Alter, K: Keeper, P: Progress>(
 {
     calls_hear_in_order::<K>();
     'log: for place in 0..u64::MAX {
-        let Some(number) = Whole::new(place + 1) else {
+        let Some(number) = JsonInteger::new(place + 1) else {
             break;
         };
         if !hear_reply(alloc, conn, keeper, number)? {
@@ -49,7 +49,7 @@ fn hear_reply<S: Alter, K: Keeper>(
     alloc: Global,
     conn: &mut Connection<S>,
     keeper: &mut K,
-    number: Whole,
+    number: JsonInteger,
 ) -> Result<bool, StoreFault>
     ensures heard { OnOk result (HearsSome K.meaning keeper.old keeper.new) }
     ensures read { OnOk result (IsReadingCall (state S.Store conn.old) (state S.Store conn.new) true) }

@@ -29,7 +29,7 @@ use crate::usage::{BadValue, Usage};
 use clap::ArgMatches;
 use desk_engine::{LogEnd, LogText, write_log};
 use desk_store::Keeper;
-use registry_core::Whole;
+use registry_core::JsonInteger;
 use sqlite::{Alter, Connection};
 use std::alloc::{AllocError, Global};
 use std::io::{self, Read, Write};
@@ -96,8 +96,8 @@ fn which_text(answers: bool) -> LogText
 pub fn log_command<S: Alter, W: Write, F: Write>(
     alloc: Global,
     conn: Connection<S>,
-    from: Whole,
-    count: Whole,
+    from: JsonInteger,
+    count: JsonInteger,
     which: LogText,
     answers: &mut W,
     faults: &mut F,
@@ -117,8 +117,8 @@ pub fn log_command<S: Alter, W: Write, F: Write>(
 fn print_log<S: Alter, W: Write>(
     alloc: Global,
     conn: Connection<S>,
-    from: Whole,
-    count: Whole,
+    from: JsonInteger,
+    count: JsonInteger,
     which: LogText,
     answers: &mut W,
 ) -> (Result<(), Fault>, Connection<S>)
@@ -138,8 +138,8 @@ fn print_log<S: Alter, W: Write>(
 /// Prints at most `count` messages of the log, from this number on, or their answers.
 #[derive(Drop)]
 struct Log {
-    from: Whole,
-    count: Whole,
+    from: JsonInteger,
+    count: JsonInteger,
     which: LogText,
 }
 

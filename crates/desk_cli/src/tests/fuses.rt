@@ -322,13 +322,13 @@ impl Step for Moves {
 
 /// The database holds the desk, of schema 1 or, where it was told to be moved, of schema 2, with all its rows.
 #[derive(Drop)]
-struct IsWhole<'a> {
+struct IsComplete<'a> {
     is_moved: bool,
     deliveries: &'a [Delivery],
     rows: &'a String,
 }
 
-impl Step for IsWhole<'_> {
+impl Step for IsComplete<'_> {
     fn take<R: Abort + AllocGlobal, S: Alter + Drop>(
         &mut self,
         rt: &R,
@@ -354,12 +354,12 @@ fn moving_stops<R: Abort + AllocGlobal>(rt: &R, is_log: bool) -> Result<(), Fail
         let mut moves = Moves { is_moved: false };
         let (_, left) = in_files(rt, fused(rt.alloc(), &first, is_log, calls)?, &mut moves)?;
         let is_moved = moves.is_moved;
-        let mut is_whole = IsWhole {
+        let mut is_complete = IsComplete {
             is_moved,
             deliveries: &deliveries,
             rows: &rows,
         };
-        expect_left(rt, left, &mut is_whole)?;
+        expect_left(rt, left, &mut is_complete)?;
         if is_moved {
             holds(rt, calls > 1, "that it stops");
             return Ok(());

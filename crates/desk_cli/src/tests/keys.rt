@@ -4,7 +4,7 @@ use super::ready;
 use super::stops::{deliveries, heard};
 use desk_rows::{RowFault, insert_reception, reception_at};
 use radio_core::Name;
-use registry_core::Whole;
+use registry_core::JsonInteger;
 use sqlite::{Alter, Connection};
 use std::process::Abort;
 use std::test::Fail;
@@ -16,7 +16,7 @@ fn expect_one_reception<R: Abort, S: Alter + Drop>(
 ) -> Result<(), Fail> {
     let mut conn = ready(conn)?;
     let gateway = Name::new(b"gw-a").ok_or("no name")?;
-    let first = Whole::new(1).ok_or("no number")?;
+    let first = JsonInteger::new(1).ok_or("no number")?;
     let Ok(Some(reception)) = reception_at(&mut conn, first, &gateway) else {
         return Err("no copy".into());
     };

@@ -11,7 +11,7 @@ use desk_store::{Keeper, Lists};
 use desk_tables::Tables;
 use desk_wire::{read_message, write_message};
 use radio_core::Name;
-use registry_core::Whole;
+use registry_core::JsonInteger;
 use sqlite::MemStore;
 use std::alloc::Global;
 use std::io;
@@ -110,8 +110,8 @@ fn has_log<R: Abort + AllocGlobal, K: Keeper>(
     which: LogText,
     (count, wanted): (u64, &[u8]),
 ) -> Result<(), Fail> {
-    let from = Whole::new(from).ok_or("no number")?;
-    let most = Whole::new(most).ok_or("no number")?;
+    let from = JsonInteger::new(from).ok_or("no number")?;
+    let most = JsonInteger::new(most).ok_or("no number")?;
     let mut written = Vec::new(rt.alloc());
     let end = write_log(keeper, from, most, which, &mut written);
     holds(rt, end == LogEnd::Done(count), "how many lines there are");
@@ -192,7 +192,7 @@ fn a_log_that_cannot_be_written(rt: HostRuntime) -> Result<(), Fail> {
     let mut store = opening::<Lists>(rt.alloc(), 65_536)?;
     hear_each(&rt, &mut *store, &all);
     let log = lines_of(&rt, &all, LogText::Message)?;
-    let (from, most) = (Whole::new(1), Whole::new(11));
+    let (from, most) = (JsonInteger::new(1), JsonInteger::new(11));
     let (from, most) = (from.ok_or("no number")?, most.ok_or("no number")?);
     for room in 0..log.len() {
         let mut narrow = Narrow::new(rt.alloc(), room);
@@ -212,7 +212,7 @@ fn stops_after<R: Abort + AllocGlobal>(
     calls: usize,
 ) -> Result<Box<Tables<MemStore>>, Fail> {
     let mut switched = Switched::new(store, failure, calls as u64);
-    let (from, most) = (Whole::new(1), Whole::new(ALL));
+    let (from, most) = (JsonInteger::new(1), JsonInteger::new(ALL));
     let (from, most) = (from.ok_or("no number")?, most.ok_or("no number")?);
     let mut written = Vec::new(rt.alloc());
     let end = write_log(&mut switched, from, most, LogText::Answer, &mut written);

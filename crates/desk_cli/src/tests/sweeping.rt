@@ -3,8 +3,8 @@ use super::holding::holds;
 use duty_core::Span;
 use radio_core::{Band, DataRate, Name, Octets, Rate};
 use registry_core::{
-    Answer, BandLimit, Kind, Message, Reception, Refusal, Role, Uplink, UplinkView, View, Whole,
-    Window, decide,
+    Answer, BandLimit, JsonInteger, Kind, Message, Reception, Refusal, Role, Uplink, UplinkView,
+    View, Window, decide,
 };
 use std::alloc::Global;
 use std::test::Fail;
@@ -34,12 +34,12 @@ fn uplink() -> Result<UplinkView, Fail> {
             kind: Kind::Data,
             counter: 0,
             octets: Octets::new(&[]).ok_or("too long")?,
-            start: Whole::new(END - 41_216).ok_or("too great")?,
+            start: JsonInteger::new(END - 41_216).ok_or("too great")?,
             airtime: 41_216,
             band: Band::B3,
         },
         at_gateway: Some(Reception {
-            end: Whole::new(END).ok_or("too great")?,
+            end: JsonInteger::new(END).ok_or("too great")?,
             rate,
         }),
     })
@@ -77,7 +77,7 @@ fn a_million_downlinks_are_swept(rt: HostRuntime) -> Result<(), Fail> {
         0x60, 0x00, 0x00, 0xa0, 0x01, 0x00, 0x00, 0x00, 0x55, 0x66, 0x77, 0x88,
     ];
     let message = Message::DownBook {
-        uplink: Whole::new(1).ok_or("too great")?,
+        uplink: JsonInteger::new(1).ok_or("too great")?,
         gateway: Name::new(b"gw-a").ok_or("no name")?,
         window: Window::Second,
         octets: Octets::new(&octets).ok_or("too long")?,

@@ -8,7 +8,7 @@ use Rattle.registry_core.specs.declared.facts.Uplink.{Uplink}
 use Rattle.registry_core.specs.declared.messages.Envelope.{Envelope}
 use Rattle.registry_core.specs.Limits.{Limit}
 use Rattle.registry_core.specs.Numbered.{item_at, item_changed}
-use Rattle.registry_core.specs.Wholes.{IsWhole}
+use Rattle.registry_core.specs.JsonIntegers.{IsJsonInteger}
 use Rattle.sqlite_keyed.specs.Lists.{update_where}
 use Rattle.desk_rows.specs.Rows.{Rows, ReplyRow, SessionRow, is_device, is_reply}
 use Rattle.desk_rows.specs.order.Changes.{booking_row, devices_raised, has_limit, kind_at, rows_changed, session_of_uplink, sessions_counted}
@@ -84,26 +84,26 @@ IsThereAndKnown effect known r = IsThereFor effect r × IsKnown r known
 -- ---- the rows to which an effect may be written
 
 -- the session of the uplink that a booking answers has a number below 2^53, and so is its next downlink counter
-abbrev pub CountsInWholes : Booking → Rows → Type 0
-CountsInWholes booking r = (uplink : Uplink) → item_at r.uplinks booking.uplink ≡ Some uplink
-    → IsWhole uplink.session × ((session : SessionRow) → item_at r.sessions uplink.session ≡ Some session → IsWhole (session.next_down + 1))
+abbrev pub CountsInJsonIntegers : Booking → Rows → Type 0
+CountsInJsonIntegers booking r = (uplink : Uplink) → item_at r.uplinks booking.uplink ≡ Some uplink
+    → IsJsonInteger uplink.session × ((session : SessionRow) → item_at r.sessions uplink.session ≡ Some session → IsJsonInteger (session.next_down + 1))
 
 -- the numbers that the effect names or gives, and those of the rows that it changes, are integers below 2^53
-abbrev pub AreWhole : Effect → Rows → Type 0
-AreWhole (MovesDevice dev_eui owner) r = IsWhole (length r.devices)
-AreWhole (AddsSession session uplink gateway reception) r = IsWhole uplink.session × IsWhole (length r.uplinks + 1)
-AreWhole (AddsUplink uplink gateway reception) r = IsWhole uplink.session × IsWhole (length r.uplinks + 1) × IsWhole (length r.devices)
-AreWhole (AddsReception number gateway reception) r = IsWhole number
-AreWhole (AddsBooking booking) r = IsWhole booking.uplink × CountsInWholes booking r
-AreWhole (EndsBooking number sent) r = IsWhole number
-AreWhole (SetsLimit gateway limit) r = IsWhole (length r.limits)
-AreWhole effect r = Unit {0}
+abbrev pub AreJsonIntegers : Effect → Rows → Type 0
+AreJsonIntegers (MovesDevice dev_eui owner) r = IsJsonInteger (length r.devices)
+AreJsonIntegers (AddsSession session uplink gateway reception) r = IsJsonInteger uplink.session × IsJsonInteger (length r.uplinks + 1)
+AreJsonIntegers (AddsUplink uplink gateway reception) r = IsJsonInteger uplink.session × IsJsonInteger (length r.uplinks + 1) × IsJsonInteger (length r.devices)
+AreJsonIntegers (AddsReception number gateway reception) r = IsJsonInteger number
+AreJsonIntegers (AddsBooking booking) r = IsJsonInteger booking.uplink × CountsInJsonIntegers booking r
+AreJsonIntegers (EndsBooking number sent) r = IsJsonInteger number
+AreJsonIntegers (SetsLimit gateway limit) r = IsJsonInteger (length r.limits)
+AreJsonIntegers effect r = Unit {0}
 
 -- the keys that the effect adds are free, the rows that it changes are there, and its numbers are in range
 pub record IsOpenTo (effect : Effect) (r : Rows) : Type 0 where
   pub free : IsFreeFor effect r
   pub there : IsThereFor effect r
-  pub whole : AreWhole effect r
+  pub json_integers : AreJsonIntegers effect r
 
 -- the same, and the key of the message is free
 pub record IsOpenToBoth (effect : Effect) (e : Envelope) (r : Rows) : Type 0 where

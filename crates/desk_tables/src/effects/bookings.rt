@@ -7,15 +7,15 @@ ghost use Rattle.desk_tables.specs.steps.Effects.{CountsInSession, WritesEffect}
 
 use crate::effects::input::{EffectInput, as_json_integer};
 use desk_rows::{RowFault, end_booking, insert_booking, set_next_down};
-use registry_core::{Booking, Effect, Whole};
+use registry_core::{Booking, Effect, JsonInteger};
 use sqlite::{Alter, Transaction};
 
 /// Sets the session's next downlink counter, if there is one to set.
 fn count_down<S: Alter>(
     tx: &mut Transaction<'_, S>,
     booking: &Booking,
-    session: Whole,
-    counter: Option<Whole>,
+    session: JsonInteger,
+    counter: Option<JsonInteger>,
 ) -> Result<(), RowFault>
     ensures same_reference { tx.new.conn.ghost_name ≡ tx.old.conn.ghost_name }
     ensures makes { Makes (state S.Store tx.old.conn.now) (state S.Store tx.new.conn.now) result

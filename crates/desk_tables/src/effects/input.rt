@@ -3,19 +3,19 @@ ghost use Rattle.std.specs.Prelude.{◌≡◌, ◌+◌, find, length, option_map
 ghost use Rattle.registry_core.specs.declared.facts.Uplink.{Uplink};
 ghost use Rattle.registry_core.specs.Derived.{is_above};
 ghost use Rattle.registry_core.specs.Numbered.{item_at};
-ghost use Rattle.registry_core.specs.Wholes.{IsWhole};
+ghost use Rattle.registry_core.specs.JsonIntegers.{IsJsonInteger};
 ghost use Rattle.sqlite.specs.Held.{state};
 ghost use Rattle.desk_rows.specs.Rows.{SessionRow, is_device};
 ghost use Rattle.desk_rows.specs.order.Keys.{CountsOne, HasOnly, RaisesOne};
 ghost use Rattle.desk_tables.specs.Seen.{IsFloorOf, IsSeen, IsSessionAt};
 ghost use Rattle.desk_tables.specs.declared.effects.input.EffectInput.TheVariants as input;
 ghost use Rattle.desk_tables.specs.steps.Calls.{Asks};
-ghost use Rattle.desk_tables.specs.steps.Effects.{AreWhole, HasSession, IsInput, IsInputOfBooking, IsInputOfLimit, IsInputOfUplink, IsKnown, IsNextDown, IsRaised, IsThereAndKnown};
+ghost use Rattle.desk_tables.specs.steps.Effects.{AreJsonIntegers, HasSession, IsInput, IsInputOfBooking, IsInputOfLimit, IsInputOfUplink, IsKnown, IsNextDown, IsRaised, IsThereAndKnown};
 
 use crate::seen::Seen;
 use desk_rows::{RowFault, floor_of, limit_at, next_down, session, uplink};
 use radio_core::{Eui, Name};
-use registry_core::{BandLimit, Booking, Effect, Kind, Session, Uplink, Whole};
+use registry_core::{BandLimit, Booking, Effect, JsonInteger, Kind, Session, Uplink};
 use sqlite::{Alter, Connection};
 
 /// What a store knows of its rows without a look-up: the number of uplinks, and what is cached.
@@ -31,18 +31,18 @@ pub(crate) enum EffectInput {
     Nothing,
     /// The number of the session's join uplink.
     Session {
-        number: Whole,
+        number: JsonInteger,
     },
     /// The number of the uplink, and the device whose floor rises, if one does.
     Uplink {
-        number: Whole,
+        number: JsonInteger,
         raises: Option<Eui>,
     },
     /// The session and the kind of the uplink that is answered, and the session's next downlink counter, if it counts one more.
     Booking {
-        session: Whole,
+        session: JsonInteger,
         kind: Kind,
-        counter: Option<Whole>,
+        counter: Option<JsonInteger>,
     },
     /// Whether the gateway's band has a row.
     Limit {
@@ -51,18 +51,18 @@ pub(crate) enum EffectInput {
 }
 
 /// Returns the number as an integer below 2^53.
-pub(crate) fn as_json_integer(number: u64) -> Result<Whole, RowFault>
-    ensures { MatchResult result (λ n. (n ≡ number) × IsWhole number) (λ fault. ¬ IsWhole number) }
+pub(crate) fn as_json_integer(number: u64) -> Result<JsonInteger, RowFault>
+    ensures { MatchResult result (λ n. (n ≡ number) × IsJsonInteger number) (λ fault. ¬ IsJsonInteger number) }
 {
-    match Whole::new(number) {
+    match JsonInteger::new(number) {
         Some(number) => Ok(number),
         None => Err(RowFault::Row),
     }
 }
 
 /// Returns the number of the next uplink, if it is below 2^53.
-fn next_uplink(uplinks: u64) -> Result<Whole, RowFault>
-    ensures { MatchResult result (λ number. number ≡ uplinks + 1) (λ fault. ¬ IsWhole (uplinks + 1)) }
+fn next_uplink(uplinks: u64) -> Result<JsonInteger, RowFault>
+    ensures { MatchResult result (λ number. number ≡ uplinks + 1) (λ fault. ¬ IsJsonInteger (uplinks + 1)) }
 {
     as_json_integer(uplinks.saturating_add(1))
 }
@@ -70,7 +70,7 @@ fn next_uplink(uplinks: u64) -> Result<Whole, RowFault>
 // ---- floors
 
 fn session_numbered<S: Alter>(conn: &mut Connection<S>, number: u64) -> Result<Session, RowFault>
-    ensures { Asks (state S.Store conn.old) (state S.Store conn.new) result (λ r. Unit {0}) (λ r. IsWhole number × HasSession number r)
+    ensures { Asks (state S.Store conn.old) (state S.Store conn.new) result (λ r. Unit {0}) (λ r. IsJsonInteger number × HasSession number r)
         (λ r found. option_map (λ row. row.session) (item_at r.sessions number) ≡ Some found) }
 {
     let number = as_json_integer(number)?;
@@ -96,7 +96,7 @@ fn session_known<S: Alter>(
     seen: &Seen,
     number: u64,
 ) -> Result<Session, RowFault>
-    ensures { Asks (state S.Store conn.old) (state S.Store conn.new) result (λ r. IsSeen r seen.now) (λ r. IsWhole number × HasSession number r)
+    ensures { Asks (state S.Store conn.old) (state S.Store conn.new) result (λ r. IsSeen r seen.now) (λ r. IsJsonInteger number × HasSession number r)
         (λ r. IsSessionAt r number) }
 {
     match seen.session_seen(number) {
@@ -135,7 +135,7 @@ fn raised_by<S: Alter>(
     seen: &Seen,
     uplink: &Uplink,
 ) -> Result<Option<Eui>, RowFault>
-    ensures { Asks (state S.Store conn.old) (state S.Store conn.new) result (λ r. RaisesOne uplink.now r × IsSeen r seen.now) (λ r. IsWhole uplink.now.session)
+    ensures { Asks (state S.Store conn.old) (state S.Store conn.new) result (λ r. RaisesOne uplink.now r × IsSeen r seen.now) (λ r. IsJsonInteger uplink.now.session)
         (λ r raises. IsRaised uplink.now.session r raises) }
 {
     let device = session_known(conn, seen, uplink.session)?.device;
@@ -151,7 +151,7 @@ fn raised_by<S: Alter>(
 
 fn uplink_at<S: Alter>(conn: &mut Connection<S>, number: u64) -> Result<Uplink, RowFault>
     ensures { Asks (state S.Store conn.old) (state S.Store conn.new) result (λ r. Unit {0})
-        (λ r. IsWhole number × ((found : Uplink) × (item_at r.uplinks number ≡ Some found)))
+        (λ r. IsJsonInteger number × ((found : Uplink) × (item_at r.uplinks number ≡ Some found)))
         (λ r found. item_at r.uplinks number ≡ Some found) }
 {
     let number = as_json_integer(number)?;
@@ -162,9 +162,12 @@ fn uplink_at<S: Alter>(conn: &mut Connection<S>, number: u64) -> Result<Uplink, 
 }
 
 /// Returns the next downlink counter of a session, with one more downlink.
-fn next_counter<S: Alter>(conn: &mut Connection<S>, number: Whole) -> Result<Whole, RowFault>
+fn next_counter<S: Alter>(
+    conn: &mut Connection<S>,
+    number: JsonInteger,
+) -> Result<JsonInteger, RowFault>
     ensures { Asks (state S.Store conn.old) (state S.Store conn.new) result (λ r. Unit {0})
-        (λ r. HasSession number r × ((row : SessionRow) → item_at r.sessions number ≡ Some row → IsWhole (row.next_down + 1)))
+        (λ r. HasSession number r × ((row : SessionRow) → item_at r.sessions number ≡ Some row → IsJsonInteger (row.next_down + 1)))
         (λ r counter. IsNextDown number r counter) }
 {
     match next_down(conn, number)? {
@@ -176,11 +179,11 @@ fn next_counter<S: Alter>(conn: &mut Connection<S>, number: Whole) -> Result<Who
 /// Returns the same if an uplink of this kind counts its answers.
 fn counter_for<S: Alter>(
     conn: &mut Connection<S>,
-    number: Whole,
+    number: JsonInteger,
     kind: Kind,
-) -> Result<Option<Whole>, RowFault>
+) -> Result<Option<JsonInteger>, RowFault>
     ensures { Asks (state S.Store conn.old) (state S.Store conn.new) result (λ r. Unit {0})
-        (λ r. HasSession number r × ((row : SessionRow) → item_at r.sessions number ≡ Some row → IsWhole (row.next_down + 1)))
+        (λ r. HasSession number r × ((row : SessionRow) → item_at r.sessions number ≡ Some row → IsJsonInteger (row.next_down + 1)))
         (λ r counter. MatchOption counter (kind ≡ Kind.Join) (λ n. (kind ≡ Kind.Data) × IsNextDown number r n)) }
 {
     match kind {
@@ -193,7 +196,7 @@ fn input_of_booking<S: Alter>(
     conn: &mut Connection<S>,
     booking: &Booking,
 ) -> Result<EffectInput, RowFault>
-    ensures { Asks (state S.Store conn.old) (state S.Store conn.new) result (CountsOne booking.now) (AreWhole (Effect.AddsBooking booking.now))
+    ensures { Asks (state S.Store conn.old) (state S.Store conn.new) result (CountsOne booking.now) (AreJsonIntegers (Effect.AddsBooking booking.now))
         (IsInputOfBooking booking.now) }
 {
     let found = uplink_at(conn, booking.uplink)?;
@@ -208,7 +211,7 @@ fn input_of_booking<S: Alter>(
 
 /// Returns the number of the new session's join uplink.
 fn input_of_session(known: &Known) -> Result<EffectInput, RowFault>
-    ensures { MatchResult result (λ made. made ≡ input.Session (known.now.uplinks + 1)) (λ fault. ¬ IsWhole (known.now.uplinks + 1)) }
+    ensures { MatchResult result (λ made. made ≡ input.Session (known.now.uplinks + 1)) (λ fault. ¬ IsJsonInteger (known.now.uplinks + 1)) }
 {
     Ok(EffectInput::Session {
         number: next_uplink(known.uplinks)?,
@@ -217,7 +220,7 @@ fn input_of_session(known: &Known) -> Result<EffectInput, RowFault>
 
 /// Returns the number of the new uplink, with the device whose floor rises.
 fn numbered(uplinks: u64, raises: Option<Eui>) -> Result<EffectInput, RowFault>
-    ensures { MatchResult result (λ made. made ≡ input.Uplink (uplinks + 1) raises) (λ fault. ¬ IsWhole (uplinks + 1)) }
+    ensures { MatchResult result (λ made. made ≡ input.Uplink (uplinks + 1) raises) (λ fault. ¬ IsJsonInteger (uplinks + 1)) }
 {
     Ok(EffectInput::Uplink {
         number: next_uplink(uplinks)?,
@@ -231,7 +234,7 @@ fn input_of_uplink<S: Alter>(
     uplink: &Uplink,
 ) -> Result<EffectInput, RowFault>
     ensures { Asks (state S.Store conn.old) (state S.Store conn.new) result (λ r. RaisesOne uplink.now r × IsKnown r known.now)
-        (λ r. IsWhole uplink.now.session × IsWhole (length r.uplinks + 1))
+        (λ r. IsJsonInteger uplink.now.session × IsJsonInteger (length r.uplinks + 1))
         (IsInputOfUplink uplink.now) }
 {
     let raises = raised_by(conn, &known.seen, uplink)?;
@@ -257,7 +260,7 @@ pub(crate) fn input_of<S: Alter>(
     known: &Known,
     effect: &Effect,
 ) -> Result<EffectInput, RowFault>
-    ensures { Asks (state S.Store conn.old) (state S.Store conn.new) result (IsThereAndKnown effect.now known.now) (AreWhole effect.now) (IsInput effect.now) }
+    ensures { Asks (state S.Store conn.old) (state S.Store conn.new) result (IsThereAndKnown effect.now known.now) (AreJsonIntegers effect.now) (IsInput effect.now) }
 {
     match effect {
         Effect::AddsSession { .. } => input_of_session(known),

@@ -12,7 +12,7 @@ ghost use Rattle.desk_tables.specs.steps.LookUps.{OfKept};
 use desk_rows::order::look_ups_tell;
 use desk_rows::{RowFault, floor_of, uplink_with};
 use radio_core::Eui;
-use registry_core::{Kind, Session, Uplink, Whole};
+use registry_core::{JsonInteger, Kind, Session, Uplink};
 use sqlite::{Alter, Connection};
 
 pub(crate) fn session<S: Alter>(
@@ -23,7 +23,7 @@ pub(crate) fn session<S: Alter>(
     ensures shows { Reads (state S.Store conn.old) (state S.Store conn.new) result (λ r session. IfSome session (IsSessionAt r number)) }
 {
     look_ups_tell();
-    match Whole::new(number) {
+    match JsonInteger::new(number) {
         Some(number) => desk_rows::session(conn, number),
         None => Ok(None),
     }
@@ -36,7 +36,7 @@ pub(crate) fn last_counter<S: Alter>(
     ensures kept { Reads (state S.Store conn.old) (state S.Store conn.new) result (OfKept (λ kept counter. counter ≡ last_counter kept.facts.uplinks session)) }
     ensures shows { Reads (state S.Store conn.old) (state S.Store conn.new) result (λ r counter. IfSome counter (IsCounterOf r session)) }
 {
-    match Whole::new(session) {
+    match JsonInteger::new(session) {
         Some(session) => desk_rows::last_counter(conn, session),
         None => Ok(None),
     }
@@ -48,7 +48,7 @@ pub(crate) fn last_start<S: Alter>(
 ) -> Result<Option<u64>, RowFault>
     ensures { Reads (state S.Store conn.old) (state S.Store conn.new) result (OfKept (λ kept start. start ≡ last_start kept.facts.uplinks session)) }
 {
-    match Whole::new(session) {
+    match JsonInteger::new(session) {
         Some(session) => desk_rows::last_start(conn, session),
         None => Ok(None),
     }
@@ -62,7 +62,7 @@ pub(crate) fn data_with<S: Alter>(
     ensures { Reads (state S.Store conn.old) (state S.Store conn.new) result (OfKept (λ kept found. found ≡ data_with kept.facts.uplinks session counter)) }
 {
     look_ups_tell();
-    match Whole::new(session) {
+    match JsonInteger::new(session) {
         Some(session) => uplink_with(conn, session, Kind::Data, counter),
         None => Ok(None),
     }
@@ -73,7 +73,7 @@ pub(crate) fn next_down<S: Alter>(conn: &mut Connection<S>, session: u64) -> Res
         (OfKept (λ kept counter. counter ≡ next_down kept.facts.bookings kept.facts.uplinks session)) }
 {
     look_ups_tell();
-    match Whole::new(session) {
+    match JsonInteger::new(session) {
         Some(session) => Ok(desk_rows::next_down(conn, session)?.unwrap_or(0)),
         None => Ok(0),
     }

@@ -11,7 +11,7 @@ ghost use Rattle.desk_tables.specs.steps.LookUps.{OfKept};
 
 use desk_rows::RowFault;
 use desk_store::EntryTexts;
-use registry_core::{Envelope, Whole};
+use registry_core::{Envelope, JsonInteger};
 use sqlite::{Alter, Connection};
 
 fn shown(found: Option<desk_rows::ReplyTexts>) -> Option<EntryTexts>
@@ -54,7 +54,7 @@ fn numbered_row_texts<S: Alter>(
     ensures { Reads (state S.Store conn.old) (state S.Store conn.new) result
         (OfKept (λ kept texts. option_map rows.kept_texts texts ≡ option_map texts_of (item_at kept.entries number))) }
 {
-    match Whole::new(number) {
+    match JsonInteger::new(number) {
         Some(number) => desk_rows::texts_at(conn, number),
         None => Ok(None),
     }

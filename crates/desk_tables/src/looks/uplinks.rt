@@ -14,7 +14,7 @@ ghost use Rattle.desk_tables.specs.steps.LookUps.{OfKept};
 use desk_rows::order::{listed_rows_tell, look_ups_tell};
 use desk_rows::{RowFault, session_with_nonce, uplink_with};
 use radio_core::{Eui, Name};
-use registry_core::{Booking, Kind, Reception, Uplink, Whole};
+use registry_core::{Booking, JsonInteger, Kind, Reception, Uplink};
 use sqlite::{Alter, Connection};
 use std::alloc::Global;
 
@@ -41,7 +41,7 @@ fn join_of<S: Alter>(
     ensures { Reads (state S.Store conn.old) (state S.Store conn.new) result
         (OfKept (λ kept found. found ≡ first_that (is_uplink session Join nonce) kept.facts.uplinks)) }
 {
-    match Whole::new(session) {
+    match JsonInteger::new(session) {
         Some(session) => uplink_with(conn, session, Kind::Join, u32::from(nonce)),
         None => Ok(None),
     }
@@ -74,7 +74,7 @@ pub(crate) fn uplink<S: Alter>(
 ) -> Result<Option<Uplink>, RowFault>
     ensures { Reads (state S.Store conn.old) (state S.Store conn.new) result (OfKept (λ kept uplink. uplink ≡ item_at kept.facts.uplinks number)) }
 {
-    match Whole::new(number) {
+    match JsonInteger::new(number) {
         Some(number) => Ok(unnumbered(desk_rows::uplink(conn, number)?)),
         None => Ok(None),
     }
@@ -87,7 +87,7 @@ pub(crate) fn reception_at<S: Alter>(
 ) -> Result<Option<Reception>, RowFault>
     ensures { Reads (state S.Store conn.old) (state S.Store conn.new) result (OfKept (λ kept reception. reception ≡ kept.facts.receptions uplink gateway.now)) }
 {
-    match Whole::new(uplink) {
+    match JsonInteger::new(uplink) {
         Some(uplink) => desk_rows::reception_at(conn, uplink, gateway),
         None => Ok(None),
     }
@@ -103,7 +103,7 @@ pub(crate) fn gateways_of<S: Alter>(
         (OfKept (λ kept names. AreNames (has_reception kept.facts uplink) names.items)) }
 {
     listed_rows_tell();
-    match Whole::new(uplink) {
+    match JsonInteger::new(uplink) {
         Some(uplink) => desk_rows::gateways_of(alloc, conn, uplink),
         None => Ok(Vec::new(alloc)),
     }
@@ -113,7 +113,7 @@ pub(crate) fn is_answered<S: Alter>(conn: &mut Connection<S>, uplink: u64) -> Re
     ensures { Reads (state S.Store conn.old) (state S.Store conn.new) result (OfKept (λ kept answered. answered ≡ is_answered kept.facts.bookings uplink)) }
 {
     look_ups_tell();
-    match Whole::new(uplink) {
+    match JsonInteger::new(uplink) {
         Some(uplink) => desk_rows::is_answered(conn, uplink),
         None => Ok(false),
     }
@@ -126,7 +126,7 @@ pub(crate) fn booking<S: Alter>(
     ensures { Reads (state S.Store conn.old) (state S.Store conn.new) result (OfKept (λ kept booking. booking ≡ item_at kept.facts.bookings number)) }
 {
     look_ups_tell();
-    match Whole::new(number) {
+    match JsonInteger::new(number) {
         Some(number) => desk_rows::booking(conn, number),
         None => Ok(None),
     }

@@ -8,7 +8,7 @@ use Rattle.csv.specs.declared.reader.Reader.{Reader}
 use Rattle.csv.specs.declared.reader.Trim.TheVariants as trim
 use Rattle.radio_core.specs.declared.data_rates.DataRate.{DataRate}
 use Rattle.radio_core.specs.Names.{is_name}
-use Rattle.registry_core.specs.Wholes.{whole_limit}
+use Rattle.registry_core.specs.JsonIntegers.{json_integer_limit}
 use Rattle.desk_wire.specs.Decimals.{decimal_below, decimal_in}
 use Rattle.desk_wire.specs.DataRates.{data_rate_numbered}
 use Rattle.desk_wire.specs.Hexadecimal.{octets_in}
@@ -19,8 +19,8 @@ use Rattle.desk_wire.specs.Optional.{◌>>=◌, only_if}
 abbrev pub name_field : ℕ → List (List ℕ) → Option (List ℕ)
 name_field place fields = field_at fields place >>= only_if is_name
 
-abbrev pub whole_field : ℕ → List (List ℕ) → Option ℕ
-whole_field place fields = field_at fields place >>= decimal_below whole_limit
+abbrev pub json_integer_field : ℕ → List (List ℕ) → Option ℕ
+json_integer_field place fields = field_at fields place >>= decimal_below json_integer_limit
 
 abbrev pub u32_field : ℕ → List (List ℕ) → Option ℕ
 u32_field place fields = field_at fields place >>= decimal_below (2 ^ 32)

@@ -9,7 +9,7 @@ use Rattle.radio_core.specs.declared.bands.Band.{Band}
 use Rattle.desk_wire.specs.Bands.{band_name}
 use Rattle.desk_wire.specs.Hexadecimal.{octet_digits}
 use Rattle.desk_wire.specs.declared.heads.Head.{Head}
-use Rattle.desk_wire.specs.Members.{whole_or_null}
+use Rattle.desk_wire.specs.Members.{integer_or_null}
 
 -- the opening brace
 abbrev pub opened : List Token
@@ -25,7 +25,7 @@ unfoldable pub then_boolean : List Token → List ℕ → Bool → List Token
 then_boolean before member b = before ++ key member ∷ boolean b ∷ []
 
 unfoldable pub then_number_or_null : List Token → List ℕ → Option ℕ → List Token
-then_number_or_null before member n = before ++ key member ∷ json_tokens (outline (whole_or_null n))
+then_number_or_null before member n = before ++ key member ∷ json_tokens (outline (integer_or_null n))
 
 -- ProtocolVersion and ReceiverID
 abbrev pub then_version_and_receiver : List Token → List ℕ → List Token

@@ -85,14 +85,14 @@ impl Step for Moves<'_> {
 
 /// Moves the desk by hand, if it is of schema 1: then its rows are those of the moved one.
 #[derive(Drop)]
-struct IsWhole<'a> {
+struct IsComplete<'a> {
     damage: &'a Damage,
     /// Whether the move was done.
     is_done: bool,
     rows: &'a String,
 }
 
-impl Step for IsWhole<'_> {
+impl Step for IsComplete<'_> {
     fn take<R: Abort + AllocGlobal, S: Alter + Drop>(
         &mut self,
         rt: &R,
@@ -144,12 +144,12 @@ fn move_fails<R: Abort + AllocGlobal>(
         let fused = fused(rt.alloc(), files, true, calls)?;
         let (is_opened, left) = in_files(rt, fused, &mut moves)?;
         if is_opened {
-            let mut is_whole = IsWhole {
+            let mut is_complete = IsComplete {
                 damage,
                 is_done: !moves.has_failed && damage.ending == Ending::Done,
                 rows,
             };
-            expect_left(rt, left, &mut is_whole)?;
+            expect_left(rt, left, &mut is_complete)?;
             if !moves.has_failed {
                 return Ok(failures);
             }
