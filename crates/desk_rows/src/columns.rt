@@ -67,10 +67,7 @@ pub(crate) fn json_integer_at(row: &Row, at: usize) -> Result<JsonInteger, RowFa
     ensures reads { ReadsAt number IsJsonInteger row.now at result }
     ensures stands { StandsAt number row.now at result }
 {
-    match JsonInteger::new(number_at(row, at)?) {
-        Some(n) => Ok(n),
-        None => Err(RowFault::Row),
-    }
+    JsonInteger::new(number_at(row, at)?).ok_or(RowFault::Row)
 }
 
 pub(crate) fn name_at(row: &Row, at: usize) -> Result<Name, RowFault>
@@ -78,10 +75,7 @@ pub(crate) fn name_at(row: &Row, at: usize) -> Result<Name, RowFault>
     ensures stands { StandsAt Text row.now at result }
 {
     match row.get_ref(at) {
-        Ok(ValueRef::Text(octets)) => match Name::new(octets) {
-            Some(name) => Ok(name),
-            None => Err(RowFault::Row),
-        },
+        Ok(ValueRef::Text(octets)) => Name::new(octets).ok_or(RowFault::Row),
         _ => Err(RowFault::Row),
     }
 }
@@ -102,10 +96,7 @@ pub(crate) fn frame_column(row: &Row, at: usize) -> Result<Octets, RowFault>
     ensures stands { StandsAt Blob row.now at result }
 {
     match row.get_ref(at) {
-        Ok(ValueRef::Blob(octets)) => match Octets::new(octets) {
-            Some(octets) => Ok(octets),
-            None => Err(RowFault::Row),
-        },
+        Ok(ValueRef::Blob(octets)) => Octets::new(octets).ok_or(RowFault::Row),
         _ => Err(RowFault::Row),
     }
 }
@@ -142,10 +133,7 @@ pub(crate) fn span_at(row: &Row, at: u8) -> Result<Span, RowFault>
 {
     let start = integer_at(row, usize::from(at))?;
     let len = word_at(row, usize::from(at) + 1)?;
-    match Span::new(start, len) {
-        Some(span) => Ok(span),
-        None => Err(RowFault::Row),
-    }
+    Span::new(start, len).ok_or(RowFault::Row)
 }
 
 pub(crate) fn role_at(row: &Row, at: usize) -> Result<Role, RowFault>
@@ -196,18 +184,12 @@ pub(crate) fn band_at(row: &Row, at: usize) -> Result<Band, RowFault>
     ensures reads { ReadsAt (λ band. number (band_number band)) (λ band. Unit {0}) row.now at result }
     ensures stands { StandsAt (λ band. number (band_number band)) row.now at result }
 {
-    match Band::new(octet_at(row, at)?) {
-        Some(band) => Ok(band),
-        None => Err(RowFault::Row),
-    }
+    Band::new(octet_at(row, at)?).ok_or(RowFault::Row)
 }
 
 pub(crate) fn data_rate_at(row: &Row, at: usize) -> Result<DataRate, RowFault>
     ensures reads { ReadsAt (λ dr. number (dr_number dr)) (λ dr. Unit {0}) row.now at result }
     ensures stands { StandsAt (λ dr. number (dr_number dr)) row.now at result }
 {
-    match DataRate::new(octet_at(row, at)?) {
-        Some(dr) => Ok(dr),
-        None => Err(RowFault::Row),
-    }
+    DataRate::new(octet_at(row, at)?).ok_or(RowFault::Row)
 }
