@@ -18,7 +18,7 @@ use Rattle.sqlite.specs.Held.{Held, state}
 use Rattle.desk_store.specs.Kept.{Kept}
 use Rattle.desk_rows.specs.Calls.{IsReadingCall}
 use Rattle.desk_rows.specs.Rows.{Holds, Rows, reply_cells, rowids_from}
-use Rattle.desk_rows.specs.Schema.{desk_schema}
+use Rattle.desk_rows.specs.Schema.{desk_schema, reply_tree}
 use Rattle.desk_tables.specs.InOrder.{IsOfDesk, entry_in}
 use Rattle.desk_engine.specs.InOrder.{kept_after}
 use Rattle.desk_engine.proofs.KeptAfter.{length-kept_after}
@@ -103,7 +103,7 @@ length_numbered : (n : ℕ) (rows : List Row) → length (rowids_from n rows) �
 length_numbered n [] = refl
 length_numbered n (row ∷ rows) = ap suc (length_numbered (n + 1) rows)
 
-pub replies_of : (c : Settings) (heard : List Envelope) (db : Database) → IsOfDesk c (kept_after c heard) db → length heard ≡ length (db.trees 3)
+pub replies_of : (c : Settings) (heard : List Envelope) (db : Database) → IsOfDesk c (kept_after c heard) db → length heard ≡ length (db.trees reply_tree)
 replies_of c heard db it =
     sym (length-kept_after c heard) ∙ ap length it.in_order.entries ∙ length-map it.in_order.rows.replies entry_in
     ∙ sym (length-map it.in_order.rows.replies reply_cells) ∙ sym (length_numbered 1 (map reply_cells it.in_order.rows.replies)) ∙ sym (ap length it.in_order.held.ten.reply)

@@ -4,7 +4,7 @@ use Rattle.sqlite.specs.Held.{Held, state}
 use Rattle.sqlite_trees.specs.declared.store.Store.{Ghosts}
 use Rattle.registry_core.specs.Settings.{Settings}
 use Rattle.desk_rows.specs.Meta.{HasMeta, TellsMeta}
-use Rattle.desk_rows.specs.Schema.{desk_schema}
+use Rattle.desk_rows.specs.Schema.{desk_schema, schema_version}
 use Rattle.desk_tables.specs.Adopting.{IsGivenBack}
 use Rattle.desk_cli.specs.declared.faults.Fault.{Fault}
 use Rattle.desk_cli.specs.declared.faults.Fault.TheVariants.{NotADesk, Schema, Unavailable}
@@ -12,11 +12,11 @@ use Rattle.desk_cli.specs.declared.faults.Fault.TheVariants.{NotADesk, Schema, U
 module _ {S : Type 0} (g : Ghosts S) (conn : Held S) where
   -- it has other tables or indexes, or its row of meta is not that of a desk of version 2
   abbrev pub IsNotADesk : Type 0
-  IsNotADesk = conn.schema ≡ desk_schema → (c : Settings) → ¬ TellsMeta (state g conn).now.trees (pos 2) c
+  IsNotADesk = conn.schema ≡ desk_schema → (c : Settings) → ¬ TellsMeta (state g conn).now.trees (pos schema_version) c
 
   -- it has a table meta, whose row is that of a desk of another version
   abbrev pub IsOfOtherVersion : Type 0
-  IsOfOtherVersion = HasMeta conn.schema × ((version : ℤ) × (c : Settings) × TellsMeta (state g conn).now.trees version c × (version ≢ pos 2))
+  IsOfOtherVersion = HasMeta conn.schema × ((version : ℤ) × (c : Settings) × TellsMeta (state g conn).now.trees version c × (version ≢ pos schema_version))
 
   -- Why there is no desk. `Schema` only if the version is another, and then never `NotADesk`. The connection is given back with everything
   -- as it was, and a crash leaves what it left before.

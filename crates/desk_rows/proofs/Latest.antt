@@ -31,6 +31,7 @@ use Rattle.registry_core.specs.Derived.{is_data, is_data_of, last_counter}
 use Rattle.registry_core.specs.Numbered.{greatest}
 use Rattle.registry_core.specs.Ranges.{IsEui}
 use Rattle.desk_rows.specs.Calls.{Reads, ReadsOf}
+use Rattle.desk_rows.specs.Schema.{session_tree, uplink_tree}
 use Rattle.desk_rows.specs.steps.Queries.{Finds}
 use Rattle.desk_rows.specs.Rows.{Rows, Holds, SessionRow, IsSession, IsUplink, session_cells, uplink_cells, eui, number, kind_number, table_of, last_number}
 use Rattle.desk_rows.specs.declared.faults.RowFault.{RowFault}
@@ -175,14 +176,14 @@ module _ {desk : Schema} (Have : Database → Rows → Type 0) (schema : (db : D
 abbrev last_nonce_text : List ℕ
 last_nonce_text = codes "SELECT nonce FROM session WHERE device = ?1 ORDER BY nonce DESC, number DESC LIMIT 1"
 
-last_nonce_lookup : IsLookup last_nonce_text 1 (latest 11 (is 2 0 ∷ []) (col 1 3 ∷ []) ((col 1 3, falling) ∷ (col 1 0, falling) ∷ []))
+last_nonce_lookup : IsLookup last_nonce_text 1 (latest session_tree (is 2 0 ∷ []) (col 1 3 ∷ []) ((col 1 3, falling) ∷ (col 1 0, falling) ∷ []))
 unfolding understood everything
 last_nonce_lookup = record { names = _; compiled = _; means = refl; command = refl; plain = (refl, refl); whole = omega arith; given = refl; unlisted = refl }
 
 abbrev last_counter_text : List ℕ
 last_counter_text = codes "SELECT counter FROM uplink WHERE session = ?1 AND kind = 1 ORDER BY counter DESC, number DESC LIMIT 1"
 
-last_counter_lookup : IsLookup last_counter_text 1 (latest 13 (is 2 0 ∷ op2 (Compare Eq Binary) (col 1 3) (lit (Int (pos 1))) ∷ []) (col 1 4 ∷ []) ((col 1 4, falling) ∷ (col 1 0, falling) ∷ []))
+last_counter_lookup : IsLookup last_counter_text 1 (latest uplink_tree (is 2 0 ∷ op2 (Compare Eq Binary) (col 1 3) (lit (Int (pos 1))) ∷ []) (col 1 4 ∷ []) ((col 1 4, falling) ∷ (col 1 0, falling) ∷ []))
 unfolding understood everything
 last_counter_lookup = record { names = _; compiled = _; means = refl; command = refl; plain = (refl, refl); whole = omega arith; given = refl; unlisted = refl }
 

@@ -24,7 +24,7 @@ use Rattle.registry_core.specs.Settings.{Settings}
 use Rattle.desk_rows.specs.declared.faults.RowFault.TheVariants.{Memory, Disk, Size, Row as OutOfRange, Refused}
 use Rattle.desk_rows.specs.declared.faults.RowFault.{RowFault}
 use Rattle.desk_rows.proofs.FaultLemmas.{not_row}
-use Rattle.desk_rows.specs.Schema.{meta_table}
+use Rattle.desk_rows.specs.Schema.{meta_table, meta_tree}
 use Rattle.desk_rows.specs.Faults.{is_odd, row_fault}
 use Rattle.desk_rows.specs.Meta.{HasMeta, TellsMeta}
 use Rattle.desk_rows.specs.steps.Meta.{TellsRow}
@@ -60,9 +60,9 @@ module _ (old new : State) (has : HasMeta old.now.schema) where
   answer : (rows : List Row) → Shown find_text [] old new rows → IsAnswer find_query (overlay old.now.trees []) [] rows
   answer rows h = (reads_as find_text [] old new (beside rest indexes) is _ (find_is rest indexes).0 (find_plain rest indexes) (find_is rest indexes).1 rows h).answer Null
 
-  alone : (row : Row) (stored : List Row) → old.now.trees 0 ≡ stored → (rows : List Row) → rows ≡ row ∷ [] → Shown find_text [] old new rows → (r : Row) × (old.now.trees 0 ≡ r ∷ []) × (row ≡ shown r)
+  alone : (row : Row) (stored : List Row) → old.now.trees meta_tree ≡ stored → (rows : List Row) → rows ≡ row ∷ [] → Shown find_text [] old new rows → (r : Row) × (old.now.trees meta_tree ≡ r ∷ []) × (row ≡ shown r)
   alone row [] at rows one h = absurd (let many = answer_count 0 [] find_query.project (overlay old.now.trees []) [] rows (answer rows h) in
-      let none : length (passing [] [] (old.now.trees 0)) ≡ 0 = rw at refl in omega (arith, many, none, ap length one))
+      let none : length (passing [] [] (old.now.trees meta_tree)) ≡ 0 = rw at refl in omega (arith, many, none, ap length one))
   alone row (r ∷ []) at rows one h =
       let a = answer rows h in
       let staged : a.staged ≡ ([] ∷ r ∷ []) ∷ [] = a.grouped ∙ rw at in
@@ -72,11 +72,11 @@ module _ (old new : State) (has : HasMeta old.now.schema) where
       let all : rows ≡ shown r ∷ [] = a.shown ∙ ap (λ xs. page find_query [] (map (λ (p : Output). p.1) xs)) ordered in
       (r, at, let both = sym one ∙ all in cc)
   alone row (r ∷ s ∷ more) at rows one h = absurd (let many = answer_count 0 [] find_query.project (overlay old.now.trees []) [] rows (answer rows h) in
-      let two : length (passing [] [] (old.now.trees 0)) ≡ suc (suc (length (passing [] [] more))) = rw at refl in omega (arith, many, two, ap length one))
+      let two : length (passing [] [] (old.now.trees meta_tree)) ≡ suc (suc (length (passing [] [] more))) = rw at refl in omega (arith, many, two, ap length one))
 
   pub told : (row : Row) (version : ℤ) (c : Settings) (rows : List Row) → rows ≡ row ∷ [] → Shown find_text [] old new rows → TellsRow row version c → TellsMeta old.now.trees version c
   told row version c rows one h tells =
-      let it = alone row (old.now.trees 0) refl rows one h in
+      let it = alone row (old.now.trees meta_tree) refl rows one h in
       let t = subst (λ x. TellsRow x version c) it.2 tells in
       record { row = it.0; one = it.1; id = t.id; version_is = t.version_is; receiver = t.receiver; operator = t.operator; base = t.base; addresses = t.addresses; config = t.config }
 
@@ -84,9 +84,9 @@ module _ (old new : State) (has : HasMeta old.now.schema) where
       → (version : ℤ) (c : Settings) → ¬ TellsMeta old.now.trees version c
   untold rows h never version c t =
       let many = answer_count 0 [] find_query.project (overlay old.now.trees []) [] rows (answer rows h) in
-      let one : length (passing [] [] (old.now.trees 0)) ≡ 1 = rw t.one refl in
+      let one : length (passing [] [] (old.now.trees meta_tree)) ≡ 1 = rw t.one refl in
       let single = single_of rows (many ∙ one) in
-      let it = alone single.0 (old.now.trees 0) refl rows single.1 h in
+      let it = alone single.0 (old.now.trees meta_tree) refl rows single.1 h in
       let both : ◌≡◌ {A = List Row} (it.0 ∷ []) (t.row ∷ []) = sym it.1 ∙ t.one in
       let same : it.0 ≡ t.row = cc in
       never single.0 single.1 version c (rw (it.2, same) (record { id = t.id; version_is = t.version_is; receiver = t.receiver; operator = t.operator; base = t.base; addresses = t.addresses; config = t.config }))

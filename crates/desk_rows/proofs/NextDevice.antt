@@ -25,6 +25,7 @@ use Rattle.registry_core.specs.Reports.{is_after}
 use Rattle.desk_rows.specs.Calls.{Reads}
 use Rattle.desk_rows.specs.Faults.{IsEven}
 use Rattle.desk_rows.specs.Rows.{Rows, Holds, DeviceRow, IsDevice, device_cells, eui}
+use Rattle.desk_rows.specs.Schema.{device_tree}
 use Rattle.desk_rows.specs.order.Arranged.{by_eui, is_next_of}
 use Rattle.desk_rows.specs.order.LookUps.{first_by, rows_by}
 use Rattle.desk_rows.specs.steps.Errors.{Decodes, ReadsAt}
@@ -45,8 +46,8 @@ use Rattle.desk_rows.proofs.Terms.{is, and_true, text_equal}
 abbrev first_text : List ℕ
 first_text = codes "SELECT eui FROM device WHERE owner = ?1 ORDER BY eui, rowid LIMIT 1"
 
-abbrev first_asked : Asked (9 ∷ [])
-first_asked = latest 9 (is 3 0 ∷ []) (col 1 1 ∷ []) ((col 1 1, rising) ∷ (col 1 0, rising) ∷ [])
+abbrev first_asked : Asked (device_tree ∷ [])
+first_asked = latest device_tree (is 3 0 ∷ []) (col 1 1 ∷ []) ((col 1 1, rising) ∷ (col 1 0, rising) ∷ [])
 
 first_lookup : IsLookup first_text 1 first_asked
 unfolding understood everything

@@ -5,7 +5,7 @@ use Rattle.std.proofs.lemmas.Bool.{eq-eqb}
 use Rattle.sqlite_value.specs.Order.{Row}
 use Rattle.sqlite_trees.specs.Tree.{Trees}
 use Rattle.sqlite.specs.Effect.{Database, IsDatabase}
-use Rattle.desk_rows.specs.Schema.{desk_schema}
+use Rattle.desk_rows.specs.Schema.{desk_schema, limit_tree}
 use Rattle.desk_rows.specs.steps.Change.{KeepsOthers}
 use Rattle.desk_rows.specs.Rows.{Rows, Holds, HoldsTen, InRange, table_of, meta_cells, sender_cells, reply_cells, name_cells, device_cells, session_cells, uplink_cells, reception_cells, booking_cells, limit_cells}
 
@@ -22,7 +22,7 @@ tables r = tables_as 2 r
 abbrev pub AreHeld : Trees → List (ℕ × List Row) → Type 0
 AreHeld db held = AllByRecursion (λ t. db t.0 ≡ t.1) held
 
-pub held_of : (version : ℕ) (db : Database) (r : Rows) → HoldsTen version desk_schema db r → db.trees 22 ≡ table_of limit_cells r.limits
+pub held_of : (version : ℕ) (db : Database) (r : Rows) → HoldsTen version desk_schema db r → db.trees limit_tree ≡ table_of limit_cells r.limits
     → AreHeld db.trees (tables_as version r)
 held_of version db r h limit = (h.meta, (h.sender, (h.reply, (h.owner, (h.gateway, (h.device, (h.session, (h.uplink, (h.copy, (h.booking, (limit, tt)))))))))))
 

@@ -24,6 +24,7 @@ use Rattle.sqlite_value.specs.Order.{Row, column, bytes}
 use Rattle.sqlite_trees.specs.Tree.{Trees}
 use Rattle.sqlite.specs.Effect.{Database}
 use Rattle.desk_rows.specs.Rows.{SenderRow, ReplyRow, DeviceRow, SessionRow, ReceptionRow, BookingRow, LimitRow, IsDevice, IsSession, Rows, Holds, role_number, kind_number, standing_number, rowids_from, table_of, sender_cells, reply_cells, name_cells, device_cells, session_cells, uplink_cells, reception_cells, booking_cells, limit_cells, or_null, number}
+use Rattle.desk_rows.specs.Schema.{booking_tree, copy_tree, device_tree, gateway_tree, limit_tree, meta_tree, owner_tree, reply_tree, sender_tree, session_tree, uplink_tree}
 
 -- ---- values
 
@@ -184,42 +185,42 @@ rows_in db = record {
 }
 
 module _ (db : Database) (r : Rows) (h : Holds db r) where
-  settings_is : r.settings ≡ first_of (map settings_in (db.trees 0))
+  settings_is : r.settings ≡ first_of (map settings_in (db.trees meta_tree))
   settings_is = ap (λ rows. first_of (map settings_in rows)) (sym h.ten.meta)
 
-  senders_are : r.senders ≡ map sender_in (db.trees 1)
-  senders_are = again (λ x. Unit {0}) sender_cells sender_in (λ n x p i. record { name = x.name; role = role_again x.role i }) r.senders (every r.senders) (db.trees 1) h.ten.sender
+  senders_are : r.senders ≡ map sender_in (db.trees sender_tree)
+  senders_are = again (λ x. Unit {0}) sender_cells sender_in (λ n x p i. record { name = x.name; role = role_again x.role i }) r.senders (every r.senders) (db.trees sender_tree) h.ten.sender
 
-  replies_are : r.replies ≡ map reply_in (db.trees 3)
-  replies_are = again (λ x. Unit {0}) reply_cells reply_in (λ n x p. refl) r.replies (every r.replies) (db.trees 3) h.ten.reply
+  replies_are : r.replies ≡ map reply_in (db.trees reply_tree)
+  replies_are = again (λ x. Unit {0}) reply_cells reply_in (λ n x p. refl) r.replies (every r.replies) (db.trees reply_tree) h.ten.reply
 
-  owners_are : r.owners ≡ map name_in (db.trees 5)
-  owners_are = again (λ x. Unit {0}) name_cells name_in (λ n x p. refl) r.owners (every r.owners) (db.trees 5) h.ten.owner
+  owners_are : r.owners ≡ map name_in (db.trees owner_tree)
+  owners_are = again (λ x. Unit {0}) name_cells name_in (λ n x p. refl) r.owners (every r.owners) (db.trees owner_tree) h.ten.owner
 
-  gateways_are : r.gateways ≡ map name_in (db.trees 7)
-  gateways_are = again (λ x. Unit {0}) name_cells name_in (λ n x p. refl) r.gateways (every r.gateways) (db.trees 7) h.ten.gateway
+  gateways_are : r.gateways ≡ map name_in (db.trees gateway_tree)
+  gateways_are = again (λ x. Unit {0}) name_cells name_in (λ n x p. refl) r.gateways (every r.gateways) (db.trees gateway_tree) h.ten.gateway
 
-  devices_are : r.devices ≡ map device_in (db.trees 9)
+  devices_are : r.devices ≡ map device_in (db.trees device_tree)
   devices_are = again IsDevice device_cells device_in
       (λ n x p i. record {
         dev_eui = from_be_bytes-to_be_bytes_8 x.dev_eui p.dev_eui i;
         device = record { join_eui = from_be_bytes-to_be_bytes_8 x.device.join_eui p.join_eui i; owner = x.device.owner };
         floor = option_again x.floor i;
-      }) r.devices h.ten.in_range.devices (db.trees 9) h.ten.device
+      }) r.devices h.ten.in_range.devices (db.trees device_tree) h.ten.device
 
-  sessions_are : r.sessions ≡ map session_in (db.trees 11)
+  sessions_are : r.sessions ≡ map session_in (db.trees session_tree)
   sessions_are = again IsSession session_cells session_in
-      (λ n x p i. record { session = record { device = from_be_bytes-to_be_bytes_8 x.session.device p.device i; nonce = x.session.nonce }; next_down = x.next_down }) r.sessions h.ten.in_range.sessions (db.trees 11) h.ten.session
+      (λ n x p i. record { session = record { device = from_be_bytes-to_be_bytes_8 x.session.device p.device i; nonce = x.session.nonce }; next_down = x.next_down }) r.sessions h.ten.in_range.sessions (db.trees session_tree) h.ten.session
 
-  uplinks_are : r.uplinks ≡ map uplink_in (db.trees 13)
+  uplinks_are : r.uplinks ≡ map uplink_in (db.trees uplink_tree)
   uplinks_are = again (λ x. Unit {0}) uplink_cells uplink_in
-      (λ n x p i. record { session = x.session; kind = kind_again x.kind i; counter = x.counter; octets = x.octets; start = x.start; airtime = x.airtime; band = band_again x.band i }) r.uplinks (every r.uplinks) (db.trees 13) h.ten.uplink
+      (λ n x p i. record { session = x.session; kind = kind_again x.kind i; counter = x.counter; octets = x.octets; start = x.start; airtime = x.airtime; band = band_again x.band i }) r.uplinks (every r.uplinks) (db.trees uplink_tree) h.ten.uplink
 
-  receptions_are : r.receptions ≡ map reception_in (db.trees 15)
+  receptions_are : r.receptions ≡ map reception_in (db.trees copy_tree)
   receptions_are = again (λ x. Unit {0}) reception_cells reception_in
-      (λ n x p i. record { uplink = x.uplink; gateway = x.gateway; reception = record { end = x.reception.end; rate = record { freq = x.reception.rate.freq; dr = dr_again x.reception.rate.dr i } } }) r.receptions (every r.receptions) (db.trees 15) h.ten.copy
+      (λ n x p i. record { uplink = x.uplink; gateway = x.gateway; reception = record { end = x.reception.end; rate = record { freq = x.reception.rate.freq; dr = dr_again x.reception.rate.dr i } } }) r.receptions (every r.receptions) (db.trees copy_tree) h.ten.copy
 
-  bookings_are : r.bookings ≡ map booking_in (db.trees 17)
+  bookings_are : r.bookings ≡ map booking_in (db.trees booking_tree)
   bookings_are = again (λ x. Unit {0}) booking_cells booking_in
       (λ n x p i. record {
         booking = record {
@@ -231,11 +232,11 @@ module _ (db : Database) (r : Rows) (h : Holds db r) where
         };
         session = x.session;
         kind = kind_again x.kind i;
-      }) r.bookings (every r.bookings) (db.trees 17) h.ten.booking
+      }) r.bookings (every r.bookings) (db.trees booking_tree) h.ten.booking
 
-  limits_are : r.limits ≡ map limit_in (db.trees 22)
+  limits_are : r.limits ≡ map limit_in (db.trees limit_tree)
   limits_are = again (λ x. Unit {0}) limit_cells limit_in
-      (λ n x p i. record { gateway = x.gateway; limit = record { band = band_again x.limit.band i; most = x.limit.most } }) r.limits (every r.limits) (db.trees 22) h.limit
+      (λ n x p i. record { gateway = x.gateway; limit = record { band = band_again x.limit.band i; most = x.limit.most } }) r.limits (every r.limits) (db.trees limit_tree) h.limit
 
   -- the rows are those that the trees represent
   pub held_again : r ≡ rows_in db.trees

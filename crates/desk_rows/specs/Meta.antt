@@ -6,7 +6,7 @@ use Rattle.sqlite_value.specs.declared.value.Value.TheVariants.{Int, Text}
 use Rattle.sqlite_value.specs.Order.{Row, column}
 use Rattle.sqlite_trees.specs.Tree.{Trees}
 use Rattle.sqlite_schema.specs.declared.schema.Schema.{Schema}
-use Rattle.desk_rows.specs.Schema.{meta_table}
+use Rattle.desk_rows.specs.Schema.{meta_table, meta_tree}
 
 -- the first table is meta, which has the version, and there is no view
 pub record HasMeta (schema : Schema) : Type 0 where
@@ -23,7 +23,7 @@ pub record IsConfig (c : Settings) : Type 0 where
 -- there is one row of meta, and it is in form
 pub record TellsMeta (trees : Trees) (version : ℤ) (c : Settings) : Type 0 where
   pub row : Row
-  pub one : trees 0 ≡ row ∷ []
+  pub one : trees meta_tree ≡ row ∷ []
   pub id : column row 0 ≡ Int (pos 1)
   pub version_is : column row 2 ≡ Int version
   pub receiver : column row 3 ≡ Text c.receiver

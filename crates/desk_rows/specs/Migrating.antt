@@ -2,18 +2,18 @@
 use Rattle.std.specs.Prelude.{◌≡◌, ℕ, List, [], codes}
 use Rattle.sqlite.specs.Effect.{Database}
 use Rattle.desk_rows.specs.Rows.{Rows, HoldsTen}
-use Rattle.desk_rows.specs.Schema.{desk_schema, first_schema}
+use Rattle.desk_rows.specs.Schema.{desk_schema, first_schema, first_version, limit_tree}
 
 abbrev pub limit_name : List ℕ
 limit_name = codes "band_limit"
 
 -- schema 1 and nothing else, with these rows: no limit was ever set
 pub record HoldsFirst (db : Database) (r : Rows) : Type 0 where
-  pub ten : HoldsTen 1 first_schema db r
+  pub ten : HoldsTen first_version first_schema db r
   pub no_limits : r.limits ≡ []
 
 -- the eleventh table is there and empty, and meta still has version 1
 pub record HoldsBetween (db : Database) (r : Rows) : Type 0 where
-  pub ten : HoldsTen 1 desk_schema db r
+  pub ten : HoldsTen first_version desk_schema db r
   pub no_limits : r.limits ≡ []
-  pub limit : db.trees 22 ≡ []
+  pub limit : db.trees limit_tree ≡ []

@@ -25,7 +25,7 @@ use Rattle.sqlite_value.specs.declared.value.Value.TheVariants.{Null, Int, Text,
 use Rattle.sqlite_schema.specs.declared.schema.Schema.{Schema}
 use Rattle.sqlite_value.specs.Order.{Row}
 use Rattle.sqlite.specs.Effect.{Database, IsDatabase}
-use Rattle.desk_rows.specs.Schema.{desk_schema}
+use Rattle.desk_rows.specs.Schema.{booking_tree, copy_tree, desk_schema, device_tree, gateway_tree, limit_tree, meta_tree, owner_tree, reply_tree, schema_version, sender_tree, session_tree, uplink_tree}
 
 -- ---- values
 
@@ -227,18 +227,18 @@ pub record HoldsTen (version : ℕ) (desk : Schema) (db : Database) (r : Rows) :
   pub schema : db.schema ≡ desk
   pub sound : IsDatabase db
   pub in_range : InRange r
-  pub meta : db.trees 0 ≡ table_of (meta_cells version) (r.settings ∷ [])
-  pub sender : db.trees 1 ≡ table_of sender_cells r.senders
-  pub reply : db.trees 3 ≡ table_of reply_cells r.replies
-  pub owner : db.trees 5 ≡ table_of name_cells r.owners
-  pub gateway : db.trees 7 ≡ table_of name_cells r.gateways
-  pub device : db.trees 9 ≡ table_of device_cells r.devices
-  pub session : db.trees 11 ≡ table_of session_cells r.sessions
-  pub uplink : db.trees 13 ≡ table_of uplink_cells r.uplinks
-  pub copy : db.trees 15 ≡ table_of reception_cells r.receptions
-  pub booking : db.trees 17 ≡ table_of booking_cells r.bookings
+  pub meta : db.trees meta_tree ≡ table_of (meta_cells version) (r.settings ∷ [])
+  pub sender : db.trees sender_tree ≡ table_of sender_cells r.senders
+  pub reply : db.trees reply_tree ≡ table_of reply_cells r.replies
+  pub owner : db.trees owner_tree ≡ table_of name_cells r.owners
+  pub gateway : db.trees gateway_tree ≡ table_of name_cells r.gateways
+  pub device : db.trees device_tree ≡ table_of device_cells r.devices
+  pub session : db.trees session_tree ≡ table_of session_cells r.sessions
+  pub uplink : db.trees uplink_tree ≡ table_of uplink_cells r.uplinks
+  pub copy : db.trees copy_tree ≡ table_of reception_cells r.receptions
+  pub booking : db.trees booking_tree ≡ table_of booking_cells r.bookings
 
 -- The database has schema 2 and nothing else, and its eleven tables store exactly these rows.
 pub record Holds (db : Database) (r : Rows) : Type 0 where
-  pub ten : HoldsTen 2 desk_schema db r
-  pub limit : db.trees 22 ≡ table_of limit_cells r.limits
+  pub ten : HoldsTen schema_version desk_schema db r
+  pub limit : db.trees limit_tree ≡ table_of limit_cells r.limits

@@ -7,6 +7,7 @@ ghost use Rattle.sqlite_value.specs.declared.value.Value.TheVariants.{Blob};
 ghost use Rattle.registry_core.specs.Numbered.{greatest, item_at};
 ghost use Rattle.desk_rows.specs.Replies.{reply_texts, kept_texts};
 ghost use Rattle.desk_rows.specs.Rows.{is_reply, last_number};
+ghost use Rattle.desk_rows.specs.Schema.{reply_tree};
 ghost use Rattle.desk_rows.specs.steps.Latest.{last_transaction_asked};
 ghost use Rattle.desk_rows.specs.steps.Texts.{AsksFor, by_rowid, is, reply_asked};
 ghost use Rattle.sqlite_sql.specs.Term.{col};
@@ -66,7 +67,7 @@ pub fn texts_of<S: Alter>(
 /// Returns the SQL text of the look-up of a message by its number.
 #[tactic(auto, unfolding(sqlite::specs::Listing::understood, sqlite_tied::specs::Compute::everything))]
 fn numbered_reply_text() -> &'static str
-    ensures { AsksFor result.now 1 (by_rowid 3 (is 0 0 ∷ []) (col 1 4 ∷ col 1 5 ∷ [])) (codes "message" ∷ codes "answer" ∷ []) }
+    ensures { AsksFor result.now 1 (by_rowid reply_tree (is 0 0 ∷ []) (col 1 4 ∷ col 1 5 ∷ [])) (codes "message" ∷ codes "answer" ∷ []) }
 {
     "SELECT message, answer FROM reply WHERE seq = ?1 ORDER BY seq"
 }

@@ -14,7 +14,7 @@ use Rattle.desk_rows.specs.Calls.{IsReadingCallOf}
 use Rattle.desk_rows.specs.Meta.{HasMeta, IsConfig, TellsMeta}
 use Rattle.desk_rows.specs.Migrating.{HoldsFirst, limit_name}
 use Rattle.desk_rows.specs.Rows.{Holds, Rows}
-use Rattle.desk_rows.specs.Schema.{first_schema}
+use Rattle.desk_rows.specs.Schema.{first_schema, first_version}
 use Rattle.desk_tables.specs.InOrder.{IsOfDesk}
 use Rattle.desk_tables.specs.Migrating.{IsOfFirstSchema}
 use Rattle.desk_tables.specs.steps.Calls.{IsReady}
@@ -40,8 +40,8 @@ pub moved_rows : (c : Settings) (kept : Kept) (before after : Database) (is : Is
 unfolding moved_desk
 moved_rows c kept before after is moves = refl
 
-pub first_tells : (c : Settings) (kept : Kept) (db : Database) → IsOfFirstSchema c kept db → TellsMeta db.trees (pos 1) c
-first_tells c kept db is = subst (TellsMeta db.trees (pos 1)) is.in_order.are.settings
+pub first_tells : (c : Settings) (kept : Kept) (db : Database) → IsOfFirstSchema c kept db → TellsMeta db.trees (pos first_version) c
+first_tells c kept db is = subst (TellsMeta db.trees (pos first_version)) is.in_order.are.settings
     (meta_tells 1 first_schema db is.in_order.rows is.in_order.held.ten (subst IsConfig (sym is.in_order.are.settings) is.config))
 
 pub first_has_meta : (schema : Schema) → schema ≡ first_schema → HasMeta schema

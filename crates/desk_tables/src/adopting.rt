@@ -10,7 +10,7 @@ ghost use Rattle.desk_store.specs.Kept.{IsOneOf, Kept};
 ghost use Rattle.desk_store.specs.declared.faults.StoreFault.TheVariants.{Exists, NotADesk, SchemaVersion};
 ghost use Rattle.desk_rows.specs.Meta.{HasMeta, IsConfig, TellsMeta};
 ghost use Rattle.desk_rows.specs.Rows.{Holds, Rows};
-ghost use Rattle.desk_rows.specs.Schema.{desk_schema, no_schema};
+ghost use Rattle.desk_rows.specs.Schema.{desk_schema, no_schema, schema_version};
 ghost use Rattle.desk_rows.specs.order.Changes.{opening_rows};
 ghost use Rattle.desk_tables.specs.Adopting.{IsGivenBack, IsStore, opening_kept};
 ghost use Rattle.desk_tables.specs.InOrder.{AreOfDesk, IsOfDesk};
@@ -94,16 +94,16 @@ impl<S: Alter> Tables<S> {
         requires idle { conn.in_transaction ≡ false }
         requires unlimited { conn.step_limit ≡ None }
         ensures desk { IfOk result (λ t. (meaning_of S.Store).sound t → (conn.schema ≡ desk_schema)
-            × TellsMeta (state S.Store conn).now.trees (pos 2) ((meaning_of S.Store).configuration t)) }
+            × TellsMeta (state S.Store conn).now.trees (pos schema_version) ((meaning_of S.Store).configuration t)) }
         ensures in_order { (c : Settings) (kept : Kept) → IsOfDesk c kept (state S.Store conn).now
             → IfOk result (λ t. (meaning_of S.Store).sound t → IsStore (meaning_of S.Store) t c kept) }
         ensures unavailable { (c : Settings) (kept : Kept) → IsOfDesk c kept (state S.Store conn).now
             → IfErr result (λ back. HasCleanDisk (state S.Store back.1) → IsUnavailability back.0) }
         ensures not_a_desk { IfErr result (λ back. HasCleanDisk (state S.Store back.1) → back.0 ≡ NotADesk → conn.schema ≡ desk_schema
-            → (c : Settings) → TellsMeta (state S.Store conn).now.trees (pos 2) c → (r : Rows) → ¬ Holds (state S.Store conn).now r) }
+            → (c : Settings) → TellsMeta (state S.Store conn).now.trees (pos schema_version) c → (r : Rows) → ¬ Holds (state S.Store conn).now r) }
         ensures version { IfErr result (λ back. HasCleanDisk (state S.Store back.1) → back.0 ≡ SchemaVersion → HasMeta conn.schema
-            × ((version : ℤ) × (c : Settings) × TellsMeta (state S.Store conn).now.trees version c × (version ≢ pos 2))) }
-        ensures other_version { HasMeta conn.schema → (version : ℤ) (c : Settings) → TellsMeta (state S.Store conn).now.trees version c → version ≢ pos 2
+            × ((version : ℤ) × (c : Settings) × TellsMeta (state S.Store conn).now.trees version c × (version ≢ pos schema_version))) }
+        ensures other_version { HasMeta conn.schema → (version : ℤ) (c : Settings) → TellsMeta (state S.Store conn).now.trees version c → version ≢ pos schema_version
             → IfErr result (λ back. HasCleanDisk (state S.Store back.1) → back.0 ≢ NotADesk) }
         ensures never { IfErr result (λ back. back.0 ≢ Exists) }
         ensures rests { IfOk result (λ t. (meaning_of S.Store).sound t → (meaning_of S.Store).rests t (state S.Store conn).now) }

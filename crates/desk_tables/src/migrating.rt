@@ -10,7 +10,7 @@ ghost use Rattle.desk_store.specs.declared.faults.StoreFault.TheVariants.{Exists
 ghost use Rattle.desk_rows.specs.Meta.{HasMeta, TellsMeta};
 ghost use Rattle.desk_rows.specs.Migrating.{HoldsFirst, limit_name};
 ghost use Rattle.desk_rows.specs.Rows.{Rows};
-ghost use Rattle.desk_rows.specs.Schema.{first_schema};
+ghost use Rattle.desk_rows.specs.Schema.{first_schema, first_version};
 ghost use Rattle.desk_tables.specs.Adopting.{IsGivenBack, IsStore};
 ghost use Rattle.desk_tables.specs.InOrder.{AreOfDesk};
 ghost use Rattle.desk_tables.specs.Migrating.{IsOfFirstSchema};
@@ -34,17 +34,17 @@ use std::alloc::Global;
 fn first_desk<S: Alter>(conn: &mut Connection<S>) -> Result<Config, StoreFault>
     requires idle { conn.old.in_transaction ≡ false }
     requires unlimited { conn.old.step_limit ≡ None }
-    ensures desk { HasCleanDisk (state S.Store conn.new) → IfOk result (λ c. (conn.old.schema ≡ first_schema) × TellsMeta (state S.Store conn.old).now.trees (pos 1) c) }
+    ensures desk { HasCleanDisk (state S.Store conn.new) → IfOk result (λ c. (conn.old.schema ≡ first_schema) × TellsMeta (state S.Store conn.old).now.trees (pos first_version) c) }
     ensures in_order { HasCleanDisk (state S.Store conn.new) → conn.old.schema ≡ first_schema → (c : Settings)
-        → TellsMeta (state S.Store conn.old).now.trees (pos 1) c → IfErr result IsUnavailability }
+        → TellsMeta (state S.Store conn.old).now.trees (pos first_version) c → IfErr result IsUnavailability }
     ensures version { HasCleanDisk (state S.Store conn.new) → result ≡ Err SchemaVersion
-        → HasMeta conn.old.schema × ((version : ℤ) × (c : Settings) × TellsMeta (state S.Store conn.old).now.trees version c × (version ≢ pos 1)) }
+        → HasMeta conn.old.schema × ((version : ℤ) × (c : Settings) × TellsMeta (state S.Store conn.old).now.trees version c × (version ≢ pos first_version)) }
     ensures other_version { HasCleanDisk (state S.Store conn.new) → HasMeta conn.old.schema → (version : ℤ) (c : Settings)
-        → TellsMeta (state S.Store conn.old).now.trees version c → version ≢ pos 1 → IfErr result (λ fault. (fault ≡ SchemaVersion) ⊎ IsUnavailability fault) }
+        → TellsMeta (state S.Store conn.old).now.trees version c → version ≢ pos first_version → IfErr result (λ fault. (fault ≡ SchemaVersion) ⊎ IsUnavailability fault) }
     ensures exists { HasCleanDisk (state S.Store conn.new) → result ≡ Err Exists
-        → HasMeta conn.old.schema × ((c : Settings) × TellsMeta (state S.Store conn.old).now.trees (pos 1) c) × IsTrue (is_used conn.old.schema limit_name) }
+        → HasMeta conn.old.schema × ((c : Settings) × TellsMeta (state S.Store conn.old).now.trees (pos first_version) c) × IsTrue (is_used conn.old.schema limit_name) }
     ensures taken { HasCleanDisk (state S.Store conn.new) → HasMeta conn.old.schema → (c : Settings)
-        → TellsMeta (state S.Store conn.old).now.trees (pos 1) c → IsTrue (is_used conn.old.schema limit_name) → IfErr result (λ fault. (fault ≡ Exists) ⊎ IsUnavailability fault) }
+        → TellsMeta (state S.Store conn.old).now.trees (pos first_version) c → IsTrue (is_used conn.old.schema limit_name) → IfErr result (λ fault. (fault ≡ Exists) ⊎ IsUnavailability fault) }
     ensures same { HasCleanDisk (state S.Store conn.new) → OnOk result (IsUnchanged (state S.Store conn.old) (state S.Store conn.new)) }
     ensures undone { HasCleanDisk (state S.Store conn.new) → IsTrue (state S.Store conn.new).is_open
         → OnErr result (((state S.Store conn.new).now ≡ (state S.Store conn.old).now) × ((state S.Store conn.new).committed ≡ (state S.Store conn.old).committed)) }
@@ -103,20 +103,20 @@ impl<S: Alter> Tables<S> {
         requires idle { conn.in_transaction ≡ false }
         requires unlimited { conn.step_limit ≡ None }
         ensures desk { IfOk result (λ t. (meaning_of S.Store).sound t → (conn.schema ≡ first_schema)
-            × TellsMeta (state S.Store conn).now.trees (pos 1) ((meaning_of S.Store).configuration t)) }
+            × TellsMeta (state S.Store conn).now.trees (pos first_version) ((meaning_of S.Store).configuration t)) }
         ensures in_order { (c : Settings) (kept : Kept) → IsOfFirstSchema c kept (state S.Store conn).now
             → IfOk result (λ t. (meaning_of S.Store).sound t → IsStore (meaning_of S.Store) t c kept) }
         ensures unavailable { (c : Settings) (kept : Kept) → IsOfFirstSchema c kept (state S.Store conn).now
             → IfErr result (λ back. HasCleanDisk (state S.Store back.1) → IsUnavailability back.0) }
         ensures not_a_desk { IfErr result (λ back. HasCleanDisk (state S.Store back.1) → back.0 ≡ NotADesk → conn.schema ≡ first_schema
-            → (c : Settings) → TellsMeta (state S.Store conn).now.trees (pos 1) c → (r : Rows) → ¬ HoldsFirst (state S.Store conn).now r) }
+            → (c : Settings) → TellsMeta (state S.Store conn).now.trees (pos first_version) c → (r : Rows) → ¬ HoldsFirst (state S.Store conn).now r) }
         ensures version { IfErr result (λ back. HasCleanDisk (state S.Store back.1) → back.0 ≡ SchemaVersion → HasMeta conn.schema
-            × ((version : ℤ) × (c : Settings) × TellsMeta (state S.Store conn).now.trees version c × (version ≢ pos 1))) }
-        ensures other_version { HasMeta conn.schema → (version : ℤ) (c : Settings) → TellsMeta (state S.Store conn).now.trees version c → version ≢ pos 1
+            × ((version : ℤ) × (c : Settings) × TellsMeta (state S.Store conn).now.trees version c × (version ≢ pos first_version))) }
+        ensures other_version { HasMeta conn.schema → (version : ℤ) (c : Settings) → TellsMeta (state S.Store conn).now.trees version c → version ≢ pos first_version
             → IfErr result (λ back. HasCleanDisk (state S.Store back.1) → (back.0 ≡ SchemaVersion) ⊎ IsUnavailability back.0) }
         ensures exists { IfErr result (λ back. HasCleanDisk (state S.Store back.1) → back.0 ≡ Exists → HasMeta conn.schema
-            × ((c : Settings) × TellsMeta (state S.Store conn).now.trees (pos 1) c) × IsTrue (is_used conn.schema limit_name)) }
-        ensures taken { HasMeta conn.schema → (c : Settings) → TellsMeta (state S.Store conn).now.trees (pos 1) c → IsTrue (is_used conn.schema limit_name)
+            × ((c : Settings) × TellsMeta (state S.Store conn).now.trees (pos first_version) c) × IsTrue (is_used conn.schema limit_name)) }
+        ensures taken { HasMeta conn.schema → (c : Settings) → TellsMeta (state S.Store conn).now.trees (pos first_version) c → IsTrue (is_used conn.schema limit_name)
             → IfErr result (λ back. HasCleanDisk (state S.Store back.1) → (back.0 ≡ Exists) ⊎ IsUnavailability back.0) }
         ensures clean { IfOk result (λ t. (meaning_of S.Store).sound t → HasCleanDisk (state S.Store conn)) }
         ensures undone { IfErr result (λ back. HasCleanDisk (state S.Store back.1) → IsTrue (state S.Store back.1).is_open
@@ -124,7 +124,7 @@ impl<S: Alter> Tables<S> {
         ensures given_back { (c : Settings) (kept : Kept) → IsOfFirstSchema c kept (state S.Store conn).now
             → IfErr result (λ back. IsGivenBack (state S.Store conn) (state S.Store back.1) (AreOfDesk c kept)) }
         ensures refused { IfErr result (λ back. back.0 ≡ NotADesk → IsGivenBack (state S.Store conn) (state S.Store back.1) (λ _. ⊥)) }
-        ensures untouched { (conn.schema ≡ first_schema → (c : Settings) → ¬ TellsMeta (state S.Store conn).now.trees (pos 1) c)
+        ensures untouched { (conn.schema ≡ first_schema → (c : Settings) → ¬ TellsMeta (state S.Store conn).now.trees (pos first_version) c)
             → IfErr result (λ back. IsGivenBack (state S.Store conn) (state S.Store back.1) (λ _. ⊥)) }
     {
         let mut conn = conn;

@@ -7,7 +7,7 @@ ghost use Rattle.desk_store.specs.Calls.{IsUnavailability};
 ghost use Rattle.desk_store.specs.declared.faults.StoreFault.TheVariants.{Exists, NotADesk, SchemaVersion};
 ghost use Rattle.desk_rows.specs.Meta.{HasMeta, IsConfig, TellsMeta};
 ghost use Rattle.desk_rows.specs.Rows.{Holds, Rows};
-ghost use Rattle.desk_rows.specs.Schema.{desk_schema};
+ghost use Rattle.desk_rows.specs.Schema.{desk_schema, schema_version};
 
 use crate::desk_shape::{has_meta, is_desk};
 use crate::faults::store_fault;
@@ -59,14 +59,14 @@ pub(crate) fn config_at<S: Alter>(
 pub fn open_desk<S: Alter>(conn: &mut Connection<S>) -> Result<Config, StoreFault>
     requires idle { conn.old.in_transaction ≡ false }
     requires unlimited { conn.old.step_limit ≡ None }
-    ensures desk { HasCleanDisk (state S.Store conn.new) → IfOk result (λ c. (conn.old.schema ≡ desk_schema) × TellsMeta (state S.Store conn.old).now.trees (pos 2) c) }
+    ensures desk { HasCleanDisk (state S.Store conn.new) → IfOk result (λ c. (conn.old.schema ≡ desk_schema) × TellsMeta (state S.Store conn.old).now.trees (pos schema_version) c) }
     ensures in_order { HasCleanDisk (state S.Store conn.new) → (r : Rows) → Holds (state S.Store conn.old).now r → IfOk result (λ c. c ≡ r.settings) }
     ensures unavailable { HasCleanDisk (state S.Store conn.new) → (r : Rows) → Holds (state S.Store conn.old).now r → IsConfig r.settings → IfErr result IsUnavailability }
-    ensures not_a_desk { HasCleanDisk (state S.Store conn.new) → result ≡ Err NotADesk → conn.old.schema ≡ desk_schema → (c : Settings) → ¬ TellsMeta (state S.Store conn.old).now.trees (pos 2) c }
+    ensures not_a_desk { HasCleanDisk (state S.Store conn.new) → result ≡ Err NotADesk → conn.old.schema ≡ desk_schema → (c : Settings) → ¬ TellsMeta (state S.Store conn.old).now.trees (pos schema_version) c }
     ensures version { HasCleanDisk (state S.Store conn.new) → result ≡ Err SchemaVersion
-        → HasMeta conn.old.schema × ((version : ℤ) × (c : Settings) × TellsMeta (state S.Store conn.old).now.trees version c × (version ≢ pos 2)) }
+        → HasMeta conn.old.schema × ((version : ℤ) × (c : Settings) × TellsMeta (state S.Store conn.old).now.trees version c × (version ≢ pos schema_version)) }
     ensures other_version { HasCleanDisk (state S.Store conn.new) → HasMeta conn.old.schema → (version : ℤ) (c : Settings)
-        → TellsMeta (state S.Store conn.old).now.trees version c → version ≢ pos 2 → result ≢ Err NotADesk }
+        → TellsMeta (state S.Store conn.old).now.trees version c → version ≢ pos schema_version → result ≢ Err NotADesk }
     ensures never { result ≢ Err Exists }
     ensures same { HasCleanDisk (state S.Store conn.new) → OnOk result (IsUnchanged (state S.Store conn.old) (state S.Store conn.new)) }
     ensures undone { HasCleanDisk (state S.Store conn.new) → IsTrue (state S.Store conn.new).is_open

@@ -12,7 +12,7 @@ use Rattle.registry_core.specs.Heard.{IsHeard}
 use Rattle.registry_core.specs.Settings.{Settings}
 use Rattle.desk_rows.specs.Meta.{HasMeta, TellsMeta}
 use Rattle.desk_rows.specs.Migrating.{limit_name}
-use Rattle.desk_rows.specs.Schema.{first_schema}
+use Rattle.desk_rows.specs.Schema.{first_schema, first_version}
 use Rattle.desk_tables.specs.Adopting.{IsGivenBack}
 use Rattle.desk_tables.specs.InOrder.{AreOfDesk}
 use Rattle.desk_tables.specs.Migrating.{IsOfFirstSchema}
@@ -55,13 +55,13 @@ pub record MigratesBy {S : Type 0} (g : Ghosts S) (conn back : Held S) {T : Type
       → ((state g back).now ≡ (state g conn).now) × ((state g back).committed ≡ (state g conn).committed))
   pub given_back : (c : Settings) (heard : List Envelope) → HasHeardInFirst c heard (state g conn).now
       → OnErr result (IsGivenBack (state g conn) (state g back) (AreOfDesk c (kept_after c heard)))
-  pub first : OnOk result (HasCleanDisk (state g back) → (conn.schema ≡ first_schema) × IsOfVersion g conn (pos 1))
+  pub first : OnOk result (HasCleanDisk (state g back) → (conn.schema ≡ first_schema) × IsOfVersion g conn (pos first_version))
   pub told : OnErr result ((result ≡ Err NotADesk) ⊎ ((result ≡ Err Schema) ⊎ ((result ≡ Err Exists) ⊎ (result ≡ Err Unavailable))))
-  pub version : HasCleanDisk (state g back) → result ≡ Err Schema → (version : ℤ) × IsOfVersion g conn version × (version ≢ pos 1)
-  pub other_version : (version : ℤ) → IsOfVersion g conn version → version ≢ pos 1
+  pub version : HasCleanDisk (state g back) → result ≡ Err Schema → (version : ℤ) × IsOfVersion g conn version × (version ≢ pos first_version)
+  pub other_version : (version : ℤ) → IsOfVersion g conn version → version ≢ pos first_version
       → OnErr result (HasCleanDisk (state g back) → (result ≡ Err Schema) ⊎ (result ≡ Err Unavailable))
-  pub exists : HasCleanDisk (state g back) → result ≡ Err Exists → IsOfVersion g conn (pos 1) × IsTrue (is_used conn.schema limit_name)
-  pub taken : IsOfVersion g conn (pos 1) → IsTrue (is_used conn.schema limit_name)
+  pub exists : HasCleanDisk (state g back) → result ≡ Err Exists → IsOfVersion g conn (pos first_version) × IsTrue (is_used conn.schema limit_name)
+  pub taken : IsOfVersion g conn (pos first_version) → IsTrue (is_used conn.schema limit_name)
       → OnErr result (HasCleanDisk (state g back) → (result ≡ Err Exists) ⊎ (result ≡ Err Unavailable))
-  pub untouched : (conn.schema ≡ first_schema → (c : Settings) → ¬ TellsMeta (state g conn).now.trees (pos 1) c)
+  pub untouched : (conn.schema ≡ first_schema → (c : Settings) → ¬ TellsMeta (state g conn).now.trees (pos first_version) c)
       → OnErr result (IsGivenBack (state g conn) (state g back) (λ _. ⊥))

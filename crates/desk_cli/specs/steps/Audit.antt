@@ -20,6 +20,7 @@ use Rattle.desk_cli.specs.declared.audit.Table.{Table}
 use Rattle.desk_cli.specs.declared.audit.Table.TheVariants.{Meta, Sender, Reply, Owner, Gateway, Device, Session, Uplink, Copy, Booking, BandLimit}
 use Rattle.desk_cli.specs.declared.audit.walking.Comparison.{Comparison}
 use Rattle.desk_cli.specs.declared.audit.walking.Comparison.TheVariants.{Same, Differs}
+use Rattle.desk_rows.specs.Schema.{booking_tree, copy_tree, device_tree, gateway_tree, limit_tree, meta_tree, owner_tree, reply_tree, sender_tree, session_tree, uplink_tree}
 
 -- ---- two lists of rows
 
@@ -39,17 +40,17 @@ Compares one other (Differs place) = DifferFirst one other place
 
 -- the number of a table's tree
 abbrev pub tree_of : Table → ℕ
-tree_of Meta = 0
-tree_of Sender = 1
-tree_of Reply = 3
-tree_of Owner = 5
-tree_of Gateway = 7
-tree_of Device = 9
-tree_of Session = 11
-tree_of Uplink = 13
-tree_of Copy = 15
-tree_of Booking = 17
-tree_of BandLimit = 22
+tree_of Meta = meta_tree
+tree_of Sender = sender_tree
+tree_of Reply = reply_tree
+tree_of Owner = owner_tree
+tree_of Gateway = gateway_tree
+tree_of Device = device_tree
+tree_of Session = session_tree
+tree_of Uplink = uplink_tree
+tree_of Copy = copy_tree
+tree_of Booking = booking_tree
+tree_of BandLimit = limit_tree
 
 -- the tables that are compared after the replies, in the order of the schema
 abbrev pub later_tables : List Table

@@ -13,7 +13,7 @@ use Rattle.sqlite.specs.Command.{Command}
 use Rattle.sqlite.specs.Command.TheVariants.{Insert, Select, Update}
 use Rattle.sqlite.specs.Listing.{understood, reads_listing}
 use Rattle.sqlite.specs.Source.TheVariants.{Values}
-use Rattle.desk_rows.specs.Schema.{desk_schema}
+use Rattle.desk_rows.specs.Schema.{booking_tree, copy_tree, desk_schema, device_tree, reply_tree, sender_tree, session_tree, uplink_tree}
 
 -- ---- queries
 
@@ -99,12 +99,12 @@ AsksFor = AsksOf desk_schema
 -- ---- what some of them ask for
 
 -- a booking that isn't dropped answers the uplink or not
-abbrev pub answer_asked : Asked (17 ∷ [])
-answer_asked = by_rowid 17 (is 2 0 ∷ undropped ∷ []) (lit (Int (pos 1)) ∷ [])
+abbrev pub answer_asked : Asked (booking_tree ∷ [])
+answer_asked = by_rowid booking_tree (is 2 0 ∷ undropped ∷ []) (lit (Int (pos 1)) ∷ [])
 
 -- start and airtime of the bookings of a gateway in a band that aren't dropped, by start and then by number
-abbrev pub bookings_asked : Asked (17 ∷ [])
-bookings_asked = all_by (17 ∷ []) (is 3 0 ∷ is 6 1 ∷ undropped ∷ []) (col 1 7 ∷ col 1 8 ∷ []) ((col 1 7, rising) ∷ (col 1 0, rising) ∷ [])
+abbrev pub bookings_asked : Asked (booking_tree ∷ [])
+bookings_asked = all_by (booking_tree ∷ []) (is 3 0 ∷ is 6 1 ∷ undropped ∷ []) (col 1 7 ∷ col 1 8 ∷ []) ((col 1 7, rising) ∷ (col 1 0, rising) ∷ [])
 
 -- a column is above a parameter, not below one, and below one
 abbrev pub above : ℕ → ℕ → Term
@@ -117,12 +117,12 @@ abbrev pub below : ℕ → ℕ → Term
 below place param = op2 (Compare Lt Binary) (col 1 place) (col 0 param)
 
 -- start, airtime and band of a gateway's bookings between two starts that aren't dropped, by start and then by number
-abbrev pub near_asked : Asked (17 ∷ [])
-near_asked = all_by (17 ∷ []) (is 3 0 ∷ above 7 1 ∷ below 7 2 ∷ undropped ∷ []) (col 1 7 ∷ col 1 8 ∷ col 1 6 ∷ []) ((col 1 7, rising) ∷ (col 1 0, rising) ∷ [])
+abbrev pub near_asked : Asked (booking_tree ∷ [])
+near_asked = all_by (booking_tree ∷ []) (is 3 0 ∷ above 7 1 ∷ below 7 2 ∷ undropped ∷ []) (col 1 7 ∷ col 1 8 ∷ col 1 6 ∷ []) ((col 1 7, rising) ∷ (col 1 0, rising) ∷ [])
 
 -- the numbers of a gateway's bookings that start at a parameter or later and before another, by start and then by number
-abbrev pub bookings_between_asked : Asked (17 ∷ [])
-bookings_between_asked = all_by (17 ∷ []) (is 3 0 ∷ at_least 7 1 ∷ below 7 2 ∷ []) (col 1 0 ∷ []) ((col 1 7, rising) ∷ (col 1 0, rising) ∷ [])
+abbrev pub bookings_between_asked : Asked (booking_tree ∷ [])
+bookings_between_asked = all_by (booking_tree ∷ []) (is 3 0 ∷ at_least 7 1 ∷ below 7 2 ∷ []) (col 1 0 ∷ []) ((col 1 7, rising) ∷ (col 1 0, rising) ∷ [])
 
 -- two columns, or a column and a parameter, are equal
 abbrev pub equal : Term → Term → Term
@@ -130,29 +130,29 @@ equal a b = op2 (Compare Eq Binary) a b
 
 -- Of each session with the device in a parameter, and each uplink that names it and starts at a parameter or later and before another: these
 -- columns of those that pass more tests, by start and then by number.
-abbrev pub uplinks_asked : List Term → List Term → Asked (11 ∷ 13 ∷ [])
-uplinks_asked more project = all_by (11 ∷ 13 ∷ []) (equal (col 2 2) (col 1 0) ∷ equal (col 1 2) (col 0 0)
+abbrev pub uplinks_asked : List Term → List Term → Asked (session_tree ∷ uplink_tree ∷ [])
+uplinks_asked more project = all_by (session_tree ∷ uplink_tree ∷ []) (equal (col 2 2) (col 1 0) ∷ equal (col 1 2) (col 0 0)
     ∷ op2 (Compare Ge Binary) (col 2 6) (col 0 1) ∷ op2 (Compare Lt Binary) (col 2 6) (col 0 2) ∷ more)
     project ((col 2 6, rising) ∷ (col 2 0, rising) ∷ [])
 
 -- the numbers of a device's uplinks in a range of starts
-abbrev pub uplinks_between_asked : Asked (11 ∷ 13 ∷ [])
+abbrev pub uplinks_between_asked : Asked (session_tree ∷ uplink_tree ∷ [])
 uplinks_between_asked = uplinks_asked [] (col 2 0 ∷ [])
 
 -- both texts of the message with a sender and a transaction number
-abbrev pub reply_asked : Asked (3 ∷ [])
-reply_asked = by_rowid 3 (is 2 0 ∷ is 3 1 ∷ []) (col 1 4 ∷ col 1 5 ∷ [])
+abbrev pub reply_asked : Asked (reply_tree ∷ [])
+reply_asked = by_rowid reply_tree (is 2 0 ∷ is 3 1 ∷ []) (col 1 4 ∷ col 1 5 ∷ [])
 
 -- the next downlink counter of the session with the number
-abbrev pub next_down_asked : Asked (11 ∷ [])
-next_down_asked = by_rowid 11 (is 0 0 ∷ []) (col 1 4 ∷ [])
+abbrev pub next_down_asked : Asked (session_tree ∷ [])
+next_down_asked = by_rowid session_tree (is 0 0 ∷ []) (col 1 4 ∷ [])
 
 -- the role of the sender with the name
-abbrev pub role_asked : Asked (1 ∷ [])
-role_asked = by_rowid 1 (is 1 0 ∷ []) (col 1 2 ∷ [])
+abbrev pub role_asked : Asked (sender_tree ∷ [])
+role_asked = by_rowid sender_tree (is 1 0 ∷ []) (col 1 2 ∷ [])
 
 -- the DevEUI of an owner's first device above another
-abbrev pub device_after_asked : Asked (9 ∷ [])
+abbrev pub device_after_asked : Asked (device_tree ∷ [])
 device_after_asked = record { terms = is 3 0 ∷ above 1 1 ∷ []; project = col 1 1 ∷ []; order = (col 1 1, rising) ∷ (col 1 0, rising) ∷ []; one = true }
 
 -- a column of the rows that pass, in its order and then by rowid
@@ -164,8 +164,8 @@ abbrev pub all_asked : (tree : ℕ) → Asked (tree ∷ [])
 all_asked tree = column_asked tree [] 1
 
 -- the gateways of an uplink's receptions
-abbrev pub gateways_asked : Asked (15 ∷ [])
-gateways_asked = column_asked 15 (is 1 0 ∷ []) 2
+abbrev pub gateways_asked : Asked (copy_tree ∷ [])
+gateways_asked = column_asked copy_tree (is 1 0 ∷ []) 2
 
 -- ---- texts of INSERT and UPDATE
 
