@@ -34,9 +34,7 @@ impl<S: Alter> Looks for Tables<S> {
     }
 
     fn role_of(&mut self, name: &Name) -> Result<Option<Role>, StoreFault> {
-        if self.failed {
-            return Err(StoreFault::Disk);
-        }
+        self.working()?;
         if let Some(role) = self.seen.role_seen(name) {
             return Ok(Some(role));
         }
@@ -51,57 +49,43 @@ impl<S: Alter> Looks for Tables<S> {
     }
 
     fn texts_of(&mut self, envelope: &Envelope) -> Result<Option<EntryTexts>, StoreFault> {
-        if self.failed {
-            return Err(StoreFault::Disk);
-        }
+        self.working()?;
         let answer = texts::texts_of(&mut self.conn, envelope);
         self.store_result(answer)
     }
 
     fn entry(&mut self, number: u64) -> Result<Option<EntryTexts>, StoreFault> {
-        if self.failed {
-            return Err(StoreFault::Disk);
-        }
+        self.working()?;
         let answer = texts::entry(&mut self.conn, number);
         self.store_result(answer)
     }
 
     fn has_owner(&mut self, name: &Name) -> Result<bool, StoreFault> {
-        if self.failed {
-            return Err(StoreFault::Disk);
-        }
+        self.working()?;
         let answer = owner_is_known(&mut self.conn, name);
         self.store_result(answer)
     }
 
     fn has_gateway(&mut self, name: &Name) -> Result<bool, StoreFault> {
-        if self.failed {
-            return Err(StoreFault::Disk);
-        }
+        self.working()?;
         let answer = gateway_is_known(&mut self.conn, name);
         self.store_result(answer)
     }
 
     fn device(&mut self, dev_eui: Eui) -> Result<Option<Device>, StoreFault> {
-        if self.failed {
-            return Err(StoreFault::Disk);
-        }
+        self.working()?;
         let answer = desk_rows::device(&mut self.conn, dev_eui);
         self.store_result(answer)
     }
 
     fn last_nonce(&mut self, device: Eui) -> Result<Option<u16>, StoreFault> {
-        if self.failed {
-            return Err(StoreFault::Disk);
-        }
+        self.working()?;
         let answer = desk_rows::last_nonce(&mut self.conn, device);
         self.store_result(answer)
     }
 
     fn session(&mut self, number: u64) -> Result<Option<Session>, StoreFault> {
-        if self.failed {
-            return Err(StoreFault::Disk);
-        }
+        self.working()?;
         let answer = sessions::session(&mut self.conn, number);
         match self.store_result(answer) {
             Ok(found) => {
@@ -113,9 +97,7 @@ impl<S: Alter> Looks for Tables<S> {
     }
 
     fn last_counter(&mut self, session: u64) -> Result<Option<u32>, StoreFault> {
-        if self.failed {
-            return Err(StoreFault::Disk);
-        }
+        self.working()?;
         let answer = sessions::last_counter(&mut self.conn, session);
         match self.store_result(answer) {
             Ok(found) => {
@@ -127,9 +109,7 @@ impl<S: Alter> Looks for Tables<S> {
     }
 
     fn is_below_floor(&mut self, device: Eui, session: u64) -> Result<bool, StoreFault> {
-        if self.failed {
-            return Err(StoreFault::Disk);
-        }
+        self.working()?;
         let answer = sessions::is_below_floor(&mut self.conn, device, session);
         match self.store_result(answer) {
             Ok(found) => {
@@ -141,9 +121,7 @@ impl<S: Alter> Looks for Tables<S> {
     }
 
     fn join_with(&mut self, device: Eui, nonce: u16) -> Result<Option<(u64, Uplink)>, StoreFault> {
-        if self.failed {
-            return Err(StoreFault::Disk);
-        }
+        self.working()?;
         let answer = uplinks::join_with(&mut self.conn, device, nonce);
         self.store_result(answer)
     }
@@ -153,9 +131,7 @@ impl<S: Alter> Looks for Tables<S> {
         session: u64,
         counter: u32,
     ) -> Result<Option<(u64, Uplink)>, StoreFault> {
-        if self.failed {
-            return Err(StoreFault::Disk);
-        }
+        self.working()?;
         if self.seen.is_after(session, counter) {
             return Ok(None);
         }
@@ -164,9 +140,7 @@ impl<S: Alter> Looks for Tables<S> {
     }
 
     fn uplink(&mut self, number: u64) -> Result<Option<Uplink>, StoreFault> {
-        if self.failed {
-            return Err(StoreFault::Disk);
-        }
+        self.working()?;
         let answer = uplinks::uplink(&mut self.conn, number);
         self.store_result(answer)
     }
@@ -176,41 +150,31 @@ impl<S: Alter> Looks for Tables<S> {
         uplink: u64,
         gateway: &Name,
     ) -> Result<Option<Reception>, StoreFault> {
-        if self.failed {
-            return Err(StoreFault::Disk);
-        }
+        self.working()?;
         let answer = uplinks::reception_at(&mut self.conn, uplink, gateway);
         self.store_result(answer)
     }
 
     fn is_answered(&mut self, uplink: u64) -> Result<bool, StoreFault> {
-        if self.failed {
-            return Err(StoreFault::Disk);
-        }
+        self.working()?;
         let answer = uplinks::is_answered(&mut self.conn, uplink);
         self.store_result(answer)
     }
 
     fn next_down(&mut self, session: u64) -> Result<u64, StoreFault> {
-        if self.failed {
-            return Err(StoreFault::Disk);
-        }
+        self.working()?;
         let answer = sessions::next_down(&mut self.conn, session);
         self.store_result(answer)
     }
 
     fn booking(&mut self, number: u64) -> Result<Option<Booking>, StoreFault> {
-        if self.failed {
-            return Err(StoreFault::Disk);
-        }
+        self.working()?;
         let answer = uplinks::booking(&mut self.conn, number);
         self.store_result(answer)
     }
 
     fn near(&mut self, gateway: &Name, start: u64) -> Result<Vec<NearBooking>, StoreFault> {
-        if self.failed {
-            return Err(StoreFault::Disk);
-        }
+        self.working()?;
         arranged_rows_tell();
         orders_hold();
         let answer = desk_rows::near(self.alloc, &mut self.conn, gateway, start);
@@ -218,24 +182,18 @@ impl<S: Alter> Looks for Tables<S> {
     }
 
     fn limit_of(&mut self, gateway: &Name, band: Band) -> Result<u64, StoreFault> {
-        if self.failed {
-            return Err(StoreFault::Disk);
-        }
+        self.working()?;
         let answer = limits::limit_of(&mut self.conn, gateway, band);
         self.store_result(answer)
     }
 
     fn counts(&mut self) -> Result<Counts, StoreFault> {
-        if self.failed {
-            return Err(StoreFault::Disk);
-        }
+        self.working()?;
         Ok(self.counts)
     }
 
     fn next_device(&mut self, owner: &Name, after: Option<Eui>) -> Result<Option<Eui>, StoreFault> {
-        if self.failed {
-            return Err(StoreFault::Disk);
-        }
+        self.working()?;
         arranged_rows_tell();
         orders_hold();
         let answer = desk_rows::next_device(&mut self.conn, owner, after);
@@ -249,9 +207,7 @@ impl<S: Alter> Looks for Tables<S> {
         from: i64,
         to: i64,
     ) -> Result<Vec<Span>, StoreFault> {
-        if self.failed {
-            return Err(StoreFault::Disk);
-        }
+        self.working()?;
         arranged_rows_tell();
         orders_hold();
         let answer = desk_rows::uplinks_of(self.alloc, &mut self.conn, device, band, from, to);
@@ -259,9 +215,7 @@ impl<S: Alter> Looks for Tables<S> {
     }
 
     fn bookings_of(&mut self, gateway: &Name, band: Band) -> Result<Vec<Span>, StoreFault> {
-        if self.failed {
-            return Err(StoreFault::Disk);
-        }
+        self.working()?;
         arranged_rows_tell();
         orders_hold();
         let answer = desk_rows::bookings_of(self.alloc, &mut self.conn, gateway, band);
@@ -269,70 +223,54 @@ impl<S: Alter> Looks for Tables<S> {
     }
 
     fn senders(&mut self) -> Result<Vec<Name>, StoreFault> {
-        if self.failed {
-            return Err(StoreFault::Disk);
-        }
+        self.working()?;
         listed_rows_tell();
         let answer = sender_names(self.alloc, &mut self.conn);
         self.store_result(answer)
     }
 
     fn owners(&mut self) -> Result<Vec<Name>, StoreFault> {
-        if self.failed {
-            return Err(StoreFault::Disk);
-        }
+        self.working()?;
         listed_rows_tell();
         let answer = owner_names(self.alloc, &mut self.conn);
         self.store_result(answer)
     }
 
     fn gateways(&mut self) -> Result<Vec<Name>, StoreFault> {
-        if self.failed {
-            return Err(StoreFault::Disk);
-        }
+        self.working()?;
         listed_rows_tell();
         let answer = gateway_names(self.alloc, &mut self.conn);
         self.store_result(answer)
     }
 
     fn devices(&mut self) -> Result<Vec<Eui>, StoreFault> {
-        if self.failed {
-            return Err(StoreFault::Disk);
-        }
+        self.working()?;
         listed_rows_tell();
         let answer = device_euis(self.alloc, &mut self.conn);
         self.store_result(answer)
     }
 
     fn sessions_of(&mut self, device: Eui) -> Result<Vec<u64>, StoreFault> {
-        if self.failed {
-            return Err(StoreFault::Disk);
-        }
+        self.working()?;
         let answer = desk_rows::sessions_of(self.alloc, &mut self.conn, device);
         self.store_result(answer)
     }
 
     fn last_start(&mut self, session: u64) -> Result<Option<u64>, StoreFault> {
-        if self.failed {
-            return Err(StoreFault::Disk);
-        }
+        self.working()?;
         let answer = sessions::last_start(&mut self.conn, session);
         self.store_result(answer)
     }
 
     fn uplinks_between(&mut self, device: Eui, from: i64, to: i64) -> Result<Vec<u64>, StoreFault> {
-        if self.failed {
-            return Err(StoreFault::Disk);
-        }
+        self.working()?;
         listed_rows_tell();
         let answer = desk_rows::uplinks_between(self.alloc, &mut self.conn, device, from, to);
         self.store_result(answer)
     }
 
     fn gateways_of(&mut self, uplink: u64) -> Result<Vec<Name>, StoreFault> {
-        if self.failed {
-            return Err(StoreFault::Disk);
-        }
+        self.working()?;
         let answer = uplinks::gateways_of(self.alloc, &mut self.conn, uplink);
         self.store_result(answer)
     }
@@ -343,18 +281,14 @@ impl<S: Alter> Looks for Tables<S> {
         from: i64,
         to: i64,
     ) -> Result<Vec<u64>, StoreFault> {
-        if self.failed {
-            return Err(StoreFault::Disk);
-        }
+        self.working()?;
         listed_rows_tell();
         let answer = desk_rows::bookings_between(self.alloc, &mut self.conn, gateway, from, to);
         self.store_result(answer)
     }
 
     fn last_transaction(&mut self, sender: &Name) -> Result<Option<u64>, StoreFault> {
-        if self.failed {
-            return Err(StoreFault::Disk);
-        }
+        self.working()?;
         let answer = desk_rows::last_transaction(&mut self.conn, sender);
         self.store_result(answer)
     }

@@ -1,5 +1,5 @@
 //! The store over tables.
-ghost use Rattle.std.specs.Prelude.{◌≡◌, true, false, OnOk, IfErr};
+ghost use Rattle.std.specs.Prelude.{◌≡◌, true, false, IfErr, MatchResult, OnOk};
 ghost use Rattle.desk_store.specs.declared.faults.StoreFault.TheVariants.{Disk};
 ghost use Rattle.desk_tables.specs.steps.CheckedFaults.{Fails, IsTold};
 
@@ -31,6 +31,16 @@ pub struct Tables<S: Alter> {
 }
 
 impl<S: Alter> Tables<S> {
+    /// Returns `Disk` if the store is failed.
+    pub(crate) fn working(&self) -> Result<(), StoreFault>
+        ensures { MatchResult result (λ _. self.now.failed ≡ false) (λ fault. (self.now.failed ≡ true) × (fault ≡ Disk)) }
+    {
+        if self.failed {
+            return Err(StoreFault::Disk);
+        }
+        Ok(())
+    }
+
     /// Returns the store's error for an error of the connection, and notes it.
     pub(crate) fn fail(&mut self, fault: RowFault) -> StoreFault
         ensures { Fails S.Store self.old self.new fault result }

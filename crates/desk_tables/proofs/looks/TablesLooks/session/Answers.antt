@@ -3,4 +3,4 @@ use Rattle.desk_tables.proofs.LookUps.{answered_by_rows}
 use Rattle.desk_tables.proofs.looks.TablesLooks.session.Goals as goal
 
 pub returns-in-Err-clause-read : goal.returns-in-Err-clause-read
-returns-in-Err-clause-read g c = answered_by_rows _ _ _ _ _ _ _ c.if-self.false c.session-answer.ensures.shows c.in-Err.ensures
+returns-in-Err-clause-read g c = answered_by_rows _ _ _ _ _ _ _ c.in_ok-working.ensures c.session-answer.ensures.shows c.in-Err.ensures
