@@ -32,6 +32,5 @@ pub mod RisingLists
 pub mod RoomLaws
 pub mod RoomTexts
 pub mod Runs
-pub mod TableTexts
 pub mod Unread
 pub mod WorkedRooms

@@ -1,11 +1,10 @@
 -- Lists by what a store returns, and after a log by what the store represents.
-use Rattle.std.proofs.Common.{◌≡◌, ◌∙◌, ◌+◌, ◌<◌, true, false, cond, ℕ, List, [], ◌∷◌, ◌++◌, Option, Some, None, ap, refl, sym, subst, length, get_or, map, take, arith}
+use Rattle.std.proofs.Common.{◌≡◌, ◌∙◌, ◌+◌, ◌<◌, true, false, cond, ℕ, List, [], ◌∷◌, ◌++◌, Option, Some, None, ap, refl, sym, subst, length, map, arith}
 use Rattle.std.specs.Prelude.{◌-◌, bytes_eq, codes, count_by, filter, option_and_then, option_map, sum_by}
 use Rattle.std.specs.List.{flat_map}
 use Rattle.std.specs.Option.{option_map_or}
 use Rattle.std.specs.Fmt.{decimal}
-use Rattle.std.proofs.lemmas.Grind.{flat_map-append}
-use Rattle.std.proofs.lemmas.List.{append-nil, append_assoc, take_more}
+use Rattle.std.proofs.lemmas.List.{append_assoc}
 use Rattle.std.proofs.lemmas.List.Sums.{sum_by-cons}
 use Rattle.registry_core.specs.declared.facts.Device.{Device}
 use Rattle.registry_core.specs.declared.messages.Envelope.{Envelope}
@@ -22,23 +21,14 @@ use Rattle.registry_core.specs.Step.{step}
 use Rattle.desk_store.specs.Kept.{Entry}
 use Rattle.desk_store.specs.Looks.{is_from, last_transaction}
 use Rattle.desk_wire.specs.Hexadecimal.{addr_digits}
-use Rattle.desk_engine.specs.declared.device_lists.Traffic.{Traffic}
 use Rattle.desk_engine.specs.declared.lists.ListOf.{ListOf}
 use Rattle.desk_engine.specs.declared.lists.ListOf.TheVariants.{Senders, Owners, Gateways, Devices}
 use Rattle.desk_engine.specs.Lines.{line_feed}
 use Rattle.desk_engine.specs.InOrder.{entries_of, entry_at, kept_after}
 use Rattle.desk_engine.specs.Listing.{IsList, IsOwnerList, IsSenderList, device_text, gateway_line, last_heard, latest_of, or_empty, device_list_line, owner_line, owners_header, table_text}
-use Rattle.desk_engine.specs.steps.Listing.{IsListOf, IsTraffic, device_list_columns, owner_in, owners_in, session_columns, sessions_text, traffic_columns}
+use Rattle.desk_engine.specs.steps.Listing.{IsListOf, device_list_columns, owner_in, owners_in, session_columns, sessions_text}
 
 -- ---- owners
-
--- one device more
-pub owners_more : (s : State) (devices : List ℕ) (i d : ℕ) (owners new : List (List ℕ)) → i < length devices → d ≡ get_or devices i d → owners ≡ owners_in s (take i devices)
-    → new ≡ owners ++ owner_in (s.devices d) → new ≡ owners_in s (take (i + 1) devices)
-owners_more s devices i d owners new within there is added =
-    let f : ℕ → List (List ℕ) = λ dev_eui. owner_in (s.devices dev_eui) in
-    added ∙ ap (λ l. l ++ f d) is ∙ ap (λ l. flat_map f (take i devices) ++ l) (ap f there ∙ sym (append-nil (f (get_or devices i d))))
-    ∙ sym (flat_map-append f (take i devices) (get_or devices i d ∷ [])) ∙ ap (flat_map f) (sym (take_more devices i d within))
 
 count_owner : (owner : List ℕ) (device : Option Device) (others : List (List ℕ)) → let by : List ℕ → ℕ = λ other. cond (bytes_eq other owner) 1 0 in
     sum_by by (owner_in device ++ others) ≡ cond (option_map_or (λ (d : Device). bytes_eq d.owner owner) device false) 1 0 + sum_by by others
@@ -73,22 +63,6 @@ limits_are s name shown text new shown_is text_is new_is =
     new_is ∙ ap (λ l. l ++ line_feed ∷ []) (text_is ∙ ap (λ l. l ++ columns) shown_is) ∙ append_assoc name columns (line_feed ∷ [])
 
 -- ---- devices
-
--- the traffic of the latest session, by the numbers of a device's sessions
-traffic_is : (s : State) (session : Option ℕ) (traffic : Traffic) → IsTraffic s session traffic → traffic_columns traffic.last_counter traffic.next_down traffic.last_start
-    ≡ traffic_columns (option_and_then (last_counter s.uplinks) session) (option_map (next_down s.bookings s.uplinks) session) (option_and_then (last_start s.uplinks) session)
-traffic_is s session traffic is = λ i. traffic_columns (is.counter i) (is.next i) (is.start i)
-
-pub sessions_are : (c d : Settings) (s : State) (dev_eui : ℕ) (sessions listed : List ℕ) (base n : ℕ) (latest nonce : Option ℕ) (traffic : Traffic) (address shown rest text : List ℕ)
-    → listed ≡ sessions → base ≡ d.base → d ≡ c → n ≡ length listed → latest ≡ latest_of listed → nonce ≡ last_nonce s.sessions dev_eui → IsTraffic s latest traffic
-    → address ≡ or_empty (λ n. addr_digits (base + n - 1)) latest → shown ≡ or_empty decimal nonce → rest ≡ traffic_columns traffic.last_counter traffic.next_down traffic.last_start
-    → text ≡ session_columns n address shown rest → text ≡ sessions_text c s dev_eui sessions
-sessions_are c d s dev_eui sessions listed base n latest nonce traffic address shown rest text are begins same count latest_is nonce_is traffic_are address_is shown_is rest_is is =
-    let newest : latest ≡ latest_of sessions = latest_is ∙ ap latest_of are in
-    let first : base ≡ c.base = begins ∙ ap (λ (x : Settings). x.base) same in
-    is
-    ∙ (λ i. session_columns ((count ∙ ap length are) i) ((address_is ∙ (λ j. or_empty (λ n. addr_digits (first j + n - 1)) (newest j))) i) ((shown_is ∙ ap (or_empty decimal) nonce_is) i)
-    ((rest_is ∙ traffic_is s latest traffic traffic_are ∙ ap (λ l. traffic_columns (option_and_then (last_counter s.uplinks) l) (option_map (next_down s.bookings s.uplinks) l) (option_and_then (last_start s.uplinks) l)) newest) i))
 
 next_is : (f : ℕ → ℕ) (o : Option ℕ) → or_empty decimal (option_map f o) ≡ or_empty (λ n. decimal (f n)) o
 next_is f None = refl
