@@ -2,6 +2,8 @@
 use Rattle.std.proofs.Common.{List, Option, Some, None, Result, Ok, Err, ℕ, inl, inr}
 use Rattle.clap.specs.Walk.{Text}
 use Rattle.std.specs.Prelude.{IfSome}
+use Rattle.std.specs.Io.KnownBytes.{Keeps}
+use Rattle.std.proofs.KnownBytes.{Keeps-refl}
 use Rattle.sqlite.specs.Held.{Held, state}
 use Rattle.sqlite.specs.State.{HasCleanDisk}
 use Rattle.sqlite_trees.specs.declared.store.Store.{Ghosts}
@@ -12,7 +14,7 @@ use Rattle.desk_engine.specs.declared.report_faults.ReportFault.{ReportFault}
 use Rattle.desk_tables.specs.Adopting.{IsGivenBack}
 use Rattle.desk_cli.specs.Ports.{AtPorts}
 use Rattle.desk_cli.specs.Answering.{AnswersBy}
-use Rattle.desk_cli.specs.Doing.{AtPaths, OnAuditedByRules, OnAuditedFile, OnDeskByRules, OnDeskFile}
+use Rattle.desk_cli.specs.Doing.{AtPaths, OnAuditedByRules, OnAuditedFile, OnDeskByRules, OnDeskFile, PrintsDesk}
 use Rattle.desk_cli.specs.OnTables.{IsLeft, KeepsHeard, LeavesRules}
 use Rattle.desk_cli.specs.Printing.{PrintsAnswer, PrintsBy}
 use Rattle.desk_cli.specs.commands.Auditing.{AuditsBy}
@@ -142,11 +144,22 @@ module _ {S : Type 0} (law : RulesAreKept) (g : Ghosts S) (back : Held S) (c : S
     answer_by_rules (Err why) (Ok x) prints = absurd prints
     answer_by_rules (Err why) (Err fault) prints = left_by_rules _ _ prints.3
 
-    pub prints_by_rules : (IsAnswer : Result (List ℕ) ReportFault → Type 0) (result : Result T Fault)
+    prints_by_rules : (IsAnswer : Result (List ℕ) ReportFault → Type 0) (result : Result T Fault)
         → PrintsBy (KeepsHeard g back c heard) (IsLeft g back c heard None) before after IsAnswer result → LeavesRules g back c
     prints_by_rules IsAnswer result by = answer_by_rules by.answer result by.prints
 
 module _ {S : Type 0} (law : RulesAreKept) (g : Ghosts S) where
+  -- a report that was printed of a desk's file, with what follows of the rules; the standard input is untouched
+  pub report_by_rules : {T : Type 0} (paths : AtPaths S) (given_back : Option (Held S)) (left before after : Option (List ℕ)) (file : Text)
+      (IsAnswer : Settings → List Envelope → Result (List ℕ) ReportFault → Type 0) (result : Result T Fault)
+      → OnDeskFile g paths given_back result file (Keeps before after) (PrintsDesk g IsAnswer before after result)
+      → OnDeskByRules g paths given_back result file (Keeps before after) (PrintsDesk g IsAnswer before after result) × Keeps left left
+  report_by_rules paths given_back left before after file IsAnswer result done = (
+    by_rules g paths given_back result file (Keeps before after) (PrintsDesk g IsAnswer before after result)
+        (λ back c heard. prints_by_rules law g back c heard before after (IsAnswer c heard) result) done,
+    Keeps-refl left,
+  )
+
   audited_by_rules : (conn : Held S) (given_back : Option (Held S)) → IfSome given_back (λ back. IsGivenBack (state g conn) (state g back) (λ trees. ⊥))
       → IfSome given_back (λ back. HasCleanDisk (state g back) → (c : Settings) (heard : List Envelope) → KeepsHeard g conn c heard → LeavesRules g back c)
   audited_by_rules conn (Some back) kept = λ clean c heard keeps. left_by_rules law g back c heard None (left_as_it_was g conn back c heard kept clean keeps)

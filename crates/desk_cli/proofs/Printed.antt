@@ -2,6 +2,8 @@
 use Rattle.std.proofs.Common.{◌≡◌, ◌↔◌, ◌⊎◌, ℕ, List, false, Option, Some, None, Result, Ok, Err, IfOk, IfErr, OnOk, IsTrue, inl, inr, refl, ap, subst, sym}
 use Rattle.std.specs.Prelude.{ℤ}
 use Rattle.std.specs.Io.KnownBytes.{Keeps}
+use Rattle.sqlite.specs.Held.{Held}
+use Rattle.sqlite_trees.specs.declared.store.Store.{Ghosts}
 use Rattle.registry_core.specs.declared.messages.Envelope.{Envelope}
 use Rattle.registry_core.specs.Heard.{state_of}
 use Rattle.registry_core.specs.Settings.{Settings}
@@ -19,6 +21,7 @@ use Rattle.desk_engine.specs.Rooms.{IsRoomReport, time_in}
 use Rattle.desk_http.specs.Reports.{IsBandAnswer, IsMonthAnswer}
 use Rattle.desk_cli.proofs.Opened.{err}
 use Rattle.desk_cli.specs.Faults.{fault_of_report}
+use Rattle.desk_cli.specs.RefusedFiles.{RefusesFile}
 use Rattle.desk_cli.specs.Printing.{IsGatewaysRoom, IsOfMonth, PrintsAnswer, PrintsBy, RefusesMonth, RefusesTime}
 use Rattle.desk_cli.specs.steps.Printing.{IsPrinted, shown, unasked}
 use Rattle.desk_cli.specs.declared.faults.Fault.{Fault}
@@ -114,6 +117,12 @@ module _ {Kept Stands Left Stays : Type 0} (kept : Kept → Stands) (left : Left
 
   pub printed_by : (r : Result T Fault) → PrintsBy Kept Left before after IsAnswer r → PrintsBy Stands Stays before after IsAnswer r
   printed_by r by = record { answer = by.answer; answer_is = by.answer_is; prints = prints_so by.answer r by.prints }
+
+-- a file that is refused, where more is known of the streams
+pub refused_so : {S T : Type 0} (g : Ghosts S) (conn back : Held S) {More Untouched : Type 0} → (More → Untouched) → (r : Result T Fault)
+    → RefusesFile g conn back More r → RefusesFile g conn back Untouched r
+refused_so g conn back so (Ok x) by = absurd by
+refused_so g conn back so (Err fault) by = (by.0, so by.1)
 
 -- where the desk couldn't be opened, nothing is printed
 pub prints_unopened : (Kept Left : Type 0) (before : Option (List ℕ)) (IsAnswer : Result (List ℕ) ReportFault → Type 0) {T : Type 0} (fault : Fault)

@@ -12,6 +12,7 @@ use Rattle.desk_engine.specs.declared.report_faults.ReportFault.{ReportFault}
 use Rattle.desk_engine.specs.Listing.{IsDeviceAnswer, IsListAnswer}
 use Rattle.desk_engine.specs.Log.{log_of}
 use Rattle.desk_http.specs.Reports.{IsBandAnswer}
+use Rattle.desk_cli.specs.Faults.{Ends}
 use Rattle.desk_cli.specs.Ports.{AtPorts}
 use Rattle.desk_cli.specs.Named.{Asked, version, lines, init, migrate, hear, import, serve, report, bands, room, list, device, receptions, downlinks, log, check, audit}
 use Rattle.desk_cli.specs.RefusedFiles.{IsNotADesk, RefusesFile}
@@ -27,6 +28,7 @@ use Rattle.desk_cli.specs.commands.Log.{LogsBy}
 use Rattle.desk_cli.specs.commands.Migrating.{MigratesBy}
 use Rattle.desk_cli.specs.commands.Serving.{ServesBy}
 use Rattle.desk_cli.specs.commands.Version.{PrintsVersion}
+use Rattle.desk_cli.specs.declared.endings.Ending.{Ending}
 use Rattle.desk_cli.specs.declared.faults.Fault.{Fault}
 use Rattle.desk_cli.specs.declared.faults.Fault.TheVariants.{File}
 
@@ -78,15 +80,33 @@ OnAuditedByRules g paths given_back result file Untouched Does =
     OnAuditedFile paths given_back result file Untouched
     (λ conn. Does conn × IfSome given_back (λ back. HasCleanDisk (state g back) → (c : Settings) (heard : List Envelope) → KeepsHeard g conn c heard → LeavesRules g back c))
 
+-- Printing the report of a desk. `IsAnswer` is what the report is, or why there is none, by the desk's configuration and log.
+module _ {S : Type 0} (g : Ghosts S) (IsAnswer : Settings → List Envelope → Result (List ℕ) ReportFault → Type 0) where
+  -- The report of this configuration and log was printed, or the error is why there is none. `back` is the connection that is returned,
+  -- `before` and `after` are what was written by then.
+  abbrev pub PrintsDesk : {T : Type 0} → (before after : Option (List ℕ)) → Result T Fault → Held S → Settings → List Envelope → Type 0
+  PrintsDesk before after result back c heard = PrintsBy (KeepsHeard g back c heard) (IsLeft g back c heard None) before after (IsAnswer c heard) result
+
+  -- `contents` is what was written to the writer of reports, `old` and `new` are that writer before and after.
+  module _ {W : Type 0} (contents : W → Option (List ℕ)) (old new : W) where
+    -- over a connection; `back` is the connection that is returned
+    abbrev pub PrintsOver : {T : Type 0} → (conn back : Held S) → Result T Fault → Type 0
+    PrintsOver conn back result = OnDesk g conn back result (Keeps (contents old) (contents new)) (PrintsDesk (contents old) (contents new) result back)
+
+    -- On a file: how the command ended, and the connection that it returned. `told` is what was written to the writer of errors, `before` and
+    -- `after` are that writer.
+    abbrev pub PrintsFile : {F : Type 0} → (told : F → Option (List ℕ)) → (before after : F) → AtPaths S → Text → Ending × Option (Held S) → Type 0
+    PrintsFile told before after paths file ended =
+        Ends told before after ended.0
+        (λ result. OnDeskFile g paths ended.1 result file (Keeps (contents old) (contents new)) (PrintsDesk (contents old) (contents new) result))
+
 -- `paths` is what is known of files, `ports` what is answered at the ports, with a log of their connections or without. `given_back` is the
 -- connection that a run returns, `left` and `rest` what is left to read before and after, `before` and `after` what was written by then.
 module _ {S T : Type 0} (g : Ghosts S) (paths : AtPaths S) (ports : Bool → AtPorts) (given_back : Option (Held S)) (left rest before after : Option (List ℕ)) (result : Result T Fault) where
   -- a report was printed that is this of the configuration and log of the desk in the file
   abbrev PrintsReport : Text → (Settings → List Envelope → Result (List ℕ) ReportFault → Type 0) → Type 0
   PrintsReport file IsAnswer =
-      OnDeskByRules g paths given_back result file (Keeps before after)
-      (λ back c heard. PrintsBy (KeepsHeard g back c heard) (IsLeft g back c heard None) before after (IsAnswer c heard) result)
-      × Keeps left rest
+      OnDeskByRules g paths given_back result file (Keeps before after) (PrintsDesk g IsAnswer before after result) × Keeps left rest
 
   -- The command did what was asked, according to its result. A stream that the command doesn't use stays as it was.
   abbrev pub DoesAsked : Asked → Type 0

@@ -30,7 +30,7 @@ use auditing::{audit_app, audit_of};
 pub use checking::check_command;
 use checking::{check_app, check_of};
 use clap::ArgMatches;
-use desk_engine::{ListOf, LogText};
+use desk_engine::LogText;
 pub use hear::hear_command;
 use hear::{hear_app, hear_of};
 pub use importing::import_command;
@@ -39,17 +39,17 @@ pub use init::init_command;
 use init::{init_app, init_of};
 pub use lines::lines_command;
 use lines::{lines_app, lines_of};
-pub use listing::{device_command, list_command};
+pub use listing::{DesksList, OneDevice};
 use listing::{device_app, device_of, list_app, list_of};
 pub use log::log_command;
 use log::{log_app, log_of};
 pub use migrating::migrate_command;
 use migrating::{migrate_app, migrate_of};
-pub use month_reports::{downlinks_command, receptions_command};
+pub use month_reports::{DevicesMonth, GatewaysMonth};
 use month_reports::{downlinks_app, downlinks_of, receptions_app, receptions_of};
 use radio_core::Name;
 use registry_core::{Config, JsonInteger};
-pub use reports::{bands_command, report_command, room_command};
+pub use reports::{GatewaysBands, GatewaysRoom, OwnersMonth};
 use reports::{bands_app, bands_of, report_app, report_of, room_app, room_of};
 pub use serving::serve_command;
 use serving::{serve_app, serve_of};
@@ -93,41 +93,37 @@ pub enum Command<'a> {
     /// Prints the report of an owner's month.
     Report {
         file: &'a str,
-        owner: &'a str,
-        month: &'a str,
+        report: OwnersMonth<'a>,
     },
     /// Prints the bands of a gateway.
     Bands {
         file: &'a str,
-        gateway: &'a str,
+        report: GatewaysBands<'a>,
     },
     /// Prints the report of a gateway's room at a time.
     Room {
         file: &'a str,
-        gateway: &'a str,
-        time: &'a str,
+        report: GatewaysRoom<'a>,
     },
     /// Prints the list of the senders, owners, gateways or devices.
     Listing {
         file: &'a str,
-        of: ListOf,
+        report: DesksList,
     },
     /// Prints one device.
     Device {
         file: &'a str,
-        dev_eui: &'a str,
+        report: OneDevice<'a>,
     },
     /// Prints the receptions of a device in a month.
     Receptions {
         file: &'a str,
-        dev_eui: &'a str,
-        month: &'a str,
+        report: DevicesMonth<'a>,
     },
     /// Prints the downlinks of a gateway in a month.
     Downlinks {
         file: &'a str,
-        gateway: &'a str,
-        month: &'a str,
+        report: GatewaysMonth<'a>,
     },
     /// Prints at most `count` messages that the desk has heard, from number `from` on, or their answers, one a line.
     Log {

@@ -1,14 +1,10 @@
 //! What a command asks, done. Its file is opened before the standard input is read, and before the port is bound.
-ghost use Rattle.registry_core.specs.Heard.{state_of};
 ghost use Rattle.std.specs.Io.KnownBytes.{Keeps};
-ghost use Rattle.desk_engine.specs.Listing.{IsDeviceAnswer, IsListAnswer};
 ghost use Rattle.desk_engine.specs.Log.{log_of};
-ghost use Rattle.desk_http.specs.Reports.{IsBandAnswer};
-ghost use Rattle.desk_cli.specs.Doing.{DoesAsked, OnAuditedFile, OnDeskFile, OnFile};
+ghost use Rattle.desk_cli.specs.Doing.{DoesAsked, OnAuditedFile, OnDeskFile, OnFile, PrintsFile};
 ghost use Rattle.desk_cli.specs.Faults.{Ends};
 ghost use Rattle.desk_cli.specs.Named.{asked_by};
 ghost use Rattle.desk_cli.specs.OnTables.{IsLeft, KeepsHeard};
-ghost use Rattle.desk_cli.specs.Printing.{IsDevicesMonth, IsGatewaysMonth, IsGatewaysRoom, IsOwnersMonth, PrintsBy};
 ghost use Rattle.desk_cli.specs.Ports.{at_ports};
 ghost use Rattle.desk_cli.specs.commands.Auditing.{AuditsBy};
 ghost use Rattle.desk_cli.specs.commands.Checking.{IsCheck};
@@ -21,16 +17,15 @@ ghost use Rattle.desk_cli.specs.commands.Serving.{ServesBy};
 ghost use Rattle.std.specs.Prelude.{None};
 
 use crate::commands::{
-    Command, audit_command, bands_command, check_command, device_command, downlinks_command,
-    hear_command, import_command, init_command, lines_command, list_command, log_command,
-    migrate_command, receptions_command, report_command, room_command, serve_command,
-    version_command,
+    Command, audit_command, check_command, hear_command, import_command, init_command,
+    lines_command, log_command, migrate_command, serve_command, version_command,
 };
 use crate::endings::Ending;
 use crate::faults::end;
 use crate::files::FileOpener;
 use crate::network::Network;
-use desk_engine::{ListOf, LogText, Progress};
+use crate::printing::{Report, print_report};
+use desk_engine::{LogText, Progress};
 use radio_core::Name;
 use registry_core::laws::rules_are_kept;
 use registry_core::{Config, JsonInteger};
@@ -110,31 +105,27 @@ pub(crate) fn perform<
                 faults,
             )
         }
-        Command::Report { file, owner, month } => {
-            report_file(alloc, files, file, owner, month, answers, faults)
+        Command::Report { file, report } => {
+            print_file(alloc, files, file, report, answers, faults)
         }
-        Command::Bands { file, gateway } => {
-            bands_file(alloc, files, file, gateway, answers, faults)
+        Command::Bands { file, report } => {
+            print_file(alloc, files, file, report, answers, faults)
         }
-        Command::Room {
-            file,
-            gateway,
-            time,
-        } => room_file(alloc, files, file, gateway, time, answers, faults),
-        Command::Listing { file, of } => list_file(alloc, files, file, *of, answers, faults),
-        Command::Device { file, dev_eui } => {
-            device_file(alloc, files, file, dev_eui, answers, faults)
+        Command::Room { file, report } => {
+            print_file(alloc, files, file, report, answers, faults)
         }
-        Command::Receptions {
-            file,
-            dev_eui,
-            month,
-        } => receptions_file(alloc, files, file, dev_eui, month, answers, faults),
-        Command::Downlinks {
-            file,
-            gateway,
-            month,
-        } => downlinks_file(alloc, files, file, gateway, month, answers, faults),
+        Command::Listing { file, report } => {
+            print_file(alloc, files, file, report, answers, faults)
+        }
+        Command::Device { file, report } => {
+            print_file(alloc, files, file, report, answers, faults)
+        }
+        Command::Receptions { file, report } => {
+            print_file(alloc, files, file, report, answers, faults)
+        }
+        Command::Downlinks { file, report } => {
+            print_file(alloc, files, file, report, answers, faults)
+        }
         Command::Log {
             file,
             from,
@@ -253,147 +244,21 @@ fn serve_file<S: Alter, N: FileOpener<S>, B: Network, W: Write, F: Write>(
     )
 }
 
-fn report_file<S: Alter, N: FileOpener<S>, W: Write, F: Write>(
+/// Prints the report of the desk in the file.
+fn print_file<S: Alter, N: FileOpener<S>, Q: Report, W: Write, F: Write>(
     alloc: Global,
     files: N,
     file: &str,
-    owner: &str,
-    month: &str,
+    report: &Q,
     answers: &mut W,
     faults: &mut F,
 ) -> Performed<S>
-    ensures { Ends F.contents faults.old faults.new result.0 (λ done. OnDeskFile S.Store (N.paths files) result.1 done file.now
-        (Keeps (W.contents answers.old) (W.contents answers.new))
-        (λ back c heard. PrintsBy (KeepsHeard S.Store back c heard) (IsLeft S.Store back c heard None)
-        (W.contents answers.old) (W.contents answers.new) (IsOwnersMonth (state_of c heard) owner.now month.now) done)) }
+    ensures { PrintsFile S.Store (Q.is_answer report.now) W.contents answers.old answers.new F.contents faults.old faults.new (N.paths files) file.now result }
 {
     on_file!(
         files.open(file),
         faults,
-        |conn| report_command(alloc, conn, owner, month, answers, faults)
-    )
-}
-
-fn bands_file<S: Alter, N: FileOpener<S>, W: Write, F: Write>(
-    alloc: Global,
-    files: N,
-    file: &str,
-    gateway: &str,
-    answers: &mut W,
-    faults: &mut F,
-) -> Performed<S>
-    ensures { Ends F.contents faults.old faults.new result.0 (λ done. OnDeskFile S.Store (N.paths files) result.1 done file.now
-        (Keeps (W.contents answers.old) (W.contents answers.new))
-        (λ back c heard. PrintsBy (KeepsHeard S.Store back c heard) (IsLeft S.Store back c heard None)
-        (W.contents answers.old) (W.contents answers.new) (IsBandAnswer (state_of c heard) gateway.now) done)) }
-{
-    on_file!(
-        files.open(file),
-        faults,
-        |conn| bands_command(alloc, conn, gateway, answers, faults)
-    )
-}
-
-fn room_file<S: Alter, N: FileOpener<S>, W: Write, F: Write>(
-    alloc: Global,
-    files: N,
-    file: &str,
-    gateway: &str,
-    time: &str,
-    answers: &mut W,
-    faults: &mut F,
-) -> Performed<S>
-    ensures { Ends F.contents faults.old faults.new result.0 (λ done. OnDeskFile S.Store (N.paths files) result.1 done file.now
-        (Keeps (W.contents answers.old) (W.contents answers.new))
-        (λ back c heard. PrintsBy (KeepsHeard S.Store back c heard) (IsLeft S.Store back c heard None) (W.contents answers.old) (W.contents answers.new)
-        (IsGatewaysRoom (state_of c heard) gateway.now time.now) done)) }
-{
-    on_file!(
-        files.open(file),
-        faults,
-        |conn| room_command(alloc, conn, gateway, time, answers, faults)
-    )
-}
-
-fn list_file<S: Alter, N: FileOpener<S>, W: Write, F: Write>(
-    alloc: Global,
-    files: N,
-    file: &str,
-    of: ListOf,
-    answers: &mut W,
-    faults: &mut F,
-) -> Performed<S>
-    ensures { Ends F.contents faults.old faults.new result.0 (λ done. OnDeskFile S.Store (N.paths files) result.1 done file.now
-        (Keeps (W.contents answers.old) (W.contents answers.new))
-        (λ back c heard. PrintsBy (KeepsHeard S.Store back c heard) (IsLeft S.Store back c heard None) (W.contents answers.old) (W.contents answers.new)
-        (IsListAnswer of c heard) done)) }
-{
-    on_file!(
-        files.open(file),
-        faults,
-        |conn| list_command(alloc, conn, of, answers, faults)
-    )
-}
-
-fn device_file<S: Alter, N: FileOpener<S>, W: Write, F: Write>(
-    alloc: Global,
-    files: N,
-    file: &str,
-    dev_eui: &str,
-    answers: &mut W,
-    faults: &mut F,
-) -> Performed<S>
-    ensures { Ends F.contents faults.old faults.new result.0 (λ done. OnDeskFile S.Store (N.paths files) result.1 done file.now
-        (Keeps (W.contents answers.old) (W.contents answers.new))
-        (λ back c heard. PrintsBy (KeepsHeard S.Store back c heard) (IsLeft S.Store back c heard None) (W.contents answers.old) (W.contents answers.new)
-        (IsDeviceAnswer c heard dev_eui.now) done)) }
-{
-    on_file!(
-        files.open(file),
-        faults,
-        |conn| device_command(alloc, conn, dev_eui, answers, faults)
-    )
-}
-
-fn receptions_file<S: Alter, N: FileOpener<S>, W: Write, F: Write>(
-    alloc: Global,
-    files: N,
-    file: &str,
-    dev_eui: &str,
-    month: &str,
-    answers: &mut W,
-    faults: &mut F,
-) -> Performed<S>
-    ensures { Ends F.contents faults.old faults.new result.0 (λ done. OnDeskFile S.Store (N.paths files) result.1 done file.now
-        (Keeps (W.contents answers.old) (W.contents answers.new))
-        (λ back c heard. PrintsBy (KeepsHeard S.Store back c heard) (IsLeft S.Store back c heard None) (W.contents answers.old) (W.contents answers.new)
-        (IsDevicesMonth (state_of c heard) dev_eui.now month.now) done)) }
-{
-    on_file!(
-        files.open(file),
-        faults,
-        |conn| receptions_command(alloc, conn, dev_eui, month, answers, faults)
-    )
-}
-
-fn downlinks_file<S: Alter, N: FileOpener<S>, W: Write, F: Write>(
-    alloc: Global,
-    files: N,
-    file: &str,
-    gateway: &str,
-    month: &str,
-    answers: &mut W,
-    faults: &mut F,
-) -> Performed<S>
-    ensures { Ends F.contents faults.old faults.new result.0 (λ done. OnDeskFile S.Store (N.paths files) result.1 done file.now
-        (Keeps (W.contents answers.old) (W.contents answers.new))
-        (λ back c heard. PrintsBy (KeepsHeard S.Store back c heard) (IsLeft S.Store back c heard None) (W.contents answers.old) (W.contents answers.new)
-        (IsGatewaysMonth (state_of c heard) gateway.now month.now) done)) }
-{
-    on_file!(
-        files.open(file),
-        faults,
-        |conn| downlinks_command(alloc, conn, gateway, month, answers, faults)
+        |conn| print_report(alloc, conn, report, answers, faults)
     )
 }
 
@@ -426,10 +291,7 @@ fn check_file<S: Alter, N: FileOpener<S>, W: Write, F: Write>(
     answers: &mut W,
     faults: &mut F,
 ) -> Performed<S>
-    ensures { Ends F.contents faults.old faults.new result.0 (λ done. OnDeskFile S.Store (N.paths files) result.1 done file.now
-        (Keeps (W.contents answers.old) (W.contents answers.new))
-        (λ back c heard. PrintsBy (KeepsHeard S.Store back c heard) (IsLeft S.Store back c heard None)
-        (W.contents answers.old) (W.contents answers.new) (IsCheck c heard) done)) }
+    ensures { PrintsFile S.Store IsCheck W.contents answers.old answers.new F.contents faults.old faults.new (N.paths files) file.now result }
 {
     on_file!(
         files.open(file),

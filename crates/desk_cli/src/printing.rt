@@ -1,19 +1,13 @@
 //! Prints a report of the desk in a file on standard output.
 ghost use Rattle.std.specs.Prelude.{◌≡◌, ℕ, false, List, None, Result, Err};
-ghost use Rattle.std.specs.Io.KnownBytes.{Keeps};
-ghost use Rattle.sqlite.specs.Held.{state};
-ghost use Rattle.sqlite.specs.State.{HasCleanDisk};
 ghost use Rattle.registry_core.specs.declared.messages.Envelope.{Envelope};
 ghost use Rattle.registry_core.specs.Settings.{Settings};
 ghost use Rattle.desk_store.specs.Calls.{IsRead};
 ghost use Rattle.desk_engine.specs.declared.report_faults.ReportFault.{ReportFault};
 ghost use Rattle.desk_engine.specs.InOrder.{WasInOrder};
 ghost use Rattle.desk_engine.specs.Reporting.{store_fault_in};
-ghost use Rattle.desk_cli.specs.Doing.{OnDesk};
+ghost use Rattle.desk_cli.specs.Doing.{PrintsOver};
 ghost use Rattle.desk_cli.specs.Faults.{Ends};
-ghost use Rattle.desk_cli.specs.RefusedFiles.{IsNotADesk, RefusesFile};
-ghost use Rattle.desk_cli.specs.OnTables.{IsLeft, KeepsHeard};
-ghost use Rattle.desk_cli.specs.Printing.{PrintsBy};
 ghost use Rattle.desk_cli.specs.steps.Jobs.{prints};
 ghost use Rattle.desk_cli.specs.steps.Printing.{IsPrinted, shown, unasked};
 
@@ -41,10 +35,12 @@ pub(crate) trait Report {
     ghost unopened: { (report : Self) (c : Settings) (heard : List Envelope) → is_answer report c heard unasked };
 }
 
-/// Prints the report of the desk in the connection's database, and gives the connection back. Nothing is changed.
+/// Prints the report of the desk in the connection's database. Returns the connection. The database stays as it is.
 ///
-/// With `File` the writer failed. A database that is not a desk of schema 2 is refused by `NotADesk`, `Schema` or `Unavailable`, and stays
-/// as it is.
+/// # Errors
+///
+/// Writes one line to standard error: the error of the report, `File` if a write to standard output failed, and `NotADesk`, `Schema` or
+/// `Unavailable` if the database isn't a desk of schema 2.
 pub(crate) fn print_report<S: Alter, Q: Report, W: Write, F: Write>(
     alloc: Global,
     conn: Connection<S>,
@@ -54,16 +50,13 @@ pub(crate) fn print_report<S: Alter, Q: Report, W: Write, F: Write>(
 ) -> (Ending, Connection<S>)
     requires idle { conn.in_transaction ≡ false }
     requires unlimited { conn.step_limit ≡ None }
-    ensures { Ends F.contents faults.old faults.new result.0 (λ done. OnDesk S.Store conn result.1 done
-        (Keeps (W.contents answers.old) (W.contents answers.new))
-        (λ c heard. PrintsBy (KeepsHeard S.Store result.1 c heard) (IsLeft S.Store result.1 c heard None) (W.contents answers.old) (W.contents answers.new)
-        (Q.is_answer report.now c heard) done)) }
+    ensures { Ends F.contents faults.old faults.new result.0 (PrintsOver S.Store (Q.is_answer report.now) W.contents answers.old answers.new conn result.1) }
 {
     let (done, conn) = print_by_store(alloc, conn, report, answers);
     (end(faults, done), conn)
 }
 
-/// Prints the report, and gives the connection back.
+/// Prints the report, and returns the connection.
 fn print_by_store<S: Alter, Q: Report, W: Write>(
     alloc: Global,
     conn: Connection<S>,
@@ -72,12 +65,7 @@ fn print_by_store<S: Alter, Q: Report, W: Write>(
 ) -> (Result<(), Fault>, Connection<S>)
     requires idle { conn.in_transaction ≡ false }
     requires unlimited { conn.step_limit ≡ None }
-    ensures prints { HasCleanDisk (state S.Store result.1) → (c : Settings) (heard : List Envelope) → KeepsHeard S.Store conn c heard
-        → PrintsBy (KeepsHeard S.Store result.1 c heard) (IsLeft S.Store result.1 c heard None) (W.contents answers.old) (W.contents answers.new)
-        (Q.is_answer report.now c heard) result.0 }
-    ensures not_a_desk { HasCleanDisk (state S.Store result.1) → IsNotADesk S.Store conn
-        → RefusesFile S.Store conn result.1 (Keeps (W.contents answers.old) (W.contents answers.new)) result.0 }
-    ensures clean { HasCleanDisk (state S.Store result.1) → HasCleanDisk (state S.Store conn) }
+    ensures { PrintsOver S.Store (Q.is_answer report.now) W.contents answers.old answers.new conn result.1 result.0 }
 {
     run_job(alloc, conn, &Printed(report), &mut io::empty(), answers)
 }

@@ -1,23 +1,15 @@
 //! `desk check`: the configuration of a desk's file, and how many rows it has.
-ghost use Rattle.std.specs.Prelude.{◌≡◌, false, IfOk, List, None};
+ghost use Rattle.std.specs.Prelude.{◌≡◌, false, IfOk, None};
 ghost use Rattle.std.specs.String.{string_bytes};
-ghost use Rattle.std.specs.Io.KnownBytes.{Keeps};
 ghost use Rattle.clap.specs.Matches.{found_of};
 ghost use Rattle.clap.specs.Walk.{rows_of};
-ghost use Rattle.sqlite.specs.Held.{state};
-ghost use Rattle.sqlite.specs.State.{HasCleanDisk};
-ghost use Rattle.registry_core.specs.declared.messages.Envelope.{Envelope};
-ghost use Rattle.registry_core.specs.Settings.{Settings};
 ghost use Rattle.desk_store.specs.Calls.{IsRead, Tells, fault_in};
 ghost use Rattle.desk_engine.specs.Reporting.{store_fault_in};
 ghost use Rattle.desk_tables.specs.Store.{meaning_of};
-ghost use Rattle.desk_cli.specs.Doing.{OnDesk};
+ghost use Rattle.desk_cli.specs.Doing.{PrintsOver};
 ghost use Rattle.desk_cli.specs.Faults.{Ends};
 ghost use Rattle.desk_cli.specs.Named.{TellsNamed};
 ghost use Rattle.desk_cli.specs.steps.CommandLine.{IsCommand};
-ghost use Rattle.desk_cli.specs.RefusedFiles.{IsNotADesk, RefusesFile};
-ghost use Rattle.desk_cli.specs.OnTables.{IsLeft, KeepsHeard};
-ghost use Rattle.desk_cli.specs.Printing.{PrintsBy};
 ghost use Rattle.desk_cli.specs.commands.Checking.{IsCheck, check_app, check_named, check_text, named_lines, numbered_lines, settings_lines};
 ghost use Rattle.desk_cli.specs.steps.Checking.{IsCheckOf, TellsTotals};
 
@@ -71,10 +63,7 @@ pub fn check_command<S: Alter, W: Write, F: Write>(
 ) -> (Ending, Connection<S>)
     requires idle { conn.in_transaction ≡ false }
     requires unlimited { conn.step_limit ≡ None }
-    ensures { Ends F.contents faults.old faults.new result.0 (λ done. OnDesk S.Store conn result.1 done
-        (Keeps (W.contents answers.old) (W.contents answers.new))
-        (λ c heard. PrintsBy (KeepsHeard S.Store result.1 c heard) (IsLeft S.Store result.1 c heard None) (W.contents answers.old) (W.contents answers.new)
-        (IsCheck c heard) done)) }
+    ensures { Ends F.contents faults.old faults.new result.0 (PrintsOver S.Store IsCheck W.contents answers.old answers.new conn result.1) }
 {
     let (done, conn) = print_check(alloc, conn, answers);
     (end(faults, done), conn)
@@ -88,12 +77,7 @@ fn print_check<S: Alter, W: Write>(
 ) -> (Result<(), Fault>, Connection<S>)
     requires idle { conn.in_transaction ≡ false }
     requires unlimited { conn.step_limit ≡ None }
-    ensures prints { HasCleanDisk (state S.Store result.1) → (c : Settings) (heard : List Envelope) → KeepsHeard S.Store conn c heard
-        → PrintsBy (KeepsHeard S.Store result.1 c heard) (IsLeft S.Store result.1 c heard None) (W.contents answers.old) (W.contents answers.new)
-        (IsCheck c heard) result.0 }
-    ensures not_a_desk { HasCleanDisk (state S.Store result.1) → IsNotADesk S.Store conn
-        → RefusesFile S.Store conn result.1 (Keeps (W.contents answers.old) (W.contents answers.new)) result.0 }
-    ensures clean { HasCleanDisk (state S.Store result.1) → HasCleanDisk (state S.Store conn) }
+    ensures { PrintsOver S.Store IsCheck W.contents answers.old answers.new conn result.1 result.0 }
 {
     match opened(alloc, conn) {
         Ok(tables) => {

@@ -1,31 +1,21 @@
 //! `desk receptions` and `desk downlinks`: what a month had of a device and of a gateway, from a desk's file.
-ghost use Rattle.std.specs.Prelude.{◌≡◌, false, List, None};
-ghost use Rattle.std.specs.Io.KnownBytes.{Keeps};
 ghost use Rattle.clap.specs.Matches.{found_of};
 ghost use Rattle.clap.specs.Walk.{rows_of};
-ghost use Rattle.registry_core.specs.declared.messages.Envelope.{Envelope};
 ghost use Rattle.registry_core.specs.Heard.{state_of};
-ghost use Rattle.registry_core.specs.Settings.{Settings};
 ghost use Rattle.desk_cli.specs.commands.MonthReports.{downlinks_app, downlinks_named, receptions_app, receptions_named};
-ghost use Rattle.desk_cli.specs.Doing.{OnDesk};
-ghost use Rattle.desk_cli.specs.Faults.{Ends};
 ghost use Rattle.desk_cli.specs.Named.{TellsNamed};
-ghost use Rattle.desk_cli.specs.OnTables.{IsLeft, KeepsHeard};
-ghost use Rattle.desk_cli.specs.Printing.{IsDevicesMonth, IsGatewaysMonth, PrintsBy};
+ghost use Rattle.desk_cli.specs.Printing.{IsDevicesMonth, IsGatewaysMonth};
 ghost use Rattle.desk_cli.specs.steps.CommandLine.{IsCommand};
 ghost use Rattle.desk_cli.specs.steps.Printing.{unasked_month};
 
 use super::Command;
-use crate::endings::Ending;
 use crate::options::{command_on_file, place, placed, with_word};
-use crate::printing::{Report, print_report};
+use crate::printing::Report;
 use crate::usage::Usage;
 use clap::ArgMatches;
 use desk_engine::{ReportFault, downlink_report, reception_report};
 use desk_store::Keeper;
-use sqlite::{Alter, Connection};
 use std::alloc::{AllocError, Global};
-use std::io::Write;
 
 /// Returns the command line of `desk receptions`: its name, the file, the DevEUI and the month.
 pub(crate) fn receptions_app<'a>(alloc: Global) -> Result<clap::Command<'a>, AllocError>
@@ -49,11 +39,8 @@ pub(crate) fn receptions_of<'a>(options: &ArgMatches<'a>) -> Result<Command<'a>,
     let file = placed(options, "file")?;
     let dev_eui = placed(options, "deveui")?;
     let month = placed(options, "month")?;
-    Ok(Command::Receptions {
-        file,
-        dev_eui,
-        month,
-    })
+    let report = DevicesMonth { dev_eui, month };
+    Ok(Command::Receptions { file, report })
 }
 
 /// Returns the command line of `desk downlinks`: its name, the file, the gateway and the month.
@@ -75,49 +62,19 @@ pub(crate) fn downlinks_of<'a>(options: &ArgMatches<'a>) -> Result<Command<'a>, 
     let file = placed(options, "file")?;
     let gateway = placed(options, "gateway")?;
     let month = placed(options, "month")?;
-    Ok(Command::Downlinks {
-        file,
-        gateway,
-        month,
-    })
-}
-
-/// Prints the receptions of a device in a month from the desk of the connection's database. Returns the connection. The database stays as
-/// it is.
-///
-/// # Errors
-///
-/// Writes one line to standard error: `Month` if the text isn't a month, for any device, then `Device` if nobody added the device, `File`
-/// if a write to standard output failed, and `NotADesk`, `Schema` or `Unavailable` if the database isn't a desk of schema 2.
-pub fn receptions_command<S: Alter, W: Write, F: Write>(
-    alloc: Global,
-    conn: Connection<S>,
-    dev_eui: &str,
-    month: &str,
-    answers: &mut W,
-    faults: &mut F,
-) -> (Ending, Connection<S>)
-    requires idle { conn.in_transaction ≡ false }
-    requires unlimited { conn.step_limit ≡ None }
-    ensures { Ends F.contents faults.old faults.new result.0 (λ done. OnDesk S.Store conn result.1 done
-        (Keeps (W.contents answers.old) (W.contents answers.new))
-        (λ c heard. PrintsBy (KeepsHeard S.Store result.1 c heard) (IsLeft S.Store result.1 c heard None) (W.contents answers.old) (W.contents answers.new)
-        (IsDevicesMonth (state_of c heard) dev_eui.now month.now) done)) }
-{
-    print_report(
-        alloc,
-        conn,
-        &DevicesMonth { dev_eui, month },
-        answers,
-        faults,
-    )
+    let report = GatewaysMonth { gateway, month };
+    Ok(Command::Downlinks { file, report })
 }
 
 /// The receptions of a device in a month.
-#[derive(Drop)]
-struct DevicesMonth<'a> {
-    dev_eui: &'a str,
-    month: &'a str,
+///
+/// # Errors
+///
+/// `Month` if the text isn't a month, for any device, then `Device` if nobody added the device.
+#[derive(Clone, Copy)]
+pub struct DevicesMonth<'a> {
+    pub dev_eui: &'a str,
+    pub month: &'a str,
 }
 
 impl Report for DevicesMonth<'_> {
@@ -130,41 +87,15 @@ impl Report for DevicesMonth<'_> {
     }
 }
 
-/// Prints the downlinks of a gateway in a month from the desk of the connection's database. Returns the connection. The database stays as
-/// it is.
+/// The downlinks of a gateway in a month.
 ///
 /// # Errors
 ///
-/// Those of `receptions_command`, with `Gateway` if nobody added the gateway in place of `Device`.
-pub fn downlinks_command<S: Alter, W: Write, F: Write>(
-    alloc: Global,
-    conn: Connection<S>,
-    gateway: &str,
-    month: &str,
-    answers: &mut W,
-    faults: &mut F,
-) -> (Ending, Connection<S>)
-    requires idle { conn.in_transaction ≡ false }
-    requires unlimited { conn.step_limit ≡ None }
-    ensures { Ends F.contents faults.old faults.new result.0 (λ done. OnDesk S.Store conn result.1 done
-        (Keeps (W.contents answers.old) (W.contents answers.new))
-        (λ c heard. PrintsBy (KeepsHeard S.Store result.1 c heard) (IsLeft S.Store result.1 c heard None) (W.contents answers.old) (W.contents answers.new)
-        (IsGatewaysMonth (state_of c heard) gateway.now month.now) done)) }
-{
-    print_report(
-        alloc,
-        conn,
-        &GatewaysMonth { gateway, month },
-        answers,
-        faults,
-    )
-}
-
-/// The downlinks of a gateway in a month.
-#[derive(Drop)]
-struct GatewaysMonth<'a> {
-    gateway: &'a str,
-    month: &'a str,
+/// `Month` if the text isn't a month, for any gateway, then `Gateway` if nobody added the gateway.
+#[derive(Clone, Copy)]
+pub struct GatewaysMonth<'a> {
+    pub gateway: &'a str,
+    pub month: &'a str,
 }
 
 impl Report for GatewaysMonth<'_> {

@@ -1,32 +1,22 @@
 //! `desk report`, `desk bands` and `desk room`: reports from a desk's file.
-ghost use Rattle.std.specs.Prelude.{◌≡◌, false, List, None};
-ghost use Rattle.std.specs.Io.KnownBytes.{Keeps};
 ghost use Rattle.clap.specs.Matches.{found_of};
 ghost use Rattle.clap.specs.Walk.{rows_of};
 ghost use Rattle.desk_cli.specs.commands.Reports.{bands_app, bands_named, report_app, report_named, room_app, room_named};
-ghost use Rattle.desk_cli.specs.Doing.{OnDesk};
-ghost use Rattle.desk_cli.specs.Faults.{Ends};
 ghost use Rattle.desk_cli.specs.Named.{TellsNamed};
 ghost use Rattle.desk_cli.specs.steps.CommandLine.{IsCommand};
 ghost use Rattle.desk_cli.specs.steps.Printing.{unasked_month, unasked_room};
-ghost use Rattle.registry_core.specs.declared.messages.Envelope.{Envelope};
 ghost use Rattle.registry_core.specs.Heard.{state_of};
-ghost use Rattle.registry_core.specs.Settings.{Settings};
 ghost use Rattle.desk_http.specs.Reports.{IsBandAnswer};
-ghost use Rattle.desk_cli.specs.OnTables.{IsLeft, KeepsHeard};
-ghost use Rattle.desk_cli.specs.Printing.{IsGatewaysRoom, IsOwnersMonth, PrintsBy};
+ghost use Rattle.desk_cli.specs.Printing.{IsGatewaysRoom, IsOwnersMonth};
 
 use super::Command;
-use crate::endings::Ending;
 use crate::options::{command_on_file, place, placed, with_word};
-use crate::printing::{Report, print_report};
+use crate::printing::Report;
 use crate::usage::Usage;
 use clap::ArgMatches;
 use desk_engine::{ReportFault, band_report, owner_report, room_report};
 use desk_store::Keeper;
-use sqlite::{Alter, Connection};
 use std::alloc::{AllocError, Global};
-use std::io::Write;
 
 /// Returns the command line of `desk report`: its name, the file, the owner and the month.
 pub(crate) fn report_app<'a>(alloc: Global) -> Result<clap::Command<'a>, AllocError>
@@ -47,7 +37,8 @@ pub(crate) fn report_of<'a>(options: &ArgMatches<'a>) -> Result<Command<'a>, Usa
     let file = placed(options, "file")?;
     let owner = placed(options, "owner")?;
     let month = placed(options, "month")?;
-    Ok(Command::Report { file, owner, month })
+    let report = OwnersMonth { owner, month };
+    Ok(Command::Report { file, report })
 }
 
 /// Returns the command line of `desk bands`: its name, the file and the gateway.
@@ -66,7 +57,8 @@ pub(crate) fn bands_of<'a>(options: &ArgMatches<'a>) -> Result<Command<'a>, Usag
 {
     let file = placed(options, "file")?;
     let gateway = placed(options, "gateway")?;
-    Ok(Command::Bands { file, gateway })
+    let report = GatewaysBands { gateway };
+    Ok(Command::Bands { file, report })
 }
 
 /// Returns the command line of `desk room`: its name, the file, the gateway and the time.
@@ -93,42 +85,19 @@ pub(crate) fn room_of<'a>(options: &ArgMatches<'a>) -> Result<Command<'a>, Usage
     let file = placed(options, "file")?;
     let gateway = placed(options, "gateway")?;
     let time = placed(options, "time")?;
-    Ok(Command::Room {
-        file,
-        gateway,
-        time,
-    })
+    let report = GatewaysRoom { gateway, time };
+    Ok(Command::Room { file, report })
 }
 
-/// Prints the owner's report of a month from the desk of the connection's database. Returns the connection. The database stays as it is.
+/// The report of an owner's month.
 ///
 /// # Errors
 ///
-/// Writes one line to standard error: `Month` if the text isn't a month, for any owner, then `Owner` if nobody added the owner, `File` if
-/// a write to standard output failed, and `NotADesk`, `Schema` or `Unavailable` if the database isn't a desk of schema 2.
-pub fn report_command<S: Alter, W: Write, F: Write>(
-    alloc: Global,
-    conn: Connection<S>,
-    owner: &str,
-    month: &str,
-    answers: &mut W,
-    faults: &mut F,
-) -> (Ending, Connection<S>)
-    requires idle { conn.in_transaction ≡ false }
-    requires unlimited { conn.step_limit ≡ None }
-    ensures { Ends F.contents faults.old faults.new result.0 (λ done. OnDesk S.Store conn result.1 done
-        (Keeps (W.contents answers.old) (W.contents answers.new))
-        (λ c heard. PrintsBy (KeepsHeard S.Store result.1 c heard) (IsLeft S.Store result.1 c heard None) (W.contents answers.old) (W.contents answers.new)
-        (IsOwnersMonth (state_of c heard) owner.now month.now) done)) }
-{
-    print_report(alloc, conn, &OwnersMonth { owner, month }, answers, faults)
-}
-
-/// The owner's report of a month.
-#[derive(Drop)]
-struct OwnersMonth<'a> {
-    owner: &'a str,
-    month: &'a str,
+/// `Month` if the text isn't a month, for any owner, then `Owner` if nobody added the owner.
+#[derive(Clone, Copy)]
+pub struct OwnersMonth<'a> {
+    pub owner: &'a str,
+    pub month: &'a str,
 }
 
 impl Report for OwnersMonth<'_> {
@@ -141,32 +110,14 @@ impl Report for OwnersMonth<'_> {
     }
 }
 
-/// Prints the report of a gateway's bands from the desk of the connection's database. Returns the connection. The database stays as it is.
+/// The report of a gateway's bands.
 ///
 /// # Errors
 ///
-/// Those of `report_command` for the writer and the database, and `Gateway` if nobody added the gateway.
-pub fn bands_command<S: Alter, W: Write, F: Write>(
-    alloc: Global,
-    conn: Connection<S>,
-    gateway: &str,
-    answers: &mut W,
-    faults: &mut F,
-) -> (Ending, Connection<S>)
-    requires idle { conn.in_transaction ≡ false }
-    requires unlimited { conn.step_limit ≡ None }
-    ensures { Ends F.contents faults.old faults.new result.0 (λ done. OnDesk S.Store conn result.1 done
-        (Keeps (W.contents answers.old) (W.contents answers.new))
-        (λ c heard. PrintsBy (KeepsHeard S.Store result.1 c heard) (IsLeft S.Store result.1 c heard None) (W.contents answers.old) (W.contents answers.new)
-        (IsBandAnswer (state_of c heard) gateway.now) done)) }
-{
-    print_report(alloc, conn, &GatewaysBands { gateway }, answers, faults)
-}
-
-/// The report of a gateway's bands.
-#[derive(Drop)]
-struct GatewaysBands<'a> {
-    gateway: &'a str,
+/// `Gateway` if nobody added the gateway.
+#[derive(Clone, Copy)]
+pub struct GatewaysBands<'a> {
+    pub gateway: &'a str,
 }
 
 impl Report for GatewaysBands<'_> {
@@ -179,42 +130,15 @@ impl Report for GatewaysBands<'_> {
     }
 }
 
-/// Prints the report of a gateway's room at a time from the desk of the connection's database. Returns the connection. The database stays
-/// as it is.
+/// The report of a gateway's room at a time.
 ///
 /// # Errors
 ///
-/// Those of `report_command` for the writer and the database, `Time` if the text isn't a time, for any gateway, and then `Gateway` if
-/// nobody added the gateway.
-pub fn room_command<S: Alter, W: Write, F: Write>(
-    alloc: Global,
-    conn: Connection<S>,
-    gateway: &str,
-    time: &str,
-    answers: &mut W,
-    faults: &mut F,
-) -> (Ending, Connection<S>)
-    requires idle { conn.in_transaction ≡ false }
-    requires unlimited { conn.step_limit ≡ None }
-    ensures { Ends F.contents faults.old faults.new result.0 (λ done. OnDesk S.Store conn result.1 done
-        (Keeps (W.contents answers.old) (W.contents answers.new))
-        (λ c heard. PrintsBy (KeepsHeard S.Store result.1 c heard) (IsLeft S.Store result.1 c heard None) (W.contents answers.old) (W.contents answers.new)
-        (IsGatewaysRoom (state_of c heard) gateway.now time.now) done)) }
-{
-    print_report(
-        alloc,
-        conn,
-        &GatewaysRoom { gateway, time },
-        answers,
-        faults,
-    )
-}
-
-/// The report of a gateway's room at a time.
-#[derive(Drop)]
-struct GatewaysRoom<'a> {
-    gateway: &'a str,
-    time: &'a str,
+/// `Time` if the text isn't a time, for any gateway, then `Gateway` if nobody added the gateway.
+#[derive(Clone, Copy)]
+pub struct GatewaysRoom<'a> {
+    pub gateway: &'a str,
+    pub time: &'a str,
 }
 
 impl Report for GatewaysRoom<'_> {

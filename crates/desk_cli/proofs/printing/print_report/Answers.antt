@@ -2,6 +2,4 @@
 use Rattle.desk_cli.proofs.printing.print_report.Goals as goal
 
 pub returns : goal.returns
-returns g c =
-    let done = c.print_by_store-done.ensures in
-    record { result = c.print_by_store-done.result.0; ended = c.end.ensures; says = record { desk = done.prints; not_a_desk = done.not_a_desk; clean = done.clean } }
+returns g c = record { result = c.print_by_store-done.result.0; ended = c.end.ensures; says = c.print_by_store-done.ensures }

@@ -11,7 +11,7 @@ use Rattle.desk_cli.proofs.commands.checking.print_check.Goals as goal
 pub returns-in-Ok : goal.returns-in-Ok
 unfolding kept_after
 returns-in-Ok g c = record {
-  prints = λ clean config heard kept.
+  desk = λ clean config heard kept.
       let sound = c.close.ensures.sound clean in
       let read = c.text_of-text.ensures.read in
       let was_sound = read.was_sound sound in
@@ -27,7 +27,7 @@ returns-in-Ok g c = record {
 
 pub returns-in-Err : goal.returns-in-Err
 returns-in-Err g c = record {
-  prints = λ clean config heard kept.
+  desk = λ clean config heard kept.
       let back = c.in-Err.ensures.unavailable clean config heard kept in
       prints_unopened _ _ _ _ c.in-Err.fault back.0 back.1 (Keeps-refl _) tt;
   not_a_desk = λ clean none. (c.in-Err.ensures.refused clean, Keeps-refl _);
