@@ -79,11 +79,6 @@ fault_is_not_misused Network is = cc
 
 -- `contents` is what the writer of standard error has, and `untold` and `told` are that writer before and after.
 module _ {F : Type 0} (contents : F → Option (List ℕ)) (untold told : F) where
-  -- a command never ends as misused
-  pub never_misused : (ending : Ending) (result : Result (Unit {0}) Fault) → EndsBy contents untold told ending result → ¬ (ending ≡ Misused)
-  never_misused ending (Ok x) ended is = absurd (subst IsDone (sym ended.0 ∙ is) tt)
-  never_misused ending (Err fault) ended is = absurd (fault_is_not_misused fault (sym ended.0 ∙ is))
-
   -- a command that is done reports no error
   pub ends_quiet : (result : Result (Unit {0}) Fault) → EndsBy contents untold told Done result → told ≡ untold
   ends_quiet (Ok x) ended = ended.1

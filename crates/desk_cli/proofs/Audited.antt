@@ -1,7 +1,5 @@
 -- A connection that was audited, and opened again.
-use Rattle.std.proofs.Common.{◌≡◌, ◌≤◌, ℕ, List, [], length, refl, sym, ap, ap₂, subst, ◌∙◌, arith, false, inl, IsTrue, Option, Some, None, Result, Ok, Err}
-use Rattle.std.specs.Prelude.{IfOk, IfSome}
-use Rattle.registry_core.specs.declared.messages.Envelope.{Envelope}
+use Rattle.std.proofs.Common.{◌≡◌, ◌≤◌, [], refl, sym, ap, ap₂, subst, ◌∙◌, arith, false, inl, IsTrue}
 use Rattle.registry_core.specs.Settings.{Settings}
 use Rattle.sqlite_trees.specs.Tree.{Trees}
 use Rattle.sqlite_trees.specs.View.{IsClean, doubt}
@@ -12,15 +10,12 @@ use Rattle.sqlite.specs.State.{HasCleanDisk, IsLive, IsUnchanged, Opens}
 use Rattle.desk_engine.specs.InOrder.{kept_after}
 use Rattle.desk_rows.specs.Schema.{desk_schema}
 use Rattle.desk_tables.specs.Adopting.{IsGivenBack}
-use Rattle.desk_tables.specs.InOrder.{AreOfDesk, IsOfDesk}
+use Rattle.desk_tables.specs.InOrder.{IsOfDesk}
 use Rattle.desk_tables.proofs.OneSchema.{one_schema}
-use Rattle.desk_cli.proofs.Compared.{at_ok, became_store_too}
-use Rattle.desk_cli.specs.Audit.{IsFinding, PassesAudit}
-use Rattle.desk_cli.specs.RefusedFiles.{IsNotADesk}
-use Rattle.desk_cli.specs.OnTables.{HasHeard, KeepsHeard}
+use Rattle.desk_cli.proofs.Compared.{became_store_too}
+use Rattle.desk_cli.specs.Audit.{IsFinding}
 use Rattle.desk_cli.specs.declared.audit.Finding.{Finding}
 use Rattle.desk_cli.specs.declared.audit.Finding.TheVariants.{InOrder, Differs}
-use Rattle.desk_cli.specs.declared.faults.Fault.{Fault}
 use Rattle.desk_cli.specs.steps.Audit.{BecameStore, IsDeskIf}
 
 -- the store of a connection to a desk's database, opened again
@@ -98,39 +93,3 @@ module _ {S : Type 0} (g : Ghosts S) (first conn back : Held S) (store : S)
     idle = idle;
     crash = λ sure db may. inl ((same_again g first back store (became_first sure) (desk (sure_conn sure)).0 (opens sure) (rows sure) settled stays).2 db may);
   }
-
--- ---- a scratch whose disk always returns what was written
-
-if_some : {X : Type 0} {P Q : X → Type 0} (o : Option X) → ((x : X) → P x → Q x) → IfSome o P → IfSome o Q
-if_some (Some x) f h = f x h
-if_some None f h = tt
-
-if_some_all : {X : Type 0} {Q : X → Type 0} (o : Option X) → ((x : X) → Q x) → IfSome o Q
-if_some_all (Some x) f = f x
-if_some_all None f = tt
-
--- of a connection that came back, what is so of a finding is so without its scratch
-module _ {S R : Type 0} (g : Ghosts S) (back : Option (Held S)) (found : Result (Finding × R) Fault) (result : Result Finding Fault × Option (Held S)) where
-  abbrev Passes : Result Finding Fault × Option (Held S) → Type 0
-  Passes r = IfSome r.1 (λ b. HasCleanDisk (state g b) → IfOk r.0 (IsFinding g b))
-
-  pub passes_alone : (IsSure : R → Type 0) → ((scratch : R) → IsSure scratch) → (finding : Finding) (scratch : R) → found ≡ Ok (finding, scratch) → result ≡ (Ok finding, back)
-      → IfSome back (λ b. HasCleanDisk (state g b) → IfOk found (λ f. IsSure f.1 → IsFinding g b f.0)) → Passes result
-  passes_alone IsSure always finding scratch is e h =
-      subst Passes (sym e)
-      (if_some back (λ b all sure. at_ok (λ f. IsSure f.1 → IsFinding g b f.0) found (finding, scratch) is (all sure) (always scratch)) h)
-
-  pub passes_none : (fault : Fault) → result ≡ (Err fault, back) → Passes result
-  passes_none fault e = subst Passes (sym e) (if_some_all back (λ b sure. tt))
-
-module _ {S R : Type 0} (g : Ghosts S) (conn : Held S) (back : Option (Held S)) (found : Result (Finding × R) Fault) (result : Result Finding Fault × Option (Held S)) where
-  abbrev Never : Result Finding Fault × Option (Held S) → Type 0
-  Never r = IfSome r.1 (λ b. HasCleanDisk (state g b) → IfOk r.0 (λ _. ¬ IsNotADesk g conn))
-
-  pub never_alone : (finding : Finding) (scratch : R) → found ≡ Ok (finding, scratch) → result ≡ (Ok finding, back)
-      → IfSome back (λ b. HasCleanDisk (state g b) → IfOk found (λ _. ¬ IsNotADesk g conn)) → Never result
-  never_alone finding scratch is e h =
-      subst Never (sym e) (if_some back (λ b all sure. at_ok (λ _. ¬ IsNotADesk g conn) found (finding, scratch) is (all sure)) h)
-
-  pub never_none : (fault : Fault) → result ≡ (Err fault, back) → Never result
-  never_none fault e = subst Never (sym e) (if_some_all back (λ b sure. tt))

@@ -3,7 +3,7 @@ use Rattle.std.proofs.Common.{◌≡◌, ℕ, ◌+◌, suc, List, [], ◌∷◌,
 use Rattle.std.specs.Prelude.{All, Result, Ok, Err, IfOk, OnOk}
 use Rattle.std.specs.Result.{is_ok}
 use Rattle.std.proofs.lemmas.List.{length-map}
-use Rattle.std.proofs.lemmas.List.Elements.{All-cons, All-nil}
+use Rattle.std.proofs.lemmas.List.Elements.{All-cons}
 use Rattle.registry_core.specs.declared.messages.Envelope.{Envelope}
 use Rattle.registry_core.specs.Heard.{IsHeard}
 use Rattle.registry_core.specs.Settings.{Settings}
@@ -11,12 +11,11 @@ use Rattle.sqlite_value.specs.Order.{Row}
 use Rattle.sqlite_trees.specs.Tree.{Trees}
 use Rattle.sqlite_trees.specs.View.{View, IsClean, IsRolledBack}
 use Rattle.sqlite_trees.specs.declared.store.Store.{Ghosts}
-use Rattle.sqlite.specs.State.{State, HasCleanDisk, IsUnchanged}
+use Rattle.sqlite.specs.State.{State, IsUnchanged}
 use Rattle.sqlite.specs.Steps.{IsFresh}
 use Rattle.sqlite.specs.Effect.{Database, IsDatabase}
 use Rattle.sqlite.specs.Held.{Held, state}
 use Rattle.desk_store.specs.Kept.{Kept}
-use Rattle.desk_rows.specs.Calls.{IsReadingCall}
 use Rattle.desk_rows.specs.Rows.{Holds, Rows, reply_cells, rowids_from}
 use Rattle.desk_rows.specs.Schema.{desk_schema, reply_tree}
 use Rattle.desk_tables.specs.InOrder.{IsOfDesk, entry_in}
@@ -25,11 +24,10 @@ use Rattle.desk_engine.proofs.KeptAfter.{length-kept_after}
 use Rattle.desk_cli.specs.declared.audit.Finding.{Finding}
 use Rattle.desk_cli.specs.declared.audit.Finding.TheVariants.{InOrder, Differs}
 use Rattle.desk_cli.specs.declared.audit.Place.{Place}
-use Rattle.desk_cli.specs.declared.audit.Table.{Table}
 use Rattle.desk_cli.specs.declared.audit.Table.TheVariants.{Meta, Reply}
 use Rattle.desk_cli.specs.declared.audit.walking.Comparison.{Comparison}
 use Rattle.desk_cli.specs.declared.audit.walking.Comparison.TheVariants.{Same}
-use Rattle.desk_cli.specs.steps.Audit.{Compares, DifferAt, DifferFirst, HaveSame, IsDeskIf, IsFirstPlace, IsFoundBeside, OnlyMoves, BecameStore, later_tables, tree_of}
+use Rattle.desk_cli.specs.steps.Audit.{Compares, HaveSame, IsDeskIf, IsFirstPlace, IsFoundBeside, OnlyMoves, BecameStore, later_tables, tree_of}
 
 -- ---- places
 
@@ -44,9 +42,6 @@ module _ (one other : Trees) (same : HaveSame one other Reply) where
     front = All-cons (HaveSame one other) Reply _ same at.front;
     row = at.row;
   }
-
-pub differs_first : (one other : Trees) (row : ℕ) → DifferFirst (one (tree_of Reply)) (other (tree_of Reply)) row → IsFoundBeside one other (Differs (record { table = Reply; row = row }))
-differs_first one other row differ = record { before = 0; table = refl; front = All-nil (HaveSame one other); row = differ }
 
 -- the replies are the same, and so are the later tables, or they differ there
 abbrev pub finding_of : ℕ → Option Place → Finding

@@ -1,5 +1,5 @@
 -- Messages that the audit's new desk hears one after another: what its store represents after none, one more, and all of them.
-use Rattle.std.proofs.Common.{◌≡◌, ◌∙◌, true, false, Bool, List, [], None, Option, refl, sym, subst, arith, inl}
+use Rattle.std.proofs.Common.{◌≡◌, ◌∙◌, true, false, List, [], refl, sym, subst, arith, inl}
 use Rattle.sqlite_trees.specs.declared.store.Store.{Ghosts}
 use Rattle.sqlite.specs.Held.{Held, state}
 use Rattle.sqlite.specs.State.{State}
@@ -7,18 +7,14 @@ use Rattle.desk_rows.specs.Calls.{IsReadingCall}
 use Rattle.registry_core.specs.declared.messages.Envelope.{Envelope}
 use Rattle.registry_core.specs.Heard.{IsHeard}
 use Rattle.registry_core.specs.Settings.{Settings}
-use Rattle.desk_store.specs.Calls.{is_disk, is_not_a_desk}
 use Rattle.desk_store.specs.Kept.{Kept}
 use Rattle.desk_store.specs.Meaning.{Meaning}
 use Rattle.desk_tables.specs.Adopting.{IsStore, opening_kept}
 use Rattle.desk_tables.specs.InOrder.{IsOfDesk}
 use Rattle.desk_tables.specs.Store.{meaning_of}
 use Rattle.desk_tables.specs.declared.tables.Tables.{Tables}
-use Rattle.desk_engine.specs.declared.outcomes.Outcome.{Outcome}
-use Rattle.desk_engine.specs.Hearing.{Hears}
 use Rattle.desk_engine.specs.InOrder.{IsInOrder, WasInOrder, kept_after}
 use Rattle.desk_engine.specs.Laws.{CallsHearInOrder, NoCallHearsNothing}
-use Rattle.desk_engine.specs.Outcomes.{outcome_fault}
 use Rattle.desk_cli.specs.steps.Audit.{HearsSome}
 
 module _ {K : Type 0} (m : Meaning K) where
@@ -30,15 +26,6 @@ module _ {K : Type 0} (m : Meaning K) where
     after = _;
     doubtful = _;
     hears = law old mid new false false false false first.after second.after first.doubtful second.doubtful first.hears second.hears;
-  }
-
-  -- a delivery that isn't answered Unavailable
-  pub hears_it : (old new : K) (outcome : Outcome) (after : Settings → List Envelope → List Envelope) (doubtful : Settings → Option Envelope) → outcome_fault outcome ≡ None
-      → Hears m old new (is_disk (outcome_fault outcome)) (is_not_a_desk (outcome_fault outcome)) after doubtful → HearsSome m old new
-  hears_it old new outcome after doubtful none hears = record {
-    after = after;
-    doubtful = doubtful;
-    hears = rw none at hears;
   }
 
 -- ---- a new desk over tables

@@ -1,5 +1,5 @@
 -- What an import did, stated of the file that the store is in.
-use Rattle.std.proofs.Common.{◌≡◌, ◌∷◌, ◌++◌, ℕ, Bool, false, List, [], Option, Some, None, Result, Ok, Err, refl, sym, ◌∙◌, inl, inr, take, subst}
+use Rattle.std.proofs.Common.{◌≡◌, ◌∷◌, ◌++◌, ℕ, Bool, false, List, [], Option, Some, None, Result, Ok, Err, refl, sym, ◌∙◌, inl, inr, subst}
 use Rattle.std.proofs.KnownBytes.{Appends-nil, Consumes-nil}
 use Rattle.std.proofs.lemmas.Bool.{true≢false}
 use Rattle.registry_core.specs.declared.messages.Envelope.{Envelope}
@@ -12,11 +12,10 @@ use Rattle.desk_wire.specs.declared.csv_faults.CsvFault.TheVariants as csv
 use Rattle.desk_engine.specs.declared.csv_importing.ImportEnd.TheVariants as end
 use Rattle.desk_engine.specs.CsvImporting.{ImportEndsBy, ImportsAll, ImportsFirst, RefusesReport, answer_envelopes}
 use Rattle.desk_engine.specs.Hearing.{StoreKeeps, StoreLeaves}
-use Rattle.desk_engine.specs.Importing.{heard_in_order}
 use Rattle.desk_cli.proofs.OnTables.{unshut_by}
 use Rattle.desk_cli.specs.OnTables.{WasOpened}
-use Rattle.desk_cli.proofs.Opened.{err, is_unavailable}
-use Rattle.desk_cli.specs.Faults.{fault_of_csv, fault_of_store}
+use Rattle.desk_cli.proofs.Opened.{err}
+use Rattle.desk_cli.specs.Faults.{fault_of_csv}
 use Rattle.desk_cli.specs.commands.Importing.{ImportsBy}
 use Rattle.desk_cli.specs.declared.faults.Fault.{Fault}
 use Rattle.desk_cli.specs.declared.faults.Fault.TheVariants.{Exists, NotADesk, Schema, Owner, Gateway, Device, Month, Time, CsvSize, CsvEnd, CsvHeader, CsvRecord, Differs, Unavailable, File, Network}
@@ -47,16 +46,6 @@ undoubted m c heard old new was call all doubt leaves = record {
 -- ---- the end of an import, as the command returns it
 
 module _ (c : Settings) (heard : List Envelope) (sender : List ℕ) (Kept : List Envelope → Type 0) (Left : List Envelope → Option Envelope → Type 0) (rest_before rest before after : Option (List ℕ)) (T : Type 0) where
-  -- A read failed: there is no answer, so no record was heard.
-  pub read_failed : ((doubt : Option Envelope) → Left heard doubt → Kept heard) → ImportEndsBy c heard sender Kept Left rest_before rest before after end.Read
-      → ImportsBy c heard sender Kept Left rest_before rest before after (err {T = T} File)
-  read_failed kept_by by = inl (record {
-    input = by.input;
-    read = by.read;
-    kept = kept_by by.doubt (subst (λ es. Left (heard_in_order c heard es) by.doubt) (none_answered c heard (take by.count by.envelopes) by.answers.0) by.left_is);
-    unwritten = by.answers.1;
-  })
-
   -- the answers couldn't be written, of all or of the first
   pub unwritten : (why : Option StoreFault) → ImportEndsBy c heard sender Kept Left rest_before rest before after (end.Write why)
       → ImportsBy c heard sender Kept Left rest_before rest before after (err {T = T} File)
@@ -74,10 +63,6 @@ module _ (c : Settings) (heard : List Envelope) (sender : List ℕ) (Kept : List
       so csv.Header by = by
       so (csv.Record n) by = by
       so csv.Memory by = absurd by
-
-  pub stopped_at : (why : StoreFault) → ImportEndsBy c heard sender Kept Left rest_before rest before after (end.Unavailable why) → (fault : Fault) → fault ≡ fault_of_store why
-      → ImportsBy c heard sender Kept Left rest_before rest before after (err {T = T} fault)
-  stopped_at why by fault is = subst (λ f. ImportsBy c heard sender Kept Left rest_before rest before after (err {T = T} f)) (sym (is ∙ is_unavailable why by.1)) by.0
 
 -- ---- a store in a file
 

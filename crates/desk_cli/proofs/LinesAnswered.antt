@@ -8,7 +8,7 @@ use Rattle.registry_core.specs.Settings.{Settings}
 use Rattle.desk_store.specs.declared.faults.StoreFault.{StoreFault}
 use Rattle.desk_store.specs.Calls.{IsCall}
 use Rattle.desk_store.specs.Meaning.{Meaning}
-use Rattle.desk_engine.specs.Lines.{FailsToWrite, HasHeardLines, IsCutShort, all_lines, heard_lines, last_line, whole_lines}
+use Rattle.desk_engine.specs.Lines.{HasHeardLines, IsCutShort, all_lines, heard_lines}
 use Rattle.desk_cli.proofs.OnTables.{unshut_by}
 use Rattle.desk_cli.proofs.Opened.{err, is_unavailable}
 use Rattle.desk_cli.specs.Faults.{fault_of_store}
@@ -28,16 +28,6 @@ module _ {K : Type 0} (m : Meaning K) (c : Settings) (heard : List Envelope) (ol
     pub hears_all : {not_a_desk : Bool} → IsCall m old new false not_a_desk → HasHeardLines m c heard old new (all_lines input) None
         → HearsFirst c heard (StoreKeeps m c heard old new) (StoreLeaves m c heard old new) left rest before after
     hears_all call hears = record { input = input; read = read; lines = all_lines input; beginning = ([], sym (append-nil (all_lines input))); kept = keeps_lines call refl (all_lines input) hears }
-
-    -- a read failed after the lines that are ended
-    pub hears_ended : {not_a_desk : Bool} → IsCall m old new false not_a_desk → HasHeardLines m c heard old new (whole_lines input) None
-        → HearsFirst c heard (StoreKeeps m c heard old new) (StoreLeaves m c heard old new) left rest before after
-    hears_ended call hears = record { input = input; read = read; lines = whole_lines input; beginning = (last_line input ∷ [], refl); kept = keeps_lines call refl (whole_lines input) hears }
-
-    -- a write failed after the line
-    pub hears_unwritten : {not_a_desk : Bool} → IsCall m old new false not_a_desk → FailsToWrite m c heard old new input
-        → HearsFirst c heard (StoreKeeps m c heard old new) (StoreLeaves m c heard old new) left rest before after
-    hears_unwritten call fails = record { input = input; read = read; lines = fails.lines ++ fails.line ∷ []; beginning = fails.beginning; kept = keeps_lines call refl (fails.lines ++ fails.line ∷ []) fails.hears }
 
     -- a line found the store unavailable
     is_cut_short : (fault : StoreFault) → IsCutShort m c heard old new before after input fault

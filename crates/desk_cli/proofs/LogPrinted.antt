@@ -1,22 +1,12 @@
 -- A part of the log that a store was asked for, printed.
-use Rattle.std.proofs.Common.{◌≡◌, ℕ, List, [], Option, Result, Ok, Err, refl, sym, subst, ◌∙◌}
+use Rattle.std.proofs.Common.{◌≡◌, ℕ, List, [], Option, Result, Ok, Err, refl, ◌∙◌}
 use Rattle.std.proofs.KnownBytes.{Appends-nil}
-use Rattle.desk_store.specs.declared.faults.StoreFault.{StoreFault}
-use Rattle.desk_store.specs.Calls.{IsUnavailability}
-use Rattle.desk_engine.specs.Log.{WritesWhole}
-use Rattle.desk_cli.proofs.Opened.{err, is_unavailable}
-use Rattle.desk_cli.specs.Faults.{fault_of_store}
+use Rattle.desk_cli.proofs.Opened.{err}
 use Rattle.desk_cli.specs.commands.Log.{LogsBy}
 use Rattle.desk_cli.specs.declared.faults.Fault.{Fault}
 use Rattle.desk_cli.specs.declared.faults.Fault.TheVariants.{Exists, NotADesk, Schema, Owner, Gateway, Device, Month, Time, CsvSize, CsvEnd, CsvHeader, CsvRecord, Differs, Unavailable, File, Network}
 
 module _ (lines : List (List ℕ)) where
-  -- the store was unavailable, and that is returned
-  pub ended_unavailable : (Kept Left : Type 0) (before after : Option (List ℕ)) (why : StoreFault) → WritesWhole lines before after × IsUnavailability why → (fault : Fault) → fault ≡ fault_of_store why
-      → Left → LogsBy lines Kept Left before after (err {T = Unit {0}} fault)
-  ended_unavailable Kept Left before after why end fault is left =
-      subst (λ f. LogsBy lines Kept Left before after (err {T = Unit {0}} f)) (sym (is ∙ is_unavailable why end.1)) (end.0, left)
-
   -- a statement about a store is true of the file that it is in
   pub carried : {Kept Stands Left Stays : Type 0} → (Kept → Stands) → (Left → Stays) → (before after : Option (List ℕ)) → {T : Type 0} → (r : Result T Fault)
       → LogsBy lines Kept Left before after r → LogsBy lines Stands Stays before after r

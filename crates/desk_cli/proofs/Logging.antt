@@ -1,13 +1,10 @@
 -- The log of connections: its fields octet by octet, and the line that is put to it.
-use Rattle.std.proofs.Common.{arith, ◌≡◌, ◌+◌, ◌<◌, ◌++◌, ◌∷◌, ◌∙◌, ℕ, List, [], Option, Some, None, length, take, get_or, ap, sym, inl, inr}
+use Rattle.std.proofs.Common.{arith, ◌≡◌, ◌+◌, ◌<◌, ◌++◌, ◌∷◌, ◌∙◌, ℕ, List, [], Some, None, length, take, get_or, ap, sym}
 use Rattle.std.proofs.lemmas.List.{flat_map_more, take_more}
 use Rattle.std.proofs.lemmas.List.Sums.{prefix_len-le-length}
 use Rattle.std.specs.List.{flat_map, position_or_len}
-use Rattle.std.specs.Prelude.{Bool, IfSome, Vec, nat_lt, not, if◌then◌else◌}
-use Rattle.desk_http.specs.declared.serving.ServeEnd.{ServeEnd}
-use Rattle.desk_cli.specs.ConnectionLog.{IsLine, Logs, octet_field}
-use Rattle.desk_cli.specs.declared.connection_log.recorders.Record.{Record}
-use Rattle.desk_cli.specs.steps.Logging.{Puts}
+use Rattle.std.specs.Prelude.{Bool, nat_lt, not, if◌then◌else◌}
+use Rattle.desk_cli.specs.ConnectionLog.{octet_field}
 
 -- the place of the first that passes, where one does, and the length where none does
 pub found_at : {X : Type 0} (p : X → Bool) (xs : List X) (end : ℕ) → Some end ≡ (if nat_lt (position_or_len p xs) (length xs) then Some (position_or_len p xs) else None) → end ≡ position_or_len p xs
@@ -22,12 +19,3 @@ pub more_octets : (before now after text : List ℕ) (i d : ℕ) → i < length 
 more_octets before now after text i d within so_far more =
     more ∙ ap (λ l. l ++ octet_field (get_or text i d)) so_far ∙ flat_map_more octet_field before (take i text) (get_or text i d)
     ∙ ap (λ l. before ++ flat_map octet_field l) (sym (take_more text i d within))
-
--- the line is that of the connection
-pub logs_line : {G Z : Type 0} (contents : G → Option (List ℕ)) (before after : Option G) (end : ServeEnd) (read written : Option Record) (line : Option (Vec ℕ Z))
-    → IfSome line (λ l. IsLine end read written l.items) → Puts contents before after line → Logs contents before after end read written
-logs_line contents None None end read written line is puts = tt
-logs_line contents (Some x) (Some y) end read written None is puts = inr puts
-logs_line contents (Some x) (Some y) end read written (Some l) is puts = inl (l.items, is, puts)
-logs_line contents None (Some y) end read written line is puts = absurd puts
-logs_line contents (Some x) None end read written line is puts = absurd puts

@@ -4,16 +4,11 @@ use Rattle.std.specs.Prelude.{ℤ}
 use Rattle.std.specs.Io.KnownBytes.{Keeps}
 use Rattle.sqlite.specs.Held.{Held}
 use Rattle.sqlite_trees.specs.declared.store.Store.{Ghosts}
-use Rattle.registry_core.specs.declared.messages.Envelope.{Envelope}
-use Rattle.registry_core.specs.Heard.{state_of}
-use Rattle.registry_core.specs.Settings.{Settings}
 use Rattle.registry_core.specs.State.{State}
 use Rattle.desk_store.specs.declared.faults.StoreFault.TheVariants as store
 use Rattle.desk_store.specs.Calls.{is_disk}
 use Rattle.desk_engine.specs.declared.report_faults.ReportFault.{ReportFault}
 use Rattle.desk_engine.specs.declared.report_faults.ReportFault.TheVariants.{Month, Time, Owner, Gateway, Device, Unavailable}
-use Rattle.desk_engine.specs.declared.lists.ListOf.{ListOf}
-use Rattle.desk_engine.specs.Listing.{IsDeviceAnswer, IsDeviceFault, IsList, IsListAnswer, IsListFault, device_text, is_device}
 use Rattle.desk_engine.specs.Months.{IsMonth}
 use Rattle.desk_engine.specs.Reporting.{IsGatewayFault, store_fault_in}
 use Rattle.desk_engine.specs.Reports.{IsBandReport, is_gateway}
@@ -71,18 +66,6 @@ module _ {X : Type 0} (octets : X → List ℕ) (s : State) where
       → IfOk r (λ text. IsBandReport s gateway (octets text)) → IfErr r (IsGatewayFault s gateway) → IsBandAnswer s gateway (shown octets r)
   gateways_bands gateway (Ok text) known report fault = record { known = known; report = report; fault = fault }
   gateways_bands gateway (Err why) known report fault = record { known = known; report = report; fault = fault }
-
-module _ {X : Type 0} (octets : X → List ℕ) (c : Settings) (heard : List Envelope) where
-  pub desks_list : (of : ListOf) (r : Result X ReportFault) → IfOk r (λ text. IsList of c heard (octets text)) → IfErr r IsListFault
-      → IsListAnswer of c heard (shown octets r)
-  desks_list of (Ok text) told fault = record { text = told; fault = fault }
-  desks_list of (Err why) told fault = record { text = told; fault = fault }
-
-  pub one_device : (dev_eui : List ℕ) (r : Result X ReportFault) → OnOk r (IsTrue (is_device (state_of c heard) dev_eui))
-      → IfOk r (λ text. octets text ≡ device_text c (state_of c heard) dev_eui) → IfErr r (IsDeviceFault (state_of c heard) dev_eui)
-      → IsDeviceAnswer c heard dev_eui (shown octets r)
-  one_device dev_eui (Ok text) known report fault = record { known = known; report = report; fault = fault }
-  one_device dev_eui (Err why) known report fault = record { known = known; report = report; fault = fault }
 
 -- the store is unavailable, or it is unchanged
 either : (X Kept : Type 0) (fault : Fault) (why : ReportFault) → (is_disk (store_fault_in {T = X} (Err why)) ≡ false → Kept) → fault ≡ fault_of_report why → (fault ≡ told.Unavailable) ⊎ Kept
