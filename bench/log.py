@@ -4,9 +4,10 @@
     bench/log.py [--program PATH] [--folder FOLDER] [--messages 20000,200000] [--only log,audit,follower] [--seed 1]
 
 `desk hear` hears messages of normal operation (normal_operation.py) on a new file, in a folder that is removed at the end; FOLDER names
-the disk. `desk log` prints them, and with --answers their answers. `desk lines` hears them in memory, without a file, and `desk audit`
-hears them anew in memory and compares all rows. Then the desk serves the file, and examples/follow.py copies its log to a standby,
-which it makes, until the standby has all messages: `desk hear` hears them on the standby, one after another.
+the disk. `desk log` prints them, and with --answers their answers. `desk lines` hears them in memory, without a file. `desk audit` hears
+them anew and compares all rows, once with its second desk in memory, once with it in a new file in /dev/shm. Then the desk serves the
+file, and examples/follow.py copies its log to a standby, which it makes, until the standby has all messages: `desk hear` hears them on
+the standby, one after another.
 
 The lines of `desk log` have to be the texts in the file's rows, the answers those that `hear` and `lines` printed, and the standby's
 rows those of the first file, in the same order. The audit has to find the file in order. Each status has to be 0.
@@ -36,6 +37,7 @@ from follow import FOLLOWER, child_of, words_to_serve  # noqa: E402
 from http_client import free_port  # noqa: E402
 
 CONNECTIONS = 1_000_000
+SHARED_MEMORY = "/dev/shm"
 # how often the memory of a program is looked at
 PAUSE_SECONDS = 0.01
 TICKS = os.sysconf("SC_CLK_TCK")
@@ -155,11 +157,13 @@ def measure_audit(table, desk, folder, file, messages, answers, size, start):
     lines = ran([desk, "lines"], messages, printed)
     wants(filecmp.cmp(printed, answers, shallow=False), "lines prints other answers than hear did")
     table.row("lines", size, lines.seconds, lines.processor, lines.peak)
-    audit = ran([desk, "audit", file], written=printed)
     with reading(file) as conn:
         count = conn.execute("SELECT COUNT(*) FROM reply").fetchone()[0]
-    wants(printed.read_text() == f"heard: {count}\nin order\n", f"audit prints {printed.read_text()!r}")
-    table.row("audit", size, audit.seconds, audit.processor, audit.peak, start.processor)
+    with tempfile.TemporaryDirectory(dir=SHARED_MEMORY) as scratch:
+        for what, options in (("audit", []), ("with --scratch", ["--scratch", f"{scratch}/scratch.db"])):
+            audit = ran([desk, "audit", file, *options], written=printed)
+            wants(printed.read_text() == f"heard: {count}\nin order\n", f"audit prints {printed.read_text()!r}")
+            table.row(what, size, audit.seconds, audit.processor, audit.peak, start.processor)
     printed.unlink()
 
 

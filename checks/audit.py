@@ -1,7 +1,7 @@
 #!/usr/bin/env python3
 """Audits a desk's file, and copies of it with one change by the real SQLite: `desk audit` has to find each change.
 
-    checks/audit.py [--program FILE] [--messages 2000] [--seed 1]
+    checks/audit.py [--program FILE] [--messages 2000] [--seed 1] [--scratch PATH]
 
 A desk hears the examples and some messages more, so that each table has two rows or more, but for meta, which has one. `audit` passes
 its file. Then each value of each row is changed in turn: to the next integer and a far one, to another text, to octets with one bit
@@ -26,6 +26,8 @@ desk that heard them in the other one. Of all other changes the script demands t
 
 At last a desk hears a stream of mixed operation (mixed_operation.py: repeats, copies, changed and refused messages, downlinks, limits).
 `audit` passes its file, and finds a change in each table. The file's octets are the same before and after each `audit`.
+
+With --scratch each audit has its second desk in a new file at PATH, which isn't there before and after it.
 
 The program is `./desk`, which is proved and built first if it isn't current, or with --program the built one in FILE.
 """
@@ -76,8 +78,8 @@ MORE = [
 class Program:
     """The program, and how often it has audited a file."""
 
-    def __init__(self, path):
-        self.path, self.audits = path, 0
+    def __init__(self, path, scratch=None):
+        self.path, self.scratch, self.audits = path, scratch, 0
 
     def run(self, *words, given=b""):
         return subprocess.run([self.path, *map(str, words)], input=given, capture_output=True)
@@ -94,8 +96,9 @@ class Program:
     def audit(self, file):
         """What it reports of the file: `in order` with the number of messages, or the place; and that it leaves the file as it is."""
         before = file.read_bytes()
-        ran = self.run("audit", file)
+        ran = self.run("audit", file, *(["--scratch", self.scratch] if self.scratch else []))
         self.audits += 1
+        wants(not self.scratch or not self.scratch.exists(), f"{self.scratch} is there after audit")
         wants(file.read_bytes() == before, f"{file.name} has other octets after audit")
         wants(log_size(file) < EMPTY_LOG, f"the log of {file.name} has a page after audit")
         printed = ran.stdout.decode(), ran.stderr.decode()
@@ -301,8 +304,9 @@ def main():
     add_program(words)
     words.add_argument("--messages", type=int, default=2000, help="lines of the stream")
     words.add_argument("--seed", type=int, default=1, help="of the stream")
+    words.add_argument("--scratch", type=Path, metavar="PATH", help="where the second desk is, in place of memory")
     given = words.parse_args()
-    program = Program(ready(given.program))
+    program = Program(ready(given.program), given.scratch)
     with tempfile.TemporaryDirectory() as folder:
         small_desk(program, Path(folder))
         stream(program, Path(folder), given.messages, given.seed)

@@ -193,6 +193,12 @@ def without_room():
     resource.setrlimit(resource.RLIMIT_FSIZE, (8_192, 8_192))
 
 
+def with_little_room():
+    """A new database can be opened, and a desk with some hundred messages doesn't fit."""
+    signal.signal(signal.SIGXFSZ, signal.SIG_IGN)
+    resource.setrlimit(resource.RLIMIT_FSIZE, (307_200, 307_200))
+
+
 def earlier(desk):
     """A file of schema 1 is refused by every command but `migrate`, by that one where the disk is full, and left as it is."""
     file = schema_1(desk, "town.db")
@@ -403,6 +409,68 @@ def page_size(file):
     return int.from_bytes(file.read_bytes()[16:18], "big")
 
 
+def has_nameless(program, name):
+    """Whether the running program has a file open that had this name and has none now."""
+    if program.poll() is not None:
+        raise RuntimeError(f"it ended with {program.returncode} before it had opened {name}")
+    folder = Path(f"/proc/{program.pid}/fd")
+    for number in os.listdir(folder):
+        try:
+            if os.readlink(folder / number).endswith(f"/{name} (deleted)"):
+                return True
+        except FileNotFoundError:
+            pass
+    return False
+
+
+def scratch_files(desk):
+    """`audit --scratch` makes a new file and removes its name once it is open. Where something is, it does nothing."""
+    file, other = desk.made(), desk.made("other.db")
+    status, _, told = desk.run("hear", file, given=more_messages(500))
+    desk.wants((status, told) == (0, ""), f"hear ends with {status} {told!r}")
+    execute(other, "UPDATE device SET floor = NULL WHERE rowid = 1")
+    in_order = f"heard: {replies(file)}\nin order\n"
+    # An audit leaves the audited file's log, empty.
+    desk.ends(0, "", "audit", file, written=in_order)
+    desk.ends(1, "desk: differs at device 1\n", "audit", other)
+    Path("text").write_text("no database\n")
+    Path("folder").mkdir()
+    os.symlink("nothing", "link")
+    Path("log.db-wal").write_text("a log alone\n")
+
+    def contents():
+        """Of each file by its name. The empty log of a desk that is opened has other octets each time."""
+        logs = {f"{file}-wal", f"{other}-wal"}
+        return {path.name: path.name in logs or path.is_file() and path.read_bytes() for path in Path().iterdir()}
+
+    before = contents()
+
+    def is_as_before(what):
+        after = contents()
+        desk.wants(after == before, f"after {what}: {[name for name in after | before if after.get(name) != before.get(name)]} differ")
+
+    desk.ends(0, "", "audit", file, "--scratch", "scratch.db", written=in_order)
+    desk.ends(1, "desk: differs at device 1\n", "audit", other, "--scratch", "scratch.db")
+    desk.ends(3, "desk: file\n", "audit", "nothing.db", "--scratch", "scratch.db")
+    desk.ends(3, "desk: file\n", "audit", file, "--scratch", "nowhere/scratch.db")
+    for name in ("text", "folder", "link", "log.db", file, other):
+        desk.ends(1, "desk: exists\n", "audit", file, "--scratch", name)
+        desk.ends(1, "desk: exists\n", "audit", "nothing.db", "--scratch", name)
+    # Without room the scratch file can't be opened, and with little room the second desk can't be stored in it.
+    for limits, line in ((without_room, "desk: file\n"), (with_little_room, "desk: unavailable\n")):
+        ended = desk.run("audit", file, "--scratch", "scratch.db", preexec_fn=limits)
+        desk.wants(ended == (3, "", line), f"where the disk is full the audit ends with {ended!r}")
+    is_as_before("audits")
+    for delay in (0, 0.02, 0.05):
+        program = subprocess.Popen([desk.program, "audit", file, "--scratch", "scratch.db"], stdout=subprocess.DEVNULL)
+        while not has_nameless(program, "scratch.db"):
+            pass
+        time.sleep(delay)
+        program.kill()
+        desk.wants(program.wait() < 0, "the audit ended before it was killed")
+        is_as_before(f"an audit that was killed {delay} s after its file lost its name")
+
+
 def smaller_pages(desk):
     """A desk in an empty file that sqlite3 made with pages of 2,048 octets keeps them, and is the same desk otherwise."""
     usual, file = desk.made("usual.db"), Path("town.db")
@@ -590,6 +658,7 @@ PARTS = [
     responses,
     killed,
     backups,
+    scratch_files,
     smaller_pages,
     copied_by_log,
     moved_logs,

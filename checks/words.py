@@ -301,16 +301,18 @@ Example:
     "audit --help": """\
 Checks that a desk's file has exactly the rows that its messages make
 
-Usage: desk audit <FILE>
+Usage: desk audit [OPTIONS] <FILE>
 
 Arguments:
   <FILE>  The desk's file
 
 Options:
-  -h, --help  Print help
+      --scratch <PATH>  A new file for the second desk, which is removed; else it is in memory
+  -h, --help            Print help
 
 Example:
   desk audit town.db
+  desk audit town.db --scratch /dev/shm/scratch.db
 """,
 }
 
@@ -369,6 +371,8 @@ TAKEN = [
     "check -- --help",
     "audit town.db",
     "audit audit",
+    "audit town.db --scratch scratch.db",
+    "audit --scratch=scratch.db town.db",
 ]
 
 # Words behind `init FILE`, and the names and numbers that the desk is made with.
@@ -410,6 +414,7 @@ REFUSED = {
         "log --from 1",
         "check",
         "audit",
+        "audit --scratch a",
     ],
     "error: unexpected argument": [
         "init a b",
@@ -431,6 +436,7 @@ REFUSED = {
         "log town.db 9",
         "check town.db x",
         "audit a b",
+        "check town.db --scratch a",
         "--port 1 serve town.db --count 1",
         "lines --port 1",
         "lines lines",
@@ -442,6 +448,7 @@ REFUSED = {
         "import town.db --sender",
         "lines --base",
         "log town.db --from",
+        "audit town.db --scratch",
     ],
     "error: the argument": [
         "import town.db --sender a --sender a",
@@ -449,6 +456,7 @@ REFUSED = {
         "serve town.db --port 1 --count 1 --log --log",
         "log town.db --from 1 --from 1",
         "log town.db --answers --answers",
+        "audit town.db --scratch a --scratch b",
         "--version --version",
         "lines --base 01a00000 --base 01a00000",
     ],

@@ -103,16 +103,16 @@ module _ {F : Type 0} (contents : F → Option (List ℕ)) (untold told : F) whe
   given_none (Err error) (Words why) ending none is = absurd none
   given_none (Err error) (Value value) ending none is = absurd none
 
-  module _ {S : Type 0} (g : Ghosts S) (paths : AtPaths S) (ports : Bool → AtPorts) (back : Option (Held S)) (left rest before after : Option (List ℕ)) where
-    does_all : (asked : Asked) (r : Result (Unit {0}) Fault) → EndsBy contents untold told Done r → DoesAsked g paths ports back left rest before after r asked
-        → DoesAsked {T = Unit {0}} g paths ports back left rest before after (Ok tt) asked
+  module _ {S : Type 0} (g : Ghosts S) (paths : AtPaths S) (Sure : Type 0) (ports : Bool → AtPorts) (back : Option (Held S)) (left rest before after : Option (List ℕ)) where
+    does_all : (asked : Asked) (r : Result (Unit {0}) Fault) → EndsBy contents untold told Done r → DoesAsked g paths Sure ports back left rest before after r asked
+        → DoesAsked {T = Unit {0}} g paths Sure ports back left rest before after (Ok tt) asked
     does_all asked (Ok x) ended does = does
     does_all asked (Err fault) ended does = absurd (subst IsNotDone (sym ended.0) (fault_is_not_done fault))
 
-    module _ (words : Given) (ending : Ending) (runs : Runs g paths ports back left rest before after contents untold told words ending) where
+    module _ (words : Given) (ending : Ending) (runs : Runs g paths Sure ports back left rest before after contents untold told words ending) where
       -- a run that ends well has done what was asked
       pub done_asked : ending ≡ Done
-          → (asked : Asked) × AsksFor words asked × DoesAsked {T = Unit {0}} g paths ports back left rest before after (Ok tt) asked
+          → (asked : Asked) × AsksFor words asked × DoesAsked {T = Unit {0}} g paths Sure ports back left rest before after (Ok tt) asked
       done_asked is = elim runs [
         | inl asked ↦ (asked.0, asked.1, does_all asked.0 asked.2.result (subst (λ e. EndsBy contents untold told e asked.2.result) is asked.2.ended) asked.2.says)
         | inr none ↦ elim none.ending_is [
@@ -136,14 +136,14 @@ module _ {F : Type 0} (contents : F → Option (List ℕ)) (untold told : F) whe
           let of = tells_ending (λ misused. absurd (subst IsNotDone (sym misused ∙ is) tt)) in
           ends_quiet of.0 (subst (λ e. EndsBy contents untold told e of.0) is of.1)
 
-  module _ {S : Type 0} (g : Ghosts S) (paths : AtPaths S) (ports : Bool → AtPorts) (left before : Option (List ℕ)) where
+  module _ {S : Type 0} (g : Ghosts S) (paths : AtPaths S) (Sure : Type 0) (ports : Bool → AtPorts) (left before : Option (List ℕ)) where
     -- nothing was done
     pub runs_nothing : (words : List Text) (usage : Usage) (ending : Ending) → TellsNamed (named_by words) (Err usage) → TellsUsage contents untold told ending usage
-        → Runs g paths ports None left left before before contents untold told (Ok words) ending
+        → Runs g paths Sure ports None left left before before contents untold told (Ok words) ending
     runs_nothing words usage ending tells is =
         inr (record { unopened = refl; unread = Keeps-refl left; unwritten = Keeps-refl before; ending_is = names_none (named_by words) usage ending tells is })
 
     pub runs_not : {Y Z : Type 0} (arguments : Result (IntoIter (String Y) Z) Error) (usage : Usage) (ending : Ending) → IsNotGiven arguments usage
-        → TellsUsage contents untold told ending usage → Runs g paths ports None left left before before contents untold told (given arguments) ending
+        → TellsUsage contents untold told ending usage → Runs g paths Sure ports None left left before before contents untold told (given arguments) ending
     runs_not arguments usage ending none is =
         inr (record { unopened = refl; unread = Keeps-refl left; unwritten = Keeps-refl before; ending_is = given_none arguments usage ending none is })

@@ -17,7 +17,8 @@ use Rattle.desk_cli.specs.declared.audit.Finding.TheVariants.{InOrder, Differs}
 use Rattle.desk_cli.specs.declared.faults.Fault.{Fault}
 use Rattle.desk_cli.specs.declared.faults.Fault.TheVariants.{NotADesk, Schema, Unavailable, File}
 use Rattle.desk_cli.specs.declared.faults.Fault.TheVariants as fault
-use Rattle.desk_cli.specs.steps.Auditing.{PrintsFinding}
+use Rattle.desk_cli.specs.steps.Auditing.{PrintsFinding, finding_of, store_of}
+use Rattle.desk_cli.proofs.Audited.{if_some}
 
 -- what was found is no error
 is_no_error : {finding : Finding} {why : Fault} → Ok finding ≡ Err why → ⊥
@@ -48,9 +49,9 @@ module _ {T : Type 0} (before after : Option (List ℕ)) where
   gone_by (Err why) (Ok x) printed is = absurd printed
   gone_by (Err why) (Err fault) printed is = let same : why ≡ Unavailable = cc in ap Err (printed.0 ∙ same)
 
-  module _ {S : Type 0} (g : Ghosts S) (conn back : Held S) where
+  module _ {S : Type 0} (g : Ghosts S) (conn back : Held S) (Sure : Type 0) where
     passed_by : (found : Result Finding Fault) (r : Result T Fault) → PrintsFinding found before after r
-        → (HasCleanDisk (state g back) → IfOk found (IsFinding g back)) → OnOk r (IsPassed g conn (Some back) before after)
+        → (HasCleanDisk (state g back) → Sure → IfOk found (IsFinding g back)) → OnOk r (IsPassed g conn (Some back) before after Sure)
     passed_by (Ok (InOrder count)) (Ok x) printed passes = record { back = back; is_back = refl; count = count; printed = printed; passes = passes }
     passed_by (Ok (InOrder count)) (Err fault) printed passes = tt
     passed_by (Ok (Differs place)) (Ok x) printed passes = absurd printed
@@ -83,22 +84,22 @@ module _ {T : Type 0} (before after : Option (List ℕ)) where
     not_a_desk_by (Err why) (Ok x) printed refused never none = absurd printed
     not_a_desk_by (Err why) (Err fault) printed refused never none = (subst (IsRefused g conn back) (sym printed.0) refused, printed.1)
 
-  module _ {S : Type 0} (g : Ghosts S) (conn : Held S) where
+  module _ {S : Type 0} (g : Ghosts S) (conn : Held S) (Sure : Type 0) where
     -- what was found is printed, or why not
     pub audits_by : (given_back : Option (Held S)) (found : Result Finding Fault) (r : Result T Fault) → PrintsFinding found before after r
-        → IfSome given_back (λ back. HasCleanDisk (state g back) → IfOk found (IsFinding g back))
+        → IfSome given_back (λ back. HasCleanDisk (state g back) → Sure → IfOk found (IsFinding g back))
         → IfSome given_back (λ back. HasCleanDisk (state g back) → IfErr found (IsRefused g conn back))
         → IfSome given_back (λ back. HasCleanDisk (state g back) → IfOk found (λ finding. ¬ IsNotADesk g conn))
         → IfSome given_back (λ back. HasCleanDisk (state g back) → (c : Settings) (heard : List Envelope)
         → KeepsHeard g conn c heard → IfErr found (λ fault. fault ≡ Unavailable))
         → IfSome given_back (λ back. IsGivenBack (state g conn) (state g back) (λ trees. ⊥))
-        → (given_back ≡ None → found ≡ Err Unavailable) → AuditsBy g conn given_back before after r
+        → (given_back ≡ None → found ≡ Err Unavailable) → AuditsBy g conn given_back before after Sure r
     audits_by (Some back) found r printed passes refused never unavailable kept gone = record {
-      passed = passed_by g conn back found r printed passes;
+      passed = passed_by g conn back Sure found r printed passes;
       quiet = quiet_by found r printed;
-      told = λ clean. told_by g conn back found r printed (refused clean);
-      desk = λ clean c heard keeps. of_desk_by g conn back found r printed (unavailable clean c heard keeps);
-      not_a_desk = λ clean none. not_a_desk_by g conn back found r printed (refused clean) (never clean) none;
+      told = λ clean. told_by g conn back Sure found r printed (refused clean);
+      desk = λ clean c heard keeps. of_desk_by g conn back Sure found r printed (unavailable clean c heard keeps);
+      not_a_desk = λ clean none. not_a_desk_by g conn back Sure found r printed (refused clean) (never clean) none;
       kept = kept;
       gone = λ is. gone_by found r printed (gone is);
     }
@@ -112,7 +113,55 @@ module _ {T : Type 0} (before after : Option (List ℕ)) where
       gone = λ is. gone_by found r printed (gone is);
     }
       where
-        none_passed : (found : Result Finding Fault) (r : Result T Fault) → PrintsFinding found before after r → found ≡ Err Unavailable → OnOk r (IsPassed g conn None before after)
+        none_passed : (found : Result Finding Fault) (r : Result T Fault) → PrintsFinding found before after r → found ≡ Err Unavailable → OnOk r (IsPassed g conn None before after Sure)
         none_passed (Ok finding) r printed is = absurd (is_no_error is)
         none_passed (Err why) (Ok x) printed is = absurd printed
         none_passed (Err why) (Err fault) printed is = tt
+
+-- ---- with a scratch database
+
+module _ {S : Type 0} (g : Ghosts S) (given_back : Option (Held S)) where
+  -- what rests on nothing
+  pub on_nothing : (found : Result Finding Fault) → IfSome given_back (λ back. HasCleanDisk (state g back) → IfOk found (IsFinding g back))
+      → IfSome given_back (λ back. HasCleanDisk (state g back) → Unit {0} → IfOk found (IsFinding g back))
+  on_nothing found passes = if_some given_back (λ back all clean sure. all clean) passes
+
+module _ {S R : Type 0} (before after : Option (List ℕ)) (g : Ghosts S) (conn : Held S) (IsSure : R → Type 0) (given_back : Option (Held S)) where
+  finding_passes : (ended : Result (Finding × R) Fault) → IfSome given_back (λ back. HasCleanDisk (state g back) → IfOk ended (λ f. IsSure f.1 → IsFinding g back f.0))
+      → IfSome given_back (λ back. HasCleanDisk (state g back) → IfSome (store_of ended) IsSure → IfOk (finding_of ended) (IsFinding g back))
+  finding_passes (Ok both) passes = if_some given_back (λ back all clean sure. all clean sure) passes
+  finding_passes (Err why) passes = if_some given_back (λ back all clean sure. tt) passes
+
+  finding_refused : (P : Held S → Fault → Type 0) (ended : Result (Finding × R) Fault) → IfSome given_back (λ back. HasCleanDisk (state g back) → IfErr ended (P back))
+      → IfSome given_back (λ back. HasCleanDisk (state g back) → IfErr (finding_of ended) (P back))
+  finding_refused P (Ok both) refused = if_some given_back (λ back all clean. tt) refused
+  finding_refused P (Err why) refused = refused
+
+  finding_never : (P : Type 0) (ended : Result (Finding × R) Fault) → IfSome given_back (λ back. HasCleanDisk (state g back) → IfOk ended (λ _. P))
+      → IfSome given_back (λ back. HasCleanDisk (state g back) → IfOk (finding_of ended) (λ _. P))
+  finding_never P (Ok both) never = never
+  finding_never P (Err why) never = if_some given_back (λ back all clean. tt) never
+
+  finding_of_desk : (P : Fault → Type 0) (ended : Result (Finding × R) Fault)
+      → IfSome given_back (λ back. HasCleanDisk (state g back) → (c : Settings) (heard : List Envelope) → KeepsHeard g conn c heard → IfErr ended P)
+      → IfSome given_back (λ back. HasCleanDisk (state g back) → (c : Settings) (heard : List Envelope) → KeepsHeard g conn c heard → IfErr (finding_of ended) P)
+  finding_of_desk P (Ok both) all = if_some given_back (λ back all clean c heard keeps. tt) all
+  finding_of_desk P (Err why) all = all
+
+  finding_gone : (ended : Result (Finding × R) Fault) → ended ≡ Err Unavailable → finding_of ended ≡ Err Unavailable
+  finding_gone ended is = ap finding_of is
+
+  -- what an audit with a scratch database has found is printed, or why not
+  pub audits_beside_by : {T : Type 0} (ended : Result (Finding × R) Fault) (found : Result Finding Fault) (store : Option R) (r : Result T Fault) → found ≡ finding_of ended → store ≡ store_of ended
+      → PrintsFinding found before after r
+      → IfSome given_back (λ back. HasCleanDisk (state g back) → IfOk ended (λ f. IsSure f.1 → IsFinding g back f.0))
+      → IfSome given_back (λ back. HasCleanDisk (state g back) → IfErr ended (IsRefused g conn back))
+      → IfSome given_back (λ back. HasCleanDisk (state g back) → IfOk ended (λ _. ¬ IsNotADesk g conn))
+      → IfSome given_back (λ back. HasCleanDisk (state g back) → (c : Settings) (heard : List Envelope) → KeepsHeard g conn c heard → IfErr ended (λ fault. fault ≡ Unavailable))
+      → IfSome given_back (λ back. IsGivenBack (state g conn) (state g back) (λ trees. ⊥))
+      → (given_back ≡ None → ended ≡ Err Unavailable) → AuditsBy g conn given_back before after (IfSome store IsSure) r
+  audits_beside_by ended found store r found_is store_is printed passes refused never unavailable kept gone =
+      subst (λ s. AuditsBy g conn given_back before after (IfSome s IsSure) r) (sym store_is)
+      (audits_by before after g conn (IfSome (store_of ended) IsSure) given_back (finding_of ended) r (subst (λ f. PrintsFinding f before after r) found_is printed)
+      (finding_passes ended passes) (finding_refused (IsRefused g conn) ended refused) (finding_never (¬ IsNotADesk g conn) ended never)
+      (finding_of_desk (λ fault. fault ≡ Unavailable) ended unavailable) kept (λ is. finding_gone ended (gone is)))

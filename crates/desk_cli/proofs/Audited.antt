@@ -1,5 +1,6 @@
 -- A connection that was audited, and opened again.
-use Rattle.std.proofs.Common.{◌≡◌, ◌≤◌, [], refl, sym, ap, ap₂, subst, ◌∙◌, arith, false, inl, IsTrue}
+use Rattle.std.proofs.Common.{◌≡◌, ◌≤◌, [], refl, sym, ap, ap₂, subst, ◌∙◌, arith, false, inl, IsTrue, Option, Some, None}
+use Rattle.std.specs.Prelude.{IfSome}
 use Rattle.registry_core.specs.Settings.{Settings}
 use Rattle.sqlite_trees.specs.Tree.{Trees}
 use Rattle.sqlite_trees.specs.View.{IsClean, doubt}
@@ -93,3 +94,9 @@ module _ {S : Type 0} (g : Ghosts S) (first conn back : Held S) (store : S)
     idle = idle;
     crash = λ sure db may. inl ((same_again g first back store (became_first sure) (desk (sure_conn sure)).0 (opens sure) (rows sure) settled stays).2 db may);
   }
+
+-- ---- a connection that may have come back
+
+pub if_some : {X : Type 0} {P Q : X → Type 0} (o : Option X) → ((x : X) → P x → Q x) → IfSome o P → IfSome o Q
+if_some (Some x) f h = f x h
+if_some None f h = tt

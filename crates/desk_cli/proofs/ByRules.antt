@@ -14,7 +14,7 @@ use Rattle.desk_engine.specs.declared.report_faults.ReportFault.{ReportFault}
 use Rattle.desk_tables.specs.Adopting.{IsGivenBack}
 use Rattle.desk_cli.specs.Ports.{AtPorts}
 use Rattle.desk_cli.specs.Answering.{AnswersBy}
-use Rattle.desk_cli.specs.Doing.{AtPaths, OnAuditedByRules, OnAuditedFile, OnDeskByRules, OnDeskFile, PrintsDesk}
+use Rattle.desk_cli.specs.Doing.{AtPaths, OnAudit, OnAuditByRules, OnAuditedFile, OnDeskByRules, OnDeskFile, PrintsDesk}
 use Rattle.desk_cli.specs.OnTables.{IsLeft, KeepsHeard, LeavesRules}
 use Rattle.desk_cli.specs.Printing.{PrintsAnswer, PrintsBy}
 use Rattle.desk_cli.specs.commands.Auditing.{AuditsBy}
@@ -165,11 +165,23 @@ module _ {S : Type 0} (law : RulesAreKept) (g : Ghosts S) where
   audited_by_rules conn (Some back) kept = λ clean c heard keeps. left_by_rules law g back c heard None (left_as_it_was g conn back c heard kept clean keeps)
   audited_by_rules conn None kept = tt
 
-  -- what is stated of an audited file, and that it satisfies the rules
-  pub audits_by_rules : {T : Type 0} (paths : AtPaths S) (given_back : Option (Held S)) (before after : Option (List ℕ)) (result : Result T Fault) (file : Text) (Untouched : Type 0)
-      → OnAuditedFile paths given_back result file Untouched (λ conn. AuditsBy g conn given_back before after result)
-      → OnAuditedByRules g paths given_back result file Untouched (λ conn. AuditsBy g conn given_back before after result)
-  audits_by_rules paths given_back before after result file Untouched on = elim on [
+  file_by_rules : {T : Type 0} (paths : AtPaths S) (given_back : Option (Held S)) (before after : Option (List ℕ)) (result : Result T Fault) (file : Text) (Untouched Sure : Type 0)
+      → OnAuditedFile paths given_back result file Untouched (λ conn. AuditsBy g conn given_back before after Sure result)
+      → OnAuditedFile paths given_back result file Untouched
+      (λ conn. AuditsBy g conn given_back before after Sure result
+      × IfSome given_back (λ back. HasCleanDisk (state g back) → (c : Settings) (heard : List Envelope) → KeepsHeard g conn c heard → LeavesRules g back c))
+  file_by_rules paths given_back before after result file Untouched Sure on = elim on [
     | inl done ↦ inl (done.0, done.1, (done.2, audited_by_rules done.0 given_back done.2.kept))
     | inr unopened ↦ inr unopened
+  ]
+
+  -- what is said of an audited file, with what follows of the rules
+  pub audits_by_rules : {T : Type 0} (paths : AtPaths S) (given_back : Option (Held S)) (before after : Option (List ℕ)) (result : Result T Fault) (file : Text)
+      (scratch : Option Text) (Untouched Sure : Type 0)
+      → OnAudit paths given_back result file scratch Untouched Sure (λ sure conn. AuditsBy g conn given_back before after sure result)
+      → OnAuditByRules g paths given_back result file scratch Untouched Sure (λ sure conn. AuditsBy g conn given_back before after sure result)
+  audits_by_rules paths given_back before after result file None Untouched Sure on = file_by_rules paths given_back before after result file Untouched (Unit {0}) on
+  audits_by_rules paths given_back before after result file (Some path) Untouched Sure on = elim on [
+    | inl made ↦ inl (made.0, file_by_rules paths given_back before after result file Untouched Sure made.1)
+    | inr unmade ↦ inr unmade
   ]

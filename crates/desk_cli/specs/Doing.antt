@@ -30,7 +30,7 @@ use Rattle.desk_cli.specs.commands.Serving.{ServesBy}
 use Rattle.desk_cli.specs.commands.Version.{PrintsVersion}
 use Rattle.desk_cli.specs.declared.endings.Ending.{Ending}
 use Rattle.desk_cli.specs.declared.faults.Fault.{Fault}
-use Rattle.desk_cli.specs.declared.faults.Fault.TheVariants.{File}
+use Rattle.desk_cli.specs.declared.faults.Fault.TheVariants.{Exists, Unavailable, File}
 
 -- What a command does over a connection, if the disk has returned what was written to it. If the database is a desk's, `Does` is true of
 -- its configuration and log. If it isn't a desk, the command refuses it. The disk then was clean before the command too.
@@ -45,10 +45,13 @@ pub record AtPaths (S : Type 0) : Type 1 where
   pub makes : Text → Held S → Type 0
   pub unopened : Text → Type 0
   pub unmade : Text → Type 0
+  -- of a path at which a scratch file is made, and of one at which none is, by the error
+  pub free : Text → Type 0
+  pub unfree : Text → Fault → Type 0
 
--- The same is known of each connection, whatever its file. Nothing is known of files that can't be opened or made.
+-- The same is known of each connection, whatever its file. Nothing is known of files that can't be opened or made, and of scratch files.
 abbrev pub known_alike : {S : Type 0} → (Held S → Type 0) → AtPaths S
-known_alike Known = record { opens = λ path conn. Known conn; makes = λ path conn. Known conn; unopened = λ path. Unit {0}; unmade = λ path. Unit {0} }
+known_alike Known = record { opens = λ path conn. Known conn; makes = λ path conn. Known conn; unopened = λ path. Unit {0}; unmade = λ path. Unit {0}; free = λ path. Unit {0}; unfree = λ path fault. Unit {0} }
 
 -- A command on a file. Either the file gave a connection, and the command did this with it and returned it. Or the file can't be opened or
 -- made, the error is `File`, no connection is returned, and the streams are untouched.
@@ -74,11 +77,12 @@ OnAuditedFile {S} paths given_back result file Untouched Does =
     ((conn : Held S) × paths.opens file conn × Does conn)
     ⊎ (paths.unopened file × (result ≡ Err File) × (given_back ≡ None) × Untouched)
 
--- Also, however the audit ended, each desk that a crash may leave follows the registry's rules.
-abbrev pub OnAuditedByRules : {S T : Type 0} → Ghosts S → AtPaths S → Option (Held S) → Result T Fault → Text → Type 0 → (Held S → Type 0) → Type 0
-OnAuditedByRules g paths given_back result file Untouched Does =
-    OnAuditedFile paths given_back result file Untouched
-    (λ conn. Does conn × IfSome given_back (λ back. HasCleanDisk (state g back) → (c : Settings) (heard : List Envelope) → KeepsHeard g conn c heard → LeavesRules g back c))
+-- why no scratch file is made: something is at its path, memory ran out, or the system makes none
+abbrev pub IsScratchFault : Fault → Type 0
+IsScratchFault Exists = Unit {0}
+IsScratchFault Unavailable = Unit {0}
+IsScratchFault File = Unit {0}
+IsScratchFault _ = ⊥
 
 -- Printing the report of a desk. `IsAnswer` is what the report is, or why there is none, by the desk's configuration and log.
 module _ {S : Type 0} (g : Ghosts S) (IsAnswer : Settings → List Envelope → Result (List ℕ) ReportFault → Type 0) where
@@ -95,14 +99,36 @@ module _ {S : Type 0} (g : Ghosts S) (IsAnswer : Settings → List Envelope → 
 
     -- On a file: how the command ended, and the connection that it returned. `told` is what was written to the writer of errors, `before` and
     -- `after` are that writer.
-    abbrev pub PrintsFile : {F : Type 0} → (told : F → Option (List ℕ)) → (before after : F) → AtPaths S → Text → Ending × Option (Held S) → Type 0
-    PrintsFile told before after paths file ended =
-        Ends told before after ended.0
-        (λ result. OnDeskFile g paths ended.1 result file (Keeps (contents old) (contents new)) (PrintsDesk (contents old) (contents new) result))
+    abbrev pub PrintsFile : {F : Type 0} → (told : F → Option (List ℕ)) → (before after : F) → AtPaths S → Text → Ending → Option (Held S) → Type 0
+    PrintsFile told before after paths file ending given_back =
+        Ends told before after ending
+        (λ result. OnDeskFile g paths given_back result file (Keeps (contents old) (contents new)) (PrintsDesk (contents old) (contents new) result))
 
--- `paths` is what is known of files, `ports` what is answered at the ports, with a log of their connections or without. `given_back` is the
--- connection that a run returns, `left` and `rest` what is left to read before and after, `before` and `after` what was written by then.
-module _ {S T : Type 0} (g : Ghosts S) (paths : AtPaths S) (ports : Bool → AtPorts) (given_back : Option (Held S)) (left rest before after : Option (List ℕ)) (result : Result T Fault) where
+-- A command with a scratch file. Either the file was made at the path, and the command did this. Or none was made there: nothing is done,
+-- no connection is returned, and the streams are untouched.
+abbrev pub OnScratch : {S T : Type 0} → AtPaths S → Option (Held S) → Result T Fault → Text → Type 0 → Type 0 → Type 0
+OnScratch paths given_back result path Untouched Does =
+    (paths.free path × Does)
+    ⊎ ((fault : Fault) × IsScratchFault fault × paths.unfree path fault × (result ≡ Err fault) × (given_back ≡ None) × Untouched)
+
+-- The audit of a file, with a scratch file at a path or without. `Sure` states that the disk of the scratch file has returned what was
+-- written to it. `Does` takes what the audit rests on, and the connection.
+abbrev pub OnAudit : {S T : Type 0} → AtPaths S → Option (Held S) → Result T Fault → Text → Option Text → Type 0 → Type 0 → (Type 0 → Held S → Type 0) → Type 0
+OnAudit paths given_back result file None Untouched Sure Does = OnAuditedFile paths given_back result file Untouched (Does (Unit {0}))
+OnAudit paths given_back result file (Some path) Untouched Sure Does =
+    OnScratch paths given_back result path Untouched (OnAuditedFile paths given_back result file Untouched (Does Sure))
+
+-- Also, however the audit ended, each desk that a crash may leave follows the registry's rules.
+abbrev pub OnAuditByRules : {S T : Type 0} → Ghosts S → AtPaths S → Option (Held S) → Result T Fault → Text → Option Text → Type 0 → Type 0 → (Type 0 → Held S → Type 0) → Type 0
+OnAuditByRules g paths given_back result file scratch Untouched Sure Does =
+    OnAudit paths given_back result file scratch Untouched Sure
+    (λ sure conn. Does sure conn
+    × IfSome given_back (λ back. HasCleanDisk (state g back) → (c : Settings) (heard : List Envelope) → KeepsHeard g conn c heard → LeavesRules g back c))
+
+-- `paths` is what is known of files. `Sure` states that the disk of a scratch file that a run returns has returned what was written to it.
+-- `ports` is what is answered at the ports, with a log of their connections or without. `given_back` is the connection that a run returns,
+-- `left` and `rest` what is left to read before and after, `before` and `after` what was written by then.
+module _ {S T : Type 0} (g : Ghosts S) (paths : AtPaths S) (Sure : Type 0) (ports : Bool → AtPorts) (given_back : Option (Held S)) (left rest before after : Option (List ℕ)) (result : Result T Fault) where
   -- a report was printed that is this of the configuration and log of the desk in the file
   abbrev PrintsReport : Text → (Settings → List Envelope → Result (List ℕ) ReportFault → Type 0) → Type 0
   PrintsReport file IsAnswer =
@@ -139,6 +165,6 @@ module _ {S T : Type 0} (g : Ghosts S) (paths : AtPaths S) (ports : Bool → AtP
       (λ back c heard. LogsBy (log_of which c heard from count) (KeepsHeard g back c heard) (IsLeft g back c heard None) before after result)
       × Keeps left rest
   DoesAsked (check file) = PrintsReport file IsCheck
-  DoesAsked (audit file) =
-      OnAuditedByRules g paths given_back result file (Keeps before after) (λ conn. AuditsBy g conn given_back before after result)
+  DoesAsked (audit file scratch) =
+      OnAuditByRules g paths given_back result file scratch (Keeps before after) Sure (λ sure conn. AuditsBy g conn given_back before after sure result)
       × Keeps left rest

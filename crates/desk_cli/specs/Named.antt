@@ -1,5 +1,5 @@
 -- Which command arguments name, and what the reader of arguments returns for it.
-use Rattle.std.specs.Prelude.{◌≡◌, ℕ, Bool, Result, Ok, Err}
+use Rattle.std.specs.Prelude.{◌≡◌, ℕ, Bool, Option, Result, Ok, Err, option_map}
 use Rattle.clap.specs.Kinds.{Kinds, IsAmong}
 use Rattle.clap.specs.Values.{kind_of}
 use Rattle.clap.specs.Walk.{Text}
@@ -41,7 +41,8 @@ pub data Asked : Type 0 where
   -- the file, the number of the first message, how many messages at most, and which text of each
   log : Text → ℕ → ℕ → LogText → Asked
   check : Text → Asked
-  audit : Text → Asked
+  -- the file, and where the scratch file is made, if there is to be one
+  audit : Text → Option Text → Asked
 
 abbrev pub asked_by : Command → Asked
 asked_by Version = version
@@ -60,7 +61,7 @@ asked_by (Receptions file of) = receptions file.now of.dev_eui.now of.month.now
 asked_by (Downlinks file of) = downlinks file.now of.gateway.now of.month.now
 asked_by (Log file from count which) = log file.now from count which
 asked_by (Check file) = check file.now
-asked_by (Audit file) = audit file.now
+asked_by (Audit file scratch) = audit file.now (option_map (λ path. path.now) scratch)
 
 -- a command, or a value that is bad, or nothing that clap takes: one of these kinds of error
 pub data Named : Type 0 where

@@ -43,14 +43,15 @@ EndsUnread kind Failed = kind ≡ OutOfMemory
 EndsUnread kind Misused = kind ≢ OutOfMemory
 EndsUnread kind _ = ⊥
 
--- `paths` is what is known of files. `ports` is what is answered at the ports, with a log of their connections or without. `back` is the
--- connection that a run gives back. `left` and `rest` are what its reader has left before and after, `before` and `after` what its writer
--- has before and after. `contents` is what the writer of standard error has, and `untold` and `told` are that writer before and after.
-module _ {S F : Type 0} (g : Ghosts S) (paths : AtPaths S) (ports : Bool → AtPorts) (back : Option (Held S)) (left rest before after : Option (List ℕ))
+-- `paths` is what is known of files. `Sure` states that the disk of a scratch file that a run returns has returned what was written to it.
+-- `ports` is what is answered at the ports, with a log of their connections or without. `back` is the connection that a run gives back.
+-- `left` and `rest` are what its reader has left before and after, `before` and `after` what its writer has before and after. `contents` is
+-- what the writer of standard error has, and `untold` and `told` are that writer before and after.
+module _ {S F : Type 0} (g : Ghosts S) (paths : AtPaths S) (Sure : Type 0) (ports : Bool → AtPorts) (back : Option (Held S)) (left rest before after : Option (List ℕ))
     (contents : F → Option (List ℕ)) (untold told : F) where
   -- what was asked was done, and the program ended by how that ended
   abbrev pub Does : Ending → Asked → Type 0
-  Does ending asked = Ends contents untold told ending (λ result. DoesAsked g paths ports back left rest before after result asked)
+  Does ending asked = Ends contents untold told ending (λ result. DoesAsked g paths Sure ports back left rest before after result asked)
 
   -- Nothing was asked: no file was opened, and nothing was read or written. Memory ran out, which standard error reports, or the arguments
   -- name no command.

@@ -25,8 +25,8 @@ mod version;
 
 use crate::options::{command, flag, is_set, with_word};
 use crate::usage::{Usage, no_command};
-pub use auditing::audit_command;
 use auditing::{audit_app, audit_of};
+pub use auditing::{audit_beside_command, audit_command};
 pub use checking::check_command;
 use checking::{check_app, check_of};
 use clap::ArgMatches;
@@ -136,9 +136,10 @@ pub enum Command<'a> {
     Check {
         file: &'a str,
     },
-    /// Reports whether the file is what a desk wrote.
+    /// Reports whether the file is what a desk wrote. The second desk is in a new file at `scratch`, or else in memory.
     Audit {
         file: &'a str,
+        scratch: Option<&'a str>,
     },
 }
 

@@ -27,10 +27,11 @@ mod tests;
 mod usage;
 mod words;
 
-use files::HostFiles;
+use files::{FileOpener, HostFiles};
 use progress::{Cleared, Counted, Heard};
 use sockets::Sockets;
-use sqlite::{Start, Unknown};
+use sqlite::{FileStore, Start, Unknown};
+use sqlite_disk::Disk;
 use std::cell::Cell;
 use std::io::Write;
 use std::process::ExitCode;
@@ -47,8 +48,18 @@ fn run_on<T: Start>(rt: &HostRuntime, start: T) -> ExitCode {
         start,
         why: &why,
     };
+    // The call is generic in the files: a proof that names the stores of a file and of a scratch file compares both, and stops at a limit.
+    run_with(rt, files, &why)
+}
+
+/// Runs the program with these files.
+fn run_with<D: Disk + Drop, N: FileOpener<FileStore<D>>>(
+    rt: &HostRuntime,
+    files: N,
+    why: &Cell<Option<String>>,
+) -> ExitCode {
     let is_shown = Cell::new(false);
-    let (ending, conn) = program::run(
+    let (ending, conn, _) = program::run(
         rt,
         files,
         &Sockets::new(rt, rt.stderr()),

@@ -266,7 +266,8 @@ pub(crate) fn placed<'a>(options: &ArgMatches<'a>, place: &str) -> Result<&'a st
     option_text(options, place).ok_or(BadValue::Missing)
 }
 
-fn option_text<'a>(options: &ArgMatches<'a>, option: &str) -> Option<&'a str>
+/// Returns the value of an option or of a positional argument, or `None` if it isn't given.
+pub(crate) fn option_text<'a>(options: &ArgMatches<'a>, option: &str) -> Option<&'a str>
     ensures { option_map (λ text. text.now) result ≡ first_of option.now (rows_of (found_of options.now)) }
 {
     options.get_str(option)

@@ -1,7 +1,7 @@
 //! What a command asks, done. Its file is opened before the standard input is read, and before the port is bound.
 ghost use Rattle.std.specs.Io.KnownBytes.{Keeps};
 ghost use Rattle.desk_engine.specs.Log.{log_of};
-ghost use Rattle.desk_cli.specs.Doing.{DoesAsked, OnAuditedFile, OnDeskFile, OnFile, PrintsFile};
+ghost use Rattle.desk_cli.specs.Doing.{DoesAsked, OnAudit, OnAuditedFile, OnDeskFile, OnFile, OnScratch, PrintsFile};
 ghost use Rattle.desk_cli.specs.Faults.{Ends};
 ghost use Rattle.desk_cli.specs.Named.{asked_by};
 ghost use Rattle.desk_cli.specs.OnTables.{IsLeft, KeepsHeard};
@@ -14,11 +14,12 @@ ghost use Rattle.desk_cli.specs.commands.Init.{InitsBy};
 ghost use Rattle.desk_cli.specs.commands.Log.{LogsBy};
 ghost use Rattle.desk_cli.specs.commands.Migrating.{MigratesBy};
 ghost use Rattle.desk_cli.specs.commands.Serving.{ServesBy};
-ghost use Rattle.std.specs.Prelude.{None};
+ghost use Rattle.std.specs.Prelude.{◌≡◌, false, None, IfSome, option_map};
+ghost use Rattle.sqlite_trees.specs.View.{IsClean};
 
 use crate::commands::{
-    Command, audit_command, check_command, hear_command, import_command, init_command,
-    lines_command, log_command, migrate_command, serve_command, version_command,
+    Command, audit_beside_command, audit_command, check_command, hear_command, import_command,
+    init_command, lines_command, log_command, migrate_command, serve_command, version_command,
 };
 use crate::endings::Ending;
 use crate::faults::end;
@@ -33,9 +34,10 @@ use sqlite::{Alter, Connection};
 use std::alloc::Global;
 use std::io::{Read, Write};
 
-/// How a command ended, and the connection to its file. There is none if the command has no file, if the file can't be opened, or if
-/// `audit` couldn't be completed.
-pub type Performed<S> = (Ending, Option<Connection<S>>);
+/// How a command ended, the connection to its file, and the store of the scratch database. There is no connection if the command has no
+/// file, if the file can't be opened, or if `audit` couldn't be completed. There is a store only after an audit with a scratch file that
+/// was completed.
+pub type Performed<S, R> = (Ending, Option<Connection<S>>, Option<R>);
 
 /// Runs a command on the connection to its file, which it gives back; or reports why the file can't be opened.
 macro_rules! on_file {
@@ -43,9 +45,9 @@ macro_rules! on_file {
         match $opened {
             Ok($conn) => {
                 let (ending, $conn) = $command;
-                (ending, Some($conn))
+                (ending, Some($conn), None)
             }
-            Err(fault) => (end($faults, Err(fault)), None),
+            Err(fault) => (end($faults, Err(fault)), None, None),
         }
     };
 }
@@ -68,16 +70,20 @@ pub(crate) fn perform<
     answers: &mut W,
     faults: &mut F,
     progress: &P,
-) -> Performed<S>
-    ensures { Ends F.contents faults.old faults.new result.0 (λ done. DoesAsked S.Store (N.paths files)
+) -> Performed<S, N::Scratch>
+    ensures { Ends F.contents faults.old faults.new result.0 (λ done. DoesAsked S.Store (N.paths files) (IfSome result.2 (λ store. IsClean (N.Scratch.Store.view store)))
         (at_ports B.ports network.now B.Port.meaning B.Port.Reader.remaining B.Port.Writer.contents) result.1
         (R.remaining reader.old) (R.remaining reader.new) (W.contents answers.old) (W.contents answers.new) done (asked_by command.now)) }
 {
     rules_are_kept();
     match command {
-        Command::Version => (version_command(answers, faults), None),
+        Command::Version => (version_command(answers, faults), None, None),
         Command::Lines { config } => {
-            (lines_command(alloc, config, reader, answers, faults), None)
+            (
+                lines_command(alloc, config, reader, answers, faults),
+                None,
+                None,
+            )
         }
         Command::Init { file, config } => init_file(alloc, files, file, *config, faults),
         Command::Migrate { file } => migrate_file(alloc, files, file, faults),
@@ -133,7 +139,9 @@ pub(crate) fn perform<
             which,
         } => { log_file(alloc, files, file, *from, *count, *which, answers, faults) }
         Command::Check { file } => check_file(alloc, files, file, answers, faults),
-        Command::Audit { file } => audit_file(alloc, files, file, answers, faults, progress),
+        Command::Audit { file, scratch } => {
+            audit_file(alloc, files, file, *scratch, answers, faults, progress)
+        }
     }
 }
 
@@ -143,7 +151,7 @@ fn init_file<S: Alter, N: FileOpener<S>, F: Write>(
     file: &str,
     config: Config,
     faults: &mut F,
-) -> Performed<S>
+) -> Performed<S, N::Scratch>
     ensures { Ends F.contents faults.old faults.new result.0 (λ done. OnFile (N.paths files).makes (N.paths files).unmade result.1 done file.now
         (Unit {0}) (λ conn back. InitsBy S.Store conn back config done)) }
 {
@@ -159,7 +167,7 @@ fn migrate_file<S: Alter, N: FileOpener<S>, F: Write>(
     files: N,
     file: &str,
     faults: &mut F,
-) -> Performed<S>
+) -> Performed<S, N::Scratch>
     ensures { Ends F.contents faults.old faults.new result.0 (λ done. OnFile (N.paths files).opens (N.paths files).unopened result.1 done file.now
         (Unit {0}) (λ conn back. MigratesBy S.Store conn back done)) }
 {
@@ -177,7 +185,7 @@ fn hear_file<S: Alter, N: FileOpener<S>, R: Read, W: Write, F: Write>(
     reader: &mut R,
     answers: &mut W,
     faults: &mut F,
-) -> Performed<S>
+) -> Performed<S, N::Scratch>
     ensures { Ends F.contents faults.old faults.new result.0 (λ done. OnDeskFile S.Store (N.paths files) result.1 done file.now
         (Keeps (R.remaining reader.old) (R.remaining reader.new) × Keeps (W.contents answers.old) (W.contents answers.new))
         (λ back c heard. HearsBy S.Store back c heard (R.remaining reader.old) (R.remaining reader.new)
@@ -199,7 +207,7 @@ fn import_file<S: Alter, N: FileOpener<S>, R: Read, W: Write, F: Write, P: Progr
     answers: &mut W,
     faults: &mut F,
     progress: &P,
-) -> Performed<S>
+) -> Performed<S, N::Scratch>
     ensures { Ends F.contents faults.old faults.new result.0 (λ done. OnDeskFile S.Store (N.paths files) result.1 done file.now
         (Keeps (R.remaining reader.old) (R.remaining reader.new) × Keeps (W.contents answers.old) (W.contents answers.new))
         (λ back c heard. ImportsBy c heard sender.now (KeepsHeard S.Store back c) (IsLeft S.Store back c)
@@ -222,7 +230,7 @@ fn serve_file<S: Alter, N: FileOpener<S>, B: Network, W: Write, F: Write>(
     log: bool,
     answers: &mut W,
     faults: &mut F,
-) -> Performed<S>
+) -> Performed<S, N::Scratch>
     ensures { Ends F.contents faults.old faults.new result.0 (λ done. OnDeskFile S.Store (N.paths files) result.1 done file.now
         (Keeps (W.contents answers.old) (W.contents answers.new))
         (λ back c heard. ServesBy c heard (KeepsHeard S.Store back c) (IsLeft S.Store back c)
@@ -252,8 +260,8 @@ fn print_file<S: Alter, N: FileOpener<S>, Q: Report, W: Write, F: Write>(
     report: &Q,
     answers: &mut W,
     faults: &mut F,
-) -> Performed<S>
-    ensures { PrintsFile S.Store (Q.is_answer report.now) W.contents answers.old answers.new F.contents faults.old faults.new (N.paths files) file.now result }
+) -> Performed<S, N::Scratch>
+    ensures { PrintsFile S.Store (Q.is_answer report.now) W.contents answers.old answers.new F.contents faults.old faults.new (N.paths files) file.now result.0 result.1 }
 {
     on_file!(
         files.open(file),
@@ -271,7 +279,7 @@ fn log_file<S: Alter, N: FileOpener<S>, W: Write, F: Write>(
     which: LogText,
     answers: &mut W,
     faults: &mut F,
-) -> Performed<S>
+) -> Performed<S, N::Scratch>
     ensures { Ends F.contents faults.old faults.new result.0 (λ done. OnDeskFile S.Store (N.paths files) result.1 done file.now
         (Keeps (W.contents answers.old) (W.contents answers.new))
         (λ back c heard. LogsBy (log_of which c heard from count) (KeepsHeard S.Store back c heard) (IsLeft S.Store back c heard None)
@@ -290,8 +298,8 @@ fn check_file<S: Alter, N: FileOpener<S>, W: Write, F: Write>(
     file: &str,
     answers: &mut W,
     faults: &mut F,
-) -> Performed<S>
-    ensures { PrintsFile S.Store IsCheck W.contents answers.old answers.new F.contents faults.old faults.new (N.paths files) file.now result }
+) -> Performed<S, N::Scratch>
+    ensures { PrintsFile S.Store IsCheck W.contents answers.old answers.new F.contents faults.old faults.new (N.paths files) file.now result.0 result.1 }
 {
     on_file!(
         files.open(file),
@@ -300,21 +308,90 @@ fn check_file<S: Alter, N: FileOpener<S>, W: Write, F: Write>(
     )
 }
 
-/// Audits the file. Returns its connection, unless the file can't be opened or the audit couldn't be completed.
+/// Audits the file, with a scratch database in memory or in a new file. Returns the connection to the file, unless the file can't be opened
+/// or the audit couldn't be completed.
 fn audit_file<S: Alter + Drop, N: FileOpener<S>, W: Write, F: Write, P: Progress>(
+    alloc: Global,
+    files: N,
+    file: &str,
+    scratch: Option<&str>,
+    answers: &mut W,
+    faults: &mut F,
+    progress: &P,
+) -> Performed<S, N::Scratch>
+    ensures { Ends F.contents faults.old faults.new result.0 (λ done. OnAudit (N.paths files) result.1 done file.now (option_map (λ path. path.now) scratch.entry)
+        (Keeps (W.contents answers.old) (W.contents answers.new)) (IfSome result.2 (λ store. IsClean (N.Scratch.Store.view store)))
+        (λ sure conn. AuditsBy S.Store conn result.1 (W.contents answers.old) (W.contents answers.new) sure done)) }
+{
+    match scratch {
+        None => audit_alone(alloc, files, file, answers, faults, progress),
+        Some(path) => audit_beside(alloc, files, file, path, answers, faults, progress),
+    }
+}
+
+/// Audits the file with a scratch database in memory.
+fn audit_alone<S: Alter + Drop, N: FileOpener<S>, W: Write, F: Write, P: Progress>(
     alloc: Global,
     files: N,
     file: &str,
     answers: &mut W,
     faults: &mut F,
     progress: &P,
-) -> Performed<S>
+) -> Performed<S, N::Scratch>
     ensures { Ends F.contents faults.old faults.new result.0 (λ done. OnAuditedFile (N.paths files) result.1 done file.now
         (Keeps (W.contents answers.old) (W.contents answers.new))
-        (λ conn. AuditsBy S.Store conn result.1 (W.contents answers.old) (W.contents answers.new) done)) }
+        (λ conn. AuditsBy S.Store conn result.1 (W.contents answers.old) (W.contents answers.new) (Unit {0}) done)) }
 {
     match files.open(file) {
-        Ok(conn) => audit_command(alloc, conn, answers, faults, progress),
-        Err(fault) => (end(faults, Err(fault)), None),
+        Ok(conn) => {
+            let (ending, back) = audit_command(alloc, conn, answers, faults, progress);
+            (ending, back, None)
+        }
+        Err(fault) => (end(faults, Err(fault)), None, None),
+    }
+}
+
+/// Audits the file with a scratch database in a new file at `path`.
+fn audit_beside<S: Alter + Drop, N: FileOpener<S>, W: Write, F: Write, P: Progress>(
+    alloc: Global,
+    files: N,
+    file: &str,
+    path: &str,
+    answers: &mut W,
+    faults: &mut F,
+    progress: &P,
+) -> Performed<S, N::Scratch>
+    ensures { Ends F.contents faults.old faults.new result.0 (λ done. OnScratch (N.paths files) result.1 done path.now
+        (Keeps (W.contents answers.old) (W.contents answers.new))
+        (OnAuditedFile (N.paths files) result.1 done file.now (Keeps (W.contents answers.old) (W.contents answers.new))
+        (λ conn. AuditsBy S.Store conn result.1 (W.contents answers.old) (W.contents answers.new)
+        (IfSome result.2 (λ store. IsClean (N.Scratch.Store.view store))) done))) }
+{
+    match files.make_scratch(alloc, path) {
+        Ok(scratch) => audit_with(alloc, files, file, scratch, answers, faults, progress),
+        Err(fault) => (end(faults, Err(fault)), None, None),
+    }
+}
+
+/// Audits the file with this scratch database.
+fn audit_with<S: Alter + Drop, N: FileOpener<S>, W: Write, F: Write, P: Progress>(
+    alloc: Global,
+    files: N,
+    file: &str,
+    scratch: Connection<N::Scratch>,
+    answers: &mut W,
+    faults: &mut F,
+    progress: &P,
+) -> Performed<S, N::Scratch>
+    requires idle { scratch.in_transaction ≡ false }
+    requires unlimited { scratch.step_limit ≡ None }
+    ensures { Ends F.contents faults.old faults.new result.0 (λ done. OnAuditedFile (N.paths files) result.1 done file.now
+        (Keeps (W.contents answers.old) (W.contents answers.new))
+        (λ conn. AuditsBy S.Store conn result.1 (W.contents answers.old) (W.contents answers.new)
+        (IfSome result.2 (λ store. IsClean (N.Scratch.Store.view store))) done)) }
+{
+    match files.open(file) {
+        Ok(conn) => audit_beside_command(alloc, conn, scratch, answers, faults, progress),
+        Err(fault) => (end(faults, Err(fault)), None, None),
     }
 }

@@ -1,5 +1,6 @@
 //! The program's arguments, and what it does with them.
-ghost use Rattle.std.specs.Prelude.{◌≡◌, ◌≢◌, Result, Ok, Err, None, map, string_bytes, IfOk, IfErr};
+ghost use Rattle.std.specs.Prelude.{◌≡◌, ◌≢◌, Result, Ok, Err, None, map, string_bytes, IfOk, IfErr, IfSome};
+ghost use Rattle.sqlite_trees.specs.View.{IsClean};
 ghost use Rattle.std.specs.IoError.{error_kind};
 ghost use Rattle.std.specs.Vec.Iter.{into_iter_items};
 ghost use Rattle.clap.specs.Walk.{texts};
@@ -15,18 +16,19 @@ use crate::endings::{Ending, ending_of};
 use crate::faults::{Fault, end};
 use crate::files::FileOpener;
 use crate::network::Network;
-use crate::performing::perform;
+use crate::performing::{Performed, perform};
 use crate::usage::Usage;
 use crate::words::read_words;
 use desk_engine::Progress;
-use sqlite::{Alter, Connection};
+use sqlite::Alter;
 use std::alloc::{AllocError, Global};
 use std::env::{self, Args};
 use std::io::{self, ErrorKind, Read, Write};
 use std::rt::Env;
 
-/// Does what the program's arguments ask, and gives the connection to its file back, if it has one that could be opened. What is wrong with
-/// the arguments, or why what they ask isn't done, is written to `faults`. `progress` shows how far an import or an audit is.
+/// Does what the program's arguments ask, and gives the connection to its file back, if it has one that could be opened, and the store of
+/// the scratch database of an audit with a scratch file. What is wrong with the arguments, or why what they ask isn't done, is written to
+/// `faults`. `progress` shows how far an import or an audit is.
 pub fn run<
     E: Env + AllocGlobal,
     S: Alter + Drop,
@@ -44,13 +46,13 @@ pub fn run<
     answers: &mut W,
     faults: &mut F,
     progress: &P,
-) -> (Ending, Option<Connection<S>>)
+) -> Performed<S, N::Scratch>
     // Some arguments name a command, and what it asks was done, by how it ended; or they name none, or can't be read.
-    ensures runs { (words : Given) × Runs S.Store (N.paths files) (at_ports B.ports network.now B.Port.meaning B.Port.Reader.remaining B.Port.Writer.contents) result.1
+    ensures runs { (words : Given) × Runs S.Store (N.paths files) (IfSome result.2 (λ store. IsClean (N.Scratch.Store.view store))) (at_ports B.ports network.now B.Port.meaning B.Port.Reader.remaining B.Port.Writer.contents) result.1
         (R.remaining reader.old) (R.remaining reader.new) (W.contents answers.old) (W.contents answers.new) F.contents faults.old faults.new words result.0 }
     // So with status 0 what a command that arguments name asks was done.
     ensures done { result.0 ≡ Ending.Done → (asked : Asked) × IsNamed asked
-        × DoesAsked {T = Unit {0}} S.Store (N.paths files) (at_ports B.ports network.now B.Port.meaning B.Port.Reader.remaining B.Port.Writer.contents) result.1
+        × DoesAsked {T = Unit {0}} S.Store (N.paths files) (IfSome result.2 (λ store. IsClean (N.Scratch.Store.view store))) (at_ports B.ports network.now B.Port.meaning B.Port.Reader.remaining B.Port.Writer.contents) result.1
         (R.remaining reader.old) (R.remaining reader.new) (W.contents answers.old) (W.contents answers.new) (Ok tt) asked }
     // Then nothing is written to standard error. Otherwise it reports why the command failed, unless the arguments name none.
     ensures quiet { result.0 ≡ Ending.Done → faults.new ≡ faults.old }
@@ -89,9 +91,9 @@ pub fn run_given<
     answers: &mut W,
     faults: &mut F,
     progress: &P,
-) -> (Ending, Option<Connection<S>>)
+) -> Performed<S, N::Scratch>
     // The arguments name a command, and what it asks was done, by how it ended; or they name none, or can't be read.
-    ensures runs { Runs S.Store (N.paths files) (at_ports B.ports network.now B.Port.meaning B.Port.Reader.remaining B.Port.Writer.contents) result.1
+    ensures runs { Runs S.Store (N.paths files) (IfSome result.2 (λ store. IsClean (N.Scratch.Store.view store))) (at_ports B.ports network.now B.Port.meaning B.Port.Reader.remaining B.Port.Writer.contents) result.1
         (R.remaining reader.old) (R.remaining reader.new) (W.contents answers.old) (W.contents answers.new) F.contents faults.old faults.new (given arguments) result.0 }
     ensures quiet { result.0 ≡ Ending.Done → faults.new ≡ faults.old }
     ensures told { result.0 ≢ Ending.Misused → (done : Result (Unit {0}) Fault) × EndsBy F.contents faults.old faults.new result.0 done }
@@ -103,7 +105,7 @@ pub fn run_given<
         Ok(strings) => run_strings(
             alloc, &strings, files, network, reader, answers, faults, progress,
         ),
-        Err(why) => (print_usage(&why, faults), None),
+        Err(why) => (print_usage(&why, faults), None, None),
     }
 }
 
@@ -125,14 +127,14 @@ fn run_strings<
     answers: &mut W,
     faults: &mut F,
     progress: &P,
-) -> (Ending, Option<Connection<S>>)
-    ensures runs { Runs S.Store (N.paths files) (at_ports B.ports network.now B.Port.meaning B.Port.Reader.remaining B.Port.Writer.contents) result.1
+) -> Performed<S, N::Scratch>
+    ensures runs { Runs S.Store (N.paths files) (IfSome result.2 (λ store. IsClean (N.Scratch.Store.view store))) (at_ports B.ports network.now B.Port.meaning B.Port.Reader.remaining B.Port.Writer.contents) result.1
         (R.remaining reader.old) (R.remaining reader.new) (W.contents answers.old) (W.contents answers.new) F.contents faults.old faults.new (Ok (map string_bytes strings.now)) result.0 }
     ensures misused { result.0 ≡ Ending.Misused
         → (reader.new ≡ reader.old) × (answers.new ≡ answers.old) × (result.1 ≡ None) }
 {
     let Ok(words) = words_of(alloc, strings) else {
-        return (print_usage(&Usage::Memory, faults), None);
+        return (print_usage(&Usage::Memory, faults), None, None);
     };
     match read_words(alloc, &words) {
         Ok(command) => {
@@ -140,7 +142,7 @@ fn run_strings<
                 alloc, &command, files, network, reader, answers, faults, progress,
             )
         }
-        Err(usage) => (print_usage(&usage, faults), None),
+        Err(usage) => (print_usage(&usage, faults), None, None),
     }
 }
 

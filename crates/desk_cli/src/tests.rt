@@ -7,6 +7,7 @@ mod data_frames;
 mod downlinks;
 mod ends;
 pub(crate) mod failing;
+mod failing_audits;
 pub(crate) mod filling;
 mod fsk;
 pub(crate) mod fuses;

@@ -3,7 +3,7 @@ use Rattle.std.specs.Prelude.{◌≡◌, ◌≢◌, ◌⊎◌, ◌++◌, ◌∷�
 use Rattle.std.specs.Fmt.{decimal}
 use Rattle.std.specs.Io.KnownBytes.{Appends, Keeps}
 use Rattle.clap.specs.Simple.{App, new_app, with_rule}
-use Rattle.clap.specs.Walk.{Row}
+use Rattle.clap.specs.Walk.{Row, first_of}
 use Rattle.sqlite.specs.Held.{Held, state}
 use Rattle.sqlite.specs.State.{HasCleanDisk}
 use Rattle.sqlite_trees.specs.declared.store.Store.{Ghosts}
@@ -15,20 +15,20 @@ use Rattle.desk_cli.specs.Audit.{PassesAudit}
 use Rattle.desk_cli.specs.Named.{Named, audit, named_as}
 use Rattle.desk_cli.specs.RefusedFiles.{IsNotADesk, RefusesFile}
 use Rattle.desk_cli.specs.OnTables.{KeepsHeard}
-use Rattle.desk_cli.specs.Options.{◌>>=◌, place_rule, placed}
+use Rattle.desk_cli.specs.Options.{◌>>=◌, optional_rule, place_rule, placed}
 use Rattle.desk_cli.specs.commands.Checking.{value_line}
 use Rattle.desk_cli.specs.declared.faults.Fault.{Fault}
 use Rattle.desk_cli.specs.declared.faults.Fault.TheVariants.{NotADesk, Schema, Differs, Unavailable, File}
 
 -- its arguments
 abbrev pub audit_app : App
-audit_app = with_rule (new_app (codes "audit")) (place_rule (codes "file"))
+audit_app = with_rule (with_rule (new_app (codes "audit")) (place_rule (codes "file"))) (optional_rule (codes "scratch"))
 
--- what they name
+-- what they name; without `--scratch` there is no scratch file
 abbrev pub audit_named : List Row → Named
 audit_named rows = named_as do
   file ← placed (codes "file") rows
-  Ok (audit file)
+  Ok (audit file (first_of (codes "scratch") rows))
 
 -- ---- what it prints
 
@@ -48,8 +48,8 @@ IsAuditFault File = Unit {0}
 IsAuditFault _ = ⊥
 
 -- `conn` is the connection to the file. `given_back` is the returned one, if there is one. `before` and `after` are
--- what was written by then.
-module _ {S : Type 0} (g : Ghosts S) (conn : Held S) (given_back : Option (Held S)) (before after : Option (List ℕ)) where
+-- what was written by then. `Sure` states that the disk of a scratch file has returned what was written to it.
+module _ {S : Type 0} (g : Ghosts S) (conn : Held S) (given_back : Option (Held S)) (before after : Option (List ℕ)) (Sure : Type 0) where
   -- this is true of the returned connection, if its disk has returned what was written to it
   abbrev pub OfBack : (Held S → Type 0) → Type 0
   OfBack Says = IfSome given_back (λ back. HasCleanDisk (state g back) → Says back)
@@ -60,7 +60,7 @@ module _ {S : Type 0} (g : Ghosts S) (conn : Held S) (given_back : Option (Held 
     pub is_back : given_back ≡ Some back
     pub count : ℕ
     pub printed : Appends before after (audit_text count)
-    pub passes : HasCleanDisk (state g back) → PassesAudit g back count
+    pub passes : HasCleanDisk (state g back) → Sure → PassesAudit g back count
 
   -- With status 0 the file passes. Otherwise nothing is printed, unless the writer failed. The database stays as it is, and a crash
   -- leaves what it left before. If no connection is returned, the error is `Unavailable`.

@@ -1,11 +1,21 @@
--- What an audit has found, as it is printed.
-use Rattle.std.specs.Prelude.{◌≡◌, ◌⊎◌, ℕ, List, Option, Result, Ok, Err}
+-- What an audit has found, alone and as it is printed.
+use Rattle.std.specs.Prelude.{◌≡◌, ◌⊎◌, ℕ, List, Option, Some, None, Result, Ok, Err}
 use Rattle.std.specs.Io.KnownBytes.{Appends, Keeps}
 use Rattle.desk_cli.specs.commands.Auditing.{audit_text}
 use Rattle.desk_cli.specs.declared.audit.Finding.{Finding}
 use Rattle.desk_cli.specs.declared.audit.Finding.TheVariants as found
 use Rattle.desk_cli.specs.declared.faults.Fault.{Fault}
 use Rattle.desk_cli.specs.declared.faults.Fault.TheVariants.{Differs, Unavailable, File}
+
+-- the finding of an audit, without the store of its scratch database
+abbrev pub finding_of : {R : Type 0} → Result (Finding × R) Fault → Result Finding Fault
+finding_of (Ok both) = Ok both.0
+finding_of (Err why) = Err why
+
+-- the store, if the audit was completed
+abbrev pub store_of : {R : Type 0} → Result (Finding × R) Fault → Option R
+store_of (Ok both) = Some both.1
+store_of (Err why) = None
 
 -- that the file is in order is printed; or the writer or memory failed, or it isn't, and that is returned
 abbrev pub PrintsFinding : {T : Type 0} → Result Finding Fault → (before after : Option (List ℕ)) → Result T Fault → Type 0

@@ -1,19 +1,20 @@
 //! `desk audit`: whether a file is what a desk wrote.
-ghost use Rattle.std.specs.Prelude.{◌≡◌, false, None, IfOk};
+ghost use Rattle.std.specs.Prelude.{◌≡◌, false, None, IfOk, IfSome};
 ghost use Rattle.std.specs.String.{string_bytes};
 ghost use Rattle.clap.specs.Matches.{found_of};
 ghost use Rattle.clap.specs.Walk.{rows_of};
+ghost use Rattle.sqlite_trees.specs.View.{IsClean};
 ghost use Rattle.desk_cli.specs.Faults.{Ends};
 ghost use Rattle.desk_cli.specs.Named.{TellsNamed};
 ghost use Rattle.desk_cli.specs.commands.Auditing.{AuditsBy, audit_app, audit_named, audit_text};
-ghost use Rattle.desk_cli.specs.steps.Auditing.{PrintsFinding};
+ghost use Rattle.desk_cli.specs.steps.Auditing.{PrintsFinding, finding_of, store_of};
 ghost use Rattle.desk_cli.specs.steps.CommandLine.{IsCommand};
 
 use super::Command;
-use crate::audit::{Finding, audited};
+use crate::audit::{Finding, audited, audited_beside};
 use crate::endings::Ending;
 use crate::faults::{Fault, end};
-use crate::options::{command_on_file, placed};
+use crate::options::{command_on_file, option_text, optional, placed, with_word};
 use crate::usage::Usage;
 use clap::ArgMatches;
 use desk_engine::{Progress, write_whole};
@@ -21,13 +22,18 @@ use sqlite::{Alter, Connection};
 use std::alloc::{AllocError, Global};
 use std::io::Write;
 
-/// Returns its command line: its name and the file.
+/// Returns its command line: its name, the file, and where the second desk is.
 pub(crate) fn audit_app<'a>(alloc: Global) -> Result<clap::Command<'a>, AllocError>
     ensures { IsCommand audit_app result }
 {
     let about = "Checks that a desk's file has exactly the rows that its messages make";
-    let example = "Example:\n  desk audit town.db";
-    command_on_file(alloc, "audit", about, example)
+    let example =
+        "Example:\n  desk audit town.db\n  desk audit town.db --scratch /dev/shm/scratch.db";
+    let help = "A new file for the second desk, which is removed; else it is in memory";
+    with_word(
+        command_on_file(alloc, "audit", about, example),
+        optional(alloc, "scratch", "PATH", help),
+    )
 }
 
 /// Returns the command that its arguments give.
@@ -35,7 +41,8 @@ pub(crate) fn audit_of<'a>(options: &ArgMatches<'a>) -> Result<Command<'a>, Usag
     ensures { TellsNamed (audit_named (rows_of (found_of options.now))) result }
 {
     let file = placed(options, "file")?;
-    Ok(Command::Audit { file })
+    let scratch = option_text(options, "scratch");
+    Ok(Command::Audit { file, scratch })
 }
 
 /// Reports whether the connection's database is what a desk wrote. A new desk in memory hears the messages of the database anew, and
@@ -60,10 +67,30 @@ pub fn audit_command<S: Alter + Drop, W: Write, F: Write, P: Progress>(
 ) -> (Ending, Option<Connection<S>>)
     requires idle { conn.in_transaction ≡ false }
     requires unlimited { conn.step_limit ≡ None }
-    ensures { Ends F.contents faults.old faults.new result.0 (λ done. AuditsBy S.Store conn result.1 (W.contents answers.old) (W.contents answers.new) done) }
+    ensures { Ends F.contents faults.old faults.new result.0 (λ done. AuditsBy S.Store conn result.1 (W.contents answers.old) (W.contents answers.new) (Unit {0}) done) }
 {
     let (done, conn) = print_audit(alloc, conn, answers, progress);
     (end(faults, done), conn)
+}
+
+/// Does the same with the scratch database for the new desk. It has to have nothing. Returns its store too, if the audit was completed.
+pub fn audit_beside_command<S: Alter + Drop, B: Alter + Drop, W: Write, F: Write, P: Progress>(
+    alloc: Global,
+    conn: Connection<S>,
+    scratch: Connection<B>,
+    answers: &mut W,
+    faults: &mut F,
+    progress: &P,
+) -> (Ending, Option<Connection<S>>, Option<B>)
+    requires idle { conn.in_transaction ≡ false }
+    requires unlimited { conn.step_limit ≡ None }
+    requires scratch_idle { scratch.in_transaction ≡ false }
+    requires scratch_unlimited { scratch.step_limit ≡ None }
+    ensures { Ends F.contents faults.old faults.new result.0 (λ done. AuditsBy S.Store conn result.1 (W.contents answers.old) (W.contents answers.new)
+        (IfSome result.2 (λ store. IsClean (B.Store.view store))) done) }
+{
+    let (done, conn, store) = print_audit_beside(alloc, conn, scratch, answers, progress);
+    (end(faults, done), conn, store)
 }
 
 /// Audits the database, prints what was found, and returns the connection.
@@ -75,10 +102,41 @@ fn print_audit<S: Alter + Drop, W: Write, P: Progress>(
 ) -> (Result<(), Fault>, Option<Connection<S>>)
     requires idle { conn.in_transaction ≡ false }
     requires unlimited { conn.step_limit ≡ None }
-    ensures { AuditsBy S.Store conn result.1 (W.contents answers.old) (W.contents answers.new) result.0 }
+    ensures { AuditsBy S.Store conn result.1 (W.contents answers.old) (W.contents answers.new) (Unit {0}) result.0 }
 {
     let (found, conn) = audited(alloc, conn, progress);
     (print_finding(alloc, answers, found), conn)
+}
+
+/// Does the same with the scratch database, and returns its store too.
+fn print_audit_beside<S: Alter + Drop, B: Alter + Drop, W: Write, P: Progress>(
+    alloc: Global,
+    conn: Connection<S>,
+    scratch: Connection<B>,
+    answers: &mut W,
+    progress: &P,
+) -> (Result<(), Fault>, Option<Connection<S>>, Option<B>)
+    requires idle { conn.in_transaction ≡ false }
+    requires unlimited { conn.step_limit ≡ None }
+    requires scratch_idle { scratch.in_transaction ≡ false }
+    requires scratch_unlimited { scratch.step_limit ≡ None }
+    ensures { AuditsBy S.Store conn result.1 (W.contents answers.old) (W.contents answers.new)
+        (IfSome result.2 (λ store. IsClean (B.Store.view store))) result.0 }
+{
+    let (ended, conn) = audited_beside(alloc, conn, scratch, progress);
+    let (found, store) = parted(ended);
+    (print_finding(alloc, answers, found), conn, store)
+}
+
+/// Parts a finding and the store of the scratch database.
+fn parted<B>(ended: Result<(Finding, B), Fault>) -> (Result<Finding, Fault>, Option<B>)
+    ensures found { result.0 ≡ finding_of ended }
+    ensures store { result.1 ≡ store_of ended }
+{
+    match ended {
+        Ok((finding, store)) => (Ok(finding), Some(store)),
+        Err(fault) => (Err(fault), None),
+    }
 }
 
 /// Prints the number of messages, and that all is in order. Returns `Differs` for a difference, and the audit's error.

@@ -74,7 +74,16 @@ impl<S: Alter + Drop> OneFile<S> {
 }
 
 impl<S: Alter + Drop> FileOpener<S> for OneFile<S> {
+    type Scratch = MemStore;
+
     ghost paths = { λ files. known_alike (λ conn. Unit {0}) };
+
+    fn make_scratch(&self, alloc: Global, path: &str) -> Result<Connection<MemStore>, Fault> {
+        if path == "taken" {
+            return Err(Fault::Exists);
+        }
+        Connection::open_in_memory(alloc).map_err(|_| Fault::Unavailable)
+    }
 
     fn open(self, _path: &str) -> Result<Connection<S>, Fault> {
         self.opened().map_err(|_| Fault::File)
@@ -141,7 +150,7 @@ pub(super) fn ran<R: AllocGlobal, S: Alter + Drop, N: FileOpener<S>, I: Read, W:
 ) -> (Ending, Vec<u8>, Option<Connection<S>>) {
     let process = (Started { words }, rt.alloc());
     let mut faults = Vec::new(rt.alloc());
-    let (ending, conn) = run(
+    let (ending, conn, _) = run(
         &process,
         files,
         &NETWORK,
@@ -290,7 +299,7 @@ fn runs_of_words(rt: HostRuntime) -> Result<(), Fail> {
         let mut answers = Vec::new(rt.alloc());
         let mut faults = Vec::new(rt.alloc());
         let none = OneFile::<MemStore> { conn: None };
-        let (end, conn) = run(
+        let (end, conn, _) = run(
             &process,
             none,
             &NETWORK,

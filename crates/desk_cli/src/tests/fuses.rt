@@ -31,14 +31,15 @@ pub(crate) trait Step {
 }
 
 /// A connection to the files, or, where they can't be opened, what is left of them.
-fn connected<D: Disk + Drop>(
+pub(super) fn connected<D: Disk + Drop>(
     alloc: Global,
     files: Files<D>,
+    options: Options,
 ) -> Result<Connection<FileStore<D>>, Files<D>> {
     if !files.may_be_used() {
         return Err(files);
     }
-    match Connection::open_files(alloc, files, Options::new(1)) {
+    match Connection::open_files(alloc, files, options) {
         Ok(conn) => Ok(conn),
         Err((_, left)) => Err(left.into_files()),
     }
@@ -55,7 +56,7 @@ pub(crate) fn in_files<R: Abort + AllocGlobal, D: Disk + Drop, T: Step>(
     files: Files<D>,
     step: &mut T,
 ) -> Result<(bool, Files<D>), Fail> {
-    match connected(rt.alloc(), files) {
+    match connected(rt.alloc(), files, Options::new(1)) {
         Ok(conn) => Ok((true, files_of(step.take(rt, conn)?))),
         Err(files) => Ok((false, files)),
     }
@@ -90,7 +91,7 @@ pub(crate) fn filled<R: Abort + AllocGlobal, T: Step>(
     rt: &R,
     step: &mut T,
 ) -> Result<Files<Memory>, Fail> {
-    match connected(rt.alloc(), empty(rt.alloc())) {
+    match connected(rt.alloc(), empty(rt.alloc()), Options::new(1)) {
         Ok(conn) => moved_files(step.take(rt, conn)?),
         Err(_) => Err("they aren't opened".into()),
     }
@@ -168,9 +169,9 @@ pub(super) fn told_until_stop<R: Abort + AllocGlobal, K: Keeper>(
 
 /// A desk is made, and hears the messages until the disk fails: how many were answered.
 #[derive(Drop)]
-struct Hears<'a> {
-    deliveries: &'a [Delivery],
-    answered: usize,
+pub(super) struct Hears<'a> {
+    pub(super) deliveries: &'a [Delivery],
+    pub(super) answered: usize,
 }
 
 impl Step for Hears<'_> {

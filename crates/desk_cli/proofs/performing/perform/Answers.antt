@@ -63,6 +63,6 @@ returns-in-Check g c = rw c.in-Check.is (ends_so c.check_file.ensures (λ r done
 
 pub returns-in-Audit : goal.returns-in-Audit
 returns-in-Audit g c = rw c.in-Audit.is (ends_so c.audit_file.ensures (λ r done. (
-  audits_by_rules c.rules_are_kept.ensures _ (g.N.FileOpener.paths c.args.files) _ _ _ r _ _ done,
+  audits_by_rules c.rules_are_kept.ensures _ (g.N.FileOpener.paths c.args.files) _ _ _ r _ _ _ _ done,
   Keeps-refl _,
 )))

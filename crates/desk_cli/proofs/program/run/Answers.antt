@@ -7,5 +7,5 @@ returns-clause-runs g c = (_, c.run_given.ensures.runs)
 
 pub returns-clause-done : goal.returns-clause-done
 returns-clause-done g c done =
-    let asked = done_asked _ _ _ _ _ _ _ _ _ _ _ _ _ c.run_given.ensures.runs done in
+    let asked = done_asked _ _ _ _ _ _ _ _ _ _ _ _ _ _ c.run_given.ensures.runs done in
     (asked.0, some_words _ asked.0 asked.1, asked.2)

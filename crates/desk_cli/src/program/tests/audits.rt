@@ -49,3 +49,27 @@ fn a_changed_row_is_named(rt: HostRuntime) -> Result<(), Fail> {
     }
     Ok(())
 }
+
+/// Where the scratch file is, how the command ends, what it prints, and what is on standard error.
+static SCRATCHES: [(&[u8], Ending, &str, &str); 2] = [
+    (b"free", Ending::Done, "heard: 13\nin order\n", ""),
+    (b"taken", Ending::Refused, "", "desk: exists\n"),
+];
+
+#[test]
+fn a_scratch_file_is_new(rt: HostRuntime) -> Result<(), Fail> {
+    let all = all_deliveries(rt.alloc())?;
+    for (place, (path, wanted, printed, told)) in SCRATCHES.iter().enumerate() {
+        let words: [&[u8]; 5] = [b"desk", b"audit", b"f.db", b"--scratch", *path];
+        let file = OneFile {
+            conn: Some(heard(&rt, &all)?),
+        };
+        let mut answers = Vec::new(rt.alloc());
+        let (ending, faults, conn) = ran(&rt, &words, file, &mut b"".as_slice(), &mut answers);
+        let is_done = ending == Ending::Done;
+        holds_at(&rt, ending == *wanted && conn.is_some() == is_done, place);
+        holds_at(&rt, answers.as_slice() == printed.as_bytes(), place);
+        holds_at(&rt, faults.as_slice() == told.as_bytes(), place);
+    }
+    Ok(())
+}

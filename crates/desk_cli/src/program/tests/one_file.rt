@@ -286,7 +286,7 @@ fn ends<R: Abort + AllocGlobal, S: Alter + Drop>(
     let mut reader = input.as_bytes();
     let mut answers = Vec::new(rt.alloc());
     let mut faults = Vec::new(rt.alloc());
-    let (end, conn) = run(
+    let (end, conn, _) = run(
         &process,
         file,
         &NETWORK,

@@ -1,11 +1,11 @@
--- The file is opened and audited, or it can't be opened.
+-- The file is opened and audited with a database in memory, or it can't be opened.
 use Rattle.std.proofs.Common.{Err, ap, inl, inr, refl}
 use Rattle.std.proofs.KnownBytes.{Keeps-refl}
-use Rattle.desk_cli.proofs.performing.audit_file.Goals as goal
+use Rattle.desk_cli.proofs.performing.audit_alone.Goals as goal
 
 pub returns-in-Ok : goal.returns-in-Ok
 returns-in-Ok g c =
-    let ended = c.audit_command.ensures in
+    let ended = c.audit_command-ending.ensures in
     record { result = ended.result; ended = ended.ended; says = inl (c.in-Ok.conn, c.in-Ok.ensures.opened, ended.says) }
 
 pub returns-in-Err : goal.returns-in-Err
