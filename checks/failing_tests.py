@@ -4,8 +4,7 @@
     checks/failing_tests.py [--jobs 2] [EDIT ..]
 
 Where a function is proved by hand the prover refuses each edit of it that its proof doesn't fit, be it wrong or not. So TESTS names,
-for such edits, a test of desk_cli that fails with the edit. EDIT is one of them, as CRATE/NAME. It is in the crate's `must-fail/`
-or in `checks/wrong-bodies/CRATE/`.
+for such edits, a test of desk_cli that fails with the edit. EDIT is one of them, as CRATE/NAME. It is in `checks/wrong-bodies/CRATE/`.
 
 The repository is only read: its crates are copied into a folder that is removed at the end, once for each run. `rt try --test` runs
 the test there, which proves nothing: first each test that is named with no edit, which has to pass, and then with each edit, which
@@ -68,10 +67,10 @@ TESTS = {
 
 
 def file_of(crate, name):
-    for place in (ROOT / "crates" / crate / "must-fail", ROOT / "checks" / "wrong-bodies" / crate):
-        if (place / f"{name}.edit").is_file():
-            return place / f"{name}.edit"
-    raise NotTried("there is no such edit")
+    file = ROOT / "checks" / "wrong-bodies" / crate / f"{name}.edit"
+    if not file.is_file():
+        raise NotTried("there is no such edit")
+    return file
 
 
 def ran(test, edit=None):

@@ -1,11 +1,19 @@
 #!/usr/bin/env python3
 """Tries wrong bodies outside the gate: the prover has to refuse each.
 
-    checks/wrong_bodies.py [--must-fail] [--list] [--together] [--jobs 1] [CRATE ..]
+    checks/wrong_bodies.py [--must-fail] [--list | --write] [--together] [--jobs 1] [CRATE ..]
 
-The wrong bodies of a crate are in `checks/wrong-bodies/CRATE/`, each an edit in the form of those that the gate tries: a line
-`file: src/x.rt`, and then pairs of lines `old: TEXT` and `new: TEXT`. Each old text has to be exactly once in what the pairs
-before it made of the file.
+The wrong bodies of a crate are in `checks/wrong-bodies/CRATE/`, each an edit:
+
+    gate                      the gate tries it too, in each run
+    file: src/x.rt
+    function: Name::new       a function of this file, by its name, or its type's and its name
+    old: TEXT
+    new: TEXT
+
+Each old text has to be exactly once in what the lines before it made of the function, or of the file where no function is named.
+`--write` writes the edits that the gate tries to `crates/CRATE/must-fail/`, in the form that `rt must-fail` reads: whole lines, without
+functions. Never change those by hand.
 
 The repository is only read: its crates are copied into a folder that is removed at the end. There each crate that is named, or
 each, is proved, over the work that earlier checks kept in `out/`, and then each of its edits is made in turn, `rt check` is run,
@@ -17,8 +25,9 @@ refused there where a goal of a function that it changes isn't proved, or an err
 goals wait for the proof of one that it calls is tried once more without those that were refused. What isn't refused so is tried by
 itself afterwards, by a whole check: it changes no function's body, or has to be refused where the function is called.
 
-With --must-fail the edits of `crates/CRATE/must-fail/` are taken too. With --list it only checks that each edit applies. With --jobs N
-N crates are tried side by side. It fails where an edit isn't refused, or with --list doesn't apply.
+With --must-fail the edits that the gate tries are taken too. With --list it only checks that each edit applies, and that what the gate
+reads is what --write would write. With --jobs N N crates are tried side by side. It fails where an edit isn't refused, or with --list
+doesn't apply.
 """
 
 import argparse
@@ -61,24 +70,48 @@ def crates():
 
 
 def edits_of(crate, with_must_fail):
-    folders = [ROOT / "checks" / "wrong-bodies" / crate]
-    if with_must_fail:
-        folders.append(ROOT / "crates" / crate / "must-fail")
-    return [edit for folder in folders for edit in sorted(folder.glob("*.edit"))]
+    edits = sorted((ROOT / "checks" / "wrong-bodies" / crate).glob("*.edit"))
+    return [edit for edit in edits if with_must_fail or not is_of_gate(edit)]
+
+
+def is_of_gate(edit):
+    return edit.read_text().startswith("gate\n")
+
+
+class Change:
+    """What an edit changes: an old text, once in a function or in a file, becomes a new one."""
+
+    def __init__(self, file, function, old, new):
+        self.file, self.function, self.old, self.new = file, function, old, new
+
+    def place_in(self, text):
+        """Returns the place of the old text."""
+        begin, end = span_of(text, self.function) if self.function else (0, len(text))
+        where = f"{self.function} in {self.file}" if self.function else self.file
+        count = text.count(self.old, begin, end)
+        if count != 1:
+            raise NotTried(f"an old text is there {count} times in {where}, not once: {self.old}")
+        return text.index(self.old, begin)
+
+    def made(self, text):
+        place = self.place_in(text)
+        return text[:place] + self.new + text[place + len(self.old) :]
 
 
 def changes_of(edit):
-    """Returns the file, the old text and the new one of each change that the edit makes."""
-    changes, file, old = [], None, None
-    for line in edit.read_text().splitlines():
+    """Returns the changes that the edit makes, in order."""
+    changes, file, function, old = [], None, None, None
+    for line in edit.read_text().removeprefix("gate\n").splitlines():
         word, _, text = line.partition(":")
         text = text.removeprefix(" ")
         if word == "file":
-            file = text
+            file, function = text, None
+        elif word == "function" and file and text:
+            function = text
         elif word == "old" and file and text:
             old = text
         elif word == "new" and old:
-            changes.append((file, old, text))
+            changes.append(Change(file, function, old, text))
             old = None
         else:
             raise NotTried(f"this line is out of place: {line}")
@@ -87,19 +120,76 @@ def changes_of(edit):
     return changes
 
 
+def steps_of(edit, folder, before={}):
+    """Returns the edit's changes, each with the text of its file before it and after it."""
+    texts, steps = {}, []
+    for change in changes_of(edit):
+        if not (folder / change.file).is_file():
+            raise NotTried(f"there is no file {change.file}")
+        text = texts.get(change.file, before.get(change.file)) or (folder / change.file).read_text()
+        texts[change.file] = change.made(text)
+        steps.append((change, text, texts[change.file]))
+    return steps
+
+
 def edited(edit, folder, before={}):
     """Returns the texts that the edit makes of the crate's files, by their names; or of what other edits made of them before."""
-    texts = {}
-    for file, old, new in changes_of(edit):
-        if not (folder / file).is_file():
-            raise NotTried(f"there is no file {file}")
-        text = texts.get(file, before.get(file)) or (folder / file).read_text()
-        if text.count(old) != 1:
-            raise NotTried(f"an old text is there {text.count(old)} times in {file}, not once: {old}")
-        texts[file] = text.replace(old, new)
+    texts = {change.file: after for change, _, after in steps_of(edit, folder, before)}
     if all(text == (folder / file).read_text() for file, text in texts.items()):
         raise NotTried("it changes nothing")
     return texts
+
+
+# ---- what the gate reads
+
+
+def lines_for_gate(edit, folder):
+    """Returns the edit in the form that `rt must-fail` reads: whole lines, each once in its file."""
+    written, file = [], None
+    for change, text, after in steps_of(edit, folder):
+        place = change.place_in(text)
+        begin, end = text.rfind("\n", 0, place) + 1, text.find("\n", place + len(change.old))
+        end = len(text) if end < 0 else end
+        old, new = text[begin:end], after[begin : end + len(after) - len(text)]
+        if text.count(old.strip()) == 1:
+            old, new = old.strip(), new.strip()
+        if text.count(old) != 1 or "\n" in old or "\n" in new:
+            raise NotTried(f"the gate can't take it, since its line isn't there once: {old}")
+        written += [f"file: {change.file}"] * (change.file != file) + [f"old: {old}", f"new: {new}"]
+        file = change.file
+    return "\n".join(written) + "\n"
+
+
+def gate_files(crate):
+    """Returns what the files that the gate reads have to be, by their paths."""
+    folder = ROOT / "crates" / crate
+    return {folder / "must-fail" / edit.name: lines_for_gate(edit, folder) for edit in edits_of(crate, True) if is_of_gate(edit)}
+
+
+def write_for_gate(crate):
+    """Writes the edits that the gate reads. Returns how many."""
+    files = gate_files(crate)
+    for file in (ROOT / "crates" / crate / "must-fail").glob("*.edit"):
+        if file not in files:
+            file.unlink()
+    for file, text in files.items():
+        file.parent.mkdir(exist_ok=True)
+        file.write_text(text)
+    return len(files)
+
+
+def count_others(crate):
+    """Prints which files that the gate reads aren't what --write would write. Returns how many."""
+    try:
+        files = gate_files(crate)
+    except NotTried as why:
+        print(f"{crate}: {why}", flush=True)
+        return 1
+    there = set((ROOT / "crates" / crate / "must-fail").glob("*.edit"))
+    others = [it for it in sorted(there | set(files)) if it not in there or it.read_text() != files.get(it)]
+    for file in others:
+        print(f"{file.relative_to(ROOT)}: it isn't what checks/wrong_bodies.py --write would write", flush=True)
+    return len(others)
 
 
 def copied(crate, known, folder):
@@ -183,6 +273,30 @@ def owner_of(line):
     return tuple_of + "".join(word[0].upper() + word[1:] for word in words if word not in left_out and word != "_")
 
 
+def functions_in(text):
+    """Returns each function of a file's text: by its type's name and its own, and where it begins and ends."""
+    lines, owner, found = text.split("\n"), None, []
+    starts = [0]
+    for line in lines:
+        starts.append(starts[-1] + len(line) + 1)
+    for at, line in enumerate(lines):
+        owner = owner_of(line) or (None if line == "}" else owner)
+        begins = re.match(r"( *)(?:pub(?:\(.*?\))? )?(?:const )?fn (\w+)", line)
+        if begins:
+            end = next((k for k in range(at, len(lines)) if lines[k] == begins[1] + "}"), at)
+            inside = [owner] if owner and begins[1] else []
+            found.append(("::".join([*inside, begins[2]]), starts[at], starts[end + 1]))
+    return found
+
+
+def span_of(text, function):
+    """Returns where the function with this name begins and ends in a file's text."""
+    spans = [(begin, end) for name, begin, end in functions_in(text) if f"::{name}".endswith(f"::{function}")]
+    if len(spans) != 1:
+        raise NotTried(f"there are {len(spans)} functions {function} in the file, not one")
+    return spans[0]
+
+
 def function_at(file, text, place, names):
     """Returns the function in whose body the place is, by the one of the names that is its; None where there is none."""
     path = [part for part in Path(file).with_suffix("").parts[1:] if part not in ("lib", "main")]
@@ -202,13 +316,11 @@ def function_at(file, text, place, names):
 
 def functions_of(edit, folder, names):
     """Returns the functions that the edit changes, or None where it changes more than bodies."""
-    functions, texts = set(), {}
-    for file, old, new in changes_of(edit):
-        if not file.startswith("src/"):
+    functions = set()
+    for change, text, _ in steps_of(edit, folder):
+        if not change.file.startswith("src/"):
             return None
-        text = texts.get(file) or (folder / file).read_text()
-        functions.add(function_at(file, text, text.find(old), names))
-        texts[file] = text.replace(old, new)
+        functions.add(function_at(change.file, text, change.place_in(text), names))
     return None if None in functions else functions
 
 
@@ -319,7 +431,8 @@ def count_applying(crate, edits):
 def main():
     words = argparse.ArgumentParser(description=__doc__.splitlines()[0])
     words.add_argument("crates", nargs="*", metavar="CRATE", help="the crates to take, of all where none is named")
-    words.add_argument("--must-fail", action="store_true", help="take the edits of must-fail too")
+    words.add_argument("--must-fail", action="store_true", help="take the edits that the gate tries too")
+    words.add_argument("--write", action="store_true", help="write the edits that the gate reads, and try none")
     words.add_argument("--list", action="store_true", help="only check that each edit applies")
     words.add_argument("--together", action="store_true", help="make edits of different functions in one copy")
     words.add_argument("--jobs", type=int, default=1, help="how many crates to try side by side")
@@ -330,8 +443,11 @@ def main():
 
     def is_well(crate):
         edits = edits_of(crate, given.must_fail)
+        if given.write:
+            print(f"{crate}: {write_for_gate(crate)} edits for the gate", flush=True)
+            return True
         if given.list:
-            well = count_applying(crate, edits)
+            well = count_applying(crate, edits) - count_others(crate)
             print(f"{crate}: {well} of {len(edits)} edits apply", flush=True)
         elif edits:
             well = try_all(crate, known, edits, given.together)
