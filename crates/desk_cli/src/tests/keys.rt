@@ -9,7 +9,7 @@ use sqlite::{Alter, Connection};
 use std::process::Abort;
 use std::test::Fail;
 
-/// The reception of the first uplink at a gateway is told once more.
+/// The reception of the first uplink at a gateway is reported once more.
 fn expect_one_reception<R: Abort, S: Alter + Drop>(
     rt: &R,
     conn: Connection<S>,
