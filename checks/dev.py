@@ -65,7 +65,8 @@ class Copy:
 def wrong_arguments(copy):
     cases = [
         [], ["nothing"], ["check"], ["check", "no_crate"], ["check", "radio_core", "no_function"], ["check", "radio_core", "a", "b"],
-        ["mutants"], ["mutants", "no_crate"], ["mutants", "radio_core", "no_function"], ["find"], ["find", "no_function"], ["test", "a", "b"], ["format", "a"], ["lint", "a"],
+        ["mutants"], ["mutants", "no_crate"], ["mutants", "radio_core", "no_function"], ["find"], ["find", "no_function"], ["rename", "duty_core", "use_at", "sum"], ["rename", "duty_core", "use_at", "nowhere", "total"],
+        ["rename", "duty_core", "use_at", "at", "begin"], ["rename", "duty_core", "use_at", "sum", "span"], ["test", "a", "b"], ["format", "a"], ["lint", "a"],
         ["quick", "a"], ["gate", "a"], ["scripts", "a"], ["scripts", "--only", "no script"], ["scripts", "--program", "/nowhere", "--only", "day"],
     ]  # fmt: skip
     for words in cases:
@@ -154,6 +155,28 @@ def found(copy):
             holds(part in ran.stdout, f"find {function} prints {ran.stdout}, without {part}")
 
 
+def renamed(copy):
+    """A local variable gets another name in the code, the proof by hand and the mutants; none of it if the function then isn't proved."""
+    parts = {
+        "crates/duty_core/src/hours.rt": ("for span in spans", "for booked in spans"),
+        "crates/duty_core/proofs/hours/use_at/Answers.antt": ("loop-span", "loop-booked"),
+        "crates/duty_core/proofs/hours/use_at/Invariants.antt": ("l.span-index", "l.booked-index"),
+        "checks/wrong-bodies/duty_core/use_counts_overlaps_once.edit": ("span", "booked"),
+    }
+    before = {name: (copy.folder / name).read_text() for name in parts}
+    ran = copy.run("rename", "duty_core", "use_at", "span", "booked", STATUS="1")
+    holds(ran.returncode == 1 and all((copy.folder / name).read_text() == text for name, text in before.items()), f"rename ends with {ran}")
+    ran = copy.run("rename", "duty_core", "use_at", "span", "booked")
+    holds((ran.returncode, copy.called()) == (0, ["duty_core check --only hours::use_at"]), f"rename ends with {ran}")
+    for name, (old, new) in parts.items():
+        text = (copy.folder / name).read_text()
+        holds(text == before[name].replace(old, new) or new in text and old in before[name], f"rename makes of {name}\n{text}")
+    ran = copy.run("lint")
+    holds(ran.returncode == 0, f"lint after a rename ends with {ran}")
+    ran = copy.run("rename", "duty_core", "use_at", "booked", "span")
+    holds(all((copy.folder / name).read_text() == text for name, text in before.items()), f"the first name again ends with {ran}")
+
+
 def scripts(copy):
     """The scripts of a release are those of checks/, but for those that measure."""
     ran = copy.run("scripts", "--list")
@@ -187,7 +210,7 @@ def main():
     argparse.ArgumentParser(description=__doc__, formatter_class=argparse.RawDescriptionHelpFormatter).parse_args()
     with tempfile.TemporaryDirectory(prefix="dev-") as folder:
         copy = Copy(Path(folder))
-        for part in (wrong_arguments, commands_of_rt, changed_sources, mutants, found, scripts):
+        for part in (wrong_arguments, commands_of_rt, changed_sources, mutants, found, renamed, scripts):
             part(copy)
     in_the_repository()
     print(f"dev: {tried} cases are as they should be")
