@@ -6,12 +6,15 @@ use Rattle.registry_core.specs.Heard.{heard_with}
 use Rattle.registry_core.specs.Settings.{Settings}
 use Rattle.desk_store.specs.declared.faults.StoreFault.{StoreFault}
 use Rattle.desk_store.specs.Calls.{IsUnavailability}
+use Rattle.desk_store.specs.Meaning.{Meaning}
 use Rattle.desk_wire.specs.CsvReports.{reads_report}
 use Rattle.desk_wire.specs.declared.csv_faults.CsvFault.{CsvFault}
 use Rattle.desk_wire.specs.declared.csv_faults.CsvFault.TheVariants.{Memory}
 use Rattle.desk_engine.specs.declared.csv_importing.ImportEnd.{ImportEnd}
 use Rattle.desk_engine.specs.declared.csv_importing.ImportEnd.TheVariants.{Done, NoReport, Read, Write, Unavailable}
+use Rattle.desk_engine.specs.Hearing.{StoreKeeps, StoreLeaves}
 use Rattle.desk_engine.specs.Importing.{heard_in_order}
+use Rattle.desk_engine.specs.InOrder.{ForLog}
 use Rattle.desk_engine.specs.Lines.{line_feed}
 use Rattle.desk_engine.specs.Told.{told_of_envelope, text_of}
 
@@ -70,3 +73,10 @@ module _ (c : Settings) (heard : List Envelope) (sender : List ℕ) (Kept : List
   ImportEndsBy (Write None) = ImportsAll (λ answers. ⊤)
   ImportEndsBy (Write (Some fault)) = ImportsFirst (λ answers. ⊤) × IsUnavailability fault
   ImportEndsBy (Unavailable fault) = ImportsFirst (Appends before after) × IsUnavailability fault
+
+-- For each log that the store represented before, the import of a report from this sender ended so. The store was `old` and is `new`.
+-- `reader` and `rest` are the reader before and after, `writer` and `written` the writer.
+abbrev pub ImportsReport : {K R W : Type 0} → Meaning K → (R → Option (List ℕ)) → (W → Option (List ℕ)) → List ℕ → K → K → R → R → W → W → ImportEnd → Type 0
+ImportsReport m remaining contents sender old new reader rest writer written end = ForLog m old new (λ c heard.
+    ImportEndsBy c heard sender (StoreKeeps m c heard old new) (StoreLeaves m c heard old new)
+    (remaining reader) (remaining rest) (contents writer) (contents written) end)

@@ -2,7 +2,8 @@
 use Rattle.std.specs.Prelude.{◌≡◌, Bool, List, Option, None}
 use Rattle.registry_core.specs.declared.messages.Envelope.{Envelope}
 use Rattle.registry_core.specs.Settings.{Settings}
-use Rattle.desk_store.specs.Calls.{IsCall}
+use Rattle.desk_store.specs.declared.faults.StoreFault.{StoreFault}
+use Rattle.desk_store.specs.Calls.{IsCall, is_disk, is_not_a_desk}
 use Rattle.desk_store.specs.Meaning.{Meaning}
 use Rattle.desk_engine.specs.InOrder.{HoldsRules, IsInOrder, Survives, WasInOrder, doubt_after}
 
@@ -15,6 +16,16 @@ pub record Hears {K : Type 0} (m : Meaning K) (old new : K) (disk not_a_desk : B
   pub crash : (c : Settings) (heard : List Envelope) (doubt : Option Envelope) → WasInOrder m c heard old new → Survives m c old heard doubt
       → Survives m c new (after c heard) (doubt_after (m.failed old) doubt (doubtful c))
   pub rules : (c : Settings) (heard : List Envelope) → WasInOrder m c heard old new → HoldsRules m new
+
+-- ---- the same, by the error that was returned
+
+-- calls of a store in a row, or none; one of them returned `Disk` or `NotADesk` only if this is that error
+abbrev pub IsCallWith : {K : Type 0} → Meaning K → K → K → Option StoreFault → Type 0
+IsCallWith m old new fault = IsCall m old new (is_disk fault) (is_not_a_desk fault)
+
+-- and messages may be heard in them
+abbrev pub HearsWith : {K : Type 0} → Meaning K → K → K → Option StoreFault → (Settings → List Envelope → List Envelope) → (Settings → Option Envelope) → Type 0
+HearsWith m old new fault after doubtful = Hears m old new (is_disk fault) (is_not_a_desk fault) after doubtful
 
 -- ---- the same, of a call that returned how it ended
 

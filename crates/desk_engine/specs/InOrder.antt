@@ -33,6 +33,10 @@ pub record WasInOrder {K : Type 0} (m : Meaning K) (c : Settings) (heard : List 
   pub sound : m.sound new
   pub order : IsInOrder m c old heard
 
+-- `P` is true of each configuration and log that the store represented before a call, if it is sound after it
+abbrev pub ForLog : {K : Type 0} → Meaning K → K → K → (Settings → List Envelope → Type 0) → Type 0
+ForLog m old new P = (c : Settings) (heard : List Envelope) → WasInOrder m c heard old new → P c heard
+
 -- the log has as many messages as it may have, or the store's medium named its own size in the last call that wrote
 abbrev pub HasNoRoom : {K : Type 0} → Meaning K → K → List Envelope → Type 0
 HasNoRoom m keeper heard = (most_heard ≤ length heard) ⊎ m.out_of_space keeper

@@ -12,6 +12,7 @@ use Rattle.desk_store.specs.Meaning.{Meaning}
 use Rattle.desk_wire.specs.Writing.{message_text}
 use Rattle.desk_engine.specs.Deliveries.{Delivery, heard_after, heard_all}
 use Rattle.desk_engine.specs.Hearing.{Hears}
+use Rattle.desk_engine.specs.InOrder.{kept_after}
 use Rattle.desk_engine.specs.Told.{Told, envelope_of_text, told_of_envelope, told_of_text}
 
 -- a log with one more delivery is a log, as long as it has fewer messages than it may have
@@ -22,6 +23,12 @@ DeliveriesLeaveHeardLists = (c : Settings) (heard : List Envelope) (d : Delivery
 -- deliveries add to a log at its end only
 abbrev pub DeliveriesAddAtTheEnd : Type 0
 DeliveriesAddAtTheEnd = (c : Settings) (heard : List Envelope) (ds : List Delivery) → (more : List Envelope) × (heard_all c heard ds ≡ heard ++ more)
+
+-- ---- entries
+
+-- what a store represents after a log has as many entries as the log has messages
+abbrev pub AsManyEntriesAsMessages : Type 0
+AsManyEntriesAsMessages = (c : Settings) (heard : List Envelope) → length (kept_after c heard).entries ≡ length heard
 
 -- ---- calls in which messages may be heard
 

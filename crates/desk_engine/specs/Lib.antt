@@ -1,5 +1,6 @@
 pub mod CsvImporting
 pub mod Deliveries
+pub mod Delivering
 pub mod Hearing
 pub mod Importing
 pub mod InOrder
@@ -14,8 +15,10 @@ pub mod Repeats
 pub mod Reporting
 pub mod Reports
 pub mod Rooms
+pub mod Runs
 pub mod Sizes
 pub mod Stays
+pub mod Streams
 pub mod Told
 pub mod Uplinks
 pub mod steps

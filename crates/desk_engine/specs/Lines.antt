@@ -1,7 +1,7 @@
 -- An input of lines: how it is split, what is heard of it, and what is written for it.
 use Rattle.std.specs.Prelude.{◌≡◌, ◌≢◌, ◌==◌, ◌↔◌, ℕ, List, [], ◌∷◌, ◌++◌, Bool, false, Option, Some, None, if◌then◌else◌}
 use Rattle.std.specs.List.{list_any}
-use Rattle.std.specs.Io.KnownBytes.{Appends}
+use Rattle.std.specs.Io.KnownBytes.{Appends, Consumes}
 use Rattle.registry_core.specs.declared.messages.Envelope.{Envelope}
 use Rattle.registry_core.specs.Settings.{Settings}
 use Rattle.desk_store.specs.declared.faults.StoreFault.{StoreFault}
@@ -13,7 +13,7 @@ use Rattle.desk_engine.specs.declared.lines.LinesEnd.TheVariants.{Done, Read, Wr
 use Rattle.desk_engine.specs.declared.outcomes.Outcome.TheVariants as outcome
 use Rattle.desk_engine.specs.Deliveries.{Delivery, heard_after}
 use Rattle.desk_engine.specs.Hearing.{StoreLeaves}
-use Rattle.desk_engine.specs.InOrder.{HasNoRoom}
+use Rattle.desk_engine.specs.InOrder.{ForLog, HasNoRoom}
 use Rattle.desk_engine.specs.Outcomes.{doubt_of_text}
 use Rattle.desk_engine.specs.Told.{text_of, told_of_text}
 
@@ -130,3 +130,9 @@ module _ {K : Type 0} (m : Meaning K) (c : Settings) (heard : List Envelope) (ol
   LinesEndBy before after input Read = HasAnswered before after (whole_lines input) None
   LinesEndBy before after input Write = FailsToWrite input
   LinesEndBy before after input (Unavailable fault) = IsCutShort before after input fault
+
+-- An input was read, and for each log that the store represented before, the run ended so. The store was `old` and is `new`. `reader` and
+-- `rest` are the reader before and after, `writer` and `written` the writer.
+abbrev pub RunsLines : {K R W : Type 0} → Meaning K → (R → Option (List ℕ)) → (W → Option (List ℕ)) → K → K → R → R → W → W → LinesEnd → Type 0
+RunsLines m remaining contents old new reader rest writer written end = (input : List ℕ) × Consumes (remaining reader) (remaining rest) input
+    × ForLog m old new (λ c heard. LinesEndBy m c heard old new (contents writer) (contents written) input end)

@@ -1,5 +1,6 @@
 -- Lists as texts, octet for octet: the senders, the owners, the gateways and the devices of a desk; and one of its devices.
 use Rattle.std.specs.Prelude.{◌≡◌, ◌-◌, ℕ, Bool, false, List, [], ◌∷◌, ◌++◌, length, count_by, filter, map, slice_get, Option, Some, None, is_some, option_and_then, Result, IfOk, IfErr, OnOk, IsTrue, bytes_eq, codes}
+use Rattle.std.specs.Global.{Vec}
 use Rattle.std.specs.Fmt.{decimal}
 use Rattle.std.specs.List.{flat_map}
 use Rattle.std.specs.Option.{option_map_or}
@@ -141,6 +142,10 @@ IsListFault _ = ⊥
 pub record IsListAnswer (of : ListOf) (c : Settings) (heard : List Envelope) (answer : Result (List ℕ) ReportFault) : Type 0 where
   pub text : IfOk answer (IsList of c heard)
   pub fault : IfErr answer IsListFault
+
+-- if there is a list, it is that after this log
+abbrev pub IfList : ListOf → Result (Vec ℕ) ReportFault → Settings → List Envelope → Type 0
+IfList of result c heard = IfOk result (λ text. IsList of c heard text.items)
 
 -- ---- one device
 

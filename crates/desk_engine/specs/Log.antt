@@ -91,3 +91,7 @@ module _ (lines : List (List ℕ)) (before after : Option (List ℕ)) where
   LogEndBy (Done count) = Appends before after (input_of lines []) × (count ≡ length lines)
   LogEndBy Write = WritesPart
   LogEndBy (Unavailable fault) = WritesWhole × IsUnavailability fault
+
+-- the writing of this part of the log's messages or answers ended so, from what the writer had before (`old`) to what it has after (`new`)
+abbrev pub WritesLog : {W : Type 0} → (W → Option (List ℕ)) → W → W → LogText → ℕ → ℕ → LogEnd → Settings → List Envelope → Type 0
+WritesLog contents old new which from most end c heard = LogEndBy (log_of which c heard from most) (contents old) (contents new) end

@@ -28,3 +28,7 @@ pub record IsMonth (text : List ℕ) (from to : ℤ) : Type 0 where
   pub text_is : text ≡ month_text year month
   pub begins : BeginsAt year month from
   pub ends : to ≡ from +ℤ pos (days_in_month (pos year) month * day_length)
+
+-- if the text is a month, `P` is true of when it begins and ends
+abbrev pub ForMonth : List ℕ → (ℤ → ℤ → Type 0) → Type 0
+ForMonth text P = (from to : ℤ) → IsMonth text from to → P from to

@@ -4,10 +4,10 @@ ghost use Rattle.std.specs.List.{flat_map};
 ghost use Rattle.std.specs.Io.KnownBytes.{Appends, Consumes, IsAtEnd};
 ghost use Rattle.registry_core.specs.declared.messages.Envelope.{Envelope};
 ghost use Rattle.registry_core.specs.Settings.{Settings};
-ghost use Rattle.desk_store.specs.Calls.{IsCall, IsOfCalls, is_disk, is_not_a_desk};
+ghost use Rattle.desk_store.specs.Calls.{IsOfCalls};
 ghost use Rattle.desk_wire.specs.CsvReports.{longest_report};
-ghost use Rattle.desk_engine.specs.CsvImporting.{ImportEndsBy, fault_of_import};
-ghost use Rattle.desk_engine.specs.Hearing.{StoreKeeps, StoreLeaves};
+ghost use Rattle.desk_engine.specs.CsvImporting.{ImportsReport, fault_of_import};
+ghost use Rattle.desk_engine.specs.Hearing.{IsCallWith, StoreKeeps, StoreLeaves};
 ghost use Rattle.desk_engine.specs.InOrder.{WasInOrder};
 ghost use Rattle.desk_engine.specs.steps.CsvImporting.{HearsEnvelopes, line_of};
 
@@ -57,11 +57,10 @@ pub fn import_report<K: Keeper, R: Read, W: Write, P: Progress>(
     writer: &mut W,
     progress: &P,
 ) -> ImportEnd
-    ensures call { IsCall K.meaning keeper.old keeper.new (is_disk (fault_of_import result)) (is_not_a_desk (fault_of_import result)) }
+    ensures call { IsCallWith K.meaning keeper.old keeper.new (fault_of_import result) }
     ensures told { IsOfCalls (fault_of_import result) }
-    ensures ends { (c : Settings) (heard : List Envelope) → WasInOrder K.meaning c heard keeper.old keeper.new
-        → ImportEndsBy c heard sender.now (StoreKeeps K.meaning c heard keeper.old keeper.new) (StoreLeaves K.meaning c heard keeper.old keeper.new)
-        (R.remaining reader.old) (R.remaining reader.new) (W.contents writer.old) (W.contents writer.new) result }
+    ensures ends { ImportsReport K.meaning R.remaining W.contents sender.now keeper.old keeper.new
+        reader.old reader.new writer.old writer.new result }
 {
     let text = match report_text(alloc, reader) {
         Ok(text) => text,
@@ -105,7 +104,7 @@ fn hear_envelopes<K: Keeper, W: Write, P: Progress>(
     writer: &mut W,
     progress: &P,
 ) -> ImportEnd
-    ensures call { IsCall K.meaning keeper.old keeper.new (is_disk (fault_of_import result)) (is_not_a_desk (fault_of_import result)) }
+    ensures call { IsCallWith K.meaning keeper.old keeper.new (fault_of_import result) }
     ensures told { IsOfCalls (fault_of_import result) }
     ensures hears { (c : Settings) (heard : List Envelope) → WasInOrder K.meaning c heard keeper.old keeper.new
         → HearsEnvelopes c heard (StoreKeeps K.meaning c heard keeper.old keeper.new) (StoreLeaves K.meaning c heard keeper.old keeper.new)

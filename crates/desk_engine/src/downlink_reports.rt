@@ -1,12 +1,11 @@
 //! The report on what is booked at a gateway in a month.
-ghost use Rattle.std.specs.Prelude.{◌≡◌, ◌↔◌, ℤ, Err, IfErr, IfOk, IsTrue, OnOk};
+ghost use Rattle.std.specs.Prelude.{◌≡◌, ◌↔◌, ℤ, Err, IfOk};
 ghost use Rattle.std.specs.String.{string_bytes};
-ghost use Rattle.desk_store.specs.Calls.{ForHeld, IsRead, Tells, fault_in};
+ghost use Rattle.desk_store.specs.Calls.{IsRead, Tells, fault_in};
 ghost use Rattle.desk_engine.specs.MonthReports.{IsDownlinkReport, downlink_line, kind_at, kind_name, line_of_downlink, standing_name};
 ghost use Rattle.desk_engine.specs.Listing.{or_empty};
 ghost use Rattle.desk_engine.specs.Months.{IsMonth};
-ghost use Rattle.desk_engine.specs.Reporting.{IsGatewayFault, store_fault_in};
-ghost use Rattle.desk_engine.specs.Reports.{is_gateway};
+ghost use Rattle.desk_engine.specs.Reporting.{ForFacts, IfDownlinks, IfNoDownlinks, OnlyIfGateway, store_fault_in};
 ghost use Rattle.desk_engine.specs.steps.MonthReports.{booking_columns, span_columns};
 
 use crate::columns::kind_name;
@@ -40,11 +39,9 @@ pub fn downlink_report<K: Keeper>(
 ) -> Result<Vec<u8>, ReportFault>
     ensures read { IsRead K.meaning keeper.old keeper.new (store_fault_in result) }
     ensures month { (result ≡ Err ReportFault.Month) ↔ ((from to : ℤ) → ¬ (IsMonth month.now from to)) }
-    ensures known { ForHeld K.meaning keeper.old keeper.new (λ kept. OnOk result (IsTrue (is_gateway kept.facts gateway.now))) }
-    ensures report { ForHeld K.meaning keeper.old keeper.new (λ kept. (from to : ℤ) → IsMonth month.now from to
-        → IfOk result (λ text. IsDownlinkReport kept.facts gateway.now from to text.items)) }
-    ensures fault { ForHeld K.meaning keeper.old keeper.new (λ kept. (from to : ℤ) → IsMonth month.now from to
-        → IfErr result (IsGatewayFault kept.facts gateway.now)) }
+    ensures known { ForFacts K.meaning keeper.old keeper.new (OnlyIfGateway gateway.now result) }
+    ensures report { ForFacts K.meaning keeper.old keeper.new (IfDownlinks gateway.now month.now result) }
+    ensures fault { ForFacts K.meaning keeper.old keeper.new (IfNoDownlinks gateway.now month.now result) }
     ensures no_time { ¬ (result ≡ Err ReportFault.Time) }
     ensures no_owner { ¬ (result ≡ Err ReportFault.Owner) }
     ensures no_device { ¬ (result ≡ Err ReportFault.Device) }

@@ -1,13 +1,11 @@
 //! The headline over a store in memory that is new, with no premise.
-ghost use Rattle.std.specs.Prelude.{◌≡◌, ℕ, false, [], map, take, IfOk};
+ghost use Rattle.std.specs.Prelude.{◌≡◌, [], IfOk};
 ghost use Rattle.registry_core.specs.Rules.{GoesByRules};
-ghost use Rattle.registry_core.specs.Heard.{state_of};
 ghost use Rattle.registry_core.specs.State.{opening};
-ghost use Rattle.desk_store.specs.Lists.{kept_of, lists_meaning, settings_of};
-ghost use Rattle.desk_engine.specs.Deliveries.{heard_all};
-ghost use Rattle.desk_engine.specs.InOrder.{kept_after};
-ghost use Rattle.desk_engine.specs.Outcomes.{AreOutcomes, deliveries_of, has_disk, has_not_a_desk};
+ghost use Rattle.desk_store.specs.Lists.{kept_of, settings_of};
+ghost use Rattle.desk_engine.specs.Outcomes.{AreOutcomes};
 ghost use Rattle.desk_engine.specs.Repeats.{RepeatsGetFirstAnswers};
+ghost use Rattle.desk_engine.specs.Runs.{AlwaysGoesByRules, HasNoMediumFault, deliveries_in, kept_after_run, octets_of};
 ghost use Rattle.desk_engine.specs.Sizes.{SizesAreMostHeard};
 ghost use Rattle.desk_engine.specs.Uplinks.{UplinksStayBooked};
 
@@ -28,25 +26,23 @@ pub fn run_from_nothing(
     config: Config,
     texts: &[&[u8]],
 ) -> Result<(Lists, Vec<Outcome>), AllocError>
-    ensures outcomes { IfOk result (λ ran. AreOutcomes config [] (map (λ t. t.now) texts.now) ran.1.items) }
+    ensures outcomes { IfOk result (λ ran. AreOutcomes config [] (octets_of texts.now) ran.1.items) }
 
     // What the store represents is the abstract registry after the log of these deliveries.
-    ensures kept { IfOk result (λ ran. kept_of ran.0
-        ≡ kept_after config (heard_all config [] (deliveries_of (map (λ t. t.now) texts.now) ran.1.items))) }
+    ensures kept { IfOk result (λ ran. kept_of ran.0 ≡ kept_after_run config texts.now ran.1) }
 
     // No two sessions have one device and one nonce, no two uplinks have one session, one kind and one counter, and no hour of any
     // gateway's band has more booked airtime than its limit: after any first texts of the list, and in the store.
-    ensures rules_before { IfOk result (λ ran. (n : ℕ) → GoesByRules (state_of config
-        (heard_all config [] (take n (deliveries_of (map (λ t. t.now) texts.now) ran.1.items))))) }
+    ensures rules_before { IfOk result (λ ran. AlwaysGoesByRules config [] (deliveries_in texts.now ran.1)) }
     ensures rules { IfOk result (λ ran. GoesByRules (kept_of ran.0).facts) }
 
     // Every repeat gets the first answer, and the first accepted frame is the uplink.
-    ensures repeats { IfOk result (λ ran. RepeatsGetFirstAnswers config (map (λ t. t.now) texts.now) ran.1.items) }
-    ensures uplinks { IfOk result (λ ran. UplinksStayBooked config [] (deliveries_of (map (λ t. t.now) texts.now) ran.1.items)) }
+    ensures repeats { IfOk result (λ ran. RepeatsGetFirstAnswers config (octets_of texts.now) ran.1.items) }
+    ensures uplinks { IfOk result (λ ran. UplinksStayBooked config [] (deliveries_in texts.now ran.1)) }
 
     // No outcome has `Disk` or `NotADesk`, and `Size` comes only if the log has as many messages as it may have.
-    ensures faults { IfOk result (λ ran. (has_disk ran.1.items ≡ false) × (has_not_a_desk ran.1.items ≡ false)) }
-    ensures sizes { IfOk result (λ ran. SizesAreMostHeard config [] (map (λ t. t.now) texts.now) ran.1.items) }
+    ensures faults { IfOk result (λ ran. HasNoMediumFault ran.1) }
+    ensures sizes { IfOk result (λ ran. SizesAreMostHeard config [] (octets_of texts.now) ran.1.items) }
 {
     rules_are_kept();
     nothing_is_heard();

@@ -1,5 +1,5 @@
 //! Laws of the definitions, each as the contract of a function with an empty body.
-ghost use Rattle.desk_engine.specs.Laws.{CallsHearInOrder, DeliveriesAddAtTheEnd, DeliveriesLeaveHeardLists, HeardAgain, KeptAnswersStay, MessagesAreDelivered, NoCallHearsNothing, ReadsHearNothing};
+ghost use Rattle.desk_engine.specs.Laws.{AsManyEntriesAsMessages, CallsHearInOrder, DeliveriesAddAtTheEnd, DeliveriesLeaveHeardLists, HeardAgain, KeptAnswersStay, MessagesAreDelivered, NoCallHearsNothing, ReadsHearNothing};
 ghost use Rattle.desk_engine.specs.Lines.{InputsAreCut};
 ghost use Rattle.desk_engine.specs.Log.{LogIsTheDesk, LogLinesAreTheDesk};
 ghost use Rattle.desk_engine.specs.Reports.{OwnerReportsAgree};
@@ -27,6 +27,11 @@ pub fn deliveries_leave_heard_lists()
 #[tactic(auto, using(crate::proofs::HeardTexts::deliveries_add_at_the_end))]
 pub fn deliveries_add_at_the_end()
     ensures { DeliveriesAddAtTheEnd }
+{}
+
+/// What a store represents after a log has as many entries as the log has messages.
+pub fn as_many_entries_as_messages()
+    ensures { AsManyEntriesAsMessages }
 {}
 
 /// Calls of a store one after another hear what each of them hears, in order. Calls that only read hear nothing.

@@ -1,13 +1,10 @@
 //! Lists of what a desk has: its senders, owners, gateways and devices; and one of its devices.
-ghost use Rattle.std.specs.Prelude.{◌≡◌, List, IsTrue, IfOk, IfErr, OnOk};
+ghost use Rattle.std.specs.Prelude.{◌≡◌, IfOk, IfErr};
 ghost use Rattle.std.specs.String.{string_bytes};
-ghost use Rattle.registry_core.specs.declared.messages.Envelope.{Envelope};
-ghost use Rattle.registry_core.specs.Heard.{state_of};
-ghost use Rattle.registry_core.specs.Settings.{Settings};
 ghost use Rattle.desk_store.specs.Calls.{ForHeld, IsRead, Tells, fault_in};
-ghost use Rattle.desk_engine.specs.InOrder.{WasInOrder};
-ghost use Rattle.desk_engine.specs.Listing.{IsDeviceFault, IsList, IsListFault, device_text, is_device};
-ghost use Rattle.desk_engine.specs.Reporting.{store_fault_in};
+ghost use Rattle.desk_engine.specs.InOrder.{ForLog};
+ghost use Rattle.desk_engine.specs.Listing.{IfList, IsListFault, device_text};
+ghost use Rattle.desk_engine.specs.Reporting.{ForFacts, ForState, IfDeviceReport, IfNoDeviceReport, OnlyIfDevice, store_fault_in};
 ghost use Rattle.desk_engine.specs.steps.Listing.{IsListOf};
 
 use crate::device_lists::{device_with_header, devices_text};
@@ -43,9 +40,8 @@ pub enum ListOf {
 /// Returns `Unavailable` with the store's error if the store fails, and with `Memory` if an allocation fails.
 pub fn list<K: Keeper>(alloc: Global, keeper: &mut K, of: ListOf) -> Result<Vec<u8>, ReportFault>
     ensures read { IsRead K.meaning keeper.old keeper.new (store_fault_in result) }
-    ensures text { (c : Settings) (heard : List Envelope) → WasInOrder K.meaning c heard keeper.old keeper.new
-        → IfOk result (λ text. IsList of c heard text.items) }
-    ensures fault { (c : Settings) (heard : List Envelope) → WasInOrder K.meaning c heard keeper.old keeper.new → IfErr result IsListFault }
+    ensures text { ForLog K.meaning keeper.old keeper.new (IfList of result) }
+    ensures fault { ForLog K.meaning keeper.old keeper.new (λ _ _. IfErr result IsListFault) }
 {
     Ok(text_of(alloc, keeper, of)?.into_bytes())
 }
@@ -76,12 +72,9 @@ pub fn device_report<K: Keeper>(
     dev_eui: &str,
 ) -> Result<Vec<u8>, ReportFault>
     ensures read { IsRead K.meaning keeper.old keeper.new (store_fault_in result) }
-    ensures known { (c : Settings) (heard : List Envelope) → WasInOrder K.meaning c heard keeper.old keeper.new
-        → OnOk result (IsTrue (is_device (state_of c heard) dev_eui.now)) }
-    ensures report { (c : Settings) (heard : List Envelope) → WasInOrder K.meaning c heard keeper.old keeper.new
-        → IfOk result (λ text. text.items ≡ device_text c (state_of c heard) dev_eui.now) }
-    ensures fault { (c : Settings) (heard : List Envelope) → WasInOrder K.meaning c heard keeper.old keeper.new
-        → IfErr result (IsDeviceFault (state_of c heard) dev_eui.now) }
+    ensures known { ForState K.meaning keeper.old keeper.new (OnlyIfDevice dev_eui.now result) }
+    ensures report { ForLog K.meaning keeper.old keeper.new (IfDeviceReport dev_eui.now result) }
+    ensures fault { ForState K.meaning keeper.old keeper.new (IfNoDeviceReport dev_eui.now result) }
 {
     report_of(alloc, keeper, dev_eui)
 }
@@ -93,10 +86,10 @@ fn report_of<K: Keeper>(
     dev_eui: &str,
 ) -> Result<Vec<u8>, ReportFault>
     ensures read { IsRead K.meaning keeper.old keeper.new (store_fault_in result) }
-    ensures known { ForHeld K.meaning keeper.old keeper.new (λ kept. OnOk result (IsTrue (is_device kept.facts dev_eui.now))) }
+    ensures known { ForFacts K.meaning keeper.old keeper.new (OnlyIfDevice dev_eui.now result) }
     ensures report { ForHeld K.meaning keeper.old keeper.new (λ kept.
         IfOk result (λ text. text.items ≡ device_text (K.meaning.configuration keeper.old) kept.facts dev_eui.now)) }
-    ensures fault { ForHeld K.meaning keeper.old keeper.new (λ kept. IfErr result (IsDeviceFault kept.facts dev_eui.now)) }
+    ensures fault { ForFacts K.meaning keeper.old keeper.new (IfNoDeviceReport dev_eui.now result) }
 {
     let Some(number) = eui_of_digits(dev_eui) else {
         return Err(ReportFault::Device);

@@ -1,11 +1,9 @@
 //! Writes the log of a desk: the messages that it has heard, or their answers, one a line.
-ghost use Rattle.std.specs.Prelude.{◌≡◌, ◌++◌, ◌∷◌, [], List, option_map};
-ghost use Rattle.registry_core.specs.declared.messages.Envelope.{Envelope};
+ghost use Rattle.std.specs.Prelude.{◌≡◌, option_map};
 ghost use Rattle.registry_core.specs.Numbered.{item_at};
-ghost use Rattle.registry_core.specs.Settings.{Settings};
 ghost use Rattle.desk_store.specs.Calls.{ForHeld, IsRead, Tells, fault_in};
-ghost use Rattle.desk_engine.specs.InOrder.{WasInOrder};
-ghost use Rattle.desk_engine.specs.Log.{LogEndBy, fault_of_log, log_of, message_number};
+ghost use Rattle.desk_engine.specs.InOrder.{ForLog};
+ghost use Rattle.desk_engine.specs.Log.{LogEndBy, WritesLog, fault_of_log, message_number};
 ghost use Rattle.desk_engine.specs.steps.Logs.{log_line, log_lines};
 
 use crate::writes::write_octets;
@@ -58,8 +56,8 @@ pub fn write_log<K: Keeper, W: Write>(
     writer: &mut W,
 ) -> LogEnd
     ensures read { IsRead K.meaning keeper.old keeper.new (fault_of_log result) }
-    ensures written { (c : Settings) (heard : List Envelope) → WasInOrder K.meaning c heard keeper.old keeper.new
-        → LogEndBy (log_of which c heard from most) (W.contents writer.old) (W.contents writer.new) result }
+    ensures written { ForLog K.meaning keeper.old keeper.new
+        (WritesLog W.contents writer.old writer.new which from most result) }
 {
     write_entries(keeper, from, most, which, writer)
 }

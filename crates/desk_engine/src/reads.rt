@@ -1,6 +1,7 @@
 //! Reads that are made again if they are interrupted.
 ghost use Rattle.std.specs.Prelude.{◌≡◌, ◌<◌, ◌≤◌, length, take, IfOk, OnErr};
-ghost use Rattle.std.specs.Io.KnownBytes.{Consumes, IsAtEnd, Keeps};
+ghost use Rattle.std.specs.Io.KnownBytes.{IsAtEnd, Keeps};
+ghost use Rattle.desk_engine.specs.Streams.{HasRead};
 
 use std::io;
 use std::io::{ErrorKind, Read};
@@ -13,7 +14,7 @@ use std::io::{ErrorKind, Read};
 /// Returns the error of a read that failed, and fails after 2^64 - 1 interrupted reads. Nothing was taken from the input then.
 pub fn read_some<R: Read>(reader: &mut R, chunk: &mut [u8]) -> io::Result<usize>
     ensures bound { IfOk result (λ n. n ≤ length chunk.new) }
-    ensures some { IfOk result (λ n. Consumes (R.remaining reader.old) (R.remaining reader.new) (take n chunk.new)) }
+    ensures some { IfOk result (λ n. HasRead R.remaining reader.old reader.new (take n chunk.new)) }
     ensures end { IfOk result (λ n. n ≡ 0 → 0 < length chunk.old → IsAtEnd (R.remaining reader.new)) }
     ensures failed { OnErr result (Keeps (R.remaining reader.old) (R.remaining reader.new)) }
 {

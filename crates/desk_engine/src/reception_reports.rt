@@ -1,11 +1,10 @@
 //! The report on what was received of a device in a month.
-ghost use Rattle.std.specs.Prelude.{◌≡◌, ◌↔◌, ◌++◌, ℕ, ℤ, Err, IfErr, IfOk, IsTrue, OnOk, Some};
+ghost use Rattle.std.specs.Prelude.{◌≡◌, ◌↔◌, ◌++◌, ℤ, Err, IfOk, OnOk, Some};
 ghost use Rattle.std.specs.String.{string_bytes};
-ghost use Rattle.desk_store.specs.Calls.{ForHeld, IsRead, Tells, fault_in};
-ghost use Rattle.desk_engine.specs.Listing.{IsDeviceFault, is_device};
-ghost use Rattle.desk_engine.specs.MonthReports.{IsReceptionReport, IsReceptionReportOf, line_of_reception, reception_line};
+ghost use Rattle.desk_store.specs.Calls.{IsRead, Tells, fault_in};
+ghost use Rattle.desk_engine.specs.MonthReports.{IsReceptionReport, line_of_reception, reception_line};
 ghost use Rattle.desk_engine.specs.Months.{IsMonth};
-ghost use Rattle.desk_engine.specs.Reporting.{store_fault_in};
+ghost use Rattle.desk_engine.specs.Reporting.{ForFacts, IfNoReceptions, IfReceptions, OnlyIfDevice, store_fault_in};
 ghost use Rattle.desk_engine.specs.steps.MonthReports.{AreReceptionsOf, air_columns, at_gateways, reception_columns, uplink_columns};
 
 use crate::columns::kind_name;
@@ -43,11 +42,9 @@ pub fn reception_report<K: Keeper>(
 ) -> Result<Vec<u8>, ReportFault>
     ensures read { IsRead K.meaning keeper.old keeper.new (store_fault_in result) }
     ensures month { (result ≡ Err ReportFault.Month) ↔ ((from to : ℤ) → ¬ (IsMonth month.now from to)) }
-    ensures known { ForHeld K.meaning keeper.old keeper.new (λ kept. OnOk result (IsTrue (is_device kept.facts dev_eui.now))) }
-    ensures report { ForHeld K.meaning keeper.old keeper.new (λ kept. (from to : ℤ) → IsMonth month.now from to
-        → IfOk result (λ text. IsReceptionReportOf kept.facts dev_eui.now from to text.items)) }
-    ensures fault { ForHeld K.meaning keeper.old keeper.new (λ kept. (from to : ℤ) → IsMonth month.now from to
-        → IfErr result (IsDeviceFault kept.facts dev_eui.now)) }
+    ensures known { ForFacts K.meaning keeper.old keeper.new (OnlyIfDevice dev_eui.now result) }
+    ensures report { ForFacts K.meaning keeper.old keeper.new (IfReceptions dev_eui.now month.now result) }
+    ensures fault { ForFacts K.meaning keeper.old keeper.new (IfNoReceptions dev_eui.now month.now result) }
     ensures no_time { ¬ (result ≡ Err ReportFault.Time) }
     ensures no_owner { ¬ (result ≡ Err ReportFault.Owner) }
     ensures no_gateway { ¬ (result ≡ Err ReportFault.Gateway) }

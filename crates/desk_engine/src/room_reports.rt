@@ -1,20 +1,15 @@
 //! The report on how much a gateway may still send from a time on.
-ghost use Rattle.std.specs.Prelude.{◌≡◌, ◌↔◌, ◌-ℤ◌, ℕ, List, Err, IfErr, IfOk, IfSome, IsTrue, None, OnOk, Some, pos};
+ghost use Rattle.std.specs.Prelude.{◌≡◌, ◌↔◌, ◌-ℤ◌, ℕ, List, Err, IfOk, IfSome, IsTrue, None, Some, pos};
 ghost use Rattle.std.specs.String.{string_bytes};
 ghost use Rattle.duty_core.specs.Near.{greatest_length};
 ghost use Rattle.duty_core.specs.Range.{IsStart};
 ghost use Rattle.duty_core.specs.Room.{IsRoom};
 ghost use Rattle.duty_core.specs.Use.{hour};
-ghost use Rattle.registry_core.specs.declared.messages.Envelope.{Envelope};
-ghost use Rattle.registry_core.specs.Heard.{state_of};
 ghost use Rattle.registry_core.specs.Bookings.{limit_standing};
-ghost use Rattle.registry_core.specs.Settings.{Settings};
 ghost use Rattle.registry_core.specs.State.{State};
 ghost use Rattle.registry_core.specs.Uplinks.{is_time};
-ghost use Rattle.desk_store.specs.Calls.{ForHeld, IsRead, Tells, fault_in};
-ghost use Rattle.desk_engine.specs.InOrder.{WasInOrder};
-ghost use Rattle.desk_engine.specs.Reporting.{IsGatewayFault, store_fault_in};
-ghost use Rattle.desk_engine.specs.Reports.{is_gateway};
+ghost use Rattle.desk_store.specs.Calls.{IsRead, Tells, fault_in};
+ghost use Rattle.desk_engine.specs.Reporting.{ForFacts, IfNoRoomReport, IfRoomReport, OnlyIfGateway, store_fault_in};
 ghost use Rattle.desk_engine.specs.Rooms.{IsRoomReport, room_line, time_in};
 ghost use Rattle.desk_engine.specs.steps.Rooms.{AreNear, IsBandLine, KeepsAir, all_spans, spans_in};
 
@@ -58,11 +53,9 @@ pub fn room_report<K: Keeper>(
 ) -> Result<Vec<u8>, ReportFault>
     ensures read { IsRead K.meaning keeper.old keeper.new (store_fault_in result) }
     ensures time { (result ≡ Err ReportFault.Time) ↔ (time_in time.now ≡ None) }
-    ensures known { ForHeld K.meaning keeper.old keeper.new (λ kept. OnOk result (IsTrue (is_gateway kept.facts gateway.now))) }
-    ensures report { (c : Settings) (heard : List Envelope) (t : ℕ) → WasInOrder K.meaning c heard keeper.old keeper.new → time_in time.now ≡ Some t
-        → IfOk result (λ text. IsRoomReport (state_of c heard) gateway.now t text.items) }
-    ensures fault { ForHeld K.meaning keeper.old keeper.new (λ kept. (t : ℕ) → time_in time.now ≡ Some t
-        → IfErr result (IsGatewayFault kept.facts gateway.now)) }
+    ensures known { ForFacts K.meaning keeper.old keeper.new (OnlyIfGateway gateway.now result) }
+    ensures report { IfRoomReport K.meaning keeper.old keeper.new gateway.now time.now result }
+    ensures fault { ForFacts K.meaning keeper.old keeper.new (IfNoRoomReport gateway.now time.now result) }
     ensures no_month { ¬ (result ≡ Err ReportFault.Month) }
     ensures no_owner { ¬ (result ≡ Err ReportFault.Owner) }
     ensures no_device { ¬ (result ≡ Err ReportFault.Device) }
