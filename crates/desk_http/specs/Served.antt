@@ -11,7 +11,7 @@ use Rattle.desk_http.specs.declared.network_faults.NetworkFault.{NetworkFault}
 use Rattle.desk_http.specs.declared.serving.ServeEnd.{ServeEnd}
 use Rattle.desk_http.specs.Requests.{IsReadAs, Request}
 use Rattle.desk_http.specs.Responses.{Response}
-use Rattle.desk_http.specs.Serving.{ServingEndsBy}
+use Rattle.desk_http.specs.Serving.{ServesRequest, ServingEndsBy}
 use Rattle.desk_http.specs.Answered.{Answers, Delivered, none_delivered}
 
 -- ---- what a source of connections means
@@ -91,6 +91,10 @@ module _ {L R W K : Type 0} (l : Connections L R W) (remaining : R → Option (L
   abbrev pub ServesAll : {T : Type 0} → ℕ → K → K → L → L → Result T NetworkFault → Type 0
   ServesAll n old new before after (Ok x) = ServesEach n old new before after
   ServesAll n old new before after (Err fault) = ServesFewer n old new before after
+
+-- n connections were served, or fewer if no other came, each with one request or less of this store
+abbrev pub ServesConnections : {L R W K : Type 0} → Meaning K → Connections L R W → (R → Option (List ℕ)) → (W → Option (List ℕ)) → {T : Type 0} → ℕ → K → K → L → L → Result T NetworkFault → Type 0
+ServesConnections m l remaining contents n old new before after result = ServesAll l remaining contents (ServesRequest m) n old new before after result
 
 -- ---- what they do to a store
 

@@ -1,6 +1,6 @@
 -- How one connection is served.
-use Rattle.std.specs.Prelude.{◌≡◌, ◌<◌, ◌⊎◌, ℕ, List, length, Option, Some, Result}
-use Rattle.std.specs.Io.KnownBytes.{Appends, Keeps}
+use Rattle.std.specs.Prelude.{◌≡◌, ◌<◌, ◌⊎◌, ℕ, List, [], length, Option, Some, Result}
+use Rattle.std.specs.Io.KnownBytes.{Appends, Consumes, IsAtEnd, Keeps}
 use Rattle.registry_core.specs.declared.messages.Envelope.{Envelope}
 use Rattle.registry_core.specs.Settings.{Settings}
 use Rattle.desk_store.specs.declared.faults.StoreFault.TheVariants.{Size}
@@ -68,3 +68,11 @@ ServingEndsBy old new serves closed before after Closed = closed × IsIdle old n
 ServingEndsBy old new serves closed before after Read = IsIdle old new before after
 ServingEndsBy old new serves closed before after Write = (response : Response) × serves response
 ServingEndsBy old new serves closed before after Memory = IsIdle old new before after
+
+-- One request was read and served so, or the reader has no octet, or the serving ended before. The store was `old` and is `new`. `reader`
+-- and `rest` are the reader before and after, `writer` and `written` the writer.
+abbrev pub ServesOneRequest : {K R W : Type 0} → Meaning K → (R → Option (List ℕ)) → (W → Option (List ℕ)) → K → K → R → R → W → W → ServeEnd → Type 0
+ServesOneRequest m remaining contents old new reader rest writer written end = ServingEndsBy old new
+    (λ response. (input : List ℕ) × Consumes (remaining reader) (remaining rest) input × Serves m old new input (remaining rest) response)
+    (Consumes (remaining reader) (remaining rest) [] × IsAtEnd (remaining rest))
+    (contents writer) (contents written) end

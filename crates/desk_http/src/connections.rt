@@ -1,6 +1,6 @@
 //! Serves connections one after another, one request each.
 ghost use Rattle.std.specs.Prelude.{◌≡◌, MatchResult};
-ghost use Rattle.desk_http.specs.Served.{ComesNext, HearsEach, NoneComes, ServesAll, ServesConnection};
+ghost use Rattle.desk_http.specs.Served.{ComesNext, HearsEach, NoneComes, ServesConnection, ServesConnections};
 ghost use Rattle.desk_http.specs.Serving.{ServesRequest};
 
 use crate::listening::Listening;
@@ -28,7 +28,7 @@ pub fn serve_connections<K: Keeper, L: Listening>(
 ) -> Result<(), NetworkFault>
     ensures same { K.meaning.configuration keeper.new ≡ K.meaning.configuration keeper.old }
     ensures was_sound { K.meaning.sound keeper.new → K.meaning.sound keeper.old }
-    ensures served { ServesAll L.meaning L.Reader.remaining L.Writer.contents (ServesRequest K.meaning) connections
+    ensures served { ServesConnections K.meaning L.meaning L.Reader.remaining L.Writer.contents connections
         keeper.old keeper.new listening.old listening.new result }
 
     // What the messages among them do to a store that represents a log, and what each connection is answered.
@@ -46,7 +46,7 @@ fn serve_each<K: Keeper, L: Listening>(
     listening: &mut L,
     connections: u32,
 ) -> Result<(), NetworkFault>
-    ensures { ServesAll L.meaning L.Reader.remaining L.Writer.contents (ServesRequest K.meaning) connections
+    ensures { ServesConnections K.meaning L.meaning L.Reader.remaining L.Writer.contents connections
         keeper.old keeper.new listening.old listening.new result }
 {
     for _ in 0..connections {
