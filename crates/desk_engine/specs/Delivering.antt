@@ -27,12 +27,13 @@ IsUnavailableIfFailed m keeper text outcome = (e : Envelope) → envelope_of_tex
     → (outcome ≡ Unavailable Disk) ⊎ (outcome ≡ Unavailable Memory)
 
 module _ {K : Type 0} (m : Meaning K) (old new : K) where
-  -- the text was delivered with this outcome: a log that the store represented has its message too, unless the outcome is Unavailable
+  -- The text was delivered with this outcome. If the store represented a log, it represents the log after this delivery.
   abbrev pub HearsText : List ℕ → Outcome → Type 0
   HearsText text outcome = HearsWith m old new (outcome_fault outcome)
       (λ c heard. heard_after c heard (delivery_of text outcome)) (λ c. doubt_of_text c text outcome)
 
-  -- the envelope was heard with this outcome: a log that the store represented has it too, unless the outcome is Unavailable
+  -- The envelope got this outcome. If the store represented a log, it represents the log after this envelope, or the same log if the outcome
+  -- is Unavailable.
   abbrev pub HearsEnvelope : Envelope → Outcome → Type 0
   HearsEnvelope e outcome = HearsWith m old new (outcome_fault outcome)
       (λ c heard. heard_unless (is_unavailable outcome) c heard e) (λ c. doubt_of e outcome)

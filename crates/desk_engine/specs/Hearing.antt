@@ -23,7 +23,7 @@ pub record Hears {K : Type 0} (m : Meaning K) (old new : K) (disk not_a_desk : B
 abbrev pub IsCallWith : {K : Type 0} → Meaning K → K → K → Option StoreFault → Type 0
 IsCallWith m old new fault = IsCall m old new (is_disk fault) (is_not_a_desk fault)
 
--- and messages may be heard in them
+-- the same of calls in which messages may be heard
 abbrev pub HearsWith : {K : Type 0} → Meaning K → K → K → Option StoreFault → (Settings → List Envelope → List Envelope) → (Settings → Option Envelope) → Type 0
 HearsWith m old new fault after doubtful = Hears m old new (is_disk fault) (is_not_a_desk fault) after doubtful
 

@@ -35,7 +35,7 @@ doubt_at_stop (e ∷ es) (o ∷ os) stopped = doubt_at_stop es os stopped
 -- ---- what an import returns
 
 module _ (envelopes : List Envelope) (imported : Imported) where
-  -- the log with the envelopes that have an answer
+  -- the log after the envelopes that have an answer
   abbrev pub heard_by_import : Settings → List Envelope → List Envelope
   heard_by_import c heard = heard_in_order c heard (take (length imported.answers.items) envelopes)
 
@@ -44,7 +44,7 @@ module _ (envelopes : List Envelope) (imported : Imported) where
   AnswersFirst c heard = AreAnswers c heard (take (length imported.answers.items) envelopes) imported.answers.items
 
 module _ {K : Type 0} (m : Meaning K) (old new : K) (envelopes : List Envelope) (imported : Imported) where
-  -- a log that the store represented has the envelopes too that have an answer
+  -- If the store represented a log, it represents the log after the envelopes that have an answer.
   abbrev pub HearsFirst : Type 0
   HearsFirst = HearsWith m old new imported.stopped (λ c heard. heard_by_import envelopes imported c heard)
       (λ c. doubt_at_stop envelopes imported.answers.items imported.stopped)

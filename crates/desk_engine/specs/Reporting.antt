@@ -67,7 +67,7 @@ OnlyIfDevice dev_eui result s = OnOk result (IsTrue (is_device s dev_eui))
 abbrev pub IfOwnerReport : List ℕ → List ℕ → Result (Vec ℕ) ReportFault → State → Type 0
 IfOwnerReport owner month result s = ForMonth month (λ from to. IfOk result (λ text. IsOwnerReport s owner from to text.items))
 
--- if the month is one and there is no report, this is why
+-- if the month is one and there is no report, there is no such owner, or the store was unavailable
 abbrev pub IfNoOwnerReport : {T : Type 0} → List ℕ → List ℕ → Result T ReportFault → State → Type 0
 IfNoOwnerReport owner month result s = ForMonth month (λ from to. IfErr result (IsOwnerFault s owner))
 
@@ -75,7 +75,7 @@ IfNoOwnerReport owner month result s = ForMonth month (λ from to. IfErr result 
 abbrev pub IfBandReport : List ℕ → Result (Vec ℕ) ReportFault → State → Type 0
 IfBandReport gateway result s = IfOk result (λ text. IsBandReport s gateway text.items)
 
--- if there is no report, this is why
+-- if there is no report, there is no such gateway, or the store was unavailable
 abbrev pub IfNoBandReport : {T : Type 0} → List ℕ → Result T ReportFault → State → Type 0
 IfNoBandReport gateway result s = IfErr result (IsGatewayFault s gateway)
 
@@ -83,7 +83,7 @@ IfNoBandReport gateway result s = IfErr result (IsGatewayFault s gateway)
 abbrev pub IfDownlinks : List ℕ → List ℕ → Result (Vec ℕ) ReportFault → State → Type 0
 IfDownlinks gateway month result s = ForMonth month (λ from to. IfOk result (λ text. IsDownlinkReport s gateway from to text.items))
 
--- if the month is one and there is no report, this is why
+-- if the month is one and there is no report, there is no such gateway, or the store was unavailable
 abbrev pub IfNoDownlinks : {T : Type 0} → List ℕ → List ℕ → Result T ReportFault → State → Type 0
 IfNoDownlinks gateway month result s = ForMonth month (λ from to. IfErr result (IsGatewayFault s gateway))
 
@@ -91,7 +91,7 @@ IfNoDownlinks gateway month result s = ForMonth month (λ from to. IfErr result 
 abbrev pub IfReceptions : List ℕ → List ℕ → Result (Vec ℕ) ReportFault → State → Type 0
 IfReceptions dev_eui month result s = ForMonth month (λ from to. IfOk result (λ text. IsReceptionReportOf s dev_eui from to text.items))
 
--- if the month is one and there is no report, this is why
+-- if the month is one and there is no report, there is no such device, or the store was unavailable
 abbrev pub IfNoReceptions : {T : Type 0} → List ℕ → List ℕ → Result T ReportFault → State → Type 0
 IfNoReceptions dev_eui month result s = ForMonth month (λ from to. IfErr result (IsDeviceFault s dev_eui))
 
@@ -100,7 +100,7 @@ abbrev pub IfRoomReport : {K : Type 0} → Meaning K → K → K → List ℕ �
 IfRoomReport m old new gateway time result = (c : Settings) (heard : List Envelope) (t : ℕ) → WasInOrder m c heard old new → time_in time ≡ Some t
     → IfOk result (λ text. IsRoomReport (state_of c heard) gateway t text.items)
 
--- if the time is one and there is no report, this is why
+-- if the time is one and there is no report, there is no such gateway, or the store was unavailable
 abbrev pub IfNoRoomReport : {T : Type 0} → List ℕ → List ℕ → Result T ReportFault → State → Type 0
 IfNoRoomReport gateway time result s = (t : ℕ) → time_in time ≡ Some t → IfErr result (IsGatewayFault s gateway)
 
@@ -108,6 +108,6 @@ IfNoRoomReport gateway time result s = (t : ℕ) → time_in time ≡ Some t →
 abbrev pub IfDeviceReport : List ℕ → Result (Vec ℕ) ReportFault → Settings → List Envelope → Type 0
 IfDeviceReport dev_eui result c heard = IfOk result (λ text. text.items ≡ device_text c (state_of c heard) dev_eui)
 
--- if there is no report, this is why
+-- if there is no report, there is no such device, or the store was unavailable
 abbrev pub IfNoDeviceReport : {T : Type 0} → List ℕ → Result T ReportFault → State → Type 0
 IfNoDeviceReport dev_eui result s = IfErr result (IsDeviceFault s dev_eui)

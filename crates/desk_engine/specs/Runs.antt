@@ -36,7 +36,7 @@ abbrev pub kept_after_run : Settings → List (Bor (List ℕ)) → Vec Outcome �
 kept_after_run c texts outcomes = kept_after c (heard_all c [] (deliveries_in texts outcomes))
 
 module _ {K : Type 0} (m : Meaning K) (old new : K) (texts : List (Bor (List ℕ))) where
-  -- the texts were delivered in order with these outcomes: a log that the store represented has their messages too
+  -- The texts were delivered in order with these outcomes. If the store represented a log, it represents the log after these deliveries.
   abbrev pub HearsTexts : Vec Outcome → Type 0
   HearsTexts outcomes = Hears m old new (has_disk outcomes.items) (has_not_a_desk outcomes.items)
       (λ c heard. heard_all c heard (deliveries_in texts outcomes)) (λ c. first_doubt c (octets_of texts) outcomes.items)

@@ -92,7 +92,7 @@ module _ {L R W K : Type 0} (l : Connections L R W) (remaining : R → Option (L
   ServesAll n old new before after (Ok x) = ServesEach n old new before after
   ServesAll n old new before after (Err fault) = ServesFewer n old new before after
 
--- n connections were served, or fewer if no other came, each with one request or less of this store
+-- The same of a store: n connections were served, at most one request each, or fewer if no other came.
 abbrev pub ServesConnections : {L R W K : Type 0} → Meaning K → Connections L R W → (R → Option (List ℕ)) → (W → Option (List ℕ)) → {T : Type 0} → ℕ → K → K → L → L → Result T NetworkFault → Type 0
 ServesConnections m l remaining contents n old new before after result = ServesAll l remaining contents (ServesRequest m) n old new before after result
 
