@@ -1,4 +1,4 @@
-//! Laws of a desk's files, from one run to the next, each as the contract of a function with an empty body.
+//! Laws of a desk's files, from one run to the next, each as the contract of a function whose body is empty or calls other laws.
 ghost use Rattle.desk_cli.specs.InFiles.{DesksAreFound, DesksAreLeft};
 ghost use Rattle.desk_cli.specs.Standby.{LogsMakeDesks};
 

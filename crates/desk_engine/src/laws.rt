@@ -1,4 +1,4 @@
-//! Laws of the definitions, each as the contract of a function with an empty body.
+//! Laws of the definitions, each as the contract of a function whose body is empty or calls other laws.
 ghost use Rattle.desk_engine.specs.Laws.{AsManyEntriesAsMessages, CallsHearInOrder, DeliveriesAddAtTheEnd, DeliveriesLeaveHeardLists, HeardAgain, KeptAnswersStay, MessagesAreDelivered, NoCallHearsNothing, ReadsHearNothing};
 ghost use Rattle.desk_engine.specs.Lines.{InputsAreCut};
 ghost use Rattle.desk_engine.specs.Log.{LogIsTheDesk, LogLinesAreTheDesk};

@@ -55,7 +55,6 @@ fn range_around(start: i64) -> NearRange
 
 /// Returns the start, or the nearest one whose range is of 64 bits. If the two differ, both are so far outside of a span's range that no
 /// span is near either.
-/// span may have that no span is near either.
 fn within_reach(start: i128) -> i64
     ensures { let least = pos near_reach -ℤ pos (2 ^ 63) in
         let last = pos (2 ^ 63 - 1 - near_reach) in

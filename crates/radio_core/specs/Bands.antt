@@ -1,5 +1,4 @@
 -- The sub-bands of EU863-870, and the band of a transmission (this project's table). Frequencies in hertz, times in microseconds.
--- times in microseconds.
 use Rattle.std.specs.Prelude.{◌≡◌, ℕ, ◌+◌, ◌<◌, ◌≤◌, ◌↔◌, Bool, ◌&&◌, List, [], ◌∷◌, Option, Some, nat_le, find, IsTrue}
 use Rattle.radio_core.specs.declared.bands.Band.{Band}
 use Rattle.radio_core.specs.declared.bands.Band.TheVariants.{B1, B2, B3, B4, B5, B6}

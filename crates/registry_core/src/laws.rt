@@ -1,4 +1,4 @@
-//! Laws of the definitions, each as the contract of a function with an empty body, or of one that only reads the ranges of its arguments.
+//! Laws of the definitions, each as the contract of a function whose body is empty, calls other laws, or only reads the ranges of its arguments.
 ghost use Rattle.std.specs.Prelude.{ℕ, ◌<◌, ◌^◌, IfSome, get_or};
 ghost use Rattle.registry_core.specs.AdministrationLaws.{DevicesAddedAlone, DevicesAddedExactly, DevicesMovedAlone, DevicesMovedExactly, DownlinksEndedAlone, DownlinksEndedExactly, GatewaysAddedAlone, GatewaysAddedExactly, OwnersAddedAlone, OwnersAddedExactly, SendersAddedAlone, SendersAddedExactly};
 ghost use Rattle.registry_core.specs.AirtimeLaws.{BookingsAreDownlinks, UplinksAreReceived};
