@@ -6,13 +6,16 @@ use Rattle.registry_core.specs.Heard.{IsHeard, heard_with, most_heard, pair_plac
 use Rattle.registry_core.specs.Laws.{adds_sender}
 use Rattle.registry_core.specs.Ranges.{IsEnvelope, IsSettings}
 use Rattle.registry_core.specs.Settings.{Settings}
+use Rattle.registry_core.specs.State.{opening}
 use Rattle.desk_store.specs.declared.faults.StoreFault.{StoreFault}
 use Rattle.desk_store.specs.Calls.{IsRead, is_disk, is_not_a_desk}
+use Rattle.desk_store.specs.Lists.{kept_of, lists_meaning, settings_of}
+use Rattle.desk_store.specs.declared.lists.Lists.{Lists}
 use Rattle.desk_store.specs.Meaning.{Meaning}
 use Rattle.desk_wire.specs.Writing.{message_text}
 use Rattle.desk_engine.specs.Deliveries.{Delivery, heard_after, heard_all}
 use Rattle.desk_engine.specs.Hearing.{Hears}
-use Rattle.desk_engine.specs.InOrder.{kept_after}
+use Rattle.desk_engine.specs.InOrder.{WasInOrder, kept_after}
 use Rattle.desk_engine.specs.Told.{Told, envelope_of_text, told_of_envelope, told_of_text}
 
 -- a log with one more delivery is a log, as long as it has fewer messages than it may have
@@ -29,6 +32,13 @@ DeliveriesAddAtTheEnd = (c : Settings) (heard : List Envelope) (ds : List Delive
 -- what a store represents after a log has as many entries as the log has messages
 abbrev pub AsManyEntriesAsMessages : Type 0
 AsManyEntriesAsMessages = (c : Settings) (heard : List Envelope) → length (kept_after c heard).entries ≡ length heard
+
+-- ---- lists in memory
+
+-- new lists of this configuration represented the empty log before a call, whatever they are after it
+abbrev pub NewListsAreInOrder : Type 0
+NewListsAreInOrder = (c : Settings) (made old new : Lists) → IsHeard c [] → old ≡ made
+    → kept_of made ≡ record { facts = opening c; entries = [] } → settings_of made ≡ c → WasInOrder lists_meaning c [] old new
 
 -- ---- calls in which messages may be heard
 

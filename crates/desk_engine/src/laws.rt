@@ -1,5 +1,5 @@
 //! Laws of the definitions, each as the contract of a function whose body is empty or calls other laws.
-ghost use Rattle.desk_engine.specs.Laws.{AsManyEntriesAsMessages, CallsHearInOrder, DeliveriesAddAtTheEnd, DeliveriesLeaveHeardLists, HeardAgain, KeptAnswersStay, MessagesAreDelivered, NoCallHearsNothing, ReadsHearNothing};
+ghost use Rattle.desk_engine.specs.Laws.{AsManyEntriesAsMessages, CallsHearInOrder, DeliveriesAddAtTheEnd, DeliveriesLeaveHeardLists, HeardAgain, KeptAnswersStay, MessagesAreDelivered, NewListsAreInOrder, NoCallHearsNothing, ReadsHearNothing};
 ghost use Rattle.desk_engine.specs.Lines.{InputsAreCut};
 ghost use Rattle.desk_engine.specs.Log.{LogIsTheDesk, LogLinesAreTheDesk};
 ghost use Rattle.desk_engine.specs.Reports.{OwnerReportsAgree};
@@ -32,6 +32,11 @@ pub fn deliveries_add_at_the_end()
 /// What a store represents after a log has as many entries as the log has messages.
 pub fn as_many_entries_as_messages()
     ensures { AsManyEntriesAsMessages }
+{}
+
+/// New lists of a configuration represent the empty log.
+pub fn new_lists_are_in_order()
+    ensures { NewListsAreInOrder }
 {}
 
 /// Calls of a store one after another hear what each of them hears, in order. Calls that only read hear nothing.
