@@ -12,7 +12,7 @@ use Rattle.registry_core.specs.declared.facts.Standing.{Standing}
 use Rattle.registry_core.specs.declared.facts.Standing.TheVariants.{Booked, Sent, Dropped}
 use Rattle.registry_core.specs.Bookings.{is_answer_to, is_dropped}
 use Rattle.desk_rows.specs.Rows.{BookingRow, booking_cells, number, standing_number}
-use Rattle.desk_rows.specs.Calls.{Reads}
+use Rattle.desk_rows.specs.Calls.{ReadsRows}
 use Rattle.desk_rows.specs.steps.Queries.{Knows}
 use Rattle.desk_rows.specs.steps.Texts.{AsksFor, answer_asked}
 use Rattle.desk_rows.specs.declared.faults.RowFault.{RowFault}
@@ -30,7 +30,7 @@ stands Dropped = truth_again _ ∙ ap is_ne (value_cmp-Int (pos 2) (pos 2))
 
 module _ {sql : List ℕ} {names : List (List ℕ)} (means : AsksFor sql 1 answer_asked names) {old new : State} where
   pub reads_answer : (uplink : ℕ) {result : Result Bool RowFault} → Knows sql (number uplink ∷ []) old new result
-      → Reads old new result (λ r answered. answered ≡ list_any (λ (b : BookingRow). is_answer_to uplink b.booking) r.bookings)
+      → ReadsRows old new result (λ r answered. answered ≡ list_any (λ (b : BookingRow). is_answer_to uplink b.booking) r.bookings)
   reads_answer uplink knew = says_so
       (known_by (lookup_is means) (number uplink ∷ []) refl refl booking_cells (λ r. r.bookings) (λ r has. has.ten.booking) (λ b. is_answer_to uplink b.1.booking)
       (λ b. ap₂ (λ s t. s && t) (number_equal b.1.booking.uplink uplink) (and_true _ ∙ stands b.1.booking.standing)) knew)

@@ -39,7 +39,7 @@ use Rattle.sqlite.proofs.Callers.{IsPlain, command_of}
 use Rattle.desk_rows.specs.Schema.{desk_schema, desk_tables}
 use Rattle.desk_rows.specs.steps.Change.{KeepsOthers}
 use Rattle.desk_rows.specs.Rows.{Rows, Holds, InRange, rowids_from, table_of}
-use Rattle.desk_rows.specs.Calls.{Changes}
+use Rattle.desk_rows.specs.Calls.{ChangesOf}
 use Rattle.desk_rows.specs.steps.Statements.{HasWritten}
 use Rattle.desk_rows.proofs.Tables.{tables, with_table, holds_with}
 use Rattle.desk_rows.specs.Faults.{IsEven, row_fault}
@@ -253,7 +253,7 @@ module _ {sql : List ℕ} {many at : ℕ} {terms : List Term} {width : ℕ} (tex
     (ranges : (r : Rows) → InRange r → InRange (after r)) (Free : Rows → Type 0)
     (obeys : (r : Rows) → Holds old.now r → Free r → (held : old.now.trees bare.tree ≡ table_of cells (xs r)) (keeps : Keeps Unique desk_schema old.now.trees) (small : 1 + length (xs r) < 2 ^ 63)
     → Passes old.now.trees (uncounted bare) listed cells (xs r) x held keeps small) (actual : Row) (loose : (s : Row) × (value_rows actual width (length terms / width) terms ≡ s ∷ [])) (Fits : Type 0) (are : Fits → actual ≡ params) where
-  pub changed_by : {result : Result (Unit {0}) RowFault} → HasWritten sql actual old new result → Changes old new result Fits (λ r. Free r × (1 + length (xs r) < 2 ^ 63)) after
+  pub changed_by : {result : Result (Unit {0}) RowFault} → HasWritten sql actual old new result → ChangesOf old new result Fits (λ r. Free r × (1 + length (xs r) < 2 ^ 63)) after
   changed_by {result} wrote = record {
     write = wrote.write;
     schema = λ sure inside has. ran_well result (wrote.runs sure inside) (schema_kept text actual old new has bare there loose.0 loose.1);

@@ -8,7 +8,7 @@ use Rattle.sqlite.specs.State.{State}
 use Rattle.registry_core.specs.declared.facts.Uplink.{Uplink}
 use Rattle.registry_core.specs.Listing.{is_of_session, last_start}
 use Rattle.registry_core.specs.Numbered.{greatest}
-use Rattle.desk_rows.specs.Calls.{Reads}
+use Rattle.desk_rows.specs.Calls.{ReadsRows}
 use Rattle.desk_rows.specs.Rows.{Holds, ReplyRow, number, reply_cells, uplink_cells}
 use Rattle.desk_rows.specs.steps.Latest.{last_start_asked, last_transaction_asked}
 use Rattle.desk_rows.specs.steps.Queries.{Finds}
@@ -20,7 +20,7 @@ use Rattle.desk_rows.proofs.StatementTexts.{lookup_is}
 use Rattle.desk_rows.proofs.Terms.{and_true, number_equal, text_equal}
 
 pub reads_last_start : {sql : List ℕ} {names : List (List ℕ)} → AsksFor sql 1 last_start_asked names → {old new : State} (session : ℕ) {result : Result (Option ℕ) RowFault}
-    → Finds sql (number session ∷ []) old new (λ n. n) (λ n. number n ∷ []) (λ n. Unit {0}) result → Reads old new result (λ r start. start ≡ last_start r.uplinks session)
+    → Finds sql (number session ∷ []) old new (λ n. n) (λ n. number n ∷ []) (λ n. Unit {0}) result → ReadsRows old new result (λ r start. start ≡ last_start r.uplinks session)
 reads_last_start means session found = says_so
     (greatest_found Holds has_schema (lookup_is means) (number session ∷ []) refl refl uplink_cells (λ r. r.uplinks) (λ r has. has.ten.uplink)
     (λ b. b.1.session == session) (λ b. and_true _ ∙ number_equal b.1.session session) (λ b. b.1.start) (λ b. refl)
@@ -34,7 +34,7 @@ of_sender sender row = bytes_eq row.sender sender
 
 pub reads_last_transaction : {sql : List ℕ} {names : List (List ℕ)} → AsksFor sql 1 last_transaction_asked names → {old new : State} (sender : List ℕ) {result : Result (Option ℕ) RowFault}
     → Finds sql (Text sender ∷ []) old new (λ n. n) (λ n. number n ∷ []) (λ n. Unit {0}) result
-    → Reads old new result (λ r last. last ≡ greatest (map (λ (row : ReplyRow). row.number) (filter (λ (row : ReplyRow). bytes_eq row.sender sender) r.replies)))
+    → ReadsRows old new result (λ r last. last ≡ greatest (map (λ (row : ReplyRow). row.number) (filter (λ (row : ReplyRow). bytes_eq row.sender sender) r.replies)))
 reads_last_transaction means sender found = says_so
     (greatest_found Holds has_schema (lookup_is means) (Text sender ∷ []) refl refl reply_cells (λ r. r.replies) (λ r has. has.ten.reply)
     (λ b. of_sender sender b.1) (λ b. and_true _ ∙ text_equal b.1.sender sender) (λ b. b.1.number) (λ b. refl)

@@ -30,7 +30,7 @@ use Rattle.registry_core.specs.declared.facts.Uplink.{Uplink}
 use Rattle.registry_core.specs.Derived.{is_data, is_data_of, last_counter}
 use Rattle.registry_core.specs.Numbered.{greatest}
 use Rattle.registry_core.specs.Ranges.{IsEui}
-use Rattle.desk_rows.specs.Calls.{Reads, ReadsOf}
+use Rattle.desk_rows.specs.Calls.{ReadsRows, ReadsOf}
 use Rattle.desk_rows.specs.Schema.{session_tree, uplink_tree}
 use Rattle.desk_rows.specs.steps.Queries.{Finds}
 use Rattle.desk_rows.specs.Rows.{Rows, Holds, SessionRow, IsSession, IsUplink, session_cells, uplink_cells, eui, number, kind_number, table_of, last_number}
@@ -206,7 +206,7 @@ of_device device s = same (eui s.session.device) (eui device)
 
 module _ {old new : State} where
   pub reads_last_nonce : (device : ℕ) → IsEui device → {result : Result (Option ℕ) RowFault} → Finds last_nonce_text (eui device ∷ []) old new (λ n. n) (λ n. number n ∷ []) (λ n. n < 2 ^ 16) result
-      → Reads old new result (λ r nonce. nonce ≡ greatest (map (λ (s : SessionRow). s.session.nonce) (filter (λ (s : SessionRow). s.session.device == device) r.sessions)))
+      → ReadsRows old new result (λ r nonce. nonce ≡ greatest (map (λ (s : SessionRow). s.session.nonce) (filter (λ (s : SessionRow). s.session.device == device) r.sessions)))
   reads_last_nonce device in_range found = says_so
       (greatest_found Holds has_schema last_nonce_lookup (eui device ∷ []) refl refl session_cells (λ r. r.sessions) (λ r has. has.ten.session) (λ b. of_device device b.1) (λ b. and_true (of_device device b.1)) (λ b. b.1.session.nonce) (λ b. refl)
       (λ b c. ap₂ (λ u v. ordering_then u (ordering_then v Equal)) (value_cmp-Int (pos c.1.session.nonce) (pos b.1.session.nonce)) (value_cmp-Int (pos c.0) (pos b.0))) (λ n. n < 2 ^ 16)
@@ -216,7 +216,7 @@ module _ {old new : State} where
       ∙ ap (map (λ (s : SessionRow). s.session.nonce)) (filter_alike IsSession (of_device device) (λ s. s.session.device == device) (λ s fits. eui_equal s.session.device device fits.device in_range) r.sessions has.ten.in_range.sessions)))
 
   pub reads_last_counter : (session : ℕ) → {result : Result (Option ℕ) RowFault} → Finds last_counter_text (number session ∷ []) old new (λ n. n) (λ n. number n ∷ []) (λ n. n < 2 ^ 32) result
-      → Reads old new result (λ r counter. counter ≡ last_counter r.uplinks session)
+      → ReadsRows old new result (λ r counter. counter ≡ last_counter r.uplinks session)
   reads_last_counter session found = says_so
       (greatest_found Holds has_schema last_counter_lookup (number session ∷ []) refl refl uplink_cells (λ r. r.uplinks) (λ r has. has.ten.uplink) (λ b. of_session session b.1)
       (λ b. ap₂ (λ s t. s && (t && true)) (number_equal b.1.session session) (number_equal (kind_number b.1.kind) 1 ∙ data_kind b.1.kind) ∙ ap (λ t. (b.1.session == session) && t) (and_true (is_data b.1.kind))) (λ b. b.1.counter) (λ b. refl)

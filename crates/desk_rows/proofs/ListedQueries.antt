@@ -16,7 +16,7 @@ use Rattle.sqlite_typing.specs.Types.{accepts_program}
 use Rattle.sqlite.specs.Program.{overlay}
 use Rattle.sqlite.specs.State.{State}
 use Rattle.registry_core.specs.Ranges.{IsEui, IsName}
-use Rattle.desk_rows.specs.Calls.{Reads}
+use Rattle.desk_rows.specs.Calls.{ReadsRows}
 use Rattle.desk_rows.specs.Rows.{Rows, Holds, ReceptionRow, DeviceRow, IsReceptionRow, IsDevice, SenderRow, reception_cells, device_cells, eui, name_cells, number, sender_cells, table_of}
 use Rattle.desk_rows.specs.Schema.{desk_schema}
 use Rattle.desk_rows.specs.order.Listed.{by_key, devices_listed, gateways_listed, is_reception_of, listed, names_listed, senders_listed}
@@ -51,7 +51,7 @@ module _ {X K : Type 0} (key : X → K) (put : K → Value) (cells : X → Row) 
       (xs : Rows → List X) (stored : (r : Rows) → Holds old.now r → overlay old.now.trees [] tree ≡ table_of cells (xs r))
       (ranges : (r : Rows) → Holds old.now r → AllByRecursion (λ x. Fits (key x)) (xs r)) where
     reads_listed : {result : Result (Vec K Global) RowFault} → FindsAll sql params old new (λ k. k) (λ k. put k ∷ []) Fits result
-        → Reads old new result (λ r all. all.items ≡ listed key (by_key cmp key) test (xs r))
+        → ReadsRows old new result (λ r all. all.items ≡ listed key (by_key cmp key) test (xs r))
     reads_listed found =
         let text : IsLookup sql many (column_asked tree terms place) = lookup_is means in
         says_so (reads_all text params many_is typed found (λ r. listed key (by_key cmp key) test (xs r))
@@ -68,15 +68,15 @@ module _ {X K : Type 0} (key : X → K) (put : K → Value) (cells : X → Row) 
 
 module _ {sql : List ℕ} {names : List (List ℕ)} {old new : State} {result : Result (Vec (List ℕ) Global) RowFault}
     (found : FindsAll sql [] old new (λ name. name) (λ name. Text name ∷ []) IsName result) where
-  pub reads_senders : AsksFor sql 0 (all_asked 1) names → Reads old new result (λ r all. all.items ≡ senders_listed r.senders)
+  pub reads_senders : AsksFor sql 0 (all_asked 1) names → ReadsRows old new result (λ r all. all.items ≡ senders_listed r.senders)
   reads_senders means = reads_listed (λ (s : SenderRow). s.name) Text sender_cells (slice_cmp nat_cmp) value_cmp-Text IsName means [] refl refl
       (λ s n. refl) (λ s. true) (λ b. refl) (λ r. r.senders) (λ r has. has.ten.sender) (λ r has. has.ten.in_range.senders) found
 
-  pub reads_owners : AsksFor sql 0 (all_asked 5) names → Reads old new result (λ r all. all.items ≡ names_listed r.owners)
+  pub reads_owners : AsksFor sql 0 (all_asked 5) names → ReadsRows old new result (λ r all. all.items ≡ names_listed r.owners)
   reads_owners means = reads_listed (λ name. name) Text name_cells (slice_cmp nat_cmp) value_cmp-Text IsName means [] refl refl
       (λ name n. refl) (λ name. true) (λ b. refl) (λ r. r.owners) (λ r has. has.ten.owner) (λ r has. has.ten.in_range.owners) found
 
-  pub reads_gateways : AsksFor sql 0 (all_asked 7) names → Reads old new result (λ r all. all.items ≡ names_listed r.gateways)
+  pub reads_gateways : AsksFor sql 0 (all_asked 7) names → ReadsRows old new result (λ r all. all.items ≡ names_listed r.gateways)
   reads_gateways means = reads_listed (λ name. name) Text name_cells (slice_cmp nat_cmp) value_cmp-Text IsName means [] refl refl
       (λ name n. refl) (λ name. true) (λ b. refl) (λ r. r.gateways) (λ r has. has.ten.gateway) (λ r has. has.ten.in_range.gateways) found
 
@@ -86,7 +86,7 @@ euis_in (d ∷ devices) each = (each.0.dev_eui, euis_in devices each.1)
 
 pub reads_devices : {sql : List ℕ} {names : List (List ℕ)} {old new : State} {result : Result (Vec ℕ Global) RowFault}
     → FindsAll sql [] old new (λ n. n) (λ n. eui n ∷ []) IsEui result → AsksFor sql 0 (all_asked 9) names
-    → Reads old new result (λ r all. all.items ≡ devices_listed r.devices)
+    → ReadsRows old new result (λ r all. all.items ≡ devices_listed r.devices)
 reads_devices found means = reads_listed (λ (d : DeviceRow). d.dev_eui) eui device_cells
     (λ m n. slice_cmp nat_cmp (to_be_bytes w64 m) (to_be_bytes w64 n)) (λ m n. value_cmp-Blob (to_be_bytes w64 m) (to_be_bytes w64 n)) IsEui means [] refl refl
     (λ d n. refl) (λ d. true) (λ b. refl) (λ r. r.devices) (λ r has. has.ten.device) (λ r has. euis_in r.devices has.ten.in_range.devices) found
@@ -94,7 +94,7 @@ reads_devices found means = reads_listed (λ (d : DeviceRow). d.dev_eui) eui dev
 -- the gateways of an uplink's receptions
 pub reads_receptions : {sql : List ℕ} {names : List (List ℕ)} {old new : State} (uplink : ℕ) {result : Result (Vec (List ℕ) Global) RowFault}
     → FindsAll sql (number uplink ∷ []) old new (λ name. name) (λ name. Text name ∷ []) IsName result → AsksFor sql 1 gateways_asked names
-    → Reads old new result (λ r all. all.items ≡ gateways_listed uplink r.receptions)
+    → ReadsRows old new result (λ r all. all.items ≡ gateways_listed uplink r.receptions)
 reads_receptions uplink found means = reads_listed (λ (c : ReceptionRow). c.gateway) Text reception_cells (slice_cmp nat_cmp) value_cmp-Text IsName means (number uplink ∷ []) refl refl
     (λ c n. refl) (is_reception_of uplink) (λ b. and_true _ ∙ number_equal b.1.uplink uplink) (λ r. r.receptions) (λ r has. has.ten.copy)
     (λ r has. all_so IsReceptionRow (λ (c : ReceptionRow). IsName c.gateway) (λ c fits. fits.gateway) r.receptions has.ten.in_range.receptions) found

@@ -28,7 +28,7 @@ use Rattle.desk_rows.specs.Rows.{Rows, Holds, table_of}
 use Rattle.desk_rows.specs.steps.Queries.{HasRun, IsReadOf, Finds, Knows}
 use Rattle.desk_rows.specs.CallLaws.{read_weaker}
 use Rattle.desk_rows.proofs.Ordered.{Asked, joined, query_of, by_rowid, head, zip_from, encode, first_by_rowid, some_map, map_twice, found_holds, zip_all, mapped_holds}
-use Rattle.desk_rows.specs.Calls.{IsReadingCallOf, Reads, ReadsOf}
+use Rattle.desk_rows.specs.Calls.{IsReadingCallOf, ReadsRows, ReadsOf}
 use Rattle.desk_rows.specs.Faults.{is_odd, IsEven, row_fault}
 use Rattle.desk_rows.specs.steps.Errors.{found_of, known_of}
 use Rattle.desk_rows.specs.declared.faults.RowFault.{RowFault}
@@ -236,13 +236,13 @@ module _ {sql : List ℕ} {many : ℕ} {trees : List ℕ} {a : Asked trees} (tex
     (many_is : many ≡ length params) (typed : accepts_program desk_schema [] (query_of a) params ≡ true) where
   pub knows : (result : Result Bool RowFault) → result ≡ known_of (found_of answer) → (want : Rows → Option Row)
       → ((r : Rows) → Holds old.now r → (rows : List Row) → IsAnswer (query_of a) (overlay old.now.trees []) params rows → head rows ≡ want r)
-      → Reads old new result (λ r known. known ≡ is_some (want r))
+      → ReadsRows old new result (λ r known. known ≡ is_some (want r))
   knows = knows_of text Holds has_schema params old new answer run many_is typed
 
   pub finds : {T Seen : Type 0} {seen : T → Seen} {shows : Seen → Row} {Fits : Seen → Type 0} (result : Result (Option T) RowFault) → IsReadOf seen shows Fits (found_of answer) result
       → (want : Rows → Option Seen)
       → ((r : Rows) → Holds old.now r → IfSome (want r) Fits × ((rows : List Row) → IsAnswer (query_of a) (overlay old.now.trees []) params rows → head rows ≡ option_map shows (want r)))
-      → Reads old new result (λ r x. option_map seen x ≡ want r)
+      → ReadsRows old new result (λ r x. option_map seen x ≡ want r)
   finds = finds_of text Holds has_schema params old new answer run many_is typed
 
 -- one statement about the result of a look-up in place of another
@@ -260,7 +260,7 @@ module _ {sql : List ℕ} {many tree : ℕ} {terms project : List Term} (text : 
     (many_is : many ≡ length params) (typed : accepts_program desk_schema [] (query_of (by_rowid tree terms project)) params ≡ true)
     {X : Type 0} (cells : X → Row) (xs : Rows → List X) (stored : (r : Rows) → Holds old.now r → overlay old.now.trees [] tree ≡ table_of cells (xs r))
     (p : ℕ × X → Bool) (tests : (b : ℕ × X) → list_all (holds (params ∷ encode cells b ∷ [])) terms ≡ p b) where
-  pub known_by : {result : Result Bool RowFault} → Knows sql params old new result → Reads old new result (λ r known. known ≡ is_some (find p (zip_from 1 (xs r))))
+  pub known_by : {result : Result Bool RowFault} → Knows sql params old new result → ReadsRows old new result (λ r known. known ≡ is_some (find p (zip_from 1 (xs r))))
   known_by {result} knew = says_so (knows text params old new knew.answer knew.run many_is typed result knew.is _
       (λ r has. first_by_rowid (by_rowid tree terms project) (overlay old.now.trees []) cells (xs r) (stored r has) params p tests _ (λ b. refl) refl))
       (λ r has known is. is ∙ some_map _ (find p (zip_from 1 (xs r))))
@@ -268,7 +268,7 @@ module _ {sql : List ℕ} {many tree : ℕ} {terms project : List Term} (text : 
   module _ (P : X → Type 0) (ranges : (r : Rows) → Holds old.now r → AllByRecursion P (xs r)) where
     pub found_by : {T Seen : Type 0} {seen : T → Seen} {shows : Seen → Row} {Fits : Seen → Type 0} {result : Result (Option T) RowFault} → Finds sql params old new seen shows Fits result
         → (view : ℕ × X → Seen) → ((b : ℕ × X) → eval_all project (params ∷ encode cells b ∷ []) ≡ shows (view b)) → ((b : ℕ × X) → P b.1 → Fits (view b))
-        → Reads old new result (λ r x. option_map seen x ≡ option_map view (find p (zip_from 1 (xs r))))
+        → ReadsRows old new result (λ r x. option_map seen x ≡ option_map view (find p (zip_from 1 (xs r))))
     found_by {shows = shows} {Fits = Fits} {result = result} found view shown fits = finds text params old new found.answer found.run many_is typed result found.is_read _
         (λ r has. (
           mapped_holds (λ (b : ℕ × X). P b.1) Fits view fits _ (found_holds (λ b. P b.1) p (zip_from 1 (xs r)) (zip_all P 1 (xs r) (ranges r has))),

@@ -22,7 +22,7 @@ use Rattle.sqlite.specs.State.{State}
 use Rattle.sqlite_tied.specs.Compute.{everything}
 use Rattle.registry_core.specs.Ranges.{IsEui}
 use Rattle.registry_core.specs.Reports.{is_after}
-use Rattle.desk_rows.specs.Calls.{Reads}
+use Rattle.desk_rows.specs.Calls.{ReadsRows}
 use Rattle.desk_rows.specs.Faults.{IsEven}
 use Rattle.desk_rows.specs.Rows.{Rows, Holds, DeviceRow, IsDevice, device_cells, eui}
 use Rattle.desk_rows.specs.Schema.{device_tree}
@@ -107,7 +107,7 @@ rising_first owner after r all = first_holds (λ (b : ℕ × DeviceRow). is_afte
 
 module _ {old new : State} (owner : List ℕ) where
   pub reads_first : {result : Result (Option ℕ) RowFault} → Finds first_text (Text owner ∷ []) old new (λ n. n) (λ n. eui n ∷ []) IsEui result
-      → Reads old new result (λ r next. next ≡ first_by (λ d. d.dev_eui) by_eui (is_next_of owner None) r.devices)
+      → ReadsRows old new result (λ r next. next ≡ first_by (λ d. d.dev_eui) by_eui (is_next_of owner None) r.devices)
   reads_first {result} found = says_so (finds first_lookup (Text owner ∷ []) old new found.answer found.run refl refl result found.is_read
       (first_of (is_next_of owner None))
       (λ r has. (
@@ -123,7 +123,7 @@ module _ {old new : State} (owner : List ℕ) where
 
   module _ (after : ℕ) (low : IsEui after) {sql : List ℕ} {names : List (List ℕ)} (means : AsksFor sql 2 device_after_asked names) where
     pub reads_after : {result : Result (Option ℕ) RowFault} → Finds sql (Text owner ∷ eui after ∷ []) old new (λ n. n) (λ n. eui n ∷ []) IsEui result
-        → Reads old new result (λ r next. next ≡ first_by (λ d. d.dev_eui) by_eui (is_next_of owner (Some after)) r.devices)
+        → ReadsRows old new result (λ r next. next ≡ first_by (λ d. d.dev_eui) by_eui (is_next_of owner (Some after)) r.devices)
     reads_after {result} found = let lookup : IsLookup sql 2 device_after_asked = lookup_is means in
         says_so (finds lookup (Text owner ∷ eui after ∷ []) old new found.answer found.run refl refl result found.is_read
         (first_of (passes owner after))
@@ -141,8 +141,8 @@ module _ {old new : State} (owner : List ℕ) where
         (rows_alike by_eui IsDevice (passes owner after) (is_next_of owner (Some after)) (same_pass owner after low) r.devices has.ten.in_range.devices))
 
   pub reads_above : (after : Option ℕ) {found result : Result (Option ℕ) RowFault} → result ≡ above_only after found
-      → Reads old new found (λ r next. next ≡ first_by (λ d. d.dev_eui) by_eui (is_next_of owner after) r.devices)
-      → Reads old new result (λ r next. next ≡ first_by (λ d. d.dev_eui) by_eui (is_next_of owner after) r.devices)
+      → ReadsRows old new found (λ r next. next ≡ first_by (λ d. d.dev_eui) by_eui (is_next_of owner after) r.devices)
+      → ReadsRows old new result (λ r next. next ≡ first_by (λ d. d.dev_eui) by_eui (is_next_of owner after) r.devices)
   reads_above after {found} is reads = rw is (record {
     read = read_weaker old new (is_ok found) (is_ok (above_only after found)) (stays found) reads.read;
     told = λ sure r has. still r has found (reads.told sure r has);

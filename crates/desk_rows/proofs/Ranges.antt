@@ -23,7 +23,7 @@ use Rattle.sqlite.proofs.Callers.{never_commits}
 use Rattle.sqlite.proofs.StateLemmas.{survives_weaker}
 use Rattle.duty_core.specs.Range.{IsStart}
 use Rattle.duty_core.specs.Use.{Interval}
-use Rattle.desk_rows.specs.Calls.{StaysOrRollsBack, Reads}
+use Rattle.desk_rows.specs.Calls.{StaysOrRollsBack, ReadsRows}
 use Rattle.desk_rows.specs.Faults.{row_fault, is_odd, IsEven}
 use Rattle.desk_rows.specs.Rows.{Rows, Holds, table_of}
 use Rattle.desk_rows.specs.Schema.{desk_schema}
@@ -103,7 +103,7 @@ pub reads_all : {sql : List ℕ} {many : ℕ} {trees : List ℕ} {a : Asked tree
     → accepts_program desk_schema [] (query_of a) params ≡ true
     → {T Seen : Type 0} {seen : T → Seen} {shows : Seen → Row} {Fits : Seen → Type 0} {result : Result (Vec T Global) RowFault}
     → FindsAll sql params old new seen shows Fits result
-    → (want : Rows → List Seen) → ((r : Rows) → Holds old.now r → AreAll a params (overlay old.now.trees []) shows Fits (want r)) → Reads old new result
+    → (want : Rows → List Seen) → ((r : Rows) → Holds old.now r → AreAll a params (overlay old.now.trees []) shows Fits (want r)) → ReadsRows old new result
     (λ r all. map seen all.items ≡ want r)
 reads_all {sql} text params {old} {new} many_is typed {seen = seen} {shows = shows} {Fits = Fits} {result = result} found want are = record {
   read = record {
@@ -156,7 +156,7 @@ module _ {sql : List ℕ} {many tree : ℕ} {terms project : List Term} {order :
     (output (query_of (all_by (tree ∷ []) terms project order)) (params ∷ encode cells c ∷ [])) ≡ by_start start b c)
     (P : X → Type 0) (ranges : (r : Rows) → Holds old.now r → AllByRecursion P (xs r)) (fits : (b : ℕ × X) → P b.1 → Fits (shown b)) where
   pub reads_by_start : {result : Result (Vec Y Global) RowFault} → FindsAll sql params old new (λ y. y) shows Fits result
-      → Reads old new result (λ r all. all.items ≡ map shown (rows_by (by_start start) p (xs r)))
+      → ReadsRows old new result (λ r all. all.items ≡ map shown (rows_by (by_start start) p (xs r)))
   reads_by_start found = says_so (reads_all text params many_is typed found (λ r. map shown (rows_by (by_start start) p (xs r)))
       (λ r has. (
         all_map (λ (b : ℕ × X). P b.1) Fits shown fits _
@@ -180,5 +180,5 @@ module _ {sql : List ℕ} {many tree : ℕ} {terms project : List Term} {order :
     (output (query_of (all_by (tree ∷ []) terms project order)) (params ∷ encode cells c ∷ [])) ≡ by_start (λ x. (span x).start) b c)
     (P : X → Type 0) (ranges : (r : Rows) → Holds old.now r → AllByRecursion P (xs r)) (fits : (x : X) → P x → IsSpan (span x)) where
   pub reads_spans : {result : Result (Vec Interval Global) RowFault} → FindsAll sql params old new (λ s. s) span_shown IsSpan result
-      → Reads old new result (λ r spans. spans.items ≡ spans_by span (by_start (λ x. (span x).start)) p (xs r))
+      → ReadsRows old new result (λ r spans. spans.items ≡ spans_by span (by_start (λ x. (span x).start)) p (xs r))
   reads_spans = reads_by_start text params many_is typed cells xs stored p tests span_shown IsSpan (λ b. span b.1) shown (λ x. (span x).start) orders P ranges (λ b. fits b.1)

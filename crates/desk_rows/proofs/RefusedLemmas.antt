@@ -26,7 +26,7 @@ use Rattle.sqlite.specs.Rows.{Task, Inserts}
 use Rattle.sqlite.specs.declared.error.Error.{Error}
 use Rattle.sqlite.specs.Listing.{understood}
 use Rattle.sqlite.specs.State.{State, mode_of, ExecutesInside}
-use Rattle.desk_rows.specs.Schema.{desk_schema, desk_tables}
+use Rattle.desk_rows.specs.Schema.{booking_tree, copy_tree, desk_schema, desk_tables, device_tree, gateway_tree, limit_tree, meta_tree, owner_tree, reply_tree, sender_tree, session_tree, uplink_tree}
 use Rattle.desk_rows.specs.Faults.{IsEven, row_fault}
 use Rattle.desk_rows.specs.declared.faults.RowFault.{RowFault}
 use Rattle.desk_rows.specs.declared.faults.RowFault.TheVariants.{Memory, Disk, Size, Row as OutOfShape, Refused}
@@ -41,8 +41,31 @@ none_refers among (r ∷ rows) = (refl, none_refers among rows)
 
 -- the schema has no `FOREIGN KEY`
 pub refers : (among : Among) (db : Trees) → Refers among desk_schema db
-refers among db =
-    (none_refers among (db 0), (none_refers among (db 1), (none_refers among (db 3), (none_refers among (db 5), (none_refers among (db 7), (none_refers among (db 9), (none_refers among (db 11), (none_refers among (db 13), (none_refers among (db 15), (none_refers among (db 17), (none_refers among (db 22), tt)))))))))))
+refers among db = (
+  none_refers among (db meta_tree),
+  (
+    none_refers among (db sender_tree),
+    (
+      none_refers among (db reply_tree),
+      (
+        none_refers among (db owner_tree),
+        (
+          none_refers among (db gateway_tree),
+          (
+            none_refers among (db device_tree),
+            (
+              none_refers among (db session_tree),
+              (
+                none_refers among (db uplink_tree),
+                (none_refers among (db copy_tree), (none_refers among (db booking_tree), (none_refers among (db limit_tree), tt))),
+              ),
+            ),
+          ),
+        ),
+      ),
+    ),
+  ),
+)
 
 pub no_work : (n : ℕ) (db : Trees) (why : Option Refusal) → Leads desk_schema Enforced n db [] (Err why) → ⊥
 no_work zero db why h = let e = h.1 in cc

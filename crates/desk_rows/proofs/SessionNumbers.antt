@@ -8,7 +8,7 @@ use Rattle.sqlite_trees.proofs.ListLemmas.{map-map}
 use Rattle.registry_core.specs.Derived.{is_session_of}
 use Rattle.registry_core.specs.Listing.{numbers_from, sessions_of}
 use Rattle.registry_core.specs.Ranges.{IsEui}
-use Rattle.desk_rows.specs.Calls.{Reads}
+use Rattle.desk_rows.specs.Calls.{ReadsRows}
 use Rattle.desk_rows.specs.Rows.{IsSession, SessionRow, eui, number, session_cells}
 use Rattle.desk_rows.specs.order.Facts.{sessions_in}
 use Rattle.desk_rows.specs.steps.Latest.{sessions_asked}
@@ -40,7 +40,7 @@ of_device device s = same (eui s.session.device) (eui device)
 
 pub reads_sessions : {sql : List ℕ} {names : List (List ℕ)} → AsksFor sql 1 sessions_asked names → {old new : State} (device : ℕ) → IsEui device
     → {result : Result (Vec ℕ Global) RowFault} → FindsAll sql (eui device ∷ []) old new (λ n. n) (λ n. number n ∷ []) (λ n. Unit {0}) result
-    → Reads old new result (λ r numbers. numbers.items ≡ sessions_of (sessions_in r.sessions) device)
+    → ReadsRows old new result (λ r numbers. numbers.items ≡ sessions_of (sessions_in r.sessions) device)
 reads_sessions {sql} {names} means {old} device in_range found = says_so
     (reads_all {a = sessions_asked} (lookup_is {names = names} means) (eui device ∷ []) refl refl found (λ r. map (λ (b : ℕ × SessionRow). b.0) (filter (λ b. of_device device b.1) (zip_from 1 r.sessions)))
     (λ r has. (

@@ -24,7 +24,7 @@ use Rattle.registry_core.specs.declared.views.NearBooking.{NearBooking}
 use Rattle.registry_core.specs.Bookings.{is_dropped, stands_at, stands_in}
 use Rattle.registry_core.specs.Listing.{is_booking_from}
 use Rattle.registry_core.specs.Near.{near_shown}
-use Rattle.desk_rows.specs.Calls.{Reads}
+use Rattle.desk_rows.specs.Calls.{ReadsRows}
 use Rattle.desk_rows.specs.Rows.{BookingRow, IsBooking, booking_cells, number}
 use Rattle.desk_rows.specs.order.Arranged.{booking_span, by_start, is_near_at, near_by, spans_by}
 use Rattle.desk_rows.specs.order.Listed.{bookings_listed}
@@ -51,7 +51,7 @@ moved false b c = refl
 module _ {sql : List ℕ} {names : List (List ℕ)} (means : AsksFor sql 2 bookings_asked names) {old new : State} (gateway : List ℕ) where
   pub reads_band : (band : Band) {result : Result (Vec Interval Global) RowFault} → FindsAll sql (Text gateway ∷ number (band_number band) ∷ []) old new
       (λ s. s) span_shown IsSpan result
-      → Reads old new result (λ r spans. spans.items ≡ spans_by booking_span (by_start (λ (b : BookingRow). (booking_span b).start))
+      → ReadsRows old new result (λ r spans. spans.items ≡ spans_by booking_span (by_start (λ (b : BookingRow). (booking_span b).start))
       (λ b. stands_in gateway band b.booking) r.bookings)
   reads_band band found = reads_spans (lookup_is means) (Text gateway ∷ number (band_number band) ∷ []) refl refl booking_cells (λ r. r.bookings) (λ r has. has.ten.booking)
       (λ b. stands_in gateway band b.booking)
@@ -113,7 +113,7 @@ IsNearBooking near = IsStart near.span.start × (near.span.len < 2 ^ 32)
 module _ {sql : List ℕ} {names : List (List ℕ)} (means : AsksFor sql 3 near_asked names) {old new : State} (gateway : List ℕ) (after before : ℤ) where
   between : {result : Result (Vec NearBooking Global) RowFault} → FindsAll sql (Text gateway ∷ Int after ∷ Int before ∷ []) old new
       (λ n. n) near_booking_shown IsNearBooking result
-      → Reads old new result (λ r near. near.items ≡ near_by (by_start (λ (b : BookingRow). (booking_span b).start))
+      → ReadsRows old new result (λ r near. near.items ≡ near_by (by_start (λ (b : BookingRow). (booking_span b).start))
       (λ b. stands_at gateway b.booking && starts_between after before (booking_span b)) r.bookings)
   between found = reads_by_start (lookup_is means) (Text gateway ∷ Int after ∷ Int before ∷ []) refl refl booking_cells (λ r. r.bookings) (λ r has. has.ten.booking)
       (λ b. stands_at gateway b.booking && starts_between after before (booking_span b))
@@ -130,7 +130,7 @@ module _ {sql : List ℕ} {names : List (List ℕ)} (means : AsksFor sql 3 near_
   pub reads_near : (start : ℤ) → ((a : Interval) → IsStart a.start → is_near start a ≡ starts_between after before a)
       → {result : Result (Vec NearBooking Global) RowFault} → FindsAll sql (Text gateway ∷ Int after ∷ Int before ∷ []) old new
       (λ n. n) near_booking_shown IsNearBooking result
-      → Reads old new result (λ r near. near.items ≡ near_by (by_start (λ (b : BookingRow). (booking_span b).start)) (is_near_at gateway start) r.bookings)
+      → ReadsRows old new result (λ r near. near.items ≡ near_by (by_start (λ (b : BookingRow). (booking_span b).start)) (is_near_at gateway start) r.bookings)
   reads_near start near found = says_so (between found)
       (λ r has shown is. is ∙ ap (map (λ (row : ℕ × BookingRow). near_shown row.1.booking))
       (rows_alike (by_start (λ (b : BookingRow). (booking_span b).start)) IsBooking
@@ -142,7 +142,7 @@ module _ {sql : List ℕ} {names : List (List ℕ)} (means : AsksFor sql 3 near_
 module _ {sql : List ℕ} {names : List (List ℕ)} (means : AsksFor sql 3 bookings_between_asked names) {old new : State} (gateway : List ℕ) (from to : ℤ) where
   pub reads_between : {result : Result (Vec ℕ Global) RowFault} → FindsAll sql (Text gateway ∷ Int from ∷ Int to ∷ []) old new
       (λ n. n) (λ n. number n ∷ []) (λ n. Unit {0}) result
-      → Reads old new result (λ r numbers. numbers.items ≡ bookings_listed gateway from to r)
+      → ReadsRows old new result (λ r numbers. numbers.items ≡ bookings_listed gateway from to r)
   reads_between found = reads_by_start (lookup_is means) (Text gateway ∷ Int from ∷ Int to ∷ []) refl refl booking_cells (λ r. r.bookings) (λ r has. has.ten.booking)
       (λ b. is_booking_from gateway from to b.booking)
       (λ b. ap₂ (λ s t. s && t) (text_equal b.1.booking.gateway gateway) (ap₂ (λ s t. s && t) (int_from (booking_span b.1).start from)

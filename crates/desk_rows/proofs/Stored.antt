@@ -26,7 +26,7 @@ use Rattle.sqlite_typing.specs.Types.{accepts_program, accepts_terms}
 use Rattle.sqlite.specs.Effect.{Database, value_rows}
 use Rattle.sqlite.specs.State.{State}
 use Rattle.registry_core.specs.Numbered.{first_that, item_at}
-use Rattle.desk_rows.specs.Calls.{Changes, Reads, ReadsFirst}
+use Rattle.desk_rows.specs.Calls.{ChangesOf, ReadsRows, ReadsOf}
 use Rattle.desk_rows.specs.Migrating.{HoldsFirst}
 use Rattle.desk_rows.specs.Rows.{Rows, Holds, InRange, number, table_of, last_number}
 use Rattle.desk_rows.specs.Schema.{desk_schema, desk_tables, first_schema}
@@ -143,13 +143,13 @@ module _ {X : Type 0} {Fits : X → Type 0} (t : Stored X Fits) where
   -- ---- the last number
 
   pub reads_number : ReadsLast desk_schema t.table → {old new : State} {result : Result (Option ℕ) RowFault} → Finds (last_text t.table) [] old new (λ n. n) (λ n. number n ∷ []) (λ n. Unit {0}) result
-      → Reads old new result (λ r n. n ≡ last_number (t.rows r))
+      → ReadsRows old new result (λ r n. n ≡ last_number (t.rows r))
   reads_number means {old} = reads_last Holds has_schema (lookup_is means) t.computes.3 t.cells t.rows (stored old)
 
   -- the same over schema 1
   pub reads_first : ((db : Database) (r : Rows) → HoldsFirst db r → db.trees t.table.tree ≡ table_of t.cells (t.rows r)) → accepts_program first_schema [] (query_of (last_of t.table.tree)) [] ≡ true
       → ReadsLast first_schema t.table → {old new : State} {result : Result (Option ℕ) RowFault} → Finds (last_text t.table) [] old new (λ n. n) (λ n. number n ∷ []) (λ n. Unit {0}) result
-      → ReadsFirst old new result (λ r n. n ≡ last_number (t.rows r))
+      → ReadsOf first_schema HoldsFirst old new result (λ r n. n ≡ last_number (t.rows r))
   reads_first held lasting means {old} = reads_last HoldsFirst (λ db r has. has.ten.schema) (lookup_is means) lasting t.cells t.rows (λ r has. overlay_none old.now.trees t.table.tree ∙ held old.now r has)
 
   -- ---- by the number
@@ -157,7 +157,7 @@ module _ {X : Type 0} {Fits : X → Type 0} (t : Stored X Fits) where
   module _ (n : ℕ) (shown : List ℕ) {sql : List ℕ} {names : List (List ℕ)} (means : AsksFor sql 1 (by_rowid t.table.tree (key_terms 0 (0 ∷ [])) (map (col 1) shown)) names) (typed : accepts_program desk_schema [] (query_of (by_rowid t.table.tree (key_terms 0 (0 ∷ [])) (map (col 1) shown))) (number n ∷ []) ≡ true) where
     pub finds_asked : {Seen : Type 0} {shows : Seen → Row} {In : Seen → Type 0} (view : ℕ × X → Seen) → ((b : ℕ × X) → eval_all (map (col 1) shown) ((number n ∷ []) ∷ encode t.cells b ∷ []) ≡ shows (view b))
         → ((b : ℕ × X) → Fits b.1 → In (view b)) → {old new : State} {result : Result (Option Seen) RowFault} → Finds sql (number n ∷ []) old new (λ x. x) shows In result
-        → Reads old new result (λ r x. x ≡ option_map (λ x. view (n, x)) (item_at (t.rows r) n))
+        → ReadsRows old new result (λ r x. x ≡ option_map (λ x. view (n, x)) (item_at (t.rows r) n))
     finds_asked view viewed fits {old} found =
         says_so (found_by (lookup_is means) (number n ∷ []) refl typed t.cells t.rows (stored old) (λ b. b.0 == n) (λ b. and_true _ ∙ number_equal b.0 n) Fits (λ r has. t.ranges r has.ten.in_range) found view viewed fits)
         (λ r has x is. sym (map_same x) ∙ is ∙ ap (option_map view) (found_number n (t.rows r)) ∙ map_twice view (λ y. (n, y)) (item_at (t.rows r) n))
@@ -165,7 +165,7 @@ module _ {X : Type 0} {Fits : X → Type 0} (t : Stored X Fits) where
   module _ (n : ℕ) (shown : List ℕ) (means : ReadsKey t.table (0 ∷ []) shown) (typed : accepts_program desk_schema [] (query_of (by_rowid t.table.tree (key_terms 0 (0 ∷ [])) (map (col 1) shown))) (number n ∷ []) ≡ true) where
     pub finds_number : {Seen : Type 0} {shows : Seen → Row} {In : Seen → Type 0} (view : ℕ × X → Seen) → ((b : ℕ × X) → eval_all (map (col 1) shown) ((number n ∷ []) ∷ encode t.cells b ∷ []) ≡ shows (view b))
         → ((b : ℕ × X) → Fits b.1 → In (view b)) → {old new : State} {result : Result (Option Seen) RowFault} → Finds (find_text t.table (0 ∷ []) shown) (number n ∷ []) old new (λ x. x) shows In result
-        → Reads old new result (λ r x. x ≡ option_map (λ x. view (n, x)) (item_at (t.rows r) n))
+        → ReadsRows old new result (λ r x. x ≡ option_map (λ x. view (n, x)) (item_at (t.rows r) n))
     finds_number view viewed fits found = finds_asked n shown means typed view viewed fits found
 
   -- ---- INSERT
@@ -183,7 +183,7 @@ module _ {X : Type 0} {Fits : X → Type 0} (t : Stored X Fits) where
     pub adds_free : (Free : Rows → Type 0)
         → ((r : Rows) → InRange r → Free r → (row : Row) → row ≡ Int (pos (1 + length (map t.cells (t.rows r)))) ∷ t.cells x
         → are_unique desk_schema.indexes (with_tree old.now.trees t.table.tree (table_of t.cells (t.rows r ++ x ∷ []))) (uncounted t.table) (row ∷ []) ≡ true)
-        → HasWritten sql given old new result → Changes old new result Small (λ r. Free r × (1 + length (t.rows r) < 2 ^ 63)) (λ r. t.put r (t.rows r ++ x ∷ []))
+        → HasWritten sql given old new result → ChangesOf old new result Small (λ r. Free r × (1 + length (t.rows r) < 2 ^ 63)) (λ r. t.put r (t.rows r ++ x ∷ []))
     adds_free Free unique =
         changed_by text params old new t.table t.computes.0 (has_got desk_tables t.at _ t.computes.0) (Null ∷ t.cells x) one typed many_is t.cells t.rows x (same_cells x) (λ r has. t.held old.now r has)
         (λ r. t.put r (t.rows r ++ x ∷ [])) (λ r. t.computes.1 r _) (λ r h. t.in_range r _ h (all_more Fits (t.rows r) x (t.ranges r h) fits)) Free
@@ -202,12 +202,12 @@ module _ {X : Type 0} {Fits : X → Type 0} (t : Stored X Fits) where
         (one : value_rows params width (length terms / width) terms ≡ (Null ∷ t.cells x) ∷ []) (typed : accepts_terms terms params ≡ true) (many_is : length params ≡ many) {old new : State} where
       pub adds_given : (given : Row) → (s : Row) × (value_rows given width (length terms / width) terms ≡ s ∷ []) → (Small : Type 0) → (Small → given ≡ params) → {result : Result (Unit {0}) RowFault}
           → HasWritten sql given old new result
-          → Changes old new result Small (λ r. (list_any (key.has (key.key_of x)) (t.rows r) ≡ false) × (1 + length (t.rows r) < 2 ^ 63)) (λ r. t.put r (t.rows r ++ x ∷ []))
+          → ChangesOf old new result Small (λ r. (list_any (key.has (key.key_of x)) (t.rows r) ≡ false) × (1 + length (t.rows r) < 2 ^ 63)) (λ r. t.put r (t.rows r ++ x ∷ []))
       adds_given given loose Small are = adds_free text x fits params one typed many_is given loose Small are (λ r. list_any (key.has (key.key_of x)) (t.rows r) ≡ false)
           (λ r in_range free row is. key.computes.0 old.now.trees _ row (rw is (key_free t.cells key.places x Fits (key.has (key.key_of x)) (agrees x fits) (t.rows r) (t.ranges r in_range) free)))
 
       pub adds : {result : Result (Unit {0}) RowFault} → HasWritten sql params old new result
-          → Changes old new result (Unit {0}) (λ r. (list_any (key.has (key.key_of x)) (t.rows r) ≡ false) × (1 + length (t.rows r) < 2 ^ 63)) (λ r. t.put r (t.rows r ++ x ∷ []))
+          → ChangesOf old new result (Unit {0}) (λ r. (list_any (key.has (key.key_of x)) (t.rows r) ≡ false) × (1 + length (t.rows r) < 2 ^ 63)) (λ r. t.put r (t.rows r ++ x ∷ []))
       adds = adds_given params (_, one) (Unit {0}) (λ done. refl)
 
     -- ---- by the key
@@ -220,7 +220,7 @@ module _ {X : Type 0} {Fits : X → Type 0} (t : Stored X Fits) where
       alike x fits = key.tells k x in_range fits
 
       pub knows_key : KnowsKey t.table key.places → length key.places ≡ length (key.values k) → accepts_program desk_schema [] (query_of (by_rowid t.table.tree (key_terms 0 key.places) (lit (Int (pos 1)) ∷ []))) (key.values k) ≡ true
-          → {old new : State} {result : Result Bool RowFault} → Knows (know_text t.table key.places) (key.values k) old new result → Reads old new result (λ r known. known ≡ list_any (key.has k) (t.rows r))
+          → {old new : State} {result : Result Bool RowFault} → Knows (know_text t.table key.places) (key.values k) old new result → ReadsRows old new result (λ r known. known ≡ list_any (key.has k) (t.rows r))
       knows_key means many_is typed {old} knew =
           says_so (known_by (lookup_is means) (key.values k) many_is typed t.cells t.rows (stored old) (λ b. asked b.1) (λ b. key.computes.2 b.0 k b.1) knew)
           (λ r has known is. is ∙ found_any asked 1 (t.rows r) ∙ any_same Fits asked (key.has k) alike (t.rows r) (t.ranges r has.ten.in_range))
@@ -229,7 +229,7 @@ module _ {X : Type 0} {Fits : X → Type 0} (t : Stored X Fits) where
           (typed : accepts_program desk_schema [] (query_of (by_rowid t.table.tree (key_terms 0 key.places) (map (col 1) shown))) (key.values k) ≡ true) where
         pub finds_asked_key : {T Seen : Type 0} {seen : T → Seen} {shows : Seen → Row} {In : Seen → Type 0} (view : X → Seen) → ((b : ℕ × X) → eval_all (map (col 1) shown) (key.values k ∷ encode t.cells b ∷ []) ≡ shows (view b.1))
             → ((x : X) → Fits x → In (view x)) → {old new : State} {result : Result (Option T) RowFault} → Finds sql (key.values k) old new seen shows In result
-            → Reads old new result (λ r x. option_map seen x ≡ option_map view (find (key.has k) (t.rows r)))
+            → ReadsRows old new result (λ r x. option_map seen x ≡ option_map view (find (key.has k) (t.rows r)))
         finds_asked_key view viewed fits {old} found =
             says_so (found_by (lookup_is means) (key.values k) many_is typed t.cells t.rows (stored old) (λ b. asked b.1) (λ b. key.computes.2 b.0 k b.1) Fits (λ r has. t.ranges r has.ten.in_range) found
             (λ b. view b.1) viewed (λ b b_fits. fits b.1 b_fits))
@@ -239,7 +239,7 @@ module _ {X : Type 0} {Fits : X → Type 0} (t : Stored X Fits) where
         -- where what is read is what contracts see of it
         pub finds_asked_plain : {Seen : Type 0} {shows : Seen → Row} {In : Seen → Type 0} (view : X → Seen) → ((b : ℕ × X) → eval_all (map (col 1) shown) (key.values k ∷ encode t.cells b ∷ []) ≡ shows (view b.1))
             → ((x : X) → Fits x → In (view x)) → {old new : State} {result : Result (Option Seen) RowFault} → Finds sql (key.values k) old new (λ x. x) shows In result
-            → Reads old new result (λ r x. x ≡ option_map view (find (key.has k) (t.rows r)))
+            → ReadsRows old new result (λ r x. x ≡ option_map view (find (key.has k) (t.rows r)))
         finds_asked_plain view viewed fits found = says_so (finds_asked_key view viewed fits found) (λ r has x is. sym (map_same x) ∙ is)
 
       module _ (shown : List ℕ) (means : ReadsKey t.table key.places shown) (many_is : length key.places ≡ length (key.values k))
@@ -247,7 +247,7 @@ module _ {X : Type 0} {Fits : X → Type 0} (t : Stored X Fits) where
         -- with its number
         pub finds_first : {Seen : Type 0} {shows : Seen → Row} {In : Seen → Type 0} (view : ℕ × X → Seen) → ((b : ℕ × X) → eval_all (map (col 1) shown) (key.values k ∷ encode t.cells b ∷ []) ≡ shows (view b))
             → ((b : ℕ × X) → Fits b.1 → In (view b)) → {old new : State} {result : Result (Option Seen) RowFault} → Finds (find_text t.table key.places shown) (key.values k) old new (λ x. x) shows In result
-            → Reads old new result (λ r x. x ≡ option_map view (first_that (key.has k) (t.rows r)))
+            → ReadsRows old new result (λ r x. x ≡ option_map view (first_that (key.has k) (t.rows r)))
         finds_first view viewed fits {old} found =
             says_so (found_by (lookup_is means) (key.values k) many_is typed t.cells t.rows (stored old) (λ b. asked b.1) (λ b. key.computes.2 b.0 k b.1) Fits (λ r has. t.ranges r has.ten.in_range) found view viewed fits)
             (λ r has x is. sym (map_same x) ∙ is
@@ -256,11 +256,11 @@ module _ {X : Type 0} {Fits : X → Type 0} (t : Stored X Fits) where
 
         pub finds_key : {T Seen : Type 0} {seen : T → Seen} {shows : Seen → Row} {In : Seen → Type 0} (view : X → Seen) → ((b : ℕ × X) → eval_all (map (col 1) shown) (key.values k ∷ encode t.cells b ∷ []) ≡ shows (view b.1))
             → ((x : X) → Fits x → In (view x)) → {old new : State} {result : Result (Option T) RowFault} → Finds (find_text t.table key.places shown) (key.values k) old new seen shows In result
-            → Reads old new result (λ r x. option_map seen x ≡ option_map view (find (key.has k) (t.rows r)))
+            → ReadsRows old new result (λ r x. option_map seen x ≡ option_map view (find (key.has k) (t.rows r)))
         finds_key view viewed fits found = finds_asked_key shown means many_is typed view viewed fits found
 
         -- where what is read is what contracts see of it
         pub finds_plain : {Seen : Type 0} {shows : Seen → Row} {In : Seen → Type 0} (view : X → Seen) → ((b : ℕ × X) → eval_all (map (col 1) shown) (key.values k ∷ encode t.cells b ∷ []) ≡ shows (view b.1))
             → ((x : X) → Fits x → In (view x)) → {old new : State} {result : Result (Option Seen) RowFault} → Finds (find_text t.table key.places shown) (key.values k) old new (λ x. x) shows In result
-            → Reads old new result (λ r x. x ≡ option_map view (find (key.has k) (t.rows r)))
+            → ReadsRows old new result (λ r x. x ≡ option_map view (find (key.has k) (t.rows r)))
         finds_plain view viewed fits found = says_so (finds_key view viewed fits found) (λ r has x is. sym (map_same x) ∙ is)

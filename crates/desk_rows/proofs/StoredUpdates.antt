@@ -18,7 +18,7 @@ use Rattle.sqlite_typing.specs.Types.{accepts_program}
 use Rattle.sqlite.specs.State.{State}
 use Rattle.sqlite_keyed.specs.Lists.{update_where}
 use Rattle.registry_core.specs.Numbered.{item_at, item_changed}
-use Rattle.desk_rows.specs.Calls.{Changes}
+use Rattle.desk_rows.specs.Calls.{ChangesOf}
 use Rattle.desk_rows.specs.Rows.{Rows, Holds, InRange}
 use Rattle.desk_rows.specs.Schema.{desk_indexes, desk_schema, desk_tables}
 use Rattle.desk_rows.specs.declared.faults.RowFault.{RowFault}
@@ -43,7 +43,7 @@ module _ {X : Type 0} {Fits : X → Type 0} (t : Stored X Fits) {sql : List ℕ}
   changes : {old new : State} (p : ℕ × X → Bool) → ((b : ℕ × X) → list_all (holds (params ∷ encode t.cells b ∷ [])) terms ≡ p b) → ((r : Rows) → Holds old.now r → AreFew (filter p (zip_from 1 (t.rows r))))
       → (ys : Rows → List X) → ((r : Rows) → Holds old.now r → numbered_changed p f 1 (t.rows r) ≡ ys r) → ((r : Rows) → InRange r → AllByRecursion Fits (ys r)) → (May : Rows → Type 0)
       → ((r : Rows) → Holds old.now r → May r → (b : ℕ × X) × (filter p (zip_from 1 (t.rows r)) ≡ b ∷ []) × (b.0 < 2 ^ 63)) → {result : Result (Unit {0}) RowFault} → HasWritten sql params old new result
-      → Changes old new result (Unit {0}) May (λ r. t.put r (ys r))
+      → ChangesOf old new result (Unit {0}) May (λ r. t.put r (ys r))
   changes {old} {new} p tests few ys done fits May found = changed_by text params old new t.computes.4 (has_got desk_tables t.at _ t.computes.4) typed many_is t.cells t.rows (λ r has. t.held old.now r has) p tests f
       (λ b. ap (cast_row t.table) (changed b) ∙ same_row t b.0 (f b.1)) few ys done (λ r. t.put r (ys r)) (λ r. t.computes.1 r (ys r)) (λ r h. t.in_range r (ys r) h (fits r h)) May
       (λ r has may.
@@ -68,7 +68,7 @@ module _ {X : Type 0} {Fits : X → Type 0} (t : Stored X Fits) {sql : List ℕ}
 
   -- the row with the number
   pub changes_at : (n : ℕ) → n < 2 ^ 63 → ((b : ℕ × X) → list_all (holds (params ∷ encode t.cells b ∷ [])) terms ≡ (b.0 == n)) → {old new : State} {result : Result (Unit {0}) RowFault} → HasWritten sql params old new result
-      → Changes old new result (Unit {0}) (λ r. (row : X) × (item_at (t.rows r) n ≡ Some row)) (λ r. t.put r (item_changed f (t.rows r) n))
+      → ChangesOf old new result (Unit {0}) (λ r. (row : X) × (item_at (t.rows r) n ≡ Some row)) (λ r. t.put r (item_changed f (t.rows r) n))
   changes_at n small tests = changes (λ b. b.0 == n) tests (λ r has. few_numbers n 1 (t.rows r)) (λ r. item_changed f (t.rows r) n) (λ r has. changed_at f n (t.rows r))
       (λ r h. subst (AllByRecursion Fits) (changed_at f n (t.rows r)) (all_changed (λ b. b.0 == n) f Fits kept 1 (t.rows r) (t.ranges r h)))
       (λ r. (row : X) × (item_at (t.rows r) n ≡ Some row)) (λ r has may. ((n, may.0), one_numbered n (t.rows r) may.0 may.1, small))
@@ -98,7 +98,7 @@ module _ {X : Type 0} {Fits : X → Type 0} (t : Stored X Fits) {sql : List ℕ}
       few_keys = few_with_key old.now has.ten.schema has.ten.sound t.table (has_got desk_tables t.at _ t.computes.4) index (has_got desk_indexes at index there) guarded t.cells (t.rows r) (t.held old.now r has) test agreed
 
     pub changes_key : ((b : ℕ × X) → list_all (holds (params ∷ encode t.cells b ∷ [])) terms ≡ test b) → {old new : State} {result : Result (Unit {0}) RowFault} → HasWritten sql params old new result
-        → Changes old new result (Unit {0}) (λ r. HasOnly (key.has k) (t.rows r) × (length (t.rows r) < 2 ^ 63)) (λ r. t.put r (update_where (key.has k) f (t.rows r)))
+        → ChangesOf old new result (Unit {0}) (λ r. HasOnly (key.has k) (t.rows r) × (length (t.rows r) < 2 ^ 63)) (λ r. t.put r (update_where (key.has k) f (t.rows r)))
     changes_key tests {old} = changes test tests (few_keys old) (λ r. update_where (key.has k) f (t.rows r))
         (λ r has. changed_where Fits test (key.has k) f (λ b b_fits. alike b.1 b_fits) 1 (t.rows r) (t.ranges r has.ten.in_range))
         (λ r h. subst (AllByRecursion Fits) (changed_where Fits (λ b. key.has k b.1) (key.has k) f (λ b b_fits. refl) 1 (t.rows r) (t.ranges r h)) (all_changed (λ b. key.has k b.1) f Fits kept 1 (t.rows r) (t.ranges r h)))

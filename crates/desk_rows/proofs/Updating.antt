@@ -26,7 +26,7 @@ use Rattle.sqlite.specs.Program.{overlay}
 use Rattle.sqlite.specs.State.{State, HasCleanDisk, Executes, text_of}
 use Rattle.sqlite.specs.declared.error.Error.{Error}
 use Rattle.sqlite.proofs.Callers.{IsPlain, command_of}
-use Rattle.desk_rows.specs.Calls.{Changes}
+use Rattle.desk_rows.specs.Calls.{ChangesOf}
 use Rattle.desk_rows.specs.Faults.{IsEven}
 use Rattle.desk_rows.specs.Rows.{Rows, Holds, InRange, table_of}
 use Rattle.desk_rows.specs.Schema.{desk_schema, desk_tables}
@@ -158,7 +158,7 @@ module _ {sql : List ℕ} {many at : ℕ} {table : Table} {terms project : List 
   module _ (May : Rows → Type 0)
       (found : (r : Rows) (has : Holds old.now r) → May r → (b : ℕ × X) × (filter p (zip_from 1 (xs r)) ≡ b ∷ [])
       × Obeys text params old new has.ten.schema has.ten.sound there listed typed many_is cells (xs r) (stored r has) p tests f casts b) where
-    pub changed_by : {result : Result (Unit {0}) RowFault} → HasWritten sql params old new result → Changes old new result (Unit {0}) May after
+    pub changed_by : {result : Result (Unit {0}) RowFault} → HasWritten sql params old new result → ChangesOf old new result (Unit {0}) May after
     changed_by {result} wrote = record {
       write = wrote.write;
       schema = λ sure inside has. ran_well result (wrote.runs sure inside) (schema_kept text params old new has there);

@@ -30,7 +30,7 @@ use Rattle.registry_core.specs.Numbered.{item_at}
 use Rattle.registry_core.specs.Ranges.{IsEui}
 use Rattle.registry_core.specs.Reports.{interval_of, is_in_band}
 use Rattle.registry_core.specs.JsonIntegers.{IsJsonInteger}
-use Rattle.desk_rows.specs.Calls.{Reads}
+use Rattle.desk_rows.specs.Calls.{ReadsRows}
 use Rattle.desk_rows.specs.Rows.{IsSession, IsUplink, SessionRow, eui, number, session_cells, uplink_cells}
 use Rattle.desk_rows.specs.Schema.{desk_schema}
 use Rattle.desk_rows.specs.order.Arranged.{by_start, is_uplink_between, is_uplink_of, spans_by}
@@ -96,7 +96,7 @@ module _ (dev_eui : ℕ) (low : IsEui dev_eui) (from to : ℤ) where
       out b = (Int (pos b.1.start) ∷ Int (pos b.0) ∷ [], shows (shown b))
 
       reads_range : {old new : State} {result : Result (Vec Y Global) RowFault} → FindsAll sql params old new (λ y. y) shows Fits result
-          → Reads old new result (λ r all. all.items ≡ map shown (rows_by order (passes r.sessions) r.uplinks))
+          → ReadsRows old new result (λ r all. all.items ≡ map shown (rows_by order (passes r.sessions) r.uplinks))
       reads_range {old} {new} found = says_so (reads_all lookup params many_is typed found (λ r. map shown (rows_by order (passes r.sessions) r.uplinks))
           (λ r has. (
             all_map (λ (b : ℕ × Uplink). IsUplink b.1) Fits shown fits _
@@ -125,7 +125,7 @@ band_lookup = record { names = _; compiled = _; means = refl; command = refl; pl
 
 pub reads_uplinks : (dev_eui : ℕ) → IsEui dev_eui → (band : Band) (from to : ℤ) {old new : State} {result : Result (Vec Interval Global) RowFault}
     → FindsAll band_text (eui dev_eui ∷ Int from ∷ Int to ∷ number (band_number band) ∷ []) old new (λ s. s) span_shown IsSpan result
-    → Reads old new result (λ r spans. spans.items ≡ spans_by interval_of (by_start (λ (u : Uplink). (interval_of u).start)) (is_uplink_of r.sessions dev_eui band from to) r.uplinks)
+    → ReadsRows old new result (λ r spans. spans.items ≡ spans_by interval_of (by_start (λ (u : Uplink). (interval_of u).start)) (is_uplink_of r.sessions dev_eui band from to) r.uplinks)
 reads_uplinks dev_eui low band from to found = reads_range dev_eui low from to (number (band_number band) ∷ []) _ _
     (is_in_band band) (λ sessions. is_uplink_of sessions dev_eui band from to) (λ sessions u. refl) band_lookup refl refl
     (λ b. and_true _ ∙ number_equal (band_number b.1.1.band) (band_number band)) span_shown IsSpan (λ b. interval_of b.1) (λ b. refl)
@@ -136,7 +136,7 @@ reads_uplinks dev_eui low band from to found = reads_range dev_eui low from to (
 pub reads_uplink_numbers : {sql : List ℕ} {names : List (List ℕ)} → AsksFor sql 3 uplinks_between_asked names → (dev_eui : ℕ) → IsEui dev_eui → (from to : ℤ)
     → {old new : State} {result : Result (Vec ℕ Global) RowFault}
     → FindsAll sql (eui dev_eui ∷ Int from ∷ Int to ∷ []) old new (λ n. n) (λ n. number n ∷ []) (λ n. Unit {0}) result
-    → Reads old new result (λ r numbers. numbers.items ≡ uplinks_listed dev_eui from to r)
+    → ReadsRows old new result (λ r numbers. numbers.items ≡ uplinks_listed dev_eui from to r)
 reads_uplink_numbers means dev_eui low from to found = reads_range dev_eui low from to [] _ _
     (λ u. true) (λ sessions. is_uplink_between sessions dev_eui from to) (λ sessions u. and_true _) (lookup_is means) refl refl
     (λ b. refl) (λ n. number n ∷ []) (λ n. Unit {0}) (λ b. b.0) (λ b. refl) (λ b fits. tt) found

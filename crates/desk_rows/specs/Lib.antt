@@ -2,11 +2,13 @@ pub mod CallLaws
 pub mod Calls
 pub mod Decode
 pub mod Faults
+pub mod Found
 pub mod Making
 pub mod Meta
 pub mod Migrating
 pub mod Replies
 pub mod Rows
 pub mod Schema
+pub mod Written
 pub mod order
 pub mod steps

@@ -5,7 +5,10 @@ use Rattle.registry_core.specs.Settings.{Settings, IsBlock}
 use Rattle.sqlite_value.specs.declared.value.Value.TheVariants.{Int, Text}
 use Rattle.sqlite_value.specs.Order.{Row, column}
 use Rattle.sqlite_trees.specs.Tree.{Trees}
+use Rattle.sqlite_trees.specs.declared.store.Store.{Ghosts}
 use Rattle.sqlite_schema.specs.declared.schema.Schema.{Schema}
+use Rattle.sqlite.specs.Held.{Held, state}
+use Rattle.sqlite.specs.State.{State, HasCleanDisk}
 use Rattle.desk_rows.specs.Schema.{meta_table, meta_tree}
 
 -- the first table is meta, which has the version, and there is no view
@@ -31,3 +34,17 @@ pub record TellsMeta (trees : Trees) (version : ℤ) (c : Settings) : Type 0 whe
   pub base : column row 5 ≡ Int (pos c.base)
   pub addresses : column row 6 ≡ Int (pos c.addresses)
   pub config : IsConfig c
+
+-- ---- of a connection
+
+-- the row of meta has this version and this configuration
+abbrev pub IsMetaOf : State → ℤ × Settings → Type 0
+IsMetaOf s told = TellsMeta s.now.trees told.0 told.1
+
+-- there is no row of meta, or more than one, or one that isn't in form
+abbrev pub HasNoRow : State → Type 0
+HasNoRow s = (version : ℤ) (c : Settings) → ¬ TellsMeta s.now.trees version c
+
+-- `Does` is true of the states before and after a call if the schema has meta, and the disk is clean after it
+abbrev pub WithMeta : {S : Type 0} → Ghosts S → Held S → Held S → (State → State → Type 0) → Type 0
+WithMeta g old new Does = HasMeta old.schema → HasCleanDisk (state g new) → Does (state g old) (state g new)

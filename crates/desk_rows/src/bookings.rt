@@ -1,19 +1,16 @@
 //! The table of bookings of downlinks.
-ghost use Rattle.std.specs.Prelude.{◌≡◌, ◌+◌, ◌<◌, ◌^◌, ◌++◌, [], ◌∷◌, codes, length, Some, option_map, if◌then◌else◌};
-ghost use Rattle.std.specs.List.{list_any};
+ghost use Rattle.std.specs.Prelude.{◌≡◌, ◌<◌, ◌^◌, [], ◌∷◌, codes, if◌then◌else◌};
 ghost use Rattle.duty_core.specs.Range.{IsStart};
 ghost use Rattle.registry_core.specs.declared.facts.Booking.{Booking};
 ghost use Rattle.registry_core.specs.declared.facts.Standing.TheVariants.{Dropped, Sent};
-ghost use Rattle.registry_core.specs.Bookings.{is_answer_to};
-ghost use Rattle.registry_core.specs.Numbered.{item_at, item_changed};
 ghost use Rattle.registry_core.specs.Ranges.{IsName};
 ghost use Rattle.desk_rows.specs.steps.Shown.{booking_shown};
 ghost use Rattle.desk_rows.specs.steps.Texts.{AsksFor, answer_asked, bookings_between_asked};
-ghost use Rattle.sqlite.specs.Held.{state};
-ghost use Rattle.desk_rows.specs.Rows.{BookingRow, last_number};
-ghost use Rattle.desk_rows.specs.order.Changes.{ended_row};
+ghost use Rattle.desk_rows.specs.Rows.{last_number};
 ghost use Rattle.desk_rows.specs.order.Listed.{bookings_listed};
-ghost use Rattle.desk_rows.specs.Calls.{Changes, Reads, ReadsFirst};
+ghost use Rattle.desk_rows.specs.Calls.{Changes, Lists, ReadsFirst, Returns};
+ghost use Rattle.desk_rows.specs.Written.{booking_added, booking_ended};
+ghost use Rattle.desk_rows.specs.Found.{booking_found, has_answer};
 
 use crate::columns::{band_at, name_at, number_at, span_at, standing_at};
 use crate::faults::RowFault;
@@ -55,7 +52,7 @@ pub fn booking<S: Alter>(
     conn: &mut Connection<S>,
     number: JsonInteger,
 ) -> Result<Option<Booking>, RowFault>
-    ensures { Reads (state S.Store conn.old) (state S.Store conn.new) result (λ r booking. booking ≡ option_map (λ row. row.booking) (item_at r.bookings number)) }
+    ensures { Returns S.Store conn.old conn.new result (booking_found number) }
 {
     find(
         conn,
@@ -77,15 +74,15 @@ pub fn is_answered<S: Alter>(
     conn: &mut Connection<S>,
     uplink: JsonInteger,
 ) -> Result<bool, RowFault>
-    ensures { Reads (state S.Store conn.old) (state S.Store conn.new) result (λ r answered. answered ≡ list_any (λ row. is_answer_to uplink row.booking) r.bookings) }
+    ensures { Returns S.Store conn.old conn.new result (has_answer uplink) }
 {
     is_found(conn, answer_text(), &[json_integer(uplink)])
 }
 
 /// Returns the number of the last booking, `None` if there is none.
 pub fn last_booking<S: Alter>(conn: &mut Connection<S>) -> Result<Option<u64>, RowFault>
-    ensures second { Reads (state S.Store conn.old) (state S.Store conn.new) result (λ r number. number ≡ last_number r.bookings) }
-    ensures first { ReadsFirst (state S.Store conn.old) (state S.Store conn.new) result (λ r number. number ≡ last_number r.bookings) }
+    ensures second { Returns S.Store conn.old conn.new result (λ r. last_number r.bookings) }
+    ensures first { ReadsFirst S.Store conn.old conn.new result (λ r number. number ≡ last_number r.bookings) }
 {
     find(
         conn,
@@ -111,7 +108,7 @@ pub fn bookings_between<S: Alter>(
     from: i64,
     to: i64,
 ) -> Result<Vec<u64>, RowFault>
-    ensures { Reads (state S.Store conn.old) (state S.Store conn.new) result (λ r numbers. numbers.items ≡ bookings_listed gateway.now from to r) }
+    ensures { Lists S.Store conn.old conn.new result (bookings_listed gateway.now from to) }
 {
     find_all(
         alloc,
@@ -129,9 +126,7 @@ pub fn insert_booking<S: Alter>(
     answers: Kind,
 ) -> Result<(), RowFault>
     ensures same_reference { tx.new.conn.ghost_name ≡ tx.old.conn.ghost_name }
-    ensures changes { Changes (state S.Store tx.old.conn.now) (state S.Store tx.new.conn.now) result ((booking.now.uplink < 2 ^ 63) × (session < 2 ^ 63))
-        (λ r. Unit {0} × (1 + length r.bookings < 2 ^ 63))
-        (λ r. record r { bookings = r.bookings ++ record { booking = booking.now; session = session; kind = answers } ∷ [] }) }
+    ensures changes { Changes S.Store tx.old tx.new result (booking_added booking.now session answers) }
 {
     write(
         tx,
@@ -167,9 +162,7 @@ pub fn end_booking<S: Alter>(
     sent: bool,
 ) -> Result<(), RowFault>
     ensures same_reference { tx.new.conn.ghost_name ≡ tx.old.conn.ghost_name }
-    ensures changes { Changes (state S.Store tx.old.conn.now) (state S.Store tx.new.conn.now) result (Unit {0})
-        (λ r. (row : BookingRow) × (item_at r.bookings number ≡ Some row))
-        (λ r. record r { bookings = item_changed (ended_row sent) r.bookings number }) }
+    ensures changes { Changes S.Store tx.old tx.new result (booking_ended number sent) }
 {
     write(
         tx,

@@ -1,21 +1,17 @@
 //! The table of devices.
-ghost use Rattle.std.specs.Prelude.{◌≡◌, ◌+◌, ◌<◌, ◌^◌, ◌++◌, [], ◌∷◌, ℕ, Option, codes, length, false, None, Some, IfOk, IfSome, IsTrue, find, option_map};
-ghost use Rattle.std.specs.List.{list_any};
-ghost use Rattle.sqlite.specs.Held.{state};
-ghost use Rattle.sqlite_keyed.specs.Lists.{update_where};
-ghost use Rattle.desk_rows.specs.Calls.{Changes, Reads};
+ghost use Rattle.std.specs.Prelude.{◌≡◌, [], ◌∷◌, ℕ, Option, codes, None, Some, IfOk, IfSome, IsTrue};
+ghost use Rattle.desk_rows.specs.Calls.{Changes, Lists, Returns};
 ghost use Rattle.sqlite_value.specs.declared.value.Value.TheVariants.{Text};
 ghost use Rattle.registry_core.specs.declared.facts.Device.{Device};
 ghost use Rattle.registry_core.specs.Ranges.{IsEui, IsName};
 ghost use Rattle.registry_core.specs.Reports.{is_after};
-ghost use Rattle.desk_rows.specs.order.Arranged.{by_eui, is_next_of};
 ghost use Rattle.desk_rows.specs.order.Listed.{devices_listed};
-ghost use Rattle.desk_rows.specs.order.LookUps.{first_by};
 ghost use Rattle.desk_rows.specs.steps.Queries.{above_only};
 ghost use Rattle.desk_rows.specs.steps.Texts.{AsksFor, all_asked, device_after_asked};
-ghost use Rattle.desk_rows.specs.Rows.{eui, is_device, last_number, number, or_null};
-ghost use Rattle.desk_rows.specs.order.Changes.{moved};
-ghost use Rattle.desk_rows.specs.order.Keys.{HasOnly, floor_set};
+ghost use Rattle.desk_rows.specs.Rows.{eui, last_number, number, or_null};
+ghost use Rattle.desk_rows.specs.Written.{device_added, device_moved, floor_changed};
+ghost use Rattle.desk_rows.specs.Found.{floor_found, next_device_of};
+ghost use Rattle.desk_rows.specs.order.Facts.{facts_in};
 
 use crate::columns::{eui_at, name_at, number_at};
 use crate::faults::RowFault;
@@ -46,7 +42,7 @@ impl FromRow for Device {
 
 /// Returns the device with this DevEUI, `None` if there is none.
 pub fn device<S: Alter>(conn: &mut Connection<S>, dev_eui: Eui) -> Result<Option<Device>, RowFault>
-    ensures { Reads (state S.Store conn.old) (state S.Store conn.new) result (λ r device. device ≡ option_map (λ row. row.device) (find (is_device dev_eui) r.devices)) }
+    ensures { Returns S.Store conn.old conn.new result (λ r. (facts_in r).devices dev_eui) }
 {
     let eui = octets_of(dev_eui);
     find(
@@ -58,7 +54,7 @@ pub fn device<S: Alter>(conn: &mut Connection<S>, dev_eui: Eui) -> Result<Option
 
 /// Returns the number of the last device, `None` if there is none. It is the number of devices.
 pub fn last_device<S: Alter>(conn: &mut Connection<S>) -> Result<Option<u64>, RowFault>
-    ensures { Reads (state S.Store conn.old) (state S.Store conn.new) result (λ r number. number ≡ last_number r.devices) }
+    ensures { Returns S.Store conn.old conn.new result (λ r. last_number r.devices) }
 {
     find(
         conn,
@@ -91,7 +87,7 @@ pub fn floor_of<S: Alter>(
     conn: &mut Connection<S>,
     dev_eui: Eui,
 ) -> Result<Option<Option<u64>>, RowFault>
-    ensures { Reads (state S.Store conn.old) (state S.Store conn.new) result (λ r floor. floor ≡ option_map (λ row. row.floor) (find (is_device dev_eui) r.devices)) }
+    ensures { Returns S.Store conn.old conn.new result (floor_found dev_eui) }
 {
     let eui = octets_of(dev_eui);
     find(
@@ -118,7 +114,7 @@ impl FromRow for Eui {
 
 /// Returns the least DevEUI of the owner's devices.
 fn first_device<S: Alter>(conn: &mut Connection<S>, owner: &Name) -> Result<Option<Eui>, RowFault>
-    ensures { Reads (state S.Store conn.old) (state S.Store conn.new) result (λ r next. next ≡ first_by (λ d. d.dev_eui) by_eui (is_next_of owner.now None) r.devices) }
+    ensures { Returns S.Store conn.old conn.new result (next_device_of owner.now None) }
 {
     find(
         conn,
@@ -141,7 +137,7 @@ fn device_after<S: Alter>(
     owner: &Name,
     after: Eui,
 ) -> Result<Option<Eui>, RowFault>
-    ensures { Reads (state S.Store conn.old) (state S.Store conn.new) result (λ r next. next ≡ first_by (λ d. d.dev_eui) by_eui (is_next_of owner.now (Some after)) r.devices) }
+    ensures { Returns S.Store conn.old conn.new result (next_device_of owner.now (Some after)) }
 {
     let octets = octets_of(after);
     find(conn, device_after_text(), &[text(owner), blob(&octets)])
@@ -180,7 +176,7 @@ pub fn next_device<S: Alter>(
     owner: &Name,
     after: Option<Eui>,
 ) -> Result<Option<Eui>, RowFault>
-    ensures reads { Reads (state S.Store conn.old) (state S.Store conn.new) result (λ r next. next ≡ first_by (λ d. d.dev_eui) by_eui (is_next_of owner.now after) r.devices) }
+    ensures reads { Returns S.Store conn.old conn.new result (next_device_of owner.now after) }
     ensures rises { IfOk result (λ next. IfSome next (λ dev_eui. IsTrue (is_after after dev_eui))) }
 {
     match after {
@@ -199,7 +195,7 @@ fn device_euis_text() -> &'static str
 
 /// Returns the DevEUIs of all devices, in order.
 pub fn device_euis<S: Alter>(alloc: Global, conn: &mut Connection<S>) -> Result<Vec<Eui>, RowFault>
-    ensures { Reads (state S.Store conn.old) (state S.Store conn.new) result (λ r all. all.items ≡ devices_listed r.devices) }
+    ensures { Lists S.Store conn.old conn.new result (λ r. devices_listed r.devices) }
 {
     find_all(alloc, conn, device_euis_text(), &[])
 }
@@ -211,9 +207,7 @@ pub fn insert_device<S: Alter>(
     device: &Device,
 ) -> Result<(), RowFault>
     ensures same_reference { tx.new.conn.ghost_name ≡ tx.old.conn.ghost_name }
-    ensures changes { Changes (state S.Store tx.old.conn.now) (state S.Store tx.new.conn.now) result (Unit {0})
-        (λ r. (list_any (is_device dev_eui) r.devices ≡ false) × (1 + length r.devices < 2 ^ 63))
-        (λ r. record r { devices = r.devices ++ record { dev_eui = dev_eui; device = device.now; floor = None } ∷ [] }) }
+    ensures changes { Changes S.Store tx.old tx.new result (device_added dev_eui device.now) }
 {
     let eui = octets_of(dev_eui);
     let join_eui = octets_of(device.join_eui);
@@ -231,9 +225,7 @@ pub fn move_device<S: Alter>(
     owner: &Name,
 ) -> Result<(), RowFault>
     ensures same_reference { tx.new.conn.ghost_name ≡ tx.old.conn.ghost_name }
-    ensures changes { Changes (state S.Store tx.old.conn.now) (state S.Store tx.new.conn.now) result (Unit {0})
-        (λ r. HasOnly (is_device dev_eui) r.devices × (length r.devices < 2 ^ 63))
-        (λ r. record r { devices = update_where (is_device dev_eui) (moved owner.now) r.devices }) }
+    ensures changes { Changes S.Store tx.old tx.new result (device_moved dev_eui owner.now) }
 {
     let eui = octets_of(dev_eui);
     write(
@@ -250,9 +242,7 @@ pub fn set_floor<S: Alter>(
     session: JsonInteger,
 ) -> Result<(), RowFault>
     ensures same_reference { tx.new.conn.ghost_name ≡ tx.old.conn.ghost_name }
-    ensures changes { Changes (state S.Store tx.old.conn.now) (state S.Store tx.new.conn.now) result (Unit {0})
-        (λ r. HasOnly (is_device dev_eui) r.devices × (length r.devices < 2 ^ 63))
-        (λ r. record r { devices = update_where (is_device dev_eui) (floor_set session) r.devices }) }
+    ensures changes { Changes S.Store tx.old tx.new result (floor_changed dev_eui session) }
 {
     let eui = octets_of(dev_eui);
     write(

@@ -1,11 +1,11 @@
 //! The table of gateways.
-ghost use Rattle.std.specs.Prelude.{◌≡◌, ◌+◌, ◌<◌, ◌^◌, ◌++◌, [], ◌∷◌, codes, length, false, bytes_eq};
-ghost use Rattle.std.specs.List.{list_any};
-ghost use Rattle.sqlite.specs.Held.{state};
-ghost use Rattle.desk_rows.specs.Calls.{Changes, Reads};
+ghost use Rattle.std.specs.Prelude.{◌≡◌, [], ◌∷◌, codes};
+ghost use Rattle.desk_rows.specs.Calls.{Changes, Lists, Returns};
 ghost use Rattle.desk_rows.specs.Rows.{last_number};
 ghost use Rattle.desk_rows.specs.order.Listed.{names_listed};
 ghost use Rattle.desk_rows.specs.steps.Texts.{AsksFor, all_asked};
+ghost use Rattle.desk_rows.specs.Written.{gateway_added};
+ghost use Rattle.desk_rows.specs.order.Facts.{facts_in};
 
 use crate::faults::RowFault;
 use crate::queries::{find, find_all, is_found};
@@ -17,7 +17,7 @@ use std::alloc::Global;
 
 /// Returns whether there is a gateway of this name.
 pub fn gateway_is_known<S: Alter>(conn: &mut Connection<S>, name: &Name) -> Result<bool, RowFault>
-    ensures { Reads (state S.Store conn.old) (state S.Store conn.new) result (λ r known. known ≡ list_any (λ gateway. bytes_eq gateway name.now) r.gateways) }
+    ensures { Returns S.Store conn.old conn.new result (λ r. (facts_in r).gateways name.now) }
 {
     is_found(
         conn,
@@ -28,7 +28,7 @@ pub fn gateway_is_known<S: Alter>(conn: &mut Connection<S>, name: &Name) -> Resu
 
 /// Returns the number of the last gateway, `None` if there is none. It is the number of gateways.
 pub fn last_gateway<S: Alter>(conn: &mut Connection<S>) -> Result<Option<u64>, RowFault>
-    ensures { Reads (state S.Store conn.old) (state S.Store conn.new) result (λ r number. number ≡ last_number r.gateways) }
+    ensures { Returns S.Store conn.old conn.new result (λ r. last_number r.gateways) }
 {
     find(
         conn,
@@ -50,7 +50,7 @@ pub fn gateway_names<S: Alter>(
     alloc: Global,
     conn: &mut Connection<S>,
 ) -> Result<Vec<Name>, RowFault>
-    ensures { Reads (state S.Store conn.old) (state S.Store conn.new) result (λ r all. all.items ≡ names_listed r.gateways) }
+    ensures { Lists S.Store conn.old conn.new result (λ r. names_listed r.gateways) }
 {
     find_all(alloc, conn, gateway_names_text(), &[])
 }
@@ -58,9 +58,7 @@ pub fn gateway_names<S: Alter>(
 /// Adds a gateway.
 pub fn insert_gateway<S: Alter>(tx: &mut Transaction<'_, S>, name: &Name) -> Result<(), RowFault>
     ensures same_reference { tx.new.conn.ghost_name ≡ tx.old.conn.ghost_name }
-    ensures changes { Changes (state S.Store tx.old.conn.now) (state S.Store tx.new.conn.now) result (Unit {0})
-        (λ r. (list_any (λ gateway. bytes_eq gateway name.now) r.gateways ≡ false) × (1 + length r.gateways < 2 ^ 63))
-        (λ r. record r { gateways = r.gateways ++ name.now ∷ [] }) }
+    ensures changes { Changes S.Store tx.old tx.new result (gateway_added name.now) }
 {
     write(tx, "INSERT INTO gateway (name) VALUES (?1)", &[text(name)])
 }

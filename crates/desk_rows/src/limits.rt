@@ -1,15 +1,12 @@
 //! The table of the limits that operators set for gateways' bands.
-ghost use Rattle.std.specs.Prelude.{◌≡◌, ◌+◌, ◌<◌, ◌^◌, ◌++◌, [], ◌∷◌, length, false};
-ghost use Rattle.sqlite.specs.Held.{state};
-ghost use Rattle.sqlite_keyed.specs.Lists.{update_where};
+ghost use Rattle.std.specs.Prelude.{◌≡◌, [], ◌∷◌};
 ghost use Rattle.radio_core.specs.Bands.{band_number};
-ghost use Rattle.desk_rows.specs.Calls.{Changes, Reads};
-ghost use Rattle.desk_rows.specs.Rows.{is_limit, last_number};
-ghost use Rattle.desk_rows.specs.order.Changes.{has_limit, limit_row, limited};
-ghost use Rattle.desk_rows.specs.order.Facts.{limit_found};
-ghost use Rattle.desk_rows.specs.order.Keys.{HasOnly};
+ghost use Rattle.desk_rows.specs.Calls.{Changes, Returns};
+ghost use Rattle.desk_rows.specs.Rows.{last_number};
+ghost use Rattle.desk_rows.specs.order.Facts.{facts_in};
 ghost use Rattle.desk_rows.specs.steps.Texts.{UpdatesRows, is};
 ghost use Rattle.sqlite_sql.specs.Term.{col};
+ghost use Rattle.desk_rows.specs.Written.{limit_added, limit_changed};
 
 use crate::faults::RowFault;
 use crate::queries::find;
@@ -25,7 +22,7 @@ pub fn limit_at<S: Alter>(
     gateway: &Name,
     of: Band,
 ) -> Result<Option<u64>, RowFault>
-    ensures { Reads (state S.Store conn.old) (state S.Store conn.new) result (λ r limit. limit ≡ limit_found r.limits gateway.now (band_number of)) }
+    ensures { Returns S.Store conn.old conn.new result (λ r. (facts_in r).limits gateway.now (band_number of)) }
 {
     find(
         conn,
@@ -36,7 +33,7 @@ pub fn limit_at<S: Alter>(
 
 /// Returns the number of the last limit, `None` if there is none. It is the number of limits.
 pub fn last_limit<S: Alter>(conn: &mut Connection<S>) -> Result<Option<u64>, RowFault>
-    ensures { Reads (state S.Store conn.old) (state S.Store conn.new) result (λ r number. number ≡ last_number r.limits) }
+    ensures { Returns S.Store conn.old conn.new result (λ r. last_number r.limits) }
 {
     find(
         conn,
@@ -52,9 +49,7 @@ pub fn insert_limit<S: Alter>(
     limit: BandLimit,
 ) -> Result<(), RowFault>
     ensures same_reference { tx.new.conn.ghost_name ≡ tx.old.conn.ghost_name }
-    ensures changes { Changes (state S.Store tx.old.conn.now) (state S.Store tx.new.conn.now) result (Unit {0})
-        (λ r. (has_limit gateway.now (band_number limit.band) r.limits ≡ false) × (1 + length r.limits < 2 ^ 63))
-        (λ r. record r { limits = r.limits ++ limit_row gateway.now limit ∷ [] }) }
+    ensures changes { Changes S.Store tx.old tx.new result (limit_added gateway.now limit) }
 {
     write(
         tx,
@@ -78,9 +73,7 @@ pub fn change_limit<S: Alter>(
     limit: BandLimit,
 ) -> Result<(), RowFault>
     ensures same_reference { tx.new.conn.ghost_name ≡ tx.old.conn.ghost_name }
-    ensures changes { Changes (state S.Store tx.old.conn.now) (state S.Store tx.new.conn.now) result (Unit {0})
-        (λ r. HasOnly (is_limit gateway.now (band_number limit.band)) r.limits × (length r.limits < 2 ^ 63))
-        (λ r. record r { limits = update_where (is_limit gateway.now (band_number limit.band)) (limited limit.most) r.limits }) }
+    ensures changes { Changes S.Store tx.old tx.new result (limit_changed gateway.now limit) }
 {
     write(
         tx,

@@ -1,10 +1,9 @@
 //! Makes the tables of a new desk, and the row of meta with its configuration.
-ghost use Rattle.std.specs.Prelude.{◌≡◌, None, IsTrue, IfErr, OnOk, is_ok};
-ghost use Rattle.sqlite.specs.Held.{state};
-ghost use Rattle.sqlite.specs.State.{HasCleanDisk, KeepsCommit, Survives};
-ghost use Rattle.desk_rows.specs.Calls.{IsWritingCall};
+ghost use Rattle.std.specs.Prelude.{◌≡◌, None, IsTrue, IfErr, OnOk};
+ghost use Rattle.sqlite.specs.State.{KeepsCommit};
+ghost use Rattle.desk_rows.specs.Calls.{CommitsNothing, LeadsTo, WhenClean, WhenInside, WritesInside};
 ghost use Rattle.desk_rows.specs.Faults.{IsEven};
-ghost use Rattle.desk_rows.specs.Making.{IsBare, settings_rows};
+ghost use Rattle.desk_rows.specs.Making.{IsBare, MakesAnew, settings_rows};
 ghost use Rattle.desk_rows.specs.Rows.{Holds};
 ghost use Rattle.desk_rows.specs.Schema.{no_schema};
 
@@ -44,14 +43,14 @@ CREATE TABLE band_limit (gateway TEXT NOT NULL, band INTEGER NOT NULL, value INT
 /// Makes the eleven tables with their indexes, in one batch, in a database that has none.
 pub fn create_tables<S: Alter>(tx: &mut Transaction<'_, S>) -> Result<(), RowFault>
     ensures same_reference { tx.new.conn.ghost_name ≡ tx.old.conn.ghost_name }
-    ensures made { HasCleanDisk (state S.Store tx.new.conn.now) → (state S.Store tx.old.conn.now).now.schema ≡ no_schema → OnOk result (IsBare (state S.Store tx.new.conn.now).now) }
-    ensures open { HasCleanDisk (state S.Store tx.new.conn.now) → (state S.Store tx.old.conn.now).now.schema ≡ no_schema → OnOk result (IsTrue (state S.Store tx.new.conn.now).is_open) }
-    ensures kept { HasCleanDisk (state S.Store tx.new.conn.now) → KeepsCommit (state S.Store tx.old.conn.now) (state S.Store tx.new.conn.now) }
-    ensures inside { HasCleanDisk (state S.Store tx.new.conn.now)
-        → OnOk result ((state S.Store tx.new.conn.now).in_transaction ≡ (state S.Store tx.old.conn.now).in_transaction) }
-    ensures survives { Survives (state S.Store tx.old.conn.now) (state S.Store tx.new.conn.now) (λ _. ⊥) }
-    ensures in_order { HasCleanDisk (state S.Store tx.new.conn.now) → IsTrue (state S.Store tx.old.conn.now).in_transaction
-        → (state S.Store tx.old.conn.now).now.schema ≡ no_schema → IfErr result IsEven }
+    ensures made { MakesAnew S.Store tx.old tx.new result (λ s. IsBare s.now) }
+    ensures open { MakesAnew S.Store tx.old tx.new result (λ s. IsTrue s.is_open) }
+    ensures kept { WhenClean S.Store tx.old.conn.now tx.new.conn.now KeepsCommit }
+    ensures inside { WhenClean S.Store tx.old.conn.now tx.new.conn.now
+        (λ old new. OnOk result (new.in_transaction ≡ old.in_transaction)) }
+    ensures survives { CommitsNothing S.Store tx.old.conn.now tx.new.conn.now }
+    ensures in_order { WhenInside S.Store tx.old tx.new
+        (λ old new. old.now.schema ≡ no_schema → IfErr result IsEven) }
 {
     match tx.execute_batch(TABLES) {
         Ok(()) => Ok(()),
@@ -65,11 +64,10 @@ pub fn insert_settings<S: Alter>(
     config: &Config,
 ) -> Result<(), RowFault>
     ensures same_reference { tx.new.conn.ghost_name ≡ tx.old.conn.ghost_name }
-    ensures write { IsWritingCall (state S.Store tx.old.conn.now) (state S.Store tx.new.conn.now) (is_ok result) }
-    ensures made { HasCleanDisk (state S.Store tx.new.conn.now) → IsTrue (state S.Store tx.old.conn.now).in_transaction
-        → IsBare (state S.Store tx.old.conn.now).now → OnOk result (Holds (state S.Store tx.new.conn.now).now (settings_rows config.now)) }
-    ensures in_order { HasCleanDisk (state S.Store tx.new.conn.now) → IsTrue (state S.Store tx.old.conn.now).in_transaction
-        → (state S.Store tx.old.conn.now).step_limit ≡ None → IsBare (state S.Store tx.old.conn.now).now → IfErr result IsEven }
+    ensures write { WritesInside S.Store tx.old tx.new result }
+    ensures made { LeadsTo S.Store tx.old tx.new result IsBare (λ db. Holds db (settings_rows config.now)) }
+    ensures in_order { WhenInside S.Store tx.old tx.new
+        (λ old new. old.step_limit ≡ None → IsBare old.now → IfErr result IsEven) }
 {
     write(
         tx,

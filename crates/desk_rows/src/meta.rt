@@ -1,11 +1,11 @@
 //! The row of meta: the version of the schema, and the desk's configuration.
-ghost use Rattle.std.specs.Prelude.{◌≡◌, ◌∷◌, [], ℤ, None, true, false, IfOk, IfErr, OnOk, OnErr, ◌⊎◌};
+ghost use Rattle.std.specs.Prelude.{◌≡◌, ◌∷◌, [], ℤ, None, true, false, IfOk, IfErr, OnOk, OnErr};
 ghost use Rattle.registry_core.specs.Settings.{Settings};
-ghost use Rattle.sqlite.specs.Held.{state};
-ghost use Rattle.sqlite.specs.State.{HasCleanDisk, Survives, IsUnchanged, IsRolledBack};
+ghost use Rattle.sqlite.specs.State.{IsUnchanged};
 ghost use Rattle.desk_rows.specs.Faults.{is_odd};
-ghost use Rattle.desk_rows.specs.Meta.{HasMeta, TellsMeta};
+ghost use Rattle.desk_rows.specs.Meta.{HasMeta, HasNoRow, IsMetaOf, WithMeta};
 ghost use Rattle.desk_rows.specs.steps.Meta.{TellsRow};
+ghost use Rattle.desk_rows.specs.Calls.{CommitsNothing, StaysOrRollsBack};
 
 use crate::columns::{integer_at, name_at, word_at};
 use crate::faults::{RowFault, fault_of};
@@ -25,10 +25,8 @@ fn settings_in(row: &Row) -> Result<(i64, Config), RowFault>
     let operator = name_at(row, 3)?;
     let base = word_at(row, 4)?;
     let addresses = word_at(row, 5)?;
-    match Config::new(receiver, operator, base, addresses) {
-        Some(config) => Ok((version, config)),
-        None => Err(RowFault::Row),
-    }
+    let config = Config::new(receiver, operator, base, addresses).ok_or(RowFault::Row)?;
+    Ok((version, config))
 }
 
 /// Returns the version and the configuration in the only row that the query returned.
@@ -45,14 +43,13 @@ fn settings_of(rows: &[Row]) -> Result<(i64, Config), RowFault>
 /// Returns the version and the configuration in the row of meta, whatever other tables there are. Returns `Row` if there is no row, or more
 /// than one, or one that isn't in form.
 pub fn read_settings<S: Alter>(conn: &mut Connection<S>) -> Result<(i64, Config), RowFault>
-    ensures told { HasMeta conn.old.schema → HasCleanDisk (state S.Store conn.new) → IfOk result (λ told. TellsMeta (state S.Store conn.old).now.trees told.0 told.1) }
-    ensures untold { HasMeta conn.old.schema → HasCleanDisk (state S.Store conn.new) → conn.old.step_limit ≡ None
-        → IfErr result (λ fault. is_odd fault ≡ true → (version : ℤ) (c : Settings) → ¬ TellsMeta (state S.Store conn.old).now.trees version c) }
-    ensures same { HasMeta conn.old.schema → HasCleanDisk (state S.Store conn.new) → OnOk result (IsUnchanged (state S.Store conn.old) (state S.Store conn.new)) }
-    ensures left { HasMeta conn.old.schema → HasCleanDisk (state S.Store conn.new)
-        → OnErr result (IsUnchanged (state S.Store conn.old) (state S.Store conn.new) ⊎ IsRolledBack (state S.Store conn.old) (state S.Store conn.new)) }
+    ensures told { WithMeta S.Store conn.old conn.new (λ old new. IfOk result (IsMetaOf old)) }
+    ensures untold { WithMeta S.Store conn.old conn.new
+        (λ old new. old.step_limit ≡ None → IfErr result (λ fault. is_odd fault ≡ true → HasNoRow old)) }
+    ensures same { WithMeta S.Store conn.old conn.new (λ old new. OnOk result (IsUnchanged old new)) }
+    ensures left { WithMeta S.Store conn.old conn.new (λ old new. OnErr result (StaysOrRollsBack false old new)) }
     ensures mode { conn.old.in_transaction ≡ false → conn.new.in_transaction ≡ false }
-    ensures survives { HasMeta conn.old.schema → Survives (state S.Store conn.old) (state S.Store conn.new) (λ _. ⊥) }
+    ensures survives { HasMeta conn.old.schema → CommitsNothing S.Store conn.old conn.new }
 {
     match conn.query_all(
         "SELECT id, version, receiver, operator, base, addresses FROM meta",

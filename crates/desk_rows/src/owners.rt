@@ -1,11 +1,11 @@
 //! The table of owners.
-ghost use Rattle.std.specs.Prelude.{◌≡◌, ◌+◌, ◌<◌, ◌^◌, ◌++◌, [], ◌∷◌, codes, length, false, bytes_eq};
-ghost use Rattle.std.specs.List.{list_any};
-ghost use Rattle.sqlite.specs.Held.{state};
-ghost use Rattle.desk_rows.specs.Calls.{Changes, Reads};
+ghost use Rattle.std.specs.Prelude.{◌≡◌, [], ◌∷◌, codes};
+ghost use Rattle.desk_rows.specs.Calls.{Changes, Lists, Returns};
 ghost use Rattle.desk_rows.specs.Rows.{last_number};
 ghost use Rattle.desk_rows.specs.order.Listed.{names_listed};
 ghost use Rattle.desk_rows.specs.steps.Texts.{AsksFor, all_asked};
+ghost use Rattle.desk_rows.specs.Written.{owner_added};
+ghost use Rattle.desk_rows.specs.order.Facts.{facts_in};
 
 use crate::faults::RowFault;
 use crate::queries::{find, find_all, is_found};
@@ -17,7 +17,7 @@ use std::alloc::Global;
 
 /// Returns whether there is an owner of this name.
 pub fn owner_is_known<S: Alter>(conn: &mut Connection<S>, name: &Name) -> Result<bool, RowFault>
-    ensures { Reads (state S.Store conn.old) (state S.Store conn.new) result (λ r known. known ≡ list_any (λ owner. bytes_eq owner name.now) r.owners) }
+    ensures { Returns S.Store conn.old conn.new result (λ r. (facts_in r).owners name.now) }
 {
     is_found(
         conn,
@@ -28,7 +28,7 @@ pub fn owner_is_known<S: Alter>(conn: &mut Connection<S>, name: &Name) -> Result
 
 /// Returns the number of the last owner, `None` if there is none. It is the number of owners.
 pub fn last_owner<S: Alter>(conn: &mut Connection<S>) -> Result<Option<u64>, RowFault>
-    ensures { Reads (state S.Store conn.old) (state S.Store conn.new) result (λ r number. number ≡ last_number r.owners) }
+    ensures { Returns S.Store conn.old conn.new result (λ r. last_number r.owners) }
 {
     find(
         conn,
@@ -47,7 +47,7 @@ fn owner_names_text() -> &'static str
 
 /// Returns the names of all owners, ordered by their octets.
 pub fn owner_names<S: Alter>(alloc: Global, conn: &mut Connection<S>) -> Result<Vec<Name>, RowFault>
-    ensures { Reads (state S.Store conn.old) (state S.Store conn.new) result (λ r all. all.items ≡ names_listed r.owners) }
+    ensures { Lists S.Store conn.old conn.new result (λ r. names_listed r.owners) }
 {
     find_all(alloc, conn, owner_names_text(), &[])
 }
@@ -55,9 +55,7 @@ pub fn owner_names<S: Alter>(alloc: Global, conn: &mut Connection<S>) -> Result<
 /// Adds an owner.
 pub fn insert_owner<S: Alter>(tx: &mut Transaction<'_, S>, name: &Name) -> Result<(), RowFault>
     ensures same_reference { tx.new.conn.ghost_name ≡ tx.old.conn.ghost_name }
-    ensures changes { Changes (state S.Store tx.old.conn.now) (state S.Store tx.new.conn.now) result (Unit {0})
-        (λ r. (list_any (λ owner. bytes_eq owner name.now) r.owners ≡ false) × (1 + length r.owners < 2 ^ 63))
-        (λ r. record r { owners = r.owners ++ name.now ∷ [] }) }
+    ensures changes { Changes S.Store tx.old tx.new result (owner_added name.now) }
 {
     write(tx, "INSERT INTO owner (name) VALUES (?1)", &[text(name)])
 }

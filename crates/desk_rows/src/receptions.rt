@@ -1,16 +1,15 @@
 //! The table of receptions of uplinks.
-ghost use Rattle.std.specs.Prelude.{◌≡◌, ◌+◌, ◌<◌, ◌^◌, ◌++◌, [], ◌∷◌, codes, length, false, find, option_map};
-ghost use Rattle.std.specs.List.{list_any};
-ghost use Rattle.sqlite.specs.Held.{state};
-ghost use Rattle.desk_rows.specs.Calls.{Changes, Reads};
+ghost use Rattle.std.specs.Prelude.{◌≡◌, ◌<◌, ◌^◌, [], ◌∷◌, codes};
+ghost use Rattle.desk_rows.specs.Calls.{Changes, Lists, Returns};
 ghost use Rattle.registry_core.specs.declared.facts.Reception.{Reception};
 ghost use Rattle.registry_core.specs.JsonIntegers.{IsJsonInteger};
-ghost use Rattle.desk_rows.specs.Rows.{is_reception};
 ghost use Rattle.desk_rows.specs.order.Listed.{gateways_listed};
 ghost use Rattle.desk_rows.specs.steps.Shown.{reception_shown};
 ghost use Rattle.desk_rows.specs.steps.Texts.{AsksFor, InsertsRow, gateways_asked};
 ghost use Rattle.sqlite_sql.specs.Term.{lit, col};
 ghost use Rattle.sqlite_value.specs.declared.value.Value.TheVariants.{Null};
+ghost use Rattle.desk_rows.specs.Written.{reception_added};
+ghost use Rattle.desk_rows.specs.order.Facts.{facts_in};
 
 use crate::columns::{data_rate_at, json_integer_at, word_at};
 use crate::faults::RowFault;
@@ -48,7 +47,7 @@ pub fn reception_at<S: Alter>(
     uplink: JsonInteger,
     gateway: &Name,
 ) -> Result<Option<Reception>, RowFault>
-    ensures { Reads (state S.Store conn.old) (state S.Store conn.new) result (λ r reception. reception ≡ option_map (λ row. row.reception) (find (is_reception uplink gateway.now) r.receptions)) }
+    ensures { Returns S.Store conn.old conn.new result (λ r. (facts_in r).receptions uplink gateway.now) }
 {
     find(
         conn,
@@ -71,7 +70,7 @@ pub fn gateways_of<S: Alter>(
     conn: &mut Connection<S>,
     uplink: JsonInteger,
 ) -> Result<Vec<Name>, RowFault>
-    ensures { Reads (state S.Store conn.old) (state S.Store conn.new) result (λ r all. all.items ≡ gateways_listed uplink r.receptions) }
+    ensures { Lists S.Store conn.old conn.new result (λ r. gateways_listed uplink r.receptions) }
 {
     find_all(alloc, conn, gateways_text(), &[json_integer(uplink)])
 }
@@ -92,9 +91,7 @@ pub fn insert_reception<S: Alter>(
     reception: &Reception,
 ) -> Result<(), RowFault>
     ensures same_reference { tx.new.conn.ghost_name ≡ tx.old.conn.ghost_name }
-    ensures changes { Changes (state S.Store tx.old.conn.now) (state S.Store tx.new.conn.now) result (uplink < 2 ^ 63)
-        (λ r. (list_any (is_reception uplink gateway.now) r.receptions ≡ false) × (1 + length r.receptions < 2 ^ 63))
-        (λ r. record r { receptions = r.receptions ++ record { uplink = uplink; gateway = gateway.now; reception = reception.now } ∷ [] }) }
+    ensures changes { Changes S.Store tx.old tx.new result (reception_added uplink gateway.now reception.now) }
 {
     write(
         tx,

@@ -1,16 +1,15 @@
 //! The table of messages that were heard, with their answers.
-ghost use Rattle.std.specs.Prelude.{◌≡◌, ◌+◌, ◌<◌, ◌^◌, ◌++◌, [], ◌∷◌, ℕ, List, bytes_eq, codes, filter, length, map, false, find, option_map};
-ghost use Rattle.std.specs.List.{list_any};
-ghost use Rattle.sqlite.specs.Held.{state};
-ghost use Rattle.desk_rows.specs.Calls.{Changes, Reads, ReadsFirst};
+ghost use Rattle.std.specs.Prelude.{◌≡◌, [], ◌∷◌, ℕ, List, codes};
+ghost use Rattle.desk_rows.specs.Calls.{Changes, ReadsFirst, Returns};
 ghost use Rattle.sqlite_value.specs.declared.value.Value.TheVariants.{Blob};
-ghost use Rattle.registry_core.specs.Numbered.{greatest, item_at};
-ghost use Rattle.desk_rows.specs.Replies.{reply_texts, kept_texts};
-ghost use Rattle.desk_rows.specs.Rows.{is_reply, last_number};
+ghost use Rattle.desk_rows.specs.Replies.{ReturnsTexts, kept_texts};
+ghost use Rattle.desk_rows.specs.Rows.{last_number};
 ghost use Rattle.desk_rows.specs.Schema.{reply_tree};
 ghost use Rattle.desk_rows.specs.steps.Latest.{last_transaction_asked};
 ghost use Rattle.desk_rows.specs.steps.Texts.{AsksFor, by_rowid, is, reply_asked};
 ghost use Rattle.sqlite_sql.specs.Term.{col};
+ghost use Rattle.desk_rows.specs.Written.{reply_added};
+ghost use Rattle.desk_rows.specs.Found.{last_transaction_of, texts_found, texts_numbered};
 
 use crate::columns::octets_at;
 use crate::faults::RowFault;
@@ -58,8 +57,7 @@ pub fn texts_of<S: Alter>(
     sender: &Name,
     number: u32,
 ) -> Result<Option<ReplyTexts>, RowFault>
-    ensures { Reads (state S.Store conn.old) (state S.Store conn.new) result
-        (λ r texts. option_map kept_texts texts ≡ option_map reply_texts (find (is_reply sender.now number) r.replies)) }
+    ensures { ReturnsTexts S.Store conn.old conn.new result (texts_found sender.now number) }
 {
     find(conn, reply_text(), &[text(sender), word(number)])
 }
@@ -77,16 +75,15 @@ pub fn texts_at<S: Alter>(
     conn: &mut Connection<S>,
     number: JsonInteger,
 ) -> Result<Option<ReplyTexts>, RowFault>
-    ensures { Reads (state S.Store conn.old) (state S.Store conn.new) result
-        (λ r texts. option_map kept_texts texts ≡ option_map reply_texts (item_at r.replies number)) }
+    ensures { ReturnsTexts S.Store conn.old conn.new result (texts_numbered number) }
 {
     find(conn, numbered_reply_text(), &[json_integer(number)])
 }
 
 /// Returns the number of the last message that was heard, `None` if there is none.
 pub fn last_reply<S: Alter>(conn: &mut Connection<S>) -> Result<Option<u64>, RowFault>
-    ensures second { Reads (state S.Store conn.old) (state S.Store conn.new) result (λ r number. number ≡ last_number r.replies) }
-    ensures first { ReadsFirst (state S.Store conn.old) (state S.Store conn.new) result (λ r number. number ≡ last_number r.replies) }
+    ensures second { Returns S.Store conn.old conn.new result (λ r. last_number r.replies) }
+    ensures first { ReadsFirst S.Store conn.old conn.new result (λ r number. number ≡ last_number r.replies) }
 {
     find(conn, "SELECT seq FROM reply ORDER BY seq DESC LIMIT 1", &[])
 }
@@ -104,8 +101,7 @@ pub fn last_transaction<S: Alter>(
     conn: &mut Connection<S>,
     sender: &Name,
 ) -> Result<Option<u64>, RowFault>
-    ensures { Reads (state S.Store conn.old) (state S.Store conn.new) result
-        (λ r number. number ≡ greatest (map (λ row. row.number) (filter (λ row. bytes_eq row.sender sender.now) r.replies))) }
+    ensures { Returns S.Store conn.old conn.new result (last_transaction_of sender.now) }
 {
     find(conn, last_transaction_text(), &[text(sender)])
 }
@@ -119,9 +115,7 @@ pub fn insert_reply<S: Alter>(
     answer: &[u8],
 ) -> Result<(), RowFault>
     ensures same_reference { tx.new.conn.ghost_name ≡ tx.old.conn.ghost_name }
-    ensures changes { Changes (state S.Store tx.old.conn.now) (state S.Store tx.new.conn.now) result (Unit {0})
-        (λ r. (list_any (is_reply sender.now number) r.replies ≡ false) × (1 + length r.replies < 2 ^ 63))
-        (λ r. record r { replies = r.replies ++ record { sender = sender.now; number = number; message = message.now; answer = answer.now } ∷ [] }) }
+    ensures changes { Changes S.Store tx.old tx.new result (reply_added sender.now number message.now answer.now) }
 {
     write(
         tx,

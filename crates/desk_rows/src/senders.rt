@@ -1,12 +1,12 @@
 //! The table of senders.
-ghost use Rattle.std.specs.Prelude.{◌≡◌, ◌+◌, ◌<◌, ◌^◌, ◌++◌, [], ◌∷◌, codes, length, false, find, option_map};
-ghost use Rattle.std.specs.List.{list_any};
-ghost use Rattle.sqlite.specs.Held.{state};
-ghost use Rattle.desk_rows.specs.Calls.{Changes, Reads};
-ghost use Rattle.desk_rows.specs.Rows.{is_sender_named, last_number, number, role_number};
+ghost use Rattle.std.specs.Prelude.{◌≡◌, [], ◌∷◌, codes};
+ghost use Rattle.desk_rows.specs.Calls.{Changes, Lists, Returns};
+ghost use Rattle.desk_rows.specs.Rows.{last_number, number, role_number};
 ghost use Rattle.desk_rows.specs.order.Listed.{senders_listed};
 ghost use Rattle.desk_rows.specs.steps.Texts.{AsksFor, all_asked, role_asked};
 ghost use Rattle.registry_core.specs.declared.messages.Role.{Role};
+ghost use Rattle.desk_rows.specs.Written.{sender_added};
+ghost use Rattle.desk_rows.specs.order.Facts.{facts_in};
 
 use crate::columns::role_at;
 use crate::faults::RowFault;
@@ -42,14 +42,14 @@ fn role_text() -> &'static str
 
 /// Returns the role of the sender of this name, `None` if there is none.
 pub fn role_of<S: Alter>(conn: &mut Connection<S>, name: &Name) -> Result<Option<Role>, RowFault>
-    ensures { Reads (state S.Store conn.old) (state S.Store conn.new) result (λ r role. role ≡ option_map (λ sender. sender.role) (find (is_sender_named name.now) r.senders)) }
+    ensures { Returns S.Store conn.old conn.new result (λ r. (facts_in r).senders name.now) }
 {
     find(conn, role_text(), &[text(name)])
 }
 
 /// Returns the number of the last sender, `None` if there is none. It is the number of senders.
 pub fn last_sender<S: Alter>(conn: &mut Connection<S>) -> Result<Option<u64>, RowFault>
-    ensures { Reads (state S.Store conn.old) (state S.Store conn.new) result (λ r number. number ≡ last_number r.senders) }
+    ensures { Returns S.Store conn.old conn.new result (λ r. last_number r.senders) }
 {
     find(
         conn,
@@ -71,7 +71,7 @@ pub fn sender_names<S: Alter>(
     alloc: Global,
     conn: &mut Connection<S>,
 ) -> Result<Vec<Name>, RowFault>
-    ensures { Reads (state S.Store conn.old) (state S.Store conn.new) result (λ r all. all.items ≡ senders_listed r.senders) }
+    ensures { Lists S.Store conn.old conn.new result (λ r. senders_listed r.senders) }
 {
     find_all(alloc, conn, sender_names_text(), &[])
 }
@@ -83,9 +83,7 @@ pub fn insert_sender<S: Alter>(
     has: Role,
 ) -> Result<(), RowFault>
     ensures same_reference { tx.new.conn.ghost_name ≡ tx.old.conn.ghost_name }
-    ensures changes { Changes (state S.Store tx.old.conn.now) (state S.Store tx.new.conn.now) result (Unit {0})
-        (λ r. (list_any (is_sender_named name.now) r.senders ≡ false) × (1 + length r.senders < 2 ^ 63))
-        (λ r. record r { senders = r.senders ++ record { name = name.now; role = has } ∷ [] }) }
+    ensures changes { Changes S.Store tx.old tx.new result (sender_added name.now has) }
 {
     write(
         tx,

@@ -1,17 +1,15 @@
 //! The table of sessions.
-ghost use Rattle.std.specs.Prelude.{◌≡◌, ◌==◌, ℕ, filter, map, ◌+◌, ◌<◌, ◌^◌, ◌++◌, [], ◌∷◌, codes, length, false, Some, option_map};
-ghost use Rattle.std.specs.List.{list_any};
-ghost use Rattle.sqlite.specs.Held.{state};
-ghost use Rattle.desk_rows.specs.Calls.{Changes, Reads, ReadsFirst};
+ghost use Rattle.std.specs.Prelude.{◌≡◌, ℕ, ◌<◌, ◌^◌, [], ◌∷◌, codes};
+ghost use Rattle.desk_rows.specs.Calls.{Changes, Lists, ReadsFirst, Returns};
 ghost use Rattle.registry_core.specs.declared.facts.Session.{Session};
 ghost use Rattle.registry_core.specs.Listing.{sessions_of};
-ghost use Rattle.registry_core.specs.Numbered.{first_that, greatest, item_at, item_changed};
 ghost use Rattle.registry_core.specs.Ranges.{IsEui};
-ghost use Rattle.desk_rows.specs.Rows.{SessionRow, eui, is_session, last_number, number};
+ghost use Rattle.desk_rows.specs.Rows.{eui, last_number, number};
 ghost use Rattle.desk_rows.specs.order.Facts.{sessions_in};
-ghost use Rattle.desk_rows.specs.order.Keys.{next_down_set};
 ghost use Rattle.desk_rows.specs.steps.Latest.{sessions_asked};
 ghost use Rattle.desk_rows.specs.steps.Texts.{AsksFor, next_down_asked};
+ghost use Rattle.desk_rows.specs.Written.{next_down_changed, session_added};
+ghost use Rattle.desk_rows.specs.Found.{last_nonce_of, next_down_found, number_of_session, session_found};
 
 use crate::columns::{eui_at, short_at};
 use crate::faults::RowFault;
@@ -44,7 +42,7 @@ pub fn session<S: Alter>(
     conn: &mut Connection<S>,
     number: JsonInteger,
 ) -> Result<Option<Session>, RowFault>
-    ensures { Reads (state S.Store conn.old) (state S.Store conn.new) result (λ r session. session ≡ option_map (λ row. row.session) (item_at r.sessions number)) }
+    ensures { Returns S.Store conn.old conn.new result (session_found number) }
 {
     find(
         conn,
@@ -66,7 +64,7 @@ pub fn next_down<S: Alter>(
     conn: &mut Connection<S>,
     number: JsonInteger,
 ) -> Result<Option<u64>, RowFault>
-    ensures { Reads (state S.Store conn.old) (state S.Store conn.new) result (λ r counter. counter ≡ option_map (λ row. row.next_down) (item_at r.sessions number)) }
+    ensures { Returns S.Store conn.old conn.new result (next_down_found number) }
 {
     find(conn, next_down_text(), &[json_integer(number)])
 }
@@ -77,7 +75,7 @@ pub fn session_with_nonce<S: Alter>(
     device: Eui,
     nonce: u16,
 ) -> Result<Option<u64>, RowFault>
-    ensures { Reads (state S.Store conn.old) (state S.Store conn.new) result (λ r number. number ≡ option_map (λ found. found.0) (first_that (is_session device nonce) r.sessions)) }
+    ensures { Returns S.Store conn.old conn.new result (number_of_session device nonce) }
 {
     let octets = octets_of(device);
     find(
@@ -89,8 +87,8 @@ pub fn session_with_nonce<S: Alter>(
 
 /// Returns the number of the last session, `None` if there is none.
 pub fn last_session<S: Alter>(conn: &mut Connection<S>) -> Result<Option<u64>, RowFault>
-    ensures second { Reads (state S.Store conn.old) (state S.Store conn.new) result (λ r number. number ≡ last_number r.sessions) }
-    ensures first { ReadsFirst (state S.Store conn.old) (state S.Store conn.new) result (λ r number. number ≡ last_number r.sessions) }
+    ensures second { Returns S.Store conn.old conn.new result (λ r. last_number r.sessions) }
+    ensures first { ReadsFirst S.Store conn.old conn.new result (λ r number. number ≡ last_number r.sessions) }
 {
     find(
         conn,
@@ -115,8 +113,7 @@ impl FromRow for u16 {
 
 /// Returns the last nonce of a device, `None` if it has no session.
 pub fn last_nonce<S: Alter>(conn: &mut Connection<S>, device: Eui) -> Result<Option<u16>, RowFault>
-    ensures { Reads (state S.Store conn.old) (state S.Store conn.new) result
-        (λ r nonce. nonce ≡ greatest (map (λ row. row.session.nonce) (filter (λ row. row.session.device == device) r.sessions))) }
+    ensures { Returns S.Store conn.old conn.new result (last_nonce_of device) }
 {
     let octets = octets_of(device);
     find(
@@ -140,7 +137,7 @@ pub fn sessions_of<S: Alter>(
     conn: &mut Connection<S>,
     device: Eui,
 ) -> Result<Vec<u64>, RowFault>
-    ensures { Reads (state S.Store conn.old) (state S.Store conn.new) result (λ r numbers. numbers.items ≡ sessions_of (sessions_in r.sessions) device) }
+    ensures { Lists S.Store conn.old conn.new result (λ r. sessions_of (sessions_in r.sessions) device) }
 {
     let octets = octets_of(device);
     find_all(alloc, conn, sessions_text(), &[blob(&octets)])
@@ -152,9 +149,7 @@ pub fn insert_session<S: Alter>(
     session: Session,
 ) -> Result<(), RowFault>
     ensures same_reference { tx.new.conn.ghost_name ≡ tx.old.conn.ghost_name }
-    ensures changes { Changes (state S.Store tx.old.conn.now) (state S.Store tx.new.conn.now) result (Unit {0})
-        (λ r. (list_any (is_session session.device session.nonce) r.sessions ≡ false) × (1 + length r.sessions < 2 ^ 63))
-        (λ r. record r { sessions = r.sessions ++ record { session = session; next_down = 0 } ∷ [] }) }
+    ensures changes { Changes S.Store tx.old tx.new result (session_added session) }
 {
     let device = octets_of(session.device);
     write(
@@ -171,9 +166,7 @@ pub fn set_next_down<S: Alter>(
     next_down: JsonInteger,
 ) -> Result<(), RowFault>
     ensures same_reference { tx.new.conn.ghost_name ≡ tx.old.conn.ghost_name }
-    ensures changes { Changes (state S.Store tx.old.conn.now) (state S.Store tx.new.conn.now) result (Unit {0})
-        (λ r. (row : SessionRow) × (item_at r.sessions session ≡ Some row))
-        (λ r. record r { sessions = item_changed (next_down_set next_down) r.sessions session }) }
+    ensures changes { Changes S.Store tx.old tx.new result (next_down_changed session next_down) }
 {
     write(
         tx,

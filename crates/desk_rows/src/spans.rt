@@ -1,15 +1,12 @@
 //! Look-ups of the times on air of uplinks and downlinks.
-ghost use Rattle.std.specs.Prelude.{◌≡◌, ◌&&◌, ◌<◌, ◌^◌, [], ◌∷◌, codes, pos};
-ghost use Rattle.sqlite.specs.Held.{state};
+ghost use Rattle.std.specs.Prelude.{◌<◌, ◌^◌, [], ◌∷◌, codes, pos};
 ghost use Rattle.duty_core.specs.Range.{IsStart};
 ghost use Rattle.duty_core.specs.Use.{Interval};
 ghost use Rattle.registry_core.specs.declared.views.NearBooking.{NearBooking};
-ghost use Rattle.registry_core.specs.Bookings.{stands_in};
-ghost use Rattle.registry_core.specs.Reports.{interval_of};
-ghost use Rattle.desk_rows.specs.Calls.{Reads};
-ghost use Rattle.desk_rows.specs.order.Arranged.{booking_span, by_start, is_near_at, is_uplink_of, near_by, spans_by};
+ghost use Rattle.desk_rows.specs.Calls.{Lists};
 ghost use Rattle.desk_rows.specs.steps.Shown.{near_booking_shown, span_shown};
 ghost use Rattle.desk_rows.specs.steps.Texts.{AsksFor, bookings_asked, near_asked};
+ghost use Rattle.desk_rows.specs.Found.{booking_spans, near_found, uplink_spans};
 
 use crate::columns::{band_at, span_at};
 use crate::faults::RowFault;
@@ -67,8 +64,7 @@ pub fn bookings_of<S: Alter>(
     gateway: &Name,
     of: Band,
 ) -> Result<Vec<Span>, RowFault>
-    ensures { Reads (state S.Store conn.old) (state S.Store conn.new) result
-        (λ r spans. spans.items ≡ spans_by booking_span (by_start (λ b. (booking_span b).start)) (λ b. stands_in gateway.now of b.booking) r.bookings) }
+    ensures { Lists S.Store conn.old conn.new result (booking_spans gateway.now of) }
 {
     find_all(alloc, conn, bookings_text(), &[text(gateway), band(of)])
 }
@@ -89,8 +85,7 @@ pub fn near<S: Alter>(
     gateway: &Name,
     start: u64,
 ) -> Result<Vec<NearBooking>, RowFault>
-    ensures { Reads (state S.Store conn.old) (state S.Store conn.new) result
-        (λ r near. near.items ≡ near_by (by_start (λ b. (booking_span b).start)) (is_near_at gateway.now (pos start)) r.bookings) }
+    ensures { Lists S.Store conn.old conn.new result (near_found gateway.now (pos start)) }
 {
     let range = near_range(i128::from(start));
     find_all(
@@ -111,8 +106,7 @@ pub fn uplinks_of<S: Alter>(
     from: i64,
     to: i64,
 ) -> Result<Vec<Span>, RowFault>
-    ensures { Reads (state S.Store conn.old) (state S.Store conn.new) result
-        (λ r spans. spans.items ≡ spans_by interval_of (by_start (λ u. (interval_of u).start)) (is_uplink_of r.sessions device of from to) r.uplinks) }
+    ensures { Lists S.Store conn.old conn.new result (uplink_spans device of from to) }
 {
     let eui = octets_of(device);
     find_all(

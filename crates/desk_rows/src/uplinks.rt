@@ -1,17 +1,16 @@
 //! The table of uplinks.
-ghost use Rattle.std.specs.Prelude.{◌≡◌, ◌+◌, ◌<◌, ◌^◌, ◌++◌, [], ◌∷◌, ℕ, codes, length, false, option_map};
-ghost use Rattle.std.specs.List.{list_any};
-ghost use Rattle.sqlite.specs.Held.{state};
-ghost use Rattle.desk_rows.specs.Calls.{Changes, Reads, ReadsFirst};
+ghost use Rattle.std.specs.Prelude.{◌≡◌, ◌<◌, ◌^◌, [], ◌∷◌, ℕ, codes};
+ghost use Rattle.desk_rows.specs.Calls.{Changes, Lists, ReadsFirst, Returns};
 ghost use Rattle.registry_core.specs.declared.facts.Uplink.{Uplink};
 ghost use Rattle.registry_core.specs.Derived.{last_counter};
 ghost use Rattle.registry_core.specs.Listing.{last_start};
-ghost use Rattle.registry_core.specs.Numbered.{first_that, item_at};
-ghost use Rattle.desk_rows.specs.Rows.{IsUplink, is_uplink, last_number, number};
+ghost use Rattle.desk_rows.specs.Rows.{IsUplink, last_number, number};
 ghost use Rattle.desk_rows.specs.order.Listed.{uplinks_listed};
 ghost use Rattle.desk_rows.specs.steps.Latest.{last_start_asked};
 ghost use Rattle.desk_rows.specs.steps.Shown.{uplink_shown};
 ghost use Rattle.desk_rows.specs.steps.Texts.{AsksFor, uplinks_between_asked};
+ghost use Rattle.desk_rows.specs.Written.{uplink_added};
+ghost use Rattle.desk_rows.specs.Found.{frame_found, uplink_found};
 
 use crate::columns::{band_at, frame_column, json_integer_at, kind_at, number_at, word_at};
 use crate::faults::RowFault;
@@ -59,7 +58,7 @@ pub fn uplink<S: Alter>(
     conn: &mut Connection<S>,
     number: JsonInteger,
 ) -> Result<Option<(u64, Uplink)>, RowFault>
-    ensures { Reads (state S.Store conn.old) (state S.Store conn.new) result (λ r found. found ≡ option_map (λ uplink. (number, uplink)) (item_at r.uplinks number)) }
+    ensures { Returns S.Store conn.old conn.new result (uplink_found number) }
 {
     find(
         conn,
@@ -75,7 +74,7 @@ pub fn uplink_with<S: Alter>(
     of: Kind,
     counter: u32,
 ) -> Result<Option<(u64, Uplink)>, RowFault>
-    ensures { Reads (state S.Store conn.old) (state S.Store conn.new) result (λ r found. found ≡ first_that (is_uplink session of counter) r.uplinks) }
+    ensures { Returns S.Store conn.old conn.new result (frame_found session of counter) }
 {
     find(
         conn,
@@ -86,8 +85,8 @@ pub fn uplink_with<S: Alter>(
 
 /// Returns the number of the last uplink, `None` if there is none.
 pub fn last_uplink<S: Alter>(conn: &mut Connection<S>) -> Result<Option<u64>, RowFault>
-    ensures second { Reads (state S.Store conn.old) (state S.Store conn.new) result (λ r number. number ≡ last_number r.uplinks) }
-    ensures first { ReadsFirst (state S.Store conn.old) (state S.Store conn.new) result (λ r number. number ≡ last_number r.uplinks) }
+    ensures second { Returns S.Store conn.old conn.new result (λ r. last_number r.uplinks) }
+    ensures first { ReadsFirst S.Store conn.old conn.new result (λ r number. number ≡ last_number r.uplinks) }
 {
     find(
         conn,
@@ -115,7 +114,7 @@ pub fn last_counter<S: Alter>(
     conn: &mut Connection<S>,
     session: JsonInteger,
 ) -> Result<Option<u32>, RowFault>
-    ensures { Reads (state S.Store conn.old) (state S.Store conn.new) result (λ r counter. counter ≡ last_counter r.uplinks session) }
+    ensures { Returns S.Store conn.old conn.new result (λ r. last_counter r.uplinks session) }
 {
     find(
         conn,
@@ -137,7 +136,7 @@ pub fn last_start<S: Alter>(
     conn: &mut Connection<S>,
     session: JsonInteger,
 ) -> Result<Option<u64>, RowFault>
-    ensures { Reads (state S.Store conn.old) (state S.Store conn.new) result (λ r start. start ≡ last_start r.uplinks session) }
+    ensures { Returns S.Store conn.old conn.new result (λ r. last_start r.uplinks session) }
 {
     find(conn, last_start_text(), &[json_integer(session)])
 }
@@ -159,7 +158,7 @@ pub fn uplinks_between<S: Alter>(
     from: i64,
     to: i64,
 ) -> Result<Vec<u64>, RowFault>
-    ensures { Reads (state S.Store conn.old) (state S.Store conn.new) result (λ r numbers. numbers.items ≡ uplinks_listed device from to r) }
+    ensures { Lists S.Store conn.old conn.new result (uplinks_listed device from to) }
 {
     let eui = octets_of(device);
     find_all(
@@ -173,9 +172,7 @@ pub fn uplinks_between<S: Alter>(
 /// Adds an uplink at the end.
 pub fn insert_uplink<S: Alter>(tx: &mut Transaction<'_, S>, uplink: &Uplink) -> Result<(), RowFault>
     ensures same_reference { tx.new.conn.ghost_name ≡ tx.old.conn.ghost_name }
-    ensures changes { Changes (state S.Store tx.old.conn.now) (state S.Store tx.new.conn.now) result (uplink.now.session < 2 ^ 63)
-        (λ r. (list_any (is_uplink uplink.now.session uplink.now.kind uplink.now.counter) r.uplinks ≡ false) × (1 + length r.uplinks < 2 ^ 63))
-        (λ r. record r { uplinks = r.uplinks ++ uplink.now ∷ [] }) }
+    ensures changes { Changes S.Store tx.old tx.new result (uplink_added uplink.now) }
 {
     write(
         tx,

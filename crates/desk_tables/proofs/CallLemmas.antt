@@ -5,7 +5,7 @@ use Rattle.std.proofs.lemmas.Result.{err_from_is_err_and}
 use Rattle.sqlite_schema.specs.declared.schema.Schema.{Schema}
 use Rattle.sqlite.specs.Effect.{Database}
 use Rattle.sqlite.specs.State.{State, HasCleanDisk}
-use Rattle.desk_rows.specs.Calls.{Changes, ReadsOf}
+use Rattle.desk_rows.specs.Calls.{ChangesOf, ReadsOf}
 use Rattle.desk_rows.specs.Faults.{IsEven}
 use Rattle.desk_rows.specs.Schema.{desk_schema}
 use Rattle.desk_rows.specs.Rows.{Rows, Holds}
@@ -83,7 +83,7 @@ asks_also = asks_also_of has_schema
 
 -- one statement
 pub makes_one : {X : Type 0} {old new : State} {result : Result X RowFault} {InRange : Type 0} {Early Of May : Rows → Type 0} {change after : Rows → Rows}
-    → Changes old new result InRange Early change → ((r : Rows) → Of r → InRange) → ((r : Rows) → Of r → May r → Early r)
+    → ChangesOf old new result InRange Early change → ((r : Rows) → Of r → InRange) → ((r : Rows) → Of r → May r → Early r)
     → ((r : Rows) → Of r → change r ≡ after r) → Makes old new result Of May after
 makes_one {new = new} {result = result} {change = change} {after = after} h in_range then same = record {
   write = h.write;

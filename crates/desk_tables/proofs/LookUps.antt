@@ -231,12 +231,12 @@ module _ {S T : Type 0} (g : Ghosts S) (old : Tables S) (mid : Held S) (new : Ta
   kept_asked (Err fault) result P up asks (t, is, fails) = λ kept clean holds. subst (λ r. IfOk r (P kept)) (sym is) tt
 
   pub answered_by_rows : (answer : Result T RowFault) (result : Result T StoreFault) (Says : Rows → T → Type 0) → old.failed ≡ false
-      → Reads (state g old.conn) (state g mid) answer Says → IsTold g (record old { conn = mid }) new answer result
+      → Reads g old.conn mid answer Says → IsTold g (record old { conn = mid }) new answer result
       → calls.IsRead (meaning_of g) old new (fault_in result)
   answered_by_rows answer result Says up reads told = read_asked answer result Says up (asks_one reads) told
 
   pub answered_by_kept : (answer : Result T RowFault) (result : Result T StoreFault) (P : Kept → T → Type 0) → old.failed ≡ false
-      → Reads (state g old.conn) (state g mid) answer (OfKept P) → IsTold g (record old { conn = mid }) new answer result
+      → Reads g old.conn mid answer (OfKept P) → IsTold g (record old { conn = mid }) new answer result
       → Tells (meaning_of g) old new result P
   answered_by_kept answer result P up reads told = kept_asked answer result P up (asks_one reads) told
 
@@ -249,7 +249,7 @@ told_ok {T = T} g mid new (Ok y) x told =
 told_ok g mid new (Err fault) x (t, is, fails) = absurd (cc)
 
 module _ {S T : Type 0} (g : Ghosts S) (old : Tables S) (mid : Held S) (up : old.failed ≡ false) (x : T) (Says : Rows → T → Type 0) (seen : Seen)
-    (reads : Reads (state g old.conn) (state g mid) (Ok x) Says) (so : (r : Rows) → Says r x → IsSeen r old.seen → IsSeen r seen) where
+    (reads : Reads g old.conn mid (Ok x) Says) (so : (r : Rows) → Says r x → IsSeen r old.seen → IsSeen r seen) where
   seen_held : (kept : Kept) → HasCleanDisk (state g mid) → Stands g old kept → Stands g (record old { conn = mid }) kept
       → Stands g (record old { conn = mid; seen = seen }) kept
   seen_held kept clean was it =
@@ -281,13 +281,13 @@ module _ {S T : Type 0} (g : Ghosts S) (old : Tables S) (mid : Held S) (up : old
 
 -- a look-up that answered, and how the store then changes what it has seen
 pub answered_and_seen : {S T : Type 0} (g : Ghosts S) (old : Tables S) (mid : Held S) (new : Tables S) (answer : Result T RowFault) (x : T)
-    (Says : Rows → T → Type 0) (change : Seen → Seen) → old.failed ≡ false → Reads (state g old.conn) (state g mid) answer Says
+    (Says : Rows → T → Type 0) (change : Seen → Seen) → old.failed ≡ false → Reads g old.conn mid answer Says
     → IsTold g (record old { conn = mid }) new answer (Ok x) → ((r : Rows) → Says r x → IsSeen r old.seen → IsSeen r (change old.seen))
     → calls.IsRead (meaning_of g) old (record new { seen = change new.seen }) None
 answered_and_seen g old mid new answer x Says change up reads told so =
     let is = told_ok g (record old { conn = mid }) new answer x told in
     subst (λ k. calls.IsRead (meaning_of g) old (record k { seen = change k.seen }) None) (sym is.1)
-    (seen_read g old mid up x Says (change old.seen) (subst (λ a. Reads (state g old.conn) (state g mid) a Says) is.0 reads) so)
+    (seen_read g old mid up x Says (change old.seen) (subst (λ a. Reads g old.conn mid a Says) is.0 reads) so)
 
 -- what was seen is asked for no more
 pub unread : {S : Type 0} (g : Ghosts S) (s : Tables S) → calls.IsRead (meaning_of g) s s None

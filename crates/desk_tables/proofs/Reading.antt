@@ -2,25 +2,25 @@
 use Rattle.std.proofs.Common.{◌≡◌, inl, Result, Ok, Err, refl, sym, subst, arith}
 use Rattle.sqlite.specs.State.{State, Survives}
 use Rattle.desk_rows.specs.declared.faults.RowFault.{RowFault}
-use Rattle.desk_rows.specs.Calls.{Reads}
+use Rattle.desk_rows.specs.Calls.{ReadsRows}
 use Rattle.desk_rows.specs.Rows.{Rows}
 
 pub says_also : {X : Type 0} (old new : State) (result : Result X RowFault) (P Q : Rows → X → Type 0) → ((r : Rows) (x : X) → P r x → Q r x)
-    → Reads old new result P → Reads old new result Q
+    → ReadsRows old new result P → ReadsRows old new result Q
 says_also old new (Ok x) P Q so reads = record { read = reads.read; told = λ clean r holds. so r x (reads.told clean r holds); in_order = reads.in_order }
 says_also old new (Err e) P Q so reads = record { read = reads.read; told = λ clean r holds. tt; in_order = reads.in_order }
 
 -- the result is shown as something else
 pub shows : {X Y : Type 0} (old new : State) (x : X) (y : Y) (P : Rows → X → Type 0) (Q : Rows → Y → Type 0) → ((r : Rows) → P r x → Q r y)
-    → Reads old new (Ok x) P → Reads old new (Ok y) Q
+    → ReadsRows old new (Ok x) P → ReadsRows old new (Ok y) Q
 shows old new x y P Q so reads = record { read = reads.read; told = λ clean r holds. so r (reads.told clean r holds); in_order = λ clean limit r holds. tt }
 
 -- a look-up that failed returns no value
 pub fails : {X Y : Type 0} {old new : State} {fault : RowFault} {result : Result Y RowFault} {P : Rows → X → Type 0} {Q : Rows → Y → Type 0}
-    → result ≡ Err fault → Reads {X = X} old new (Err fault) P → Reads old new result Q
+    → result ≡ Err fault → ReadsRows {X = X} old new (Err fault) P → ReadsRows old new result Q
 fails {Y = Y} {old = old} {new = new} {fault = fault} {Q = Q} failed h =
-    let same : Reads {X = Y} old new (Err fault) Q = record { read = h.read; told = λ clean r holds. tt; in_order = h.in_order } in
-    subst (λ (found : Result Y RowFault). Reads old new found Q) (sym failed) same
+    let same : ReadsRows {X = Y} old new (Err fault) Q = record { read = h.read; told = λ clean r holds. tt; in_order = h.in_order } in
+    subst (λ (found : Result Y RowFault). ReadsRows old new found Q) (sym failed) same
 
 -- nothing was done
 pub stays : (s : State) → Survives s s (λ _. ⊥)
@@ -34,7 +34,7 @@ stays s = record {
 }
 
 -- what needs no question
-pub unasked : {X : Type 0} (s : State) (x : X) (P : Rows → X → Type 0) → ((r : Rows) → P r x) → Reads s s (Ok x) P
+pub unasked : {X : Type 0} (s : State) (x : X) (P : Rows → X → Type 0) → ((r : Rows) → P r x) → ReadsRows s s (Ok x) P
 unasked s x P so = record {
   read = record {
     clean = omega arith;

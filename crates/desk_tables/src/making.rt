@@ -1,17 +1,17 @@
 //! Makes a desk in an empty database.
-ghost use Rattle.std.specs.Prelude.{◌≡◌, ◌≢◌, ◌↔◌, ◌+◌, ◌<◌, ◌^◌, ◌++◌, [], ◌∷◌, false, length, None, Err, IsTrue, IfErr, OnOk, OnErr, is_ok};
-ghost use Rattle.std.specs.List.{list_any};
+ghost use Rattle.std.specs.Prelude.{◌≡◌, ◌≢◌, ◌↔◌, false, None, Err, IsTrue, IfErr, OnOk, OnErr};
 ghost use Rattle.sqlite_trees.specs.Tree.{Trees};
 ghost use Rattle.sqlite.specs.Held.{state};
 ghost use Rattle.sqlite.specs.State.{HasCleanDisk, KeepsCommit, Survives};
 ghost use Rattle.desk_store.specs.Calls.{IsUnavailability};
 ghost use Rattle.desk_store.specs.declared.faults.StoreFault.TheVariants.{Exists, NotADesk};
 ghost use Rattle.registry_core.specs.declared.messages.Role.TheVariants.{Operator};
-ghost use Rattle.desk_rows.specs.Calls.{Changes, IsWritingCall};
+ghost use Rattle.desk_rows.specs.Calls.{Changes, WritesInside};
 ghost use Rattle.desk_rows.specs.Faults.{IsEven};
 ghost use Rattle.desk_rows.specs.Making.{IsBare};
-ghost use Rattle.desk_rows.specs.Rows.{Holds, is_sender_named};
+ghost use Rattle.desk_rows.specs.Rows.{Holds};
 ghost use Rattle.desk_rows.specs.Schema.{no_schema};
+ghost use Rattle.desk_rows.specs.Written.{sender_added};
 ghost use Rattle.desk_rows.specs.order.Changes.{opening_rows};
 ghost use Rattle.desk_tables.specs.Opening.{IsTaken, TreesHold};
 
@@ -25,9 +25,7 @@ use sqlite::{Alter, Connection, Error, Transaction};
 /// Adds the configured operator, as a sender.
 fn insert_operator<S: Alter>(tx: &mut Transaction<'_, S>, config: &Config) -> Result<(), RowFault>
     ensures same_reference { tx.new.conn.ghost_name ≡ tx.old.conn.ghost_name }
-    ensures changes { Changes (state S.Store tx.old.conn.now) (state S.Store tx.new.conn.now) result (Unit {0})
-        (λ r. (list_any (is_sender_named config.now.operator) r.senders ≡ false) × (1 + length r.senders < 2 ^ 63))
-        (λ r. record r { senders = r.senders ++ record { name = config.now.operator; role = Operator } ∷ [] }) }
+    ensures changes { Changes S.Store tx.old tx.new result (sender_added config.now.operator Operator) }
 {
     insert_sender(tx, config.operator(), Role::Operator)
 }
@@ -35,7 +33,7 @@ fn insert_operator<S: Alter>(tx: &mut Transaction<'_, S>, config: &Config) -> Re
 /// Writes the configuration of the desk, and its operator.
 fn insert_first_rows<S: Alter>(tx: &mut Transaction<'_, S>, config: &Config) -> Result<(), RowFault>
     ensures same_reference { tx.new.conn.ghost_name ≡ tx.old.conn.ghost_name }
-    ensures write { IsWritingCall (state S.Store tx.old.conn.now) (state S.Store tx.new.conn.now) (is_ok result) }
+    ensures write { WritesInside S.Store tx.old tx.new result }
     ensures kept { HasCleanDisk (state S.Store tx.new.conn.now) → IsTrue (state S.Store tx.old.conn.now).in_transaction → IsTrue (state S.Store tx.old.conn.now).is_open
         → KeepsCommit (state S.Store tx.old.conn.now) (state S.Store tx.new.conn.now) }
     ensures made { HasCleanDisk (state S.Store tx.new.conn.now) → IsTrue (state S.Store tx.old.conn.now).in_transaction → IsTrue (state S.Store tx.old.conn.now).is_open

@@ -1,6 +1,5 @@
 //! Look-ups of a gateway's limits.
 ghost use Rattle.std.specs.Prelude.{◌≡◌};
-ghost use Rattle.sqlite.specs.Held.{state};
 ghost use Rattle.registry_core.specs.Bookings.{limit_standing};
 ghost use Rattle.desk_rows.specs.Calls.{Reads};
 ghost use Rattle.desk_tables.specs.steps.LookUps.{OfKept};
@@ -16,7 +15,7 @@ pub(crate) fn limit_of<S: Alter>(
     gateway: &Name,
     band: Band,
 ) -> Result<u64, RowFault>
-    ensures { Reads (state S.Store conn.old) (state S.Store conn.new) result (OfKept (λ kept most. most ≡ limit_standing kept.facts gateway.now band)) }
+    ensures { Reads S.Store conn.old conn.new result (OfKept (λ kept most. most ≡ limit_standing kept.facts gateway.now band)) }
 {
     look_ups_tell();
     let set = limit_at(conn, gateway, band)?;

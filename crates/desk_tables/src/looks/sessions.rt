@@ -1,6 +1,5 @@
 //! Look-ups of a session. No session has a number of 2^53 or more.
 ghost use Rattle.std.specs.Prelude.{◌≡◌, IfSome, option_and_then};
-ghost use Rattle.sqlite.specs.Held.{state};
 ghost use Rattle.registry_core.specs.Bookings.{next_down};
 ghost use Rattle.registry_core.specs.Derived.{data_with, is_below, is_below_floor, last_counter};
 ghost use Rattle.registry_core.specs.Listing.{last_start};
@@ -19,8 +18,8 @@ pub(crate) fn session<S: Alter>(
     conn: &mut Connection<S>,
     number: u64,
 ) -> Result<Option<Session>, RowFault>
-    ensures kept { Reads (state S.Store conn.old) (state S.Store conn.new) result (OfKept (λ kept session. session ≡ item_at kept.facts.sessions number)) }
-    ensures shows { Reads (state S.Store conn.old) (state S.Store conn.new) result (λ r session. IfSome session (IsSessionAt r number)) }
+    ensures kept { Reads S.Store conn.old conn.new result (OfKept (λ kept session. session ≡ item_at kept.facts.sessions number)) }
+    ensures shows { Reads S.Store conn.old conn.new result (λ r session. IfSome session (IsSessionAt r number)) }
 {
     look_ups_tell();
     match JsonInteger::new(number) {
@@ -33,8 +32,8 @@ pub(crate) fn last_counter<S: Alter>(
     conn: &mut Connection<S>,
     session: u64,
 ) -> Result<Option<u32>, RowFault>
-    ensures kept { Reads (state S.Store conn.old) (state S.Store conn.new) result (OfKept (λ kept counter. counter ≡ last_counter kept.facts.uplinks session)) }
-    ensures shows { Reads (state S.Store conn.old) (state S.Store conn.new) result (λ r counter. IfSome counter (IsCounterOf r session)) }
+    ensures kept { Reads S.Store conn.old conn.new result (OfKept (λ kept counter. counter ≡ last_counter kept.facts.uplinks session)) }
+    ensures shows { Reads S.Store conn.old conn.new result (λ r counter. IfSome counter (IsCounterOf r session)) }
 {
     match JsonInteger::new(session) {
         Some(session) => desk_rows::last_counter(conn, session),
@@ -46,7 +45,7 @@ pub(crate) fn last_start<S: Alter>(
     conn: &mut Connection<S>,
     session: u64,
 ) -> Result<Option<u64>, RowFault>
-    ensures { Reads (state S.Store conn.old) (state S.Store conn.new) result (OfKept (λ kept start. start ≡ last_start kept.facts.uplinks session)) }
+    ensures { Reads S.Store conn.old conn.new result (OfKept (λ kept start. start ≡ last_start kept.facts.uplinks session)) }
 {
     match JsonInteger::new(session) {
         Some(session) => desk_rows::last_start(conn, session),
@@ -59,7 +58,7 @@ pub(crate) fn data_with<S: Alter>(
     session: u64,
     counter: u32,
 ) -> Result<Option<(u64, Uplink)>, RowFault>
-    ensures { Reads (state S.Store conn.old) (state S.Store conn.new) result (OfKept (λ kept found. found ≡ data_with kept.facts.uplinks session counter)) }
+    ensures { Reads S.Store conn.old conn.new result (OfKept (λ kept found. found ≡ data_with kept.facts.uplinks session counter)) }
 {
     look_ups_tell();
     match JsonInteger::new(session) {
@@ -69,7 +68,7 @@ pub(crate) fn data_with<S: Alter>(
 }
 
 pub(crate) fn next_down<S: Alter>(conn: &mut Connection<S>, session: u64) -> Result<u64, RowFault>
-    ensures { Reads (state S.Store conn.old) (state S.Store conn.new) result
+    ensures { Reads S.Store conn.old conn.new result
         (OfKept (λ kept counter. counter ≡ next_down kept.facts.bookings kept.facts.uplinks session)) }
 {
     look_ups_tell();
@@ -95,9 +94,9 @@ pub(crate) fn is_below_floor<S: Alter>(
     device: Eui,
     session: u64,
 ) -> Result<(bool, Option<Option<u64>>), RowFault>
-    ensures kept { Reads (state S.Store conn.old) (state S.Store conn.new) result
+    ensures kept { Reads S.Store conn.old conn.new result
         (OfKept (λ kept found. found.0 ≡ is_below_floor kept.facts.uplinks kept.facts.sessions device session)) }
-    ensures shows { Reads (state S.Store conn.old) (state S.Store conn.new) result (λ r found. IfSome found.1 (IsFloorOf r device)) }
+    ensures shows { Reads S.Store conn.old conn.new result (λ r found. IfSome found.1 (IsFloorOf r device)) }
 {
     look_ups_tell();
     let floor = floor_of(conn, device)?;

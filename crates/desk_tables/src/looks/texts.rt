@@ -1,6 +1,5 @@
 //! Look-ups of the texts of a message and of its answer. No message has a number of 2^53 or more.
 ghost use Rattle.std.specs.Prelude.{◌≡◌, find, option_map};
-ghost use Rattle.sqlite.specs.Held.{state};
 ghost use Rattle.registry_core.specs.Numbered.{item_at};
 ghost use Rattle.desk_store.specs.Kept.{entry_of, texts_of};
 ghost use Rattle.desk_store.specs.Looks as store;
@@ -29,7 +28,7 @@ fn row_texts<S: Alter>(
     conn: &mut Connection<S>,
     envelope: &Envelope,
 ) -> Result<Option<desk_rows::ReplyTexts>, RowFault>
-    ensures { Reads (state S.Store conn.old) (state S.Store conn.new) result
+    ensures { Reads S.Store conn.old conn.new result
         (λ r texts. option_map rows.kept_texts texts ≡ option_map rows.reply_texts (find (is_reply envelope.now.sender envelope.now.transaction) r.replies)) }
 {
     desk_rows::texts_of(conn, &envelope.sender, envelope.transaction)
@@ -39,7 +38,7 @@ pub(crate) fn texts_of<S: Alter>(
     conn: &mut Connection<S>,
     envelope: &Envelope,
 ) -> Result<Option<EntryTexts>, RowFault>
-    ensures { Reads (state S.Store conn.old) (state S.Store conn.new) result
+    ensures { Reads S.Store conn.old conn.new result
         (OfKept (λ kept texts. option_map store.texts_shown texts ≡ option_map texts_of (entry_of envelope.now kept.entries))) }
 {
     let found = row_texts(conn, envelope)?;
@@ -51,7 +50,7 @@ fn numbered_row_texts<S: Alter>(
     conn: &mut Connection<S>,
     number: u64,
 ) -> Result<Option<desk_rows::ReplyTexts>, RowFault>
-    ensures { Reads (state S.Store conn.old) (state S.Store conn.new) result
+    ensures { Reads S.Store conn.old conn.new result
         (OfKept (λ kept texts. option_map rows.kept_texts texts ≡ option_map texts_of (item_at kept.entries number))) }
 {
     match JsonInteger::new(number) {
@@ -64,7 +63,7 @@ pub(crate) fn entry<S: Alter>(
     conn: &mut Connection<S>,
     number: u64,
 ) -> Result<Option<EntryTexts>, RowFault>
-    ensures { Reads (state S.Store conn.old) (state S.Store conn.new) result
+    ensures { Reads S.Store conn.old conn.new result
         (OfKept (λ kept texts. option_map store.texts_shown texts ≡ option_map texts_of (item_at kept.entries number))) }
 {
     let found = numbered_row_texts(conn, number)?;

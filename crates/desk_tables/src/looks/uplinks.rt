@@ -24,7 +24,7 @@ fn session_joined<S: Alter>(
     device: Eui,
     nonce: u16,
 ) -> Result<Option<u64>, RowFault>
-    ensures { Reads (state S.Store conn.old) (state S.Store conn.new) result
+    ensures { Reads S.Store conn.old conn.new result
         (OfKept (λ kept session. join_with kept.facts.uplinks kept.facts.sessions device nonce
         ≡ option_and_then (λ n. first_that (is_uplink n Join nonce) kept.facts.uplinks) session)) }
 {
@@ -38,7 +38,7 @@ fn join_of<S: Alter>(
     session: u64,
     nonce: u16,
 ) -> Result<Option<(u64, Uplink)>, RowFault>
-    ensures { Reads (state S.Store conn.old) (state S.Store conn.new) result
+    ensures { Reads S.Store conn.old conn.new result
         (OfKept (λ kept found. found ≡ first_that (is_uplink session Join nonce) kept.facts.uplinks)) }
 {
     match JsonInteger::new(session) {
@@ -72,7 +72,7 @@ pub(crate) fn uplink<S: Alter>(
     conn: &mut Connection<S>,
     number: u64,
 ) -> Result<Option<Uplink>, RowFault>
-    ensures { Reads (state S.Store conn.old) (state S.Store conn.new) result (OfKept (λ kept uplink. uplink ≡ item_at kept.facts.uplinks number)) }
+    ensures { Reads S.Store conn.old conn.new result (OfKept (λ kept uplink. uplink ≡ item_at kept.facts.uplinks number)) }
 {
     match JsonInteger::new(number) {
         Some(number) => Ok(unnumbered(desk_rows::uplink(conn, number)?)),
@@ -85,7 +85,7 @@ pub(crate) fn reception_at<S: Alter>(
     uplink: u64,
     gateway: &Name,
 ) -> Result<Option<Reception>, RowFault>
-    ensures { Reads (state S.Store conn.old) (state S.Store conn.new) result (OfKept (λ kept reception. reception ≡ kept.facts.receptions uplink gateway.now)) }
+    ensures { Reads S.Store conn.old conn.new result (OfKept (λ kept reception. reception ≡ kept.facts.receptions uplink gateway.now)) }
 {
     match JsonInteger::new(uplink) {
         Some(uplink) => desk_rows::reception_at(conn, uplink, gateway),
@@ -99,7 +99,7 @@ pub(crate) fn gateways_of<S: Alter>(
     conn: &mut Connection<S>,
     uplink: u64,
 ) -> Result<Vec<Name>, RowFault>
-    ensures { Reads (state S.Store conn.old) (state S.Store conn.new) result
+    ensures { Reads S.Store conn.old conn.new result
         (OfKept (λ kept names. AreNames (has_reception kept.facts uplink) names.items)) }
 {
     listed_rows_tell();
@@ -110,7 +110,7 @@ pub(crate) fn gateways_of<S: Alter>(
 }
 
 pub(crate) fn is_answered<S: Alter>(conn: &mut Connection<S>, uplink: u64) -> Result<bool, RowFault>
-    ensures { Reads (state S.Store conn.old) (state S.Store conn.new) result (OfKept (λ kept answered. answered ≡ is_answered kept.facts.bookings uplink)) }
+    ensures { Reads S.Store conn.old conn.new result (OfKept (λ kept answered. answered ≡ is_answered kept.facts.bookings uplink)) }
 {
     look_ups_tell();
     match JsonInteger::new(uplink) {
@@ -123,7 +123,7 @@ pub(crate) fn booking<S: Alter>(
     conn: &mut Connection<S>,
     number: u64,
 ) -> Result<Option<Booking>, RowFault>
-    ensures { Reads (state S.Store conn.old) (state S.Store conn.new) result (OfKept (λ kept booking. booking ≡ item_at kept.facts.bookings number)) }
+    ensures { Reads S.Store conn.old conn.new result (OfKept (λ kept booking. booking ≡ item_at kept.facts.bookings number)) }
 {
     look_ups_tell();
     match JsonInteger::new(number) {
