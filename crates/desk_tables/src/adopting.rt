@@ -1,20 +1,13 @@
 //! Makes, opens and closes a store over a connection.
-ghost use Rattle.std.specs.Prelude.{◌≡◌, ◌≢◌, ◌↔◌, ℤ, pos, List, None, false, IfErr, IfOk};
-ghost use Rattle.sqlite_trees.specs.Tree.{Trees};
-ghost use Rattle.registry_core.specs.Settings.{Settings};
-ghost use Rattle.sqlite.specs.Effect.{Database};
+ghost use Rattle.std.specs.Prelude.{◌≡◌, ◌≢◌, ◌↔◌, None, false, IfErr, IfOk};
 ghost use Rattle.sqlite.specs.Held.{state};
 ghost use Rattle.sqlite.specs.State.{HasCleanDisk};
-ghost use Rattle.desk_store.specs.Calls.{IsUnavailability};
-ghost use Rattle.desk_store.specs.Kept.{IsOneOf, Kept};
 ghost use Rattle.desk_store.specs.declared.faults.StoreFault.TheVariants.{Exists, NotADesk, SchemaVersion};
-ghost use Rattle.desk_rows.specs.Meta.{HasMeta, IsConfig, TellsMeta};
-ghost use Rattle.desk_rows.specs.Rows.{Holds, Rows};
+ghost use Rattle.desk_rows.specs.Meta.{IsConfig};
 ghost use Rattle.desk_rows.specs.Schema.{desk_schema, no_schema, schema_version};
 ghost use Rattle.desk_rows.specs.order.Changes.{opening_rows};
-ghost use Rattle.desk_tables.specs.Adopting.{IsGivenBack, IsStore, opening_kept};
-ghost use Rattle.desk_tables.specs.InOrder.{AreOfDesk, IsOfDesk};
-ghost use Rattle.desk_tables.specs.Opening.{IsTaken, TreesHold};
+ghost use Rattle.desk_tables.specs.Adopting.{ClosesTo, ForDesk, ForWhatItHolds, ForWhereItRests, GivesBack, HasStored, IsIdle, IsNoDesk, IsNot, IsStoreAt, IsStoreOf, IsUnavailable, LeavesItsOwn, OnlyIf, RestsOn, opening_kept};
+ghost use Rattle.desk_tables.specs.Opening.{HasOtherVersion, IfOtherVersion, IsTaken, TreesHold};
 ghost use Rattle.desk_tables.specs.Seen.{nothing};
 ghost use Rattle.desk_tables.specs.Store.{meaning_of};
 ghost use Rattle.desk_tables.specs.steps.Adopting.{IsAdopted};
@@ -48,13 +41,13 @@ impl<S: Alter> Tables<S> {
     ) -> Result<Tables<S>, (StoreFault, Connection<S>)>
         requires idle { conn.in_transaction ≡ false }
         requires unlimited { conn.step_limit ≡ None }
-        ensures made { IfOk result (λ t. (meaning_of S.Store).sound t → IsStore (meaning_of S.Store) t config (opening_kept config)) }
+        ensures made { IfOk result (IsStoreOf S.Store config (opening_kept config)) }
         ensures config { IsConfig config }
         ensures blank { IfOk result (λ t. conn.schema ≡ no_schema) }
         ensures exists { IfErr result (λ back. (back.0 ≡ Exists) ↔ IsTaken conn.schema) }
         ensures not_a_desk { conn.schema ≢ no_schema → ¬ IsTaken conn.schema → IfErr result (λ back. back.0 ≡ NotADesk) }
-        ensures unavailable { conn.schema ≡ no_schema → IfErr result (λ back. HasCleanDisk (state S.Store back.1) → IsUnavailability back.0) }
-        ensures given_back { IfErr result (λ back. IsGivenBack (state S.Store conn) (state S.Store back.1) (λ trees. TreesHold trees (opening_rows config))) }
+        ensures unavailable { conn.schema ≡ no_schema → IfErr result (IsUnavailable S.Store) }
+        ensures given_back { IfErr result (GivesBack S.Store conn (λ trees. TreesHold trees (opening_rows config))) }
     {
         opening_rows_tell();
         let mut conn = conn;
@@ -93,22 +86,16 @@ impl<S: Alter> Tables<S> {
     ) -> Result<Tables<S>, (StoreFault, Connection<S>)>
         requires idle { conn.in_transaction ≡ false }
         requires unlimited { conn.step_limit ≡ None }
-        ensures desk { IfOk result (λ t. (meaning_of S.Store).sound t → (conn.schema ≡ desk_schema)
-            × TellsMeta (state S.Store conn).now.trees (pos schema_version) ((meaning_of S.Store).configuration t)) }
-        ensures in_order { (c : Settings) (kept : Kept) → IsOfDesk c kept (state S.Store conn).now
-            → IfOk result (λ t. (meaning_of S.Store).sound t → IsStore (meaning_of S.Store) t c kept) }
-        ensures unavailable { (c : Settings) (kept : Kept) → IsOfDesk c kept (state S.Store conn).now
-            → IfErr result (λ back. HasCleanDisk (state S.Store back.1) → IsUnavailability back.0) }
-        ensures not_a_desk { IfErr result (λ back. HasCleanDisk (state S.Store back.1) → back.0 ≡ NotADesk → conn.schema ≡ desk_schema
-            → (c : Settings) → TellsMeta (state S.Store conn).now.trees (pos schema_version) c → (r : Rows) → ¬ Holds (state S.Store conn).now r) }
-        ensures version { IfErr result (λ back. HasCleanDisk (state S.Store back.1) → back.0 ≡ SchemaVersion → HasMeta conn.schema
-            × ((version : ℤ) × (c : Settings) × TellsMeta (state S.Store conn).now.trees version c × (version ≢ pos schema_version))) }
-        ensures other_version { HasMeta conn.schema → (version : ℤ) (c : Settings) → TellsMeta (state S.Store conn).now.trees version c → version ≢ pos schema_version
-            → IfErr result (λ back. HasCleanDisk (state S.Store back.1) → back.0 ≢ NotADesk) }
+        ensures desk { IfOk result (IsStoreAt S.Store conn desk_schema schema_version) }
+        ensures in_order { ForDesk S.Store conn (λ c kept. IfOk result (IsStoreOf S.Store c kept)) }
+        ensures unavailable { ForDesk S.Store conn (λ c kept. IfErr result (IsUnavailable S.Store)) }
+        ensures not_a_desk { IfErr result (OnlyIf S.Store NotADesk (IsNoDesk S.Store conn)) }
+        ensures version { IfErr result (OnlyIf S.Store SchemaVersion (HasOtherVersion S.Store conn schema_version)) }
+        ensures other_version { IfOtherVersion S.Store conn schema_version (IfErr result (IsNot S.Store NotADesk)) }
         ensures never { IfErr result (λ back. back.0 ≢ Exists) }
-        ensures rests { IfOk result (λ t. (meaning_of S.Store).sound t → (meaning_of S.Store).rests t (state S.Store conn).now) }
+        ensures rests { IfOk result (RestsOn S.Store conn) }
         ensures clean { IfOk result (λ t. (meaning_of S.Store).sound t → HasCleanDisk (state S.Store conn)) }
-        ensures given_back { IfErr result (λ back. IsGivenBack (state S.Store conn) (state S.Store back.1) (λ _. ⊥)) }
+        ensures given_back { IfErr result (GivesBack S.Store conn (λ _. ⊥)) }
     {
         let mut conn = conn;
         match open_desk(&mut conn) {
@@ -162,14 +149,10 @@ impl<S: Alter> Tables<S> {
     /// of the store.
     pub fn close(self) -> Connection<S>
         ensures sound { HasCleanDisk (state S.Store result) → (meaning_of S.Store).sound self }
-        ensures in_order { (kept : Kept) → (meaning_of S.Store).sound self → (meaning_of S.Store).failed self ≡ false → (meaning_of S.Store).holds self kept
-            → IsOfDesk ((meaning_of S.Store).configuration self) kept (state S.Store result).now × ((state S.Store result).now ≡ (state S.Store result).committed) }
-        ensures rest { (kept : Kept) → (meaning_of S.Store).sound self → (meaning_of S.Store).failed self ≡ false → (meaning_of S.Store).holds self kept
-            → (result.in_transaction ≡ false) × (result.step_limit ≡ None) }
-        ensures stored { (db : Database) → (meaning_of S.Store).sound self → (meaning_of S.Store).failed self ≡ false → (meaning_of S.Store).rests self db
-            → ((state S.Store result).now ≡ db) × ((state S.Store result).committed ≡ db) }
-        ensures left { (all : List Kept) → (meaning_of S.Store).leaves self all → (trees : Trees) → (state S.Store result).may_leave trees
-            → (kept : Kept) × IsOneOf all kept × AreOfDesk ((meaning_of S.Store).configuration self) kept trees }
+        ensures in_order { ForWhatItHolds S.Store self (ClosesTo S.Store self result) }
+        ensures rest { ForWhatItHolds S.Store self (λ kept. IsIdle result) }
+        ensures stored { ForWhereItRests S.Store self (HasStored S.Store result) }
+        ensures left { LeavesItsOwn S.Store self result }
     {
         self.conn
     }

@@ -13,7 +13,7 @@ ghost use Rattle.desk_rows.specs.Rows.{Holds};
 ghost use Rattle.desk_rows.specs.Schema.{no_schema};
 ghost use Rattle.desk_rows.specs.Written.{sender_added};
 ghost use Rattle.desk_rows.specs.order.Changes.{opening_rows};
-ghost use Rattle.desk_tables.specs.Opening.{IsTaken, TreesHold};
+ghost use Rattle.desk_tables.specs.Opening.{IsTaken, KeepsAll, TreesHold, WhenOpen};
 
 use crate::desk_shape::{is_blank, is_taken};
 use crate::faults::store_fault;
@@ -92,9 +92,8 @@ pub(crate) fn make_desk<S: Alter>(
     ensures made { HasCleanDisk (state S.Store conn.new) → OnOk result (Holds (state S.Store conn.new).now (opening_rows config.now)) }
     ensures open { HasCleanDisk (state S.Store conn.new) → OnOk result (IsTrue (state S.Store conn.new).is_open) }
     ensures left { HasCleanDisk (state S.Store conn.new) → OnOk result ((trees : Trees) → (state S.Store conn.new).may_leave trees → TreesHold trees (opening_rows config.now)) }
-    ensures undone { HasCleanDisk (state S.Store conn.new) → IsTrue (state S.Store conn.new).is_open
-        → OnErr result (((state S.Store conn.new).now ≡ (state S.Store conn.old).now) × ((state S.Store conn.new).committed ≡ (state S.Store conn.old).committed)) }
-    ensures settled { HasCleanDisk (state S.Store conn.new) → IsTrue (state S.Store conn.new).is_open → (state S.Store conn.new).now ≡ (state S.Store conn.new).committed }
+    ensures undone { WhenOpen S.Store conn.old conn.new (λ old new. OnErr result (KeepsAll old new)) }
+    ensures settled { WhenOpen S.Store conn.old conn.new (λ old new. new.now ≡ new.committed) }
     ensures idle { conn.new.in_transaction ≡ false }
     ensures crash { Survives (state S.Store conn.old) (state S.Store conn.new) (λ trees. TreesHold trees (opening_rows config.now)) }
     ensures unavailable { HasCleanDisk (state S.Store conn.new) → conn.old.schema ≡ no_schema → IfErr result IsUnavailability }

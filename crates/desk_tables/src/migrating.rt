@@ -1,21 +1,19 @@
 //! Moves the tables of schema 1 to schema 2.
-ghost use Rattle.std.specs.Prelude.{◌≡◌, ◌≢◌, ◌⊎◌, ℤ, pos, false, None, Err, IsTrue, IfOk, IfErr, OnOk, OnErr};
+ghost use Rattle.std.specs.Prelude.{◌≡◌, ◌⊎◌, pos, false, None, Err, IfOk, IfErr, OnOk, OnErr};
 ghost use Rattle.registry_core.specs.Settings.{Settings};
-ghost use Rattle.sqlite_catalog.specs.Change.{is_used};
 ghost use Rattle.sqlite.specs.Held.{state};
-ghost use Rattle.sqlite.specs.State.{HasCleanDisk, IsUnchanged, Survives};
+ghost use Rattle.sqlite.specs.State.{HasCleanDisk, IsUnchanged};
 ghost use Rattle.desk_store.specs.Calls.{IsUnavailability};
-ghost use Rattle.desk_store.specs.Kept.{Kept};
 ghost use Rattle.desk_store.specs.declared.faults.StoreFault.TheVariants.{Exists, NotADesk, SchemaVersion};
-ghost use Rattle.desk_rows.specs.Meta.{HasMeta, TellsMeta};
-ghost use Rattle.desk_rows.specs.Migrating.{HoldsFirst, limit_name};
-ghost use Rattle.desk_rows.specs.Rows.{Rows};
+ghost use Rattle.desk_rows.specs.Meta.{TellsMeta};
 ghost use Rattle.desk_rows.specs.Schema.{first_schema, first_version};
-ghost use Rattle.desk_tables.specs.Adopting.{IsGivenBack, IsStore};
+ghost use Rattle.desk_tables.specs.Adopting.{GivesBack, IsOrUnavailable, IsStoreAt, IsStoreOf, IsUnavailable, OnlyIf};
 ghost use Rattle.desk_tables.specs.InOrder.{AreOfDesk};
-ghost use Rattle.desk_tables.specs.Migrating.{IsOfFirstSchema};
+ghost use Rattle.desk_tables.specs.Migrating.{ForFirstDesk, HasTakenName, IfNameTaken, IsNoFirstDesk, IsUndone};
 ghost use Rattle.desk_tables.specs.Store.{meaning_of};
 ghost use Rattle.desk_tables.specs.steps.Migrating.{MakesSecond, Moves};
+ghost use Rattle.desk_rows.specs.Calls.{CommitsNothing, WhenClean};
+ghost use Rattle.desk_tables.specs.Opening.{HasDesk, HasNoDesk, HasOtherVersion, IfClean, IfOtherVersion, KeepsAll, WhenOpen};
 
 use crate::counting::counted;
 use crate::desk_shape::{is_first_schema, is_limit_taken};
@@ -34,23 +32,20 @@ use std::alloc::Global;
 fn first_desk<S: Alter>(conn: &mut Connection<S>) -> Result<Config, StoreFault>
     requires idle { conn.old.in_transaction ≡ false }
     requires unlimited { conn.old.step_limit ≡ None }
-    ensures desk { HasCleanDisk (state S.Store conn.new) → IfOk result (λ c. (conn.old.schema ≡ first_schema) × TellsMeta (state S.Store conn.old).now.trees (pos first_version) c) }
+    ensures desk { IfClean S.Store conn.new (IfOk result (HasDesk S.Store conn.old first_schema first_version)) }
     ensures in_order { HasCleanDisk (state S.Store conn.new) → conn.old.schema ≡ first_schema → (c : Settings)
         → TellsMeta (state S.Store conn.old).now.trees (pos first_version) c → IfErr result IsUnavailability }
-    ensures version { HasCleanDisk (state S.Store conn.new) → result ≡ Err SchemaVersion
-        → HasMeta conn.old.schema × ((version : ℤ) × (c : Settings) × TellsMeta (state S.Store conn.old).now.trees version c × (version ≢ pos first_version)) }
-    ensures other_version { HasCleanDisk (state S.Store conn.new) → HasMeta conn.old.schema → (version : ℤ) (c : Settings)
-        → TellsMeta (state S.Store conn.old).now.trees version c → version ≢ pos first_version → IfErr result (λ fault. (fault ≡ SchemaVersion) ⊎ IsUnavailability fault) }
-    ensures exists { HasCleanDisk (state S.Store conn.new) → result ≡ Err Exists
-        → HasMeta conn.old.schema × ((c : Settings) × TellsMeta (state S.Store conn.old).now.trees (pos first_version) c) × IsTrue (is_used conn.old.schema limit_name) }
-    ensures taken { HasCleanDisk (state S.Store conn.new) → HasMeta conn.old.schema → (c : Settings)
-        → TellsMeta (state S.Store conn.old).now.trees (pos first_version) c → IsTrue (is_used conn.old.schema limit_name) → IfErr result (λ fault. (fault ≡ Exists) ⊎ IsUnavailability fault) }
-    ensures same { HasCleanDisk (state S.Store conn.new) → OnOk result (IsUnchanged (state S.Store conn.old) (state S.Store conn.new)) }
-    ensures undone { HasCleanDisk (state S.Store conn.new) → IsTrue (state S.Store conn.new).is_open
-        → OnErr result (((state S.Store conn.new).now ≡ (state S.Store conn.old).now) × ((state S.Store conn.new).committed ≡ (state S.Store conn.old).committed)) }
-    ensures settled { HasCleanDisk (state S.Store conn.new) → IsTrue (state S.Store conn.new).is_open → (state S.Store conn.new).now ≡ (state S.Store conn.new).committed }
+    ensures version { IfClean S.Store conn.new (result ≡ Err SchemaVersion → HasOtherVersion S.Store conn.old first_version) }
+    ensures other_version { IfClean S.Store conn.new (IfOtherVersion S.Store conn.old first_version
+        (IfErr result (λ fault. (fault ≡ SchemaVersion) ⊎ IsUnavailability fault))) }
+    ensures exists { IfClean S.Store conn.new (result ≡ Err Exists → HasTakenName S.Store conn.old) }
+    ensures taken { IfClean S.Store conn.new (IfNameTaken S.Store conn.old
+        (IfErr result (λ fault. (fault ≡ Exists) ⊎ IsUnavailability fault))) }
+    ensures same { WhenClean S.Store conn.old conn.new (λ old new. OnOk result (IsUnchanged old new)) }
+    ensures undone { WhenOpen S.Store conn.old conn.new (λ old new. OnErr result (KeepsAll old new)) }
+    ensures settled { WhenOpen S.Store conn.old conn.new (λ old new. new.now ≡ new.committed) }
     ensures idle { conn.new.in_transaction ≡ false }
-    ensures crash { Survives (state S.Store conn.old) (state S.Store conn.new) (λ _. ⊥) }
+    ensures crash { CommitsNothing S.Store conn.old conn.new }
 {
     let config = config_at(conn, 1)?;
     if is_limit_taken(conn.schema()) {
@@ -102,30 +97,19 @@ impl<S: Alter> Tables<S> {
     ) -> Result<Tables<S>, (StoreFault, Connection<S>)>
         requires idle { conn.in_transaction ≡ false }
         requires unlimited { conn.step_limit ≡ None }
-        ensures desk { IfOk result (λ t. (meaning_of S.Store).sound t → (conn.schema ≡ first_schema)
-            × TellsMeta (state S.Store conn).now.trees (pos first_version) ((meaning_of S.Store).configuration t)) }
-        ensures in_order { (c : Settings) (kept : Kept) → IsOfFirstSchema c kept (state S.Store conn).now
-            → IfOk result (λ t. (meaning_of S.Store).sound t → IsStore (meaning_of S.Store) t c kept) }
-        ensures unavailable { (c : Settings) (kept : Kept) → IsOfFirstSchema c kept (state S.Store conn).now
-            → IfErr result (λ back. HasCleanDisk (state S.Store back.1) → IsUnavailability back.0) }
-        ensures not_a_desk { IfErr result (λ back. HasCleanDisk (state S.Store back.1) → back.0 ≡ NotADesk → conn.schema ≡ first_schema
-            → (c : Settings) → TellsMeta (state S.Store conn).now.trees (pos first_version) c → (r : Rows) → ¬ HoldsFirst (state S.Store conn).now r) }
-        ensures version { IfErr result (λ back. HasCleanDisk (state S.Store back.1) → back.0 ≡ SchemaVersion → HasMeta conn.schema
-            × ((version : ℤ) × (c : Settings) × TellsMeta (state S.Store conn).now.trees version c × (version ≢ pos first_version))) }
-        ensures other_version { HasMeta conn.schema → (version : ℤ) (c : Settings) → TellsMeta (state S.Store conn).now.trees version c → version ≢ pos first_version
-            → IfErr result (λ back. HasCleanDisk (state S.Store back.1) → (back.0 ≡ SchemaVersion) ⊎ IsUnavailability back.0) }
-        ensures exists { IfErr result (λ back. HasCleanDisk (state S.Store back.1) → back.0 ≡ Exists → HasMeta conn.schema
-            × ((c : Settings) × TellsMeta (state S.Store conn).now.trees (pos first_version) c) × IsTrue (is_used conn.schema limit_name)) }
-        ensures taken { HasMeta conn.schema → (c : Settings) → TellsMeta (state S.Store conn).now.trees (pos first_version) c → IsTrue (is_used conn.schema limit_name)
-            → IfErr result (λ back. HasCleanDisk (state S.Store back.1) → (back.0 ≡ Exists) ⊎ IsUnavailability back.0) }
+        ensures desk { IfOk result (IsStoreAt S.Store conn first_schema first_version) }
+        ensures in_order { ForFirstDesk S.Store conn (λ c kept. IfOk result (IsStoreOf S.Store c kept)) }
+        ensures unavailable { ForFirstDesk S.Store conn (λ c kept. IfErr result (IsUnavailable S.Store)) }
+        ensures not_a_desk { IfErr result (OnlyIf S.Store NotADesk (IsNoFirstDesk S.Store conn)) }
+        ensures version { IfErr result (OnlyIf S.Store SchemaVersion (HasOtherVersion S.Store conn first_version)) }
+        ensures other_version { IfOtherVersion S.Store conn first_version (IfErr result (IsOrUnavailable S.Store SchemaVersion)) }
+        ensures exists { IfErr result (OnlyIf S.Store Exists (HasTakenName S.Store conn)) }
+        ensures taken { IfNameTaken S.Store conn (IfErr result (IsOrUnavailable S.Store Exists)) }
         ensures clean { IfOk result (λ t. (meaning_of S.Store).sound t → HasCleanDisk (state S.Store conn)) }
-        ensures undone { IfErr result (λ back. HasCleanDisk (state S.Store back.1) → IsTrue (state S.Store back.1).is_open
-            → ((state S.Store back.1).now ≡ (state S.Store conn).now) × ((state S.Store back.1).committed ≡ (state S.Store conn).committed)) }
-        ensures given_back { (c : Settings) (kept : Kept) → IsOfFirstSchema c kept (state S.Store conn).now
-            → IfErr result (λ back. IsGivenBack (state S.Store conn) (state S.Store back.1) (AreOfDesk c kept)) }
-        ensures refused { IfErr result (λ back. back.0 ≡ NotADesk → IsGivenBack (state S.Store conn) (state S.Store back.1) (λ _. ⊥)) }
-        ensures untouched { (conn.schema ≡ first_schema → (c : Settings) → ¬ TellsMeta (state S.Store conn).now.trees (pos first_version) c)
-            → IfErr result (λ back. IsGivenBack (state S.Store conn) (state S.Store back.1) (λ _. ⊥)) }
+        ensures undone { IfErr result (IsUndone S.Store conn) }
+        ensures given_back { ForFirstDesk S.Store conn (λ c kept. IfErr result (GivesBack S.Store conn (AreOfDesk c kept))) }
+        ensures refused { IfErr result (λ back. back.0 ≡ NotADesk → GivesBack S.Store conn (λ _. ⊥) back) }
+        ensures untouched { HasNoDesk S.Store conn first_schema first_version → IfErr result (GivesBack S.Store conn (λ _. ⊥)) }
     {
         let mut conn = conn;
         let config = match first_desk(&mut conn) {

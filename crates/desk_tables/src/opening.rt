@@ -1,13 +1,14 @@
 //! Checks that the tables of a database are a desk's.
-ghost use Rattle.std.specs.Prelude.{◌≡◌, ◌≢◌, ℤ, pos, false, None, Err, IsTrue, IfOk, IfErr, OnOk, OnErr};
+ghost use Rattle.std.specs.Prelude.{◌≡◌, ◌≢◌, ℤ, false, None, Err, IfOk, IfErr, OnOk, OnErr};
 ghost use Rattle.registry_core.specs.Settings.{Settings};
 ghost use Rattle.sqlite.specs.Held.{state};
-ghost use Rattle.sqlite.specs.State.{HasCleanDisk, IsUnchanged, Survives};
+ghost use Rattle.sqlite.specs.State.{HasCleanDisk, IsUnchanged};
 ghost use Rattle.desk_store.specs.Calls.{IsUnavailability};
 ghost use Rattle.desk_store.specs.declared.faults.StoreFault.TheVariants.{Exists, NotADesk, SchemaVersion};
 ghost use Rattle.desk_rows.specs.Meta.{HasMeta, IsConfig, TellsMeta};
-ghost use Rattle.desk_rows.specs.Rows.{Holds, Rows};
 ghost use Rattle.desk_rows.specs.Schema.{desk_schema, schema_version};
+ghost use Rattle.desk_rows.specs.Calls.{CommitsNothing, WhenClean};
+ghost use Rattle.desk_tables.specs.Opening.{HasDesk, HasNoDesk, HasOtherVersion, IfClean, IfOtherVersion, KeepsAll, WhenOpen, WithRows};
 
 use crate::desk_shape::{has_meta, is_desk};
 use crate::faults::store_fault;
@@ -32,12 +33,11 @@ pub(crate) fn config_at<S: Alter>(
     ensures other_version { HasCleanDisk (state S.Store conn.new) → result ≡ Err SchemaVersion
         → HasMeta conn.old.schema × ((told : ℤ) × (c : Settings) × TellsMeta (state S.Store conn.old).now.trees told c × (told ≢ version)) }
     ensures never { result ≢ Err Exists }
-    ensures same { HasCleanDisk (state S.Store conn.new) → OnOk result (IsUnchanged (state S.Store conn.old) (state S.Store conn.new)) }
-    ensures undone { HasCleanDisk (state S.Store conn.new) → IsTrue (state S.Store conn.new).is_open
-        → OnErr result (((state S.Store conn.new).now ≡ (state S.Store conn.old).now) × ((state S.Store conn.new).committed ≡ (state S.Store conn.old).committed)) }
-    ensures settled { HasCleanDisk (state S.Store conn.new) → IsTrue (state S.Store conn.new).is_open → (state S.Store conn.new).now ≡ (state S.Store conn.new).committed }
+    ensures same { WhenClean S.Store conn.old conn.new (λ old new. OnOk result (IsUnchanged old new)) }
+    ensures undone { WhenOpen S.Store conn.old conn.new (λ old new. OnErr result (KeepsAll old new)) }
+    ensures settled { WhenOpen S.Store conn.old conn.new (λ old new. new.now ≡ new.committed) }
     ensures idle { conn.new.in_transaction ≡ false }
-    ensures crash { Survives (state S.Store conn.old) (state S.Store conn.new) (λ _. ⊥) }
+    ensures crash { CommitsNothing S.Store conn.old conn.new }
 {
     // shows that everything is committed
     prove!(conn.is_autocommit());
@@ -59,21 +59,18 @@ pub(crate) fn config_at<S: Alter>(
 pub fn open_desk<S: Alter>(conn: &mut Connection<S>) -> Result<Config, StoreFault>
     requires idle { conn.old.in_transaction ≡ false }
     requires unlimited { conn.old.step_limit ≡ None }
-    ensures desk { HasCleanDisk (state S.Store conn.new) → IfOk result (λ c. (conn.old.schema ≡ desk_schema) × TellsMeta (state S.Store conn.old).now.trees (pos schema_version) c) }
-    ensures in_order { HasCleanDisk (state S.Store conn.new) → (r : Rows) → Holds (state S.Store conn.old).now r → IfOk result (λ c. c ≡ r.settings) }
-    ensures unavailable { HasCleanDisk (state S.Store conn.new) → (r : Rows) → Holds (state S.Store conn.old).now r → IsConfig r.settings → IfErr result IsUnavailability }
-    ensures not_a_desk { HasCleanDisk (state S.Store conn.new) → result ≡ Err NotADesk → conn.old.schema ≡ desk_schema → (c : Settings) → ¬ TellsMeta (state S.Store conn.old).now.trees (pos schema_version) c }
-    ensures version { HasCleanDisk (state S.Store conn.new) → result ≡ Err SchemaVersion
-        → HasMeta conn.old.schema × ((version : ℤ) × (c : Settings) × TellsMeta (state S.Store conn.old).now.trees version c × (version ≢ pos schema_version)) }
-    ensures other_version { HasCleanDisk (state S.Store conn.new) → HasMeta conn.old.schema → (version : ℤ) (c : Settings)
-        → TellsMeta (state S.Store conn.old).now.trees version c → version ≢ pos schema_version → result ≢ Err NotADesk }
+    ensures desk { IfClean S.Store conn.new (IfOk result (HasDesk S.Store conn.old desk_schema schema_version)) }
+    ensures in_order { WithRows S.Store conn.old conn.new (λ r. IfOk result (λ c. c ≡ r.settings)) }
+    ensures unavailable { WithRows S.Store conn.old conn.new (λ r. IsConfig r.settings → IfErr result IsUnavailability) }
+    ensures not_a_desk { IfClean S.Store conn.new (result ≡ Err NotADesk → HasNoDesk S.Store conn.old desk_schema schema_version) }
+    ensures version { IfClean S.Store conn.new (result ≡ Err SchemaVersion → HasOtherVersion S.Store conn.old schema_version) }
+    ensures other_version { IfClean S.Store conn.new (IfOtherVersion S.Store conn.old schema_version (result ≢ Err NotADesk)) }
     ensures never { result ≢ Err Exists }
-    ensures same { HasCleanDisk (state S.Store conn.new) → OnOk result (IsUnchanged (state S.Store conn.old) (state S.Store conn.new)) }
-    ensures undone { HasCleanDisk (state S.Store conn.new) → IsTrue (state S.Store conn.new).is_open
-        → OnErr result (((state S.Store conn.new).now ≡ (state S.Store conn.old).now) × ((state S.Store conn.new).committed ≡ (state S.Store conn.old).committed)) }
-    ensures settled { HasCleanDisk (state S.Store conn.new) → IsTrue (state S.Store conn.new).is_open → (state S.Store conn.new).now ≡ (state S.Store conn.new).committed }
+    ensures same { WhenClean S.Store conn.old conn.new (λ old new. OnOk result (IsUnchanged old new)) }
+    ensures undone { WhenOpen S.Store conn.old conn.new (λ old new. OnErr result (KeepsAll old new)) }
+    ensures settled { WhenOpen S.Store conn.old conn.new (λ old new. new.now ≡ new.committed) }
     ensures idle { conn.new.in_transaction ≡ false }
-    ensures crash { Survives (state S.Store conn.old) (state S.Store conn.new) (λ _. ⊥) }
+    ensures crash { CommitsNothing S.Store conn.old conn.new }
 {
     let config = config_at(conn, 2)?;
     if !is_desk(conn.schema()) {

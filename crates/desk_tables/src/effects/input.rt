@@ -54,10 +54,7 @@ pub(crate) enum EffectInput {
 pub(crate) fn as_json_integer(number: u64) -> Result<JsonInteger, RowFault>
     ensures { MatchResult result (λ n. (n ≡ number) × IsJsonInteger number) (λ fault. ¬ IsJsonInteger number) }
 {
-    match JsonInteger::new(number) {
-        Some(number) => Ok(number),
-        None => Err(RowFault::Row),
-    }
+    JsonInteger::new(number).ok_or(RowFault::Row)
 }
 
 /// Returns the number of the next uplink, if it is below 2^53.
@@ -74,10 +71,7 @@ fn session_numbered<S: Alter>(conn: &mut Connection<S>, number: u64) -> Result<S
         (λ r found. option_map (λ row. row.session) (item_at r.sessions number) ≡ Some found) }
 {
     let number = as_json_integer(number)?;
-    match session(conn, number)? {
-        Some(found) => Ok(found),
-        None => Err(RowFault::Row),
-    }
+    session(conn, number)?.ok_or(RowFault::Row)
 }
 
 fn floor_at<S: Alter>(conn: &mut Connection<S>, dev_eui: Eui) -> Result<Option<u64>, RowFault>
@@ -155,10 +149,8 @@ fn uplink_at<S: Alter>(conn: &mut Connection<S>, number: u64) -> Result<Uplink, 
         (λ r found. item_at r.uplinks number ≡ Some found) }
 {
     let number = as_json_integer(number)?;
-    match uplink(conn, number)? {
-        Some((_, found)) => Ok(found),
-        None => Err(RowFault::Row),
-    }
+    let (_, found) = uplink(conn, number)?.ok_or(RowFault::Row)?;
+    Ok(found)
 }
 
 /// Returns the next downlink counter of a session, with one more downlink.
@@ -170,10 +162,8 @@ fn next_counter<S: Alter>(
         (λ r. HasSession number r × ((row : SessionRow) → item_at r.sessions number ≡ Some row → IsJsonInteger (row.next_down + 1)))
         (λ r counter. IsNextDown number r counter) }
 {
-    match next_down(conn, number)? {
-        Some(counter) => as_json_integer(counter.saturating_add(1)),
-        None => Err(RowFault::Row),
-    }
+    let counter = next_down(conn, number)?.ok_or(RowFault::Row)?;
+    as_json_integer(counter.saturating_add(1))
 }
 
 /// Returns the same if an uplink of this kind counts its answers.
