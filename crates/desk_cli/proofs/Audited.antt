@@ -12,7 +12,7 @@ use Rattle.desk_engine.specs.InOrder.{kept_after}
 use Rattle.desk_rows.specs.Schema.{desk_schema}
 use Rattle.desk_tables.specs.Adopting.{IsGivenBack}
 use Rattle.desk_tables.specs.InOrder.{IsOfDesk}
-use Rattle.desk_tables.proofs.OneSchema.{one_schema}
+use Rattle.desk_cli.proofs.OneSchema.{one_schema}
 use Rattle.desk_cli.proofs.Compared.{became_store_too}
 use Rattle.desk_cli.specs.Audit.{IsFinding}
 use Rattle.desk_cli.specs.declared.audit.Finding.{Finding}

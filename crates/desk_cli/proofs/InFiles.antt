@@ -19,7 +19,7 @@ use Rattle.desk_store.specs.Kept.{Kept}
 use Rattle.desk_engine.specs.InOrder.{kept_after}
 use Rattle.desk_rows.specs.Schema.{desk_schema}
 use Rattle.desk_tables.specs.InOrder.{AreOfDesk, IsOfDesk}
-use Rattle.desk_tables.proofs.OneSchema.{one_schema}
+use Rattle.desk_cli.proofs.OneSchema.{one_schema}
 use Rattle.desk_cli.specs.InFiles.{HoldHeard, HoldLeft}
 use Rattle.desk_cli.specs.OnTables.{IsLeft, KeepsHeard}
 

@@ -16,6 +16,7 @@ pub mod LinesAnswered
 pub mod LogPrinted
 pub mod Logging
 pub mod Migrated
+pub mod OneSchema
 pub mod OnTables
 pub mod Opened
 pub mod Printed

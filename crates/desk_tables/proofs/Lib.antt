@@ -12,7 +12,6 @@ pub mod LimitLemmas
 pub mod LookUps
 pub mod MigratingLemmas
 pub mod NotedCommits
-pub mod OneSchema
 pub mod OpeningLemmas
 pub mod Reading
 pub mod RefusedCommits
