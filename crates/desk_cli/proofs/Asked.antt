@@ -1,18 +1,14 @@
 -- A run by its arguments: with a command that they name, its ending and its line on standard error; without one, nothing was done.
-use Rattle.std.proofs.Common.{◌≡◌, ℕ, Bool, List, Option, None, Result, Ok, Err, inl, inr, refl, sym, subst, ◌∙◌}
-use Rattle.std.proofs.KnownBytes.{Keeps-refl}
+use Rattle.std.proofs.Common.{◌≡◌, Result, Ok, Err, inl, inr, sym, subst, ◌∙◌}
 use Rattle.std.specs.Prelude.{◌⊎◌, String}
 use Rattle.std.specs.declared.io.Error.{Error}
+use Rattle.std.specs.declared.io.Write.{Ghosts}
 use Rattle.std.specs.declared.vec.IntoIter.{IntoIter}
-use Rattle.clap.specs.Walk.{Text}
-use Rattle.sqlite.specs.Held.{Held}
-use Rattle.sqlite_trees.specs.declared.store.Store.{Ghosts}
-use Rattle.desk_cli.specs.Ports.{AtPorts}
-use Rattle.desk_cli.specs.CommandLine.{named_by}
-use Rattle.desk_cli.specs.Doing.{AtPaths, DoesAsked}
-use Rattle.desk_cli.specs.Faults.{EndsBy, ending_of_fault}
+use Rattle.desk_cli.specs.Doing.{DoesAsked}
+use Rattle.desk_cli.specs.Faults.{EndsBy, EndsBySome, ending_of_fault}
 use Rattle.desk_cli.specs.Named.{Asked, Named, TellsNamed, bad, names, refused}
-use Rattle.desk_cli.specs.Runs.{AsksFor, Given, IsNamed, Runs, given}
+use Rattle.desk_cli.specs.Runs.{AsksFor, DoesNamed, Given, IsNamed, Runs, given}
+use Rattle.desk_cli.specs.World.{World}
 use Rattle.desk_cli.specs.steps.Given.{IsNotGiven}
 use Rattle.desk_cli.specs.steps.Usages.{TellsUsage}
 use Rattle.desk_cli.specs.declared.endings.Ending.{Ending}
@@ -23,7 +19,7 @@ use Rattle.desk_cli.specs.declared.usage.Usage.{Usage}
 use Rattle.desk_cli.specs.declared.usage.Usage.TheVariants.{Words, Value, NotText, Memory}
 
 -- a command that the arguments name is one that words name
-pub some_words : (words : Given) (asked : Asked) → AsksFor words asked → IsNamed asked
+some_words : (words : Given) (asked : Asked) → AsksFor words asked → IsNamed asked
 some_words (Ok words) asked named = (words, named)
 some_words (Err kind) asked named = absurd named
 
@@ -77,16 +73,16 @@ fault_is_not_misused Network is = cc
 
 -- ---- runs
 
--- `contents` is what the writer of standard error has, and `untold` and `told` are that writer before and after.
-module _ {F : Type 0} (contents : F → Option (List ℕ)) (untold told : F) where
+-- `f` are the ghost members of the type that writes standard error, `untold` and `told` the writer before and after.
+module _ {F : Type 0} (f : Ghosts F) (untold told : F) where
   -- a command that is done reports no error
-  pub ends_quiet : (result : Result (Unit {0}) Fault) → EndsBy contents untold told Done result → told ≡ untold
+  ends_quiet : (result : Result (Unit {0}) Fault) → EndsBy f untold told Done result → told ≡ untold
   ends_quiet (Ok x) ended = ended.1
   ends_quiet (Err fault) ended = absurd (subst IsNotDone (sym ended.0) (fault_is_not_done fault))
 
   -- arguments that name no command, or weren't read because memory ran out
-  names_none : (named : Named) (usage : Usage) (ending : Ending) → TellsNamed named (Err usage) → TellsUsage contents untold told ending usage
-      → EndsBy contents untold told ending (Err Unavailable) ⊎ ((ending ≡ Misused) × ((asked : Asked) → ¬ (named ≡ names asked)))
+  pub names_none : (named : Named) (usage : Usage) (ending : Ending) → TellsNamed named (Err usage) → TellsUsage f untold told ending usage
+      → EndsBy f untold told ending (Err Unavailable) ⊎ ((ending ≡ Misused) × ((asked : Asked) → ¬ (named ≡ names asked)))
   names_none named Memory ending tells is = inl is
   names_none named NotText ending tells is = absurd tells
   names_none named (Value value) ending tells is = inr (is, λ asked e. cc)
@@ -95,26 +91,28 @@ module _ {F : Type 0} (contents : F → Option (List ℕ)) (untold told : F) whe
   names_none (bad value) (Words error) ending tells is = absurd tells
 
   -- arguments that std hasn't, or for whose texts there was no memory
-  given_none : {Y Z : Type 0} (arguments : Result (IntoIter (String Y) Z) Error) (usage : Usage) (ending : Ending) → IsNotGiven arguments usage → TellsUsage contents untold told ending usage
-      → EndsBy contents untold told ending (Err Unavailable) ⊎ ((ending ≡ Misused) × ((asked : Asked) → ¬ (AsksFor (given arguments) asked)))
-  given_none (Ok arguments) usage ending none is = inl (subst (TellsUsage contents untold told ending) none is)
+  pub given_none : {Y Z : Type 0} (arguments : Result (IntoIter (String Y) Z) Error) (usage : Usage) (ending : Ending) → IsNotGiven arguments usage → TellsUsage f untold told ending usage
+      → EndsBy f untold told ending (Err Unavailable) ⊎ ((ending ≡ Misused) × ((asked : Asked) → ¬ (AsksFor (given arguments) asked)))
+  given_none (Ok arguments) usage ending none is = inl (subst (TellsUsage f untold told ending) none is)
   given_none (Err error) Memory ending none is = inl is
   given_none (Err error) NotText ending none is = inr (is, λ asked asks. asks)
   given_none (Err error) (Words why) ending none is = absurd none
   given_none (Err error) (Value value) ending none is = absurd none
 
-  module _ {S : Type 0} (g : Ghosts S) (paths : AtPaths S) (Sure : Type 0) (ports : Bool → AtPorts) (back : Option (Held S)) (left rest before after : Option (List ℕ)) where
-    does_all : (asked : Asked) (r : Result (Unit {0}) Fault) → EndsBy contents untold told Done r → DoesAsked g paths Sure ports back left rest before after r asked
-        → DoesAsked {T = Unit {0}} g paths Sure ports back left rest before after (Ok tt) asked
+  module _ {S : Type 0} (w : World S) where
+    does_all : (asked : Asked) (r : Result (Unit {0}) Fault) → EndsBy f untold told Done r → DoesAsked w r asked → DoesAsked {T = Unit {0}} w (Ok tt) asked
     does_all asked (Ok x) ended does = does
     does_all asked (Err fault) ended does = absurd (subst IsNotDone (sym ended.0) (fault_is_not_done fault))
 
-    module _ (words : Given) (ending : Ending) (runs : Runs g paths Sure ports back left rest before after contents untold told words ending) where
+    module _ (words : Given) (runs : Runs w f untold told words) where
       -- a run that ends well has done what was asked
-      pub done_asked : ending ≡ Done
-          → (asked : Asked) × AsksFor words asked × DoesAsked {T = Unit {0}} g paths Sure ports back left rest before after (Ok tt) asked
+      pub done_asked : w.ending ≡ Done → DoesNamed w
       done_asked is = elim runs [
-        | inl asked ↦ (asked.0, asked.1, does_all asked.0 asked.2.result (subst (λ e. EndsBy contents untold told e asked.2.result) is asked.2.ended) asked.2.says)
+        | inl asked ↦ (
+          asked.0,
+          some_words words asked.0 asked.1,
+          does_all asked.0 asked.2.result (subst (λ e. EndsBy f untold told e asked.2.result) is asked.2.ended) asked.2.says,
+        )
         | inr none ↦ elim none.ending_is [
           | inl failed ↦ absurd (subst IsNotDone (sym failed.0 ∙ is) tt)
           | inr misused ↦ absurd (subst IsNotDone (sym misused.0 ∙ is) tt)
@@ -122,7 +120,7 @@ module _ {F : Type 0} (contents : F → Option (List ℕ)) (untold told : F) whe
       ]
 
       -- and unless the arguments name no command, standard error reports how it ended
-      pub tells_ending : ¬ (ending ≡ Misused) → (result : Result (Unit {0}) Fault) × EndsBy contents untold told ending result
+      pub tells_ending : ¬ (w.ending ≡ Misused) → EndsBySome f untold told w.ending
       tells_ending named = elim runs [
         | inl asked ↦ (asked.2.result, asked.2.ended)
         | inr none ↦ elim none.ending_is [
@@ -131,19 +129,7 @@ module _ {F : Type 0} (contents : F → Option (List ℕ)) (untold told : F) whe
         ]
       ]
 
-      pub is_quiet : ending ≡ Done → told ≡ untold
+      pub is_quiet : w.ending ≡ Done → told ≡ untold
       is_quiet is =
           let of = tells_ending (λ misused. absurd (subst IsNotDone (sym misused ∙ is) tt)) in
-          ends_quiet of.0 (subst (λ e. EndsBy contents untold told e of.0) is of.1)
-
-  module _ {S : Type 0} (g : Ghosts S) (paths : AtPaths S) (Sure : Type 0) (ports : Bool → AtPorts) (left before : Option (List ℕ)) where
-    -- nothing was done
-    pub runs_nothing : (words : List Text) (usage : Usage) (ending : Ending) → TellsNamed (named_by words) (Err usage) → TellsUsage contents untold told ending usage
-        → Runs g paths Sure ports None left left before before contents untold told (Ok words) ending
-    runs_nothing words usage ending tells is =
-        inr (record { unopened = refl; unread = Keeps-refl left; unwritten = Keeps-refl before; ending_is = names_none (named_by words) usage ending tells is })
-
-    pub runs_not : {Y Z : Type 0} (arguments : Result (IntoIter (String Y) Z) Error) (usage : Usage) (ending : Ending) → IsNotGiven arguments usage
-        → TellsUsage contents untold told ending usage → Runs g paths Sure ports None left left before before contents untold told (given arguments) ending
-    runs_not arguments usage ending none is =
-        inr (record { unopened = refl; unread = Keeps-refl left; unwritten = Keeps-refl before; ending_is = given_none arguments usage ending none is })
+          ends_quiet of.0 (subst (λ e. EndsBy f untold told e of.0) is of.1)

@@ -14,9 +14,10 @@ use Rattle.desk_engine.specs.declared.report_faults.ReportFault.{ReportFault}
 use Rattle.desk_tables.specs.Adopting.{IsGivenBack}
 use Rattle.desk_cli.specs.Ports.{AtPorts}
 use Rattle.desk_cli.specs.Answering.{AnswersBy}
-use Rattle.desk_cli.specs.Doing.{AtPaths, OnAudit, OnAuditByRules, OnAuditedFile, OnDeskByRules, OnDeskFile, PrintsDesk}
+use Rattle.desk_cli.specs.Doing.{OnAudit, OnAuditByRules, OnAuditedFile, OnDeskByRules, OnDeskFile, PrintsDesk}
 use Rattle.desk_cli.specs.OnTables.{IsLeft, KeepsHeard, LeavesRules}
 use Rattle.desk_cli.specs.Printing.{PrintsAnswer, PrintsBy}
+use Rattle.desk_cli.specs.World.{AtPaths}
 use Rattle.desk_cli.specs.commands.Auditing.{AuditsBy}
 use Rattle.desk_cli.specs.commands.Importing.{ImportsBy}
 use Rattle.desk_cli.specs.commands.Log.{LogsBy}

@@ -1,6 +1,7 @@
 -- What a command does, by how it ended: on a file, and on the desk that is in it.
-use Rattle.std.specs.Prelude.{◌≡◌, ◌⊎◌, ℕ, Bool, List, Option, Some, None, IfSome, Result, Err}
+use Rattle.std.specs.Prelude.{◌≡◌, ◌⊎◌, ℕ, List, Option, Some, None, IfSome, Result, Err}
 use Rattle.std.specs.Io.KnownBytes.{Keeps}
+use Rattle.std.specs.declared.io.Write as write
 use Rattle.clap.specs.Walk.{Text}
 use Rattle.sqlite.specs.Held.{Held, state}
 use Rattle.sqlite.specs.State.{HasCleanDisk}
@@ -10,48 +11,25 @@ use Rattle.registry_core.specs.Heard.{state_of}
 use Rattle.registry_core.specs.Settings.{Settings}
 use Rattle.desk_engine.specs.declared.report_faults.ReportFault.{ReportFault}
 use Rattle.desk_engine.specs.Listing.{IsDeviceAnswer, IsListAnswer}
-use Rattle.desk_engine.specs.Log.{log_of}
 use Rattle.desk_http.specs.Reports.{IsBandAnswer}
-use Rattle.desk_cli.specs.Faults.{Ends}
-use Rattle.desk_cli.specs.Ports.{AtPorts}
 use Rattle.desk_cli.specs.Named.{Asked, version, lines, init, migrate, hear, import, serve, report, bands, room, list, device, receptions, downlinks, log, check, audit}
-use Rattle.desk_cli.specs.RefusedFiles.{IsNotADesk, RefusesFile}
+use Rattle.desk_cli.specs.OnDesk.{OnDesk}
 use Rattle.desk_cli.specs.OnTables.{IsLeft, KeepsHeard, LeavesRules}
 use Rattle.desk_cli.specs.Printing.{IsDevicesMonth, IsGatewaysMonth, IsGatewaysRoom, IsOwnersMonth, PrintsBy}
+use Rattle.desk_cli.specs.Streams.{KeepsBoth, KeepsInput, KeepsOutput}
+use Rattle.desk_cli.specs.World.{AtPaths, World}
 use Rattle.desk_cli.specs.commands.Auditing.{AuditsBy}
 use Rattle.desk_cli.specs.commands.Checking.{IsCheck}
 use Rattle.desk_cli.specs.commands.Hear.{HearsBy}
-use Rattle.desk_cli.specs.commands.Importing.{ImportsBy}
+use Rattle.desk_cli.specs.commands.Importing.{ImportsDesk}
 use Rattle.desk_cli.specs.commands.Init.{InitsBy}
 use Rattle.desk_cli.specs.commands.Lines.{AnswersLines}
-use Rattle.desk_cli.specs.commands.Log.{LogsBy}
+use Rattle.desk_cli.specs.commands.Log.{LogsDesk}
 use Rattle.desk_cli.specs.commands.Migrating.{MigratesBy}
-use Rattle.desk_cli.specs.commands.Serving.{ServesBy}
+use Rattle.desk_cli.specs.commands.Serving.{ServesDesk}
 use Rattle.desk_cli.specs.commands.Version.{PrintsVersion}
-use Rattle.desk_cli.specs.declared.endings.Ending.{Ending}
 use Rattle.desk_cli.specs.declared.faults.Fault.{Fault}
 use Rattle.desk_cli.specs.declared.faults.Fault.TheVariants.{Exists, Unavailable, File}
-
--- What a command does over a connection, if the disk has returned what was written to it. If the database is a desk's, `Does` is true of
--- its configuration and log. If it isn't a desk, the command refuses it. The disk then was clean before the command too.
-pub record OnDesk {S T : Type 0} (g : Ghosts S) (conn back : Held S) (result : Result T Fault) (Untouched : Type 0) (Does : Settings → List Envelope → Type 0) : Type 0 where
-  pub desk : HasCleanDisk (state g back) → (c : Settings) (heard : List Envelope) → KeepsHeard g conn c heard → Does c heard
-  pub not_a_desk : HasCleanDisk (state g back) → IsNotADesk g conn → RefusesFile g conn back Untouched result
-  pub clean : HasCleanDisk (state g back) → HasCleanDisk (state g conn)
-
--- What is known of files by their paths: of a connection to a file that was opened or made, and of files that can't be opened or made.
-pub record AtPaths (S : Type 0) : Type 1 where
-  pub opens : Text → Held S → Type 0
-  pub makes : Text → Held S → Type 0
-  pub unopened : Text → Type 0
-  pub unmade : Text → Type 0
-  -- of a path at which a scratch file is made, and of one at which none is, by the error
-  pub free : Text → Type 0
-  pub unfree : Text → Fault → Type 0
-
--- The same is known of each connection, whatever its file. Nothing is known of files that can't be opened or made, and of scratch files.
-abbrev pub known_alike : {S : Type 0} → (Held S → Type 0) → AtPaths S
-known_alike Known = record { opens = λ path conn. Known conn; makes = λ path conn. Known conn; unopened = λ path. Unit {0}; unmade = λ path. Unit {0}; free = λ path. Unit {0}; unfree = λ path fault. Unit {0} }
 
 -- A command on a file. Either the file gave a connection, and the command did this with it and returned it. Or the file can't be opened or
 -- made, the error is `File`, no connection is returned, and the streams are untouched.
@@ -91,18 +69,15 @@ module _ {S : Type 0} (g : Ghosts S) (IsAnswer : Settings → List Envelope → 
   abbrev pub PrintsDesk : {T : Type 0} → (before after : Option (List ℕ)) → Result T Fault → Held S → Settings → List Envelope → Type 0
   PrintsDesk before after result back c heard = PrintsBy (KeepsHeard g back c heard) (IsLeft g back c heard None) before after (IsAnswer c heard) result
 
-  -- `contents` is what was written to the writer of reports, `old` and `new` are that writer before and after.
-  module _ {W : Type 0} (contents : W → Option (List ℕ)) (old new : W) where
-    -- over a connection; `back` is the connection that is returned
-    abbrev pub PrintsOver : {T : Type 0} → (conn back : Held S) → Result T Fault → Type 0
-    PrintsOver conn back result = OnDesk g conn back result (Keeps (contents old) (contents new)) (PrintsDesk (contents old) (contents new) result back)
+  -- over a connection; `w` are the ghost members of the writer of reports, `old` and `new` that writer before and after
+  abbrev pub PrintsOver : {W T : Type 0} → (conn : Held S) (w : write.Ghosts W) (old new : W) (back : Held S) → Result T Fault → Type 0
+  PrintsOver conn w old new back result =
+      OnDesk g conn back result (Keeps (w.contents old) (w.contents new)) (PrintsDesk (w.contents old) (w.contents new) result back)
 
-    -- On a file: how the command ended, and the connection that it returned. `told` is what was written to the writer of errors, `before` and
-    -- `after` are that writer.
-    abbrev pub PrintsFile : {F : Type 0} → (told : F → Option (List ℕ)) → (before after : F) → AtPaths S → Text → Ending → Option (Held S) → Type 0
-    PrintsFile told before after paths file ending given_back =
-        Ends told before after ending
-        (λ result. OnDeskFile g paths given_back result file (Keeps (contents old) (contents new)) (PrintsDesk (contents old) (contents new) result))
+  -- on a file; `back` is the connection that is returned, if the file could be opened
+  abbrev pub PrintsFile : {W T : Type 0} → AtPaths S → Text → (w : write.Ghosts W) (old new : W) (back : Option (Held S)) → Result T Fault → Type 0
+  PrintsFile paths file w old new back result =
+      OnDeskFile g paths back result file (Keeps (w.contents old) (w.contents new)) (PrintsDesk (w.contents old) (w.contents new) result)
 
 -- A command with a scratch file. Either the file was made at the path, and the command did this. Or none was made there: nothing is done,
 -- no connection is returned, and the streams are untouched.
@@ -125,34 +100,31 @@ OnAuditByRules g paths given_back result file scratch Untouched Sure Does =
     (λ sure conn. Does sure conn
     × IfSome given_back (λ back. HasCleanDisk (state g back) → (c : Settings) (heard : List Envelope) → KeepsHeard g conn c heard → LeavesRules g back c))
 
--- `paths` is what is known of files. `Sure` states that the disk of a scratch file that a run returns has returned what was written to it.
--- `ports` is what is answered at the ports, with a log of their connections or without. `given_back` is the connection that a run returns,
--- `left` and `rest` what is left to read before and after, `before` and `after` what was written by then.
-module _ {S T : Type 0} (g : Ghosts S) (paths : AtPaths S) (Sure : Type 0) (ports : Bool → AtPorts) (given_back : Option (Held S)) (left rest before after : Option (List ℕ)) (result : Result T Fault) where
+module _ {S T : Type 0} (w : World S) (result : Result T Fault) where
   -- a report was printed that is this of the configuration and log of the desk in the file
   abbrev PrintsReport : Text → (Settings → List Envelope → Result (List ℕ) ReportFault → Type 0) → Type 0
   PrintsReport file IsAnswer =
-      OnDeskByRules g paths given_back result file (Keeps before after) (PrintsDesk g IsAnswer before after result) × Keeps left rest
+      OnDeskByRules w.store w.paths w.back result file (KeepsOutput w.streams) (PrintsDesk w.store IsAnswer w.streams.before w.streams.after result)
+      × KeepsInput w.streams
 
   -- The command did what was asked, according to its result. A stream that the command doesn't use stays as it was.
   abbrev pub DoesAsked : Asked → Type 0
-  DoesAsked version = PrintsVersion before after result × Keeps left rest × (given_back ≡ None)
-  DoesAsked (lines c) = AnswersLines left rest before after c result × (given_back ≡ None)
+  DoesAsked version = PrintsVersion w.streams.before w.streams.after result × KeepsInput w.streams × (w.back ≡ None)
+  DoesAsked (lines c) = AnswersLines w.streams c result × (w.back ≡ None)
   DoesAsked (init file c) =
-      OnFile paths.makes paths.unmade given_back result file (Unit {0}) (λ conn back. InitsBy g conn back c result)
-      × Keeps left rest × Keeps before after
+      OnFile w.paths.makes w.paths.unmade w.back result file (Unit {0}) (λ conn back. InitsBy w.store conn back c result)
+      × KeepsInput w.streams × KeepsOutput w.streams
   DoesAsked (migrate file) =
-      OnFile paths.opens paths.unopened given_back result file (Unit {0}) (λ conn back. MigratesBy g conn back result)
-      × Keeps left rest × Keeps before after
+      OnFile w.paths.opens w.paths.unopened w.back result file (Unit {0}) (λ conn back. MigratesBy w.store conn back result)
+      × KeepsInput w.streams × KeepsOutput w.streams
   DoesAsked (hear file) =
-      OnDeskByRules g paths given_back result file (Keeps left rest × Keeps before after) (λ back c heard. HearsBy g back c heard left rest before after result)
+      OnDeskByRules w.store w.paths w.back result file (KeepsBoth w.streams) (λ back c heard. HearsBy w.store back c heard w.streams result)
   DoesAsked (import file sender) =
-      OnDeskByRules g paths given_back result file (Keeps left rest × Keeps before after)
-      (λ back c heard. ImportsBy c heard sender (KeepsHeard g back c) (IsLeft g back c) left rest before after result)
+      OnDeskByRules w.store w.paths w.back result file (KeepsBoth w.streams) (λ back c heard. ImportsDesk w.store back c heard sender w.streams result)
   DoesAsked (serve file port connections logged) =
-      OnDeskByRules g paths given_back result file (Keeps before after)
-      (λ back c heard. ServesBy c heard (KeepsHeard g back c) (IsLeft g back c) (ports logged) port connections before after result)
-      × Keeps left rest
+      OnDeskByRules w.store w.paths w.back result file (KeepsOutput w.streams)
+      (λ back c heard. ServesDesk w.store back c heard (w.ports logged) port connections w.streams.before w.streams.after result)
+      × KeepsInput w.streams
   DoesAsked (report file owner month) = PrintsReport file (λ c heard. IsOwnersMonth (state_of c heard) owner month)
   DoesAsked (bands file gateway) = PrintsReport file (λ c heard. IsBandAnswer (state_of c heard) gateway)
   DoesAsked (room file gateway time) = PrintsReport file (λ c heard. IsGatewaysRoom (state_of c heard) gateway time)
@@ -161,10 +133,11 @@ module _ {S T : Type 0} (g : Ghosts S) (paths : AtPaths S) (Sure : Type 0) (port
   DoesAsked (receptions file dev_eui month) = PrintsReport file (λ c heard. IsDevicesMonth (state_of c heard) dev_eui month)
   DoesAsked (downlinks file gateway month) = PrintsReport file (λ c heard. IsGatewaysMonth (state_of c heard) gateway month)
   DoesAsked (log file from count which) =
-      OnDeskByRules g paths given_back result file (Keeps before after)
-      (λ back c heard. LogsBy (log_of which c heard from count) (KeepsHeard g back c heard) (IsLeft g back c heard None) before after result)
-      × Keeps left rest
+      OnDeskByRules w.store w.paths w.back result file (KeepsOutput w.streams)
+      (λ back c heard. LogsDesk w.store back c heard which from count w.streams.before w.streams.after result)
+      × KeepsInput w.streams
   DoesAsked (check file) = PrintsReport file IsCheck
   DoesAsked (audit file scratch) =
-      OnAuditByRules g paths given_back result file scratch (Keeps before after) Sure (λ sure conn. AuditsBy g conn given_back before after sure result)
-      × Keeps left rest
+      OnAuditByRules w.store w.paths w.back result file scratch (KeepsOutput w.streams) w.Sure
+      (λ sure conn. AuditsBy w.store conn w.back w.streams.before w.streams.after sure result)
+      × KeepsInput w.streams

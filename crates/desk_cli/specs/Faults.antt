@@ -2,6 +2,7 @@
 use Rattle.std.specs.Prelude.{◌≡◌, ◌++◌, ◌∷◌, ℕ, List, [], Option, Result, Ok, Err, codes}
 use Rattle.std.specs.Fmt.{decimal}
 use Rattle.std.specs.Io.KnownBytes.{Appends}
+use Rattle.std.specs.declared.io.Write.{Ghosts}
 use Rattle.desk_store.specs.declared.faults.StoreFault.{StoreFault}
 use Rattle.desk_store.specs.declared.faults.StoreFault.TheVariants as store
 use Rattle.desk_engine.specs.declared.report_faults.ReportFault.{ReportFault}
@@ -76,18 +77,26 @@ pub record IsBegun (before after : Option (List ℕ)) (text : List ℕ) : Type 0
 
 -- ---- how a command ends
 
--- `contents` is what was written to standard error, `before` and `after` its writer.
-module _ {F : Type 0} (contents : F → Option (List ℕ)) (before after : F) where
+-- `f` are the ghost members of the type that writes standard error, `before` and `after` the writer.
+module _ {F : Type 0} (f : Ghosts F) (before after : F) where
   -- By the command's result: with `Ok` nothing is written, with an error its line.
   abbrev pub EndsBy : Ending → Result (Unit {0}) Fault → Type 0
   EndsBy ends (Ok x) = (ends ≡ ending.Done) × (after ≡ before)
-  EndsBy ends (Err fault) = (ends ≡ ending_of_fault fault) × IsBegun (contents before) (contents after) (fault_line fault)
+  EndsBy ends (Err fault) = (ends ≡ ending_of_fault fault) × IsBegun (f.contents before) (f.contents after) (fault_line fault)
+
+  -- by some result of a command
+  abbrev pub EndsBySome : Ending → Type 0
+  EndsBySome ends = (done : Result (Unit {0}) Fault) × EndsBy ends done
 
   -- The command ended with a result that satisfies this.
   pub record Ends (ends : Ending) (Says : Result (Unit {0}) Fault → Type 0) : Type 0 where
     pub result : Result (Unit {0}) Fault
     pub ended : EndsBy ends result
     pub says : Says result
+
+  -- The command ended and gave something back, and both satisfy this.
+  abbrev pub EndsWith : {X : Type 0} → Ending × X → (X → Result (Unit {0}) Fault → Type 0) → Type 0
+  EndsWith both Says = Ends both.0 (Says both.1)
 
 -- ---- the errors of the crates below
 

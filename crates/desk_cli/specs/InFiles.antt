@@ -14,7 +14,7 @@ use Rattle.registry_core.specs.Heard.{IsHeard}
 use Rattle.registry_core.specs.Settings.{Settings}
 use Rattle.desk_engine.specs.InOrder.{kept_after}
 use Rattle.desk_tables.specs.InOrder.{AreOfDesk}
-use Rattle.desk_cli.specs.OnTables.{IsLeft, KeepsHeard}
+use Rattle.desk_cli.specs.OnTables.{IsFound, IsLeft, KeepsHeard}
 
 -- the octets of the two files are exactly the tables of a desk of this configuration that represents this log
 pub record HoldHeard (c : Settings) (heard : List Envelope) (octets : Image) : Type 0 where
@@ -31,6 +31,14 @@ module _ {D : Type 0} {g : Ghosts D} where
   -- what is true of a connection that was opened on files with these octets, on a disk that has returned what was written to it
   abbrev pub Shows : Image → Held (FileStore D g) → Type 0
   Shows octets conn = HasCleanDisk (file_state conn) → IsOpened conn × FindsIn octets (file_state conn)
+
+  -- what `again` has in its files is one of what a crash could leave of the files of `conn`
+  abbrev pub FindsLeft : (conn again : Held (FileStore D g)) → Type 0
+  FindsLeft conn again = (c : Settings) (heard : List Envelope) (doubt : Option Envelope) → IsLeft over_files conn c heard doubt → IsFound c heard doubt (file_state again).now
+
+-- disks of this type always return what was written
+abbrev pub ReturnsAll : {D : Type 0} → Ghosts D → Type 0
+ReturnsAll {D} g = (disk : D) → IsTrue (g.is_clean disk)
 
 -- a desk that files contained is what the connection to them represents
 abbrev pub DesksAreFound : {D : Type 0} → Ghosts D → Type 0

@@ -1,13 +1,16 @@
 pub mod Answering
+pub mod AtRest
 pub mod Audit
 pub mod CommandLine
 pub mod ConnectionLog
+pub mod Delivered
 pub mod Doing
 pub mod Endings
 pub mod Faults
 pub mod InFiles
 pub mod Named
 pub mod Numbers
+pub mod OnDesk
 pub mod OnTables
 pub mod Options
 pub mod Ports
@@ -15,5 +18,7 @@ pub mod Printing
 pub mod RefusedFiles
 pub mod Runs
 pub mod Standby
+pub mod Streams
+pub mod World
 pub mod commands
 pub mod steps

@@ -1,20 +1,19 @@
 -- What the program is asked, and how a run of it ends.
-use Rattle.std.specs.Prelude.{◌≡◌, ◌≢◌, ◌⊎◌, ℕ, Bool, List, Option, None, Result, Ok, Err, String, map, string_bytes}
-use Rattle.std.specs.Io.KnownBytes.{Keeps}
+use Rattle.std.specs.Prelude.{◌≡◌, ◌≢◌, ◌⊎◌, List, None, Result, Ok, Err, String, map, string_bytes}
 use Rattle.std.specs.IoError.{error_kind}
 use Rattle.std.specs.Vec.Iter.{into_iter_items}
 use Rattle.std.specs.declared.io.Error.{Error}
 use Rattle.std.specs.declared.io.ErrorKind.{ErrorKind}
 use Rattle.std.specs.declared.io.ErrorKind.TheVariants.{OutOfMemory}
+use Rattle.std.specs.declared.io.Write.{Ghosts}
 use Rattle.std.specs.declared.vec.IntoIter.{IntoIter}
 use Rattle.clap.specs.Walk.{Text}
-use Rattle.sqlite.specs.Held.{Held}
-use Rattle.sqlite_trees.specs.declared.store.Store.{Ghosts}
-use Rattle.desk_cli.specs.Ports.{AtPorts}
 use Rattle.desk_cli.specs.CommandLine.{named_by}
-use Rattle.desk_cli.specs.Doing.{AtPaths, DoesAsked}
+use Rattle.desk_cli.specs.Doing.{DoesAsked}
 use Rattle.desk_cli.specs.Faults.{Ends, EndsBy}
 use Rattle.desk_cli.specs.Named.{Asked, names}
+use Rattle.desk_cli.specs.Streams.{KeepsInput, KeepsOutput}
+use Rattle.desk_cli.specs.World.{World}
 use Rattle.desk_cli.specs.declared.endings.Ending.{Ending}
 use Rattle.desk_cli.specs.declared.endings.Ending.TheVariants.{Failed, Misused}
 use Rattle.desk_cli.specs.declared.faults.Fault.TheVariants.{Unavailable}
@@ -43,23 +42,28 @@ EndsUnread kind Failed = kind ≡ OutOfMemory
 EndsUnread kind Misused = kind ≢ OutOfMemory
 EndsUnread kind _ = ⊥
 
--- `paths` is what is known of files. `Sure` states that the disk of a scratch file that a run returns has returned what was written to it.
--- `ports` is what is answered at the ports, with a log of their connections or without. `back` is the connection that a run gives back.
--- `left` and `rest` are what its reader has left before and after, `before` and `after` what its writer has before and after. `contents` is
--- what the writer of standard error has, and `untold` and `told` are that writer before and after.
-module _ {S F : Type 0} (g : Ghosts S) (paths : AtPaths S) (Sure : Type 0) (ports : Bool → AtPorts) (back : Option (Held S)) (left rest before after : Option (List ℕ))
-    (contents : F → Option (List ℕ)) (untold told : F) where
+-- `f` are the ghost members of the type that writes standard error, `untold` and `told` the writer before and after.
+module _ {S F : Type 0} (w : World S) (f : Ghosts F) (untold told : F) where
   -- what was asked was done, and the program ended by how that ended
-  abbrev pub Does : Ending → Asked → Type 0
-  Does ending asked = Ends contents untold told ending (λ result. DoesAsked g paths Sure ports back left rest before after result asked)
+  abbrev pub Does : Asked → Type 0
+  Does asked = Ends f untold told w.ending (λ result. DoesAsked w result asked)
 
   -- Nothing was asked: no file was opened, and nothing was read or written. Memory ran out, which standard error reports, or the arguments
   -- name no command.
-  pub record AsksNothing (words : Given) (ending : Ending) : Type 0 where
-    pub unopened : back ≡ None
-    pub unread : Keeps left rest
-    pub unwritten : Keeps before after
-    pub ending_is : EndsBy contents untold told ending (Err Unavailable) ⊎ ((ending ≡ Misused) × ((asked : Asked) → ¬ (AsksFor words asked)))
+  pub record AsksNothing (words : Given) : Type 0 where
+    pub unopened : w.back ≡ None
+    pub unread : KeepsInput w.streams
+    pub unwritten : KeepsOutput w.streams
+    pub ending_is : EndsBy f untold told w.ending (Err Unavailable) ⊎ ((w.ending ≡ Misused) × ((asked : Asked) → ¬ (AsksFor words asked)))
 
-  abbrev pub Runs : Given → Ending → Type 0
-  Runs words ending = ((asked : Asked) × AsksFor words asked × Does ending asked) ⊎ AsksNothing words ending
+  -- a run with these arguments
+  abbrev pub Runs : Given → Type 0
+  Runs words = ((asked : Asked) × AsksFor words asked × Does asked) ⊎ AsksNothing words
+
+  -- a run with some arguments
+  abbrev pub RunsSome : Type 0
+  RunsSome = (words : Given) × Runs words
+
+-- some arguments name a command, and that did what was asked, without an error
+abbrev pub DoesNamed : {S : Type 0} → World S → Type 0
+DoesNamed w = (asked : Asked) × IsNamed asked × DoesAsked {T = Unit {0}} w (Ok tt) asked

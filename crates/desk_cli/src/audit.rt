@@ -13,6 +13,7 @@ ghost use Rattle.desk_cli.specs.Audit.{IsFinding};
 ghost use Rattle.desk_cli.specs.RefusedFiles.{IsNotADesk, IsRefused};
 ghost use Rattle.desk_cli.specs.OnTables.{KeepsHeard};
 ghost use Rattle.desk_cli.specs.steps.Audit.{BecameStore, IsDeskIf};
+ghost use Rattle.desk_cli.specs.AtRest.{IsAtRest};
 
 mod comparing;
 mod hearing;
@@ -82,10 +83,8 @@ pub(crate) fn audited_beside<S: Alter + Drop, R: Alter + Drop, P: Progress>(
     scratch: Connection<R>,
     progress: &P,
 ) -> (Result<(Finding, R), Fault>, Option<Connection<S>>)
-    requires idle { conn.in_transaction ≡ false }
-    requires unlimited { conn.step_limit ≡ None }
-    requires scratch_idle { scratch.in_transaction ≡ false }
-    requires scratch_unlimited { scratch.step_limit ≡ None }
+    requires at_rest { IsAtRest conn }
+    requires scratch_at_rest { IsAtRest scratch }
     ensures passes { IfSome result.1 (λ back. HasCleanDisk (state S.Store back)
         → IfOk result.0 (λ found. IsClean (R.Store.view found.1) → IsFinding S.Store back found.0)) }
     ensures refused { IfSome result.1 (λ back. HasCleanDisk (state S.Store back) → IfErr result.0 (IsRefused S.Store conn back)) }
@@ -114,8 +113,7 @@ pub(crate) fn audited_beside<S: Alter + Drop, R: Alter + Drop, P: Progress>(
 ///
 /// Returns `NotADesk`, `Schema` or `Unavailable` if the database isn't a desk of schema 2, and `Unavailable` if it can't be read.
 fn desk_of<S: Alter>(conn: Connection<S>) -> Result<(Config, Connection<S>), (Fault, Connection<S>)>
-    requires idle { conn.in_transaction ≡ false }
-    requires unlimited { conn.step_limit ≡ None }
+    requires at_rest { IsAtRest conn }
     ensures desk { IfOk result (λ found. HasCleanDisk (state S.Store found.1) → (conn.schema ≡ desk_schema) × IsUnchanged (state S.Store conn) (state S.Store found.1)) }
     ensures idle { IfOk result (λ found. found.1.in_transaction ≡ false) }
     ensures never { IfOk result (λ found. HasCleanDisk (state S.Store found.1) → ¬ IsNotADesk S.Store conn) }
@@ -140,8 +138,7 @@ pub(crate) fn audited<S: Alter + Drop, P: Progress>(
     conn: Connection<S>,
     progress: &P,
 ) -> (Result<Finding, Fault>, Option<Connection<S>>)
-    requires idle { conn.in_transaction ≡ false }
-    requires unlimited { conn.step_limit ≡ None }
+    requires at_rest { IsAtRest conn }
     ensures passes { IfSome result.1 (λ back. HasCleanDisk (state S.Store back) → IfOk result.0 (IsFinding S.Store back)) }
     ensures refused { IfSome result.1 (λ back. HasCleanDisk (state S.Store back) → IfErr result.0 (IsRefused S.Store conn back)) }
     ensures never { IfSome result.1 (λ back. HasCleanDisk (state S.Store back) → IfOk result.0 (λ _. ¬ IsNotADesk S.Store conn)) }
@@ -163,10 +160,8 @@ fn audited_over<S: Alter + Drop, R: Alter + Drop, P: Progress>(
     scratch: Connection<R>,
     progress: &P,
 ) -> (Result<Finding, Fault>, Option<Connection<S>>)
-    requires idle { conn.in_transaction ≡ false }
-    requires unlimited { conn.step_limit ≡ None }
-    requires scratch_idle { scratch.in_transaction ≡ false }
-    requires scratch_unlimited { scratch.step_limit ≡ None }
+    requires at_rest { IsAtRest conn }
+    requires scratch_at_rest { IsAtRest scratch }
     requires sure { (store : R) → IsClean (R.Store.view store) }
     ensures passes { IfSome result.1 (λ back. HasCleanDisk (state S.Store back) → IfOk result.0 (IsFinding S.Store back)) }
     ensures refused { IfSome result.1 (λ back. HasCleanDisk (state S.Store back) → IfErr result.0 (IsRefused S.Store conn back)) }
@@ -197,8 +192,7 @@ fn heard_anew<S: Alter + Drop, R: Alter + Drop, P: Progress>(
     progress: &P,
 ) -> Result<(Finding, S, R), StoreFault>
     requires idle { conn.in_transaction ≡ false }
-    requires scratch_idle { scratch.in_transaction ≡ false }
-    requires scratch_unlimited { scratch.step_limit ≡ None }
+    requires scratch_at_rest { IsAtRest scratch }
     ensures found { IfOk result (λ ended. IsClean (S.Store.view ended.1) → IsClean (R.Store.view ended.2)
         → IsTrue (state S.Store conn).is_open → conn.schema ≡ desk_schema → IsDeskIf config (state S.Store conn).now ended.0) }
     ensures became { IfOk result (λ ended. IsClean (S.Store.view ended.1)

@@ -158,7 +158,7 @@ impl From<CsvFault> for Fault {
 /// Returns how the program ends after a command with this result. An error's line is written to standard error. If that write fails, only
 /// the exit status reports the error.
 pub(crate) fn end<F: Write>(faults: &mut F, done: Result<(), Fault>) -> Ending
-    ensures { EndsBy F.contents faults.old faults.new result done }
+    ensures { EndsBy F.Write faults.old faults.new result done }
 {
     match done {
         Ok(()) => Ending::Done,

@@ -1,8 +1,9 @@
 //! Opens the file of a desk.
 ghost use Rattle.std.specs.Prelude.{◌≡◌, false, None, IfOk, IfErr};
 ghost use Rattle.sqlite_wal.specs.Files.{image_at};
-ghost use Rattle.desk_cli.specs.Doing.{AtPaths, IsScratchFault, known_alike};
+ghost use Rattle.desk_cli.specs.Doing.{IsScratchFault};
 ghost use Rattle.desk_cli.specs.InFiles.{Shows};
+ghost use Rattle.desk_cli.specs.World.{AtPaths, known_alike};
 
 use crate::causes::line_for_terminal;
 use crate::faults::Fault;

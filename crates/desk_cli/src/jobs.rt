@@ -1,6 +1,5 @@
 //! What a command does with the desk in a file, whatever store opens it.
-ghost use Rattle.std.specs.Prelude.{◌≡◌, false, List, None};
-ghost use Rattle.std.specs.Io.KnownBytes.{Keeps};
+ghost use Rattle.std.specs.Prelude.{◌≡◌, List};
 ghost use Rattle.sqlite.specs.Held.{state};
 ghost use Rattle.sqlite.specs.State.{HasCleanDisk};
 ghost use Rattle.registry_core.specs.declared.messages.Envelope.{Envelope};
@@ -8,6 +7,8 @@ ghost use Rattle.registry_core.specs.Settings.{Settings};
 ghost use Rattle.desk_cli.specs.RefusedFiles.{IsNotADesk, RefusesFile};
 ghost use Rattle.desk_cli.specs.OnTables.{KeepsHeard, WasOpened};
 ghost use Rattle.desk_cli.specs.steps.Jobs.{Done, DoesByStore};
+ghost use Rattle.desk_cli.specs.AtRest.{IsAtRest};
+ghost use Rattle.desk_cli.specs.Streams.{KeepsBoth, streams};
 
 use crate::faults::Fault;
 use crate::opening::opened;
@@ -49,13 +50,12 @@ pub(crate) fn run_job<S: Alter, J: Job, R: Read, W: Write>(
     reader: &mut R,
     answers: &mut W,
 ) -> (Result<(), Fault>, Connection<S>)
-    requires idle { conn.in_transaction ≡ false }
-    requires unlimited { conn.step_limit ≡ None }
+    requires at_rest { IsAtRest conn }
     ensures does { HasCleanDisk (state S.Store result.1) → (c : Settings) (heard : List Envelope) → KeepsHeard S.Store conn c heard
         → DoesByStore S.Store c heard result.1 (J.does job.now) (R.remaining reader.old) (R.remaining reader.new)
         (W.contents answers.old) (W.contents answers.new) result.0 }
     ensures not_a_desk { HasCleanDisk (state S.Store result.1) → IsNotADesk S.Store conn
-        → RefusesFile S.Store conn result.1 (Keeps (R.remaining reader.old) (R.remaining reader.new) × Keeps (W.contents answers.old) (W.contents answers.new)) result.0 }
+        → RefusesFile S.Store conn result.1 (KeepsBoth (streams R.Read reader.old reader.new W.Write answers.old answers.new)) result.0 }
     ensures clean { HasCleanDisk (state S.Store result.1) → HasCleanDisk (state S.Store conn) }
 {
     match opened(alloc, conn) {

@@ -1,8 +1,6 @@
 //! The headline over tables: a desk is made, answers texts, and its database represents the log.
-ghost use Rattle.std.specs.Prelude.{◌≡◌, List, [], map, false, None, IfOk};
-ghost use Rattle.sqlite_trees.specs.Tree.{Trees};
+ghost use Rattle.std.specs.Prelude.{List, IfOk};
 ghost use Rattle.sqlite.specs.Held.{state};
-ghost use Rattle.sqlite.specs.State.{HasCleanDisk};
 ghost use Rattle.sqlite.specs.Steps.{over_memory};
 ghost use Rattle.registry_core.specs.declared.messages.Envelope.{Envelope};
 ghost use Rattle.registry_core.specs.Settings.{Settings};
@@ -10,7 +8,9 @@ ghost use Rattle.desk_engine.specs.Deliveries.{heard_all};
 ghost use Rattle.desk_engine.specs.Hearing.{Hears};
 ghost use Rattle.desk_engine.specs.InOrder.{WasInOrder};
 ghost use Rattle.desk_engine.specs.Outcomes.{AreOutcomes, deliveries_of, first_doubt, has_disk, has_not_a_desk};
-ghost use Rattle.desk_cli.specs.OnTables.{HasHeard, KeepsRules, LeavesRules, LeftHeard};
+ghost use Rattle.desk_cli.specs.OnTables.{KeepsRules, LeavesRules};
+ghost use Rattle.desk_cli.specs.AtRest.{IsAtRest};
+ghost use Rattle.desk_cli.specs.Delivered.{IfRan, IfRanOver, UnlessDisk, AreAnswers, HasAll, StoresAll, LeavesAll, texts_of, UnlessDiskOver, CommitsAll};
 
 use desk_engine::{Outcome, run};
 use desk_store::{Keeper, StoreFault};
@@ -33,26 +33,20 @@ pub fn run_on_tables<S: Alter>(
     config: Config,
     texts: &[&[u8]],
 ) -> (Result<Vec<Outcome>, StoreFault>, Connection<S>)
-    requires idle { conn.in_transaction ≡ false }
-    requires unlimited { conn.step_limit ≡ None }
-    ensures outcomes { HasCleanDisk (state S.Store result.1) → IfOk result.0 (λ outcomes. AreOutcomes config [] (map (λ t. t.now) texts.now) outcomes.items) }
+    requires at_rest { IsAtRest conn }
+    ensures outcomes { IfRanOver S.Store result (λ conn. AreAnswers config texts.now) }
 
     // Unless an outcome is `Disk`, the database represents exactly the log, and all of it is committed.
-    ensures tables { HasCleanDisk (state S.Store result.1) → IfOk result.0 (λ outcomes. has_disk outcomes.items ≡ false
-        → HasHeard config (heard_all config [] (deliveries_of (map (λ t. t.now) texts.now) outcomes.items)) (state S.Store result.1).now
-        × ((state S.Store result.1).now ≡ (state S.Store result.1).committed)) }
+    ensures tables { UnlessDiskOver S.Store result (λ conn. StoresAll S.Store conn config texts.now) }
 
     // Whatever the outcomes are, a crash leaves the log, or after a disk error possibly the log with the in-flight message.
-    ensures crash { HasCleanDisk (state S.Store result.1) → IfOk result.0 (λ outcomes. (trees : Trees) → (state S.Store result.1).may_leave trees
-        → LeftHeard config (heard_all config [] (deliveries_of (map (λ t. t.now) texts.now) outcomes.items))
-        (first_doubt config (map (λ t. t.now) texts.now) outcomes.items) trees) }
+    ensures crash { IfRanOver S.Store result (λ conn. LeavesAll S.Store conn config texts.now) }
 
     // Whatever the database then represents, and whatever a crash leaves, satisfies the registry's rules: no two sessions have one device
     // and one nonce, no two uplinks have one session, one kind and one counter, and no hour of any gateway's band has more booked airtime
     // than its limit. For the database this is stated if no outcome is `Disk`.
-    ensures rules { HasCleanDisk (state S.Store result.1) → IfOk result.0 (λ outcomes. has_disk outcomes.items ≡ false
-        → KeepsRules config (state S.Store result.1).now) }
-    ensures rules_left { HasCleanDisk (state S.Store result.1) → IfOk result.0 (λ outcomes. LeavesRules S.Store result.1 config) }
+    ensures rules { UnlessDiskOver S.Store result (λ conn ran. KeepsRules config (state S.Store conn).now) }
+    ensures rules_left { IfRanOver S.Store result (λ conn ran. LeavesRules S.Store conn config) }
 {
     nothing_is_heard();
     rules_are_kept();
@@ -79,13 +73,11 @@ pub fn run_in_memory(
     config: Config,
     texts: &[&[u8]],
 ) -> Result<(Vec<Outcome>, Connection<MemStore>), StoreFault>
-    ensures outcomes { IfOk result (λ ran. AreOutcomes config [] (map (λ t. t.now) texts.now) ran.0.items) }
-    ensures tables { IfOk result (λ ran. has_disk ran.0.items ≡ false
-        → HasHeard config (heard_all config [] (deliveries_of (map (λ t. t.now) texts.now) ran.0.items)) (state over_memory ran.1).now) }
-    ensures committed { IfOk result (λ ran. LeftHeard config (heard_all config [] (deliveries_of (map (λ t. t.now) texts.now) ran.0.items))
-        (first_doubt config (map (λ t. t.now) texts.now) ran.0.items) (state over_memory ran.1).committed.trees) }
-    ensures rules { IfOk result (λ ran. has_disk ran.0.items ≡ false → KeepsRules config (state over_memory ran.1).now) }
-    ensures rules_left { IfOk result (λ ran. LeavesRules over_memory ran.1 config) }
+    ensures outcomes { IfRan result (λ conn. AreAnswers config texts.now) }
+    ensures tables { UnlessDisk result (λ conn. HasAll over_memory conn config texts.now) }
+    ensures committed { IfRan result (λ conn. CommitsAll over_memory conn config texts.now) }
+    ensures rules { UnlessDisk result (λ conn ran. KeepsRules config (state over_memory conn).now) }
+    ensures rules_left { IfRan result (λ conn ran. LeavesRules over_memory conn config) }
 {
     let Ok(conn) = Connection::open_in_memory(alloc) else {
         return Err(StoreFault::Memory);
@@ -109,10 +101,10 @@ fn deliver_all<K: Keeper>(
 ) -> Result<Vec<Outcome>, StoreFault>
     ensures store { IfOk result (λ outcomes. Hears K.meaning keeper.old keeper.new
         (has_disk outcomes.items) (has_not_a_desk outcomes.items)
-        (λ c heard. heard_all c heard (deliveries_of (map (λ t. t.now) texts.now) outcomes.items))
-        (λ c. first_doubt c (map (λ t. t.now) texts.now) outcomes.items)) }
+        (λ c heard. heard_all c heard (deliveries_of (texts_of texts.now) outcomes.items))
+        (λ c. first_doubt c (texts_of texts.now) outcomes.items)) }
     ensures outcomes { (c : Settings) (heard : List Envelope) → WasInOrder K.meaning c heard keeper.old keeper.new
-        → IfOk result (λ outcomes. AreOutcomes c heard (map (λ t. t.now) texts.now) outcomes.items) }
+        → IfOk result (λ outcomes. AreOutcomes c heard (texts_of texts.now) outcomes.items) }
 {
     match run(alloc, keeper, texts) {
         Ok(outcomes) => Ok(outcomes),

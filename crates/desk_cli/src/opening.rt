@@ -1,5 +1,5 @@
 //! Opens the file of a desk for a command.
-ghost use Rattle.std.specs.Prelude.{◌≡◌, false, None, List, IfOk, IfErr};
+ghost use Rattle.std.specs.Prelude.{◌≡◌, None, List, IfOk, IfErr};
 ghost use Rattle.sqlite.specs.Held.{state};
 ghost use Rattle.sqlite.specs.State.{HasCleanDisk};
 ghost use Rattle.registry_core.specs.declared.messages.Envelope.{Envelope};
@@ -7,6 +7,7 @@ ghost use Rattle.registry_core.specs.Settings.{Settings};
 ghost use Rattle.desk_tables.specs.Store.{meaning_of};
 ghost use Rattle.desk_cli.specs.RefusedFiles.{IsNotADesk, IsRefused};
 ghost use Rattle.desk_cli.specs.OnTables.{IsLeft, KeepsHeard, WasOpened};
+ghost use Rattle.desk_cli.specs.AtRest.{IsAtRest};
 
 use crate::faults::Fault;
 use desk_tables::Tables;
@@ -22,8 +23,7 @@ pub(crate) fn opened<S: Alter>(
     alloc: Global,
     conn: Connection<S>,
 ) -> Result<Tables<S>, (Fault, Connection<S>)>
-    requires idle { conn.in_transaction ≡ false }
-    requires unlimited { conn.step_limit ≡ None }
+    requires at_rest { IsAtRest conn }
     ensures desk { IfOk result (λ t. (meaning_of S.Store).sound t → (c : Settings) (heard : List Envelope)
         → KeepsHeard S.Store conn c heard → WasOpened (meaning_of S.Store) t c heard) }
     ensures unavailable { IfErr result (λ back. HasCleanDisk (state S.Store back.1) → (c : Settings) (heard : List Envelope)

@@ -1,21 +1,22 @@
 //! What a command asks, done. Its file is opened before the standard input is read, and before the port is bound.
 ghost use Rattle.std.specs.Io.KnownBytes.{Keeps};
-ghost use Rattle.desk_engine.specs.Log.{log_of};
-ghost use Rattle.desk_cli.specs.Doing.{DoesAsked, OnAudit, OnAuditedFile, OnDeskFile, OnFile, OnScratch, PrintsFile};
+ghost use Rattle.desk_cli.specs.Doing.{OnAudit, OnAuditedFile, OnDeskFile, OnFile, OnScratch, PrintsFile};
 ghost use Rattle.desk_cli.specs.Faults.{Ends};
 ghost use Rattle.desk_cli.specs.Named.{asked_by};
-ghost use Rattle.desk_cli.specs.OnTables.{IsLeft, KeepsHeard};
 ghost use Rattle.desk_cli.specs.Ports.{at_ports};
-ghost use Rattle.desk_cli.specs.commands.Auditing.{AuditsBy};
 ghost use Rattle.desk_cli.specs.commands.Checking.{IsCheck};
 ghost use Rattle.desk_cli.specs.commands.Hear.{HearsBy};
-ghost use Rattle.desk_cli.specs.commands.Importing.{ImportsBy};
 ghost use Rattle.desk_cli.specs.commands.Init.{InitsBy};
-ghost use Rattle.desk_cli.specs.commands.Log.{LogsBy};
 ghost use Rattle.desk_cli.specs.commands.Migrating.{MigratesBy};
-ghost use Rattle.desk_cli.specs.commands.Serving.{ServesBy};
-ghost use Rattle.std.specs.Prelude.{◌≡◌, false, None, IfSome, option_map};
-ghost use Rattle.sqlite_trees.specs.View.{IsClean};
+ghost use Rattle.std.specs.Prelude.{option_map};
+ghost use Rattle.desk_cli.specs.AtRest.{IsAtRest};
+ghost use Rattle.desk_cli.specs.Streams.{KeepsBoth, streams};
+ghost use Rattle.desk_cli.specs.World.{IsCleanScratch, world_of};
+ghost use Rattle.desk_cli.specs.Runs.{Does};
+ghost use Rattle.desk_cli.specs.commands.Importing.{ImportsDesk};
+ghost use Rattle.desk_cli.specs.commands.Serving.{ServesDesk};
+ghost use Rattle.desk_cli.specs.commands.Log.{LogsDesk};
+ghost use Rattle.desk_cli.specs.commands.Auditing.{AuditsOver};
 
 use crate::commands::{
     Command, audit_beside_command, audit_command, check_command, hear_command, import_command,
@@ -71,9 +72,10 @@ pub(crate) fn perform<
     faults: &mut F,
     progress: &P,
 ) -> Performed<S, N::Scratch>
-    ensures { Ends F.contents faults.old faults.new result.0 (λ done. DoesAsked S.Store (N.paths files) (IfSome result.2 (λ store. IsClean (N.Scratch.Store.view store)))
-        (at_ports B.ports network.now B.Port.meaning B.Port.Reader.remaining B.Port.Writer.contents) result.1
-        (R.remaining reader.old) (R.remaining reader.new) (W.contents answers.old) (W.contents answers.new) done (asked_by command.now)) }
+    ensures { Does (world_of S.Store (N.paths files)
+        (at_ports B.ports network.now B.Port.meaning B.Port.Reader.remaining B.Port.Writer.contents)
+        (streams R.Read reader.old reader.new W.Write answers.old answers.new) N.Scratch.Store result)
+        F.Write faults.old faults.new (asked_by command.now) }
 {
     rules_are_kept();
     match command {
@@ -152,7 +154,7 @@ fn init_file<S: Alter, N: FileOpener<S>, F: Write>(
     config: Config,
     faults: &mut F,
 ) -> Performed<S, N::Scratch>
-    ensures { Ends F.contents faults.old faults.new result.0 (λ done. OnFile (N.paths files).makes (N.paths files).unmade result.1 done file.now
+    ensures { Ends F.Write faults.old faults.new result.0 (λ done. OnFile (N.paths files).makes (N.paths files).unmade result.1 done file.now
         (Unit {0}) (λ conn back. InitsBy S.Store conn back config done)) }
 {
     on_file!(
@@ -168,7 +170,7 @@ fn migrate_file<S: Alter, N: FileOpener<S>, F: Write>(
     file: &str,
     faults: &mut F,
 ) -> Performed<S, N::Scratch>
-    ensures { Ends F.contents faults.old faults.new result.0 (λ done. OnFile (N.paths files).opens (N.paths files).unopened result.1 done file.now
+    ensures { Ends F.Write faults.old faults.new result.0 (λ done. OnFile (N.paths files).opens (N.paths files).unopened result.1 done file.now
         (Unit {0}) (λ conn back. MigratesBy S.Store conn back done)) }
 {
     on_file!(
@@ -186,10 +188,9 @@ fn hear_file<S: Alter, N: FileOpener<S>, R: Read, W: Write, F: Write>(
     answers: &mut W,
     faults: &mut F,
 ) -> Performed<S, N::Scratch>
-    ensures { Ends F.contents faults.old faults.new result.0 (λ done. OnDeskFile S.Store (N.paths files) result.1 done file.now
-        (Keeps (R.remaining reader.old) (R.remaining reader.new) × Keeps (W.contents answers.old) (W.contents answers.new))
-        (λ back c heard. HearsBy S.Store back c heard (R.remaining reader.old) (R.remaining reader.new)
-        (W.contents answers.old) (W.contents answers.new) done)) }
+    ensures { Ends F.Write faults.old faults.new result.0 (λ done. OnDeskFile S.Store (N.paths files) result.1 done file.now
+        (KeepsBoth (streams R.Read reader.old reader.new W.Write answers.old answers.new))
+        (λ back c heard. HearsBy S.Store back c heard (streams R.Read reader.old reader.new W.Write answers.old answers.new) done)) }
 {
     on_file!(
         files.open(file),
@@ -208,10 +209,9 @@ fn import_file<S: Alter, N: FileOpener<S>, R: Read, W: Write, F: Write, P: Progr
     faults: &mut F,
     progress: &P,
 ) -> Performed<S, N::Scratch>
-    ensures { Ends F.contents faults.old faults.new result.0 (λ done. OnDeskFile S.Store (N.paths files) result.1 done file.now
-        (Keeps (R.remaining reader.old) (R.remaining reader.new) × Keeps (W.contents answers.old) (W.contents answers.new))
-        (λ back c heard. ImportsBy c heard sender.now (KeepsHeard S.Store back c) (IsLeft S.Store back c)
-        (R.remaining reader.old) (R.remaining reader.new) (W.contents answers.old) (W.contents answers.new) done)) }
+    ensures { Ends F.Write faults.old faults.new result.0 (λ done. OnDeskFile S.Store (N.paths files) result.1 done file.now
+        (KeepsBoth (streams R.Read reader.old reader.new W.Write answers.old answers.new))
+        (λ back c heard. ImportsDesk S.Store back c heard sender.now (streams R.Read reader.old reader.new W.Write answers.old answers.new) done)) }
 {
     on_file!(
         files.open(file),
@@ -231,10 +231,11 @@ fn serve_file<S: Alter, N: FileOpener<S>, B: Network, W: Write, F: Write>(
     answers: &mut W,
     faults: &mut F,
 ) -> Performed<S, N::Scratch>
-    ensures { Ends F.contents faults.old faults.new result.0 (λ done. OnDeskFile S.Store (N.paths files) result.1 done file.now
+    ensures { Ends F.Write faults.old faults.new result.0 (λ done. OnDeskFile S.Store (N.paths files) result.1 done file.now
         (Keeps (W.contents answers.old) (W.contents answers.new))
-        (λ back c heard. ServesBy c heard (KeepsHeard S.Store back c) (IsLeft S.Store back c)
-        (at_ports B.ports network.now B.Port.meaning B.Port.Reader.remaining B.Port.Writer.contents log) port connections (W.contents answers.old) (W.contents answers.new) done)) }
+        (λ back c heard. ServesDesk S.Store back c heard
+        (at_ports B.ports network.now B.Port.meaning B.Port.Reader.remaining B.Port.Writer.contents log)
+        port connections (W.contents answers.old) (W.contents answers.new) done)) }
 {
     on_file!(
         files.open(file),
@@ -261,7 +262,8 @@ fn print_file<S: Alter, N: FileOpener<S>, Q: Report, W: Write, F: Write>(
     answers: &mut W,
     faults: &mut F,
 ) -> Performed<S, N::Scratch>
-    ensures { PrintsFile S.Store (Q.is_answer report.now) W.contents answers.old answers.new F.contents faults.old faults.new (N.paths files) file.now result.0 result.1 }
+    ensures { Ends F.Write faults.old faults.new result.0
+        (PrintsFile S.Store (Q.is_answer report.now) (N.paths files) file.now W.Write answers.old answers.new result.1) }
 {
     on_file!(
         files.open(file),
@@ -280,10 +282,9 @@ fn log_file<S: Alter, N: FileOpener<S>, W: Write, F: Write>(
     answers: &mut W,
     faults: &mut F,
 ) -> Performed<S, N::Scratch>
-    ensures { Ends F.contents faults.old faults.new result.0 (λ done. OnDeskFile S.Store (N.paths files) result.1 done file.now
+    ensures { Ends F.Write faults.old faults.new result.0 (λ done. OnDeskFile S.Store (N.paths files) result.1 done file.now
         (Keeps (W.contents answers.old) (W.contents answers.new))
-        (λ back c heard. LogsBy (log_of which c heard from count) (KeepsHeard S.Store back c heard) (IsLeft S.Store back c heard None)
-        (W.contents answers.old) (W.contents answers.new) done)) }
+        (λ back c heard. LogsDesk S.Store back c heard which from count (W.contents answers.old) (W.contents answers.new) done)) }
 {
     on_file!(
         files.open(file),
@@ -299,7 +300,8 @@ fn check_file<S: Alter, N: FileOpener<S>, W: Write, F: Write>(
     answers: &mut W,
     faults: &mut F,
 ) -> Performed<S, N::Scratch>
-    ensures { PrintsFile S.Store IsCheck W.contents answers.old answers.new F.contents faults.old faults.new (N.paths files) file.now result.0 result.1 }
+    ensures { Ends F.Write faults.old faults.new result.0
+        (PrintsFile S.Store IsCheck (N.paths files) file.now W.Write answers.old answers.new result.1) }
 {
     on_file!(
         files.open(file),
@@ -319,9 +321,9 @@ fn audit_file<S: Alter + Drop, N: FileOpener<S>, W: Write, F: Write, P: Progress
     faults: &mut F,
     progress: &P,
 ) -> Performed<S, N::Scratch>
-    ensures { Ends F.contents faults.old faults.new result.0 (λ done. OnAudit (N.paths files) result.1 done file.now (option_map (λ path. path.now) scratch.entry)
-        (Keeps (W.contents answers.old) (W.contents answers.new)) (IfSome result.2 (λ store. IsClean (N.Scratch.Store.view store)))
-        (λ sure conn. AuditsBy S.Store conn result.1 (W.contents answers.old) (W.contents answers.new) sure done)) }
+    ensures { Ends F.Write faults.old faults.new result.0 (λ done. OnAudit (N.paths files) result.1 done file.now (option_map (λ path. path.now) scratch.entry)
+        (Keeps (W.contents answers.old) (W.contents answers.new)) (IsCleanScratch N.Scratch.Store result.2)
+        (λ sure conn. AuditsOver S.Store conn W.Write answers.old answers.new sure result.1 done)) }
 {
     match scratch {
         None => audit_alone(alloc, files, file, answers, faults, progress),
@@ -338,9 +340,9 @@ fn audit_alone<S: Alter + Drop, N: FileOpener<S>, W: Write, F: Write, P: Progres
     faults: &mut F,
     progress: &P,
 ) -> Performed<S, N::Scratch>
-    ensures { Ends F.contents faults.old faults.new result.0 (λ done. OnAuditedFile (N.paths files) result.1 done file.now
+    ensures { Ends F.Write faults.old faults.new result.0 (λ done. OnAuditedFile (N.paths files) result.1 done file.now
         (Keeps (W.contents answers.old) (W.contents answers.new))
-        (λ conn. AuditsBy S.Store conn result.1 (W.contents answers.old) (W.contents answers.new) (Unit {0}) done)) }
+        (λ conn. AuditsOver S.Store conn W.Write answers.old answers.new (Unit {0}) result.1 done)) }
 {
     match files.open(file) {
         Ok(conn) => {
@@ -361,11 +363,10 @@ fn audit_beside<S: Alter + Drop, N: FileOpener<S>, W: Write, F: Write, P: Progre
     faults: &mut F,
     progress: &P,
 ) -> Performed<S, N::Scratch>
-    ensures { Ends F.contents faults.old faults.new result.0 (λ done. OnScratch (N.paths files) result.1 done path.now
+    ensures { Ends F.Write faults.old faults.new result.0 (λ done. OnScratch (N.paths files) result.1 done path.now
         (Keeps (W.contents answers.old) (W.contents answers.new))
         (OnAuditedFile (N.paths files) result.1 done file.now (Keeps (W.contents answers.old) (W.contents answers.new))
-        (λ conn. AuditsBy S.Store conn result.1 (W.contents answers.old) (W.contents answers.new)
-        (IfSome result.2 (λ store. IsClean (N.Scratch.Store.view store))) done))) }
+        (λ conn. AuditsOver S.Store conn W.Write answers.old answers.new (IsCleanScratch N.Scratch.Store result.2) result.1 done))) }
 {
     match files.make_scratch(alloc, path) {
         Ok(scratch) => audit_with(alloc, files, file, scratch, answers, faults, progress),
@@ -383,12 +384,10 @@ fn audit_with<S: Alter + Drop, N: FileOpener<S>, W: Write, F: Write, P: Progress
     faults: &mut F,
     progress: &P,
 ) -> Performed<S, N::Scratch>
-    requires idle { scratch.in_transaction ≡ false }
-    requires unlimited { scratch.step_limit ≡ None }
-    ensures { Ends F.contents faults.old faults.new result.0 (λ done. OnAuditedFile (N.paths files) result.1 done file.now
+    requires at_rest { IsAtRest scratch }
+    ensures { Ends F.Write faults.old faults.new result.0 (λ done. OnAuditedFile (N.paths files) result.1 done file.now
         (Keeps (W.contents answers.old) (W.contents answers.new))
-        (λ conn. AuditsBy S.Store conn result.1 (W.contents answers.old) (W.contents answers.new)
-        (IfSome result.2 (λ store. IsClean (N.Scratch.Store.view store))) done)) }
+        (λ conn. AuditsOver S.Store conn W.Write answers.old answers.new (IsCleanScratch N.Scratch.Store result.2) result.1 done)) }
 {
     match files.open(file) {
         Ok(conn) => audit_beside_command(alloc, conn, scratch, answers, faults, progress),

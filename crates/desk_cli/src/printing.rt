@@ -1,5 +1,5 @@
 //! Prints a report of the desk in a file on standard output.
-ghost use Rattle.std.specs.Prelude.{◌≡◌, ℕ, false, List, None, Result, Err};
+ghost use Rattle.std.specs.Prelude.{ℕ, List, Result, Err};
 ghost use Rattle.registry_core.specs.declared.messages.Envelope.{Envelope};
 ghost use Rattle.registry_core.specs.Settings.{Settings};
 ghost use Rattle.desk_store.specs.Calls.{IsRead};
@@ -7,9 +7,10 @@ ghost use Rattle.desk_engine.specs.declared.report_faults.ReportFault.{ReportFau
 ghost use Rattle.desk_engine.specs.InOrder.{WasInOrder};
 ghost use Rattle.desk_engine.specs.Reporting.{store_fault_in};
 ghost use Rattle.desk_cli.specs.Doing.{PrintsOver};
-ghost use Rattle.desk_cli.specs.Faults.{Ends};
 ghost use Rattle.desk_cli.specs.steps.Jobs.{prints};
 ghost use Rattle.desk_cli.specs.steps.Printing.{IsPrinted, shown, unasked};
+ghost use Rattle.desk_cli.specs.AtRest.{IsAtRest};
+ghost use Rattle.desk_cli.specs.Faults.{EndsWith};
 
 use crate::endings::Ending;
 use crate::faults::{Fault, end};
@@ -48,9 +49,9 @@ pub(crate) fn print_report<S: Alter, Q: Report, W: Write, F: Write>(
     answers: &mut W,
     faults: &mut F,
 ) -> (Ending, Connection<S>)
-    requires idle { conn.in_transaction ≡ false }
-    requires unlimited { conn.step_limit ≡ None }
-    ensures { Ends F.contents faults.old faults.new result.0 (PrintsOver S.Store (Q.is_answer report.now) W.contents answers.old answers.new conn result.1) }
+    requires at_rest { IsAtRest conn }
+    ensures { EndsWith F.Write faults.old faults.new result
+        (PrintsOver S.Store (Q.is_answer report.now) conn W.Write answers.old answers.new) }
 {
     let (done, conn) = print_by_store(alloc, conn, report, answers);
     (end(faults, done), conn)
@@ -63,9 +64,8 @@ fn print_by_store<S: Alter, Q: Report, W: Write>(
     report: &Q,
     answers: &mut W,
 ) -> (Result<(), Fault>, Connection<S>)
-    requires idle { conn.in_transaction ≡ false }
-    requires unlimited { conn.step_limit ≡ None }
-    ensures { PrintsOver S.Store (Q.is_answer report.now) W.contents answers.old answers.new conn result.1 result.0 }
+    requires at_rest { IsAtRest conn }
+    ensures { PrintsOver S.Store (Q.is_answer report.now) conn W.Write answers.old answers.new result.1 result.0 }
 {
     run_job(alloc, conn, &Printed(report), &mut io::empty(), answers)
 }

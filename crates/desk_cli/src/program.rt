@@ -1,16 +1,15 @@
 //! The program's arguments, and what it does with them.
-ghost use Rattle.std.specs.Prelude.{◌≡◌, ◌≢◌, Result, Ok, Err, None, map, string_bytes, IfOk, IfErr, IfSome};
-ghost use Rattle.sqlite_trees.specs.View.{IsClean};
+ghost use Rattle.std.specs.Prelude.{◌≡◌, ◌≢◌, Result, Ok, Err, None, map, string_bytes, IfOk, IfErr};
 ghost use Rattle.std.specs.IoError.{error_kind};
 ghost use Rattle.std.specs.Vec.Iter.{into_iter_items};
 ghost use Rattle.clap.specs.Walk.{texts};
-ghost use Rattle.desk_cli.specs.Doing.{DoesAsked};
-ghost use Rattle.desk_cli.specs.Faults.{EndsBy};
-ghost use Rattle.desk_cli.specs.Named.{Asked};
-ghost use Rattle.desk_cli.specs.Runs.{EndsUnread, Given, IsNamed, Runs, given};
+ghost use Rattle.desk_cli.specs.Runs.{EndsUnread, Runs, given, RunsSome, DoesNamed};
 ghost use Rattle.desk_cli.specs.steps.Given.{IsNotGiven, IsUnread};
 ghost use Rattle.desk_cli.specs.steps.Usages.{TellsUsage};
 ghost use Rattle.desk_cli.specs.Ports.{at_ports};
+ghost use Rattle.desk_cli.specs.Streams.{streams};
+ghost use Rattle.desk_cli.specs.World.{world_of};
+ghost use Rattle.desk_cli.specs.Faults.{EndsBySome};
 
 use crate::endings::{Ending, ending_of};
 use crate::faults::{Fault, end};
@@ -48,15 +47,17 @@ pub fn run<
     progress: &P,
 ) -> Performed<S, N::Scratch>
     // Some arguments name a command, and what it asks was done, by how it ended; or they name none, or can't be read.
-    ensures runs { (words : Given) × Runs S.Store (N.paths files) (IfSome result.2 (λ store. IsClean (N.Scratch.Store.view store))) (at_ports B.ports network.now B.Port.meaning B.Port.Reader.remaining B.Port.Writer.contents) result.1
-        (R.remaining reader.old) (R.remaining reader.new) (W.contents answers.old) (W.contents answers.new) F.contents faults.old faults.new words result.0 }
+    ensures runs { RunsSome (world_of S.Store (N.paths files)
+        (at_ports B.ports network.now B.Port.meaning B.Port.Reader.remaining B.Port.Writer.contents)
+        (streams R.Read reader.old reader.new W.Write answers.old answers.new) N.Scratch.Store result)
+        F.Write faults.old faults.new }
     // So with status 0 what a command that arguments name asks was done.
-    ensures done { result.0 ≡ Ending.Done → (asked : Asked) × IsNamed asked
-        × DoesAsked {T = Unit {0}} S.Store (N.paths files) (IfSome result.2 (λ store. IsClean (N.Scratch.Store.view store))) (at_ports B.ports network.now B.Port.meaning B.Port.Reader.remaining B.Port.Writer.contents) result.1
-        (R.remaining reader.old) (R.remaining reader.new) (W.contents answers.old) (W.contents answers.new) (Ok tt) asked }
+    ensures done { result.0 ≡ Ending.Done → DoesNamed (world_of S.Store (N.paths files)
+        (at_ports B.ports network.now B.Port.meaning B.Port.Reader.remaining B.Port.Writer.contents)
+        (streams R.Read reader.old reader.new W.Write answers.old answers.new) N.Scratch.Store result) }
     // Then nothing is written to standard error. Otherwise it reports why the command failed, unless the arguments name none.
     ensures quiet { result.0 ≡ Ending.Done → faults.new ≡ faults.old }
-    ensures told { result.0 ≢ Ending.Misused → (done : Result (Unit {0}) Fault) × EndsBy F.contents faults.old faults.new result.0 done }
+    ensures told { result.0 ≢ Ending.Misused → EndsBySome F.Write faults.old faults.new result.0 }
     // If the arguments name no command, no file was opened, nothing was read, and nothing was answered.
     ensures misused { result.0 ≡ Ending.Misused
         → (reader.new ≡ reader.old) × (answers.new ≡ answers.old) × (result.1 ≡ None) }
@@ -93,10 +94,12 @@ pub fn run_given<
     progress: &P,
 ) -> Performed<S, N::Scratch>
     // The arguments name a command, and what it asks was done, by how it ended; or they name none, or can't be read.
-    ensures runs { Runs S.Store (N.paths files) (IfSome result.2 (λ store. IsClean (N.Scratch.Store.view store))) (at_ports B.ports network.now B.Port.meaning B.Port.Reader.remaining B.Port.Writer.contents) result.1
-        (R.remaining reader.old) (R.remaining reader.new) (W.contents answers.old) (W.contents answers.new) F.contents faults.old faults.new (given arguments) result.0 }
+    ensures runs { Runs (world_of S.Store (N.paths files)
+        (at_ports B.ports network.now B.Port.meaning B.Port.Reader.remaining B.Port.Writer.contents)
+        (streams R.Read reader.old reader.new W.Write answers.old answers.new) N.Scratch.Store result)
+        F.Write faults.old faults.new (given arguments) }
     ensures quiet { result.0 ≡ Ending.Done → faults.new ≡ faults.old }
-    ensures told { result.0 ≢ Ending.Misused → (done : Result (Unit {0}) Fault) × EndsBy F.contents faults.old faults.new result.0 done }
+    ensures told { result.0 ≢ Ending.Misused → EndsBySome F.Write faults.old faults.new result.0 }
     ensures misused { result.0 ≡ Ending.Misused
         → (reader.new ≡ reader.old) × (answers.new ≡ answers.old) × (result.1 ≡ None) }
     ensures unread { IfErr arguments (λ error. EndsUnread (error_kind error) result.0) }
@@ -128,8 +131,10 @@ fn run_strings<
     faults: &mut F,
     progress: &P,
 ) -> Performed<S, N::Scratch>
-    ensures runs { Runs S.Store (N.paths files) (IfSome result.2 (λ store. IsClean (N.Scratch.Store.view store))) (at_ports B.ports network.now B.Port.meaning B.Port.Reader.remaining B.Port.Writer.contents) result.1
-        (R.remaining reader.old) (R.remaining reader.new) (W.contents answers.old) (W.contents answers.new) F.contents faults.old faults.new (Ok (map string_bytes strings.now)) result.0 }
+    ensures runs { Runs (world_of S.Store (N.paths files)
+        (at_ports B.ports network.now B.Port.meaning B.Port.Reader.remaining B.Port.Writer.contents)
+        (streams R.Read reader.old reader.new W.Write answers.old answers.new) N.Scratch.Store result)
+        F.Write faults.old faults.new (Ok (map string_bytes strings.now)) }
     ensures misused { result.0 ≡ Ending.Misused
         → (reader.new ≡ reader.old) × (answers.new ≡ answers.old) × (result.1 ≡ None) }
 {
@@ -148,7 +153,7 @@ fn run_strings<
 
 /// Writes what is wrong with the arguments.
 fn print_usage<F: Write>(usage: &Usage, faults: &mut F) -> Ending
-    ensures { TellsUsage F.contents faults.old faults.new result usage.now }
+    ensures { TellsUsage F.Write faults.old faults.new result usage.now }
 {
     match usage {
         Usage::Memory => end(faults, Err(Fault::Unavailable)),

@@ -1,11 +1,9 @@
 //! The machine crashes, and the files of a desk are opened again.
-ghost use Rattle.std.specs.Prelude.{◌≡◌, false, List, [], Option, None, map, IfOk, IsTrue};
-ghost use Rattle.sqlite.specs.Files.{file_state, over_files};
-ghost use Rattle.registry_core.specs.declared.messages.Envelope.{Envelope};
-ghost use Rattle.registry_core.specs.Settings.{Settings};
-ghost use Rattle.desk_engine.specs.Deliveries.{heard_all};
-ghost use Rattle.desk_engine.specs.Outcomes.{AreOutcomes, deliveries_of, first_doubt};
-ghost use Rattle.desk_cli.specs.OnTables.{IsFound, IsLeft};
+ghost use Rattle.std.specs.Prelude.{◌≡◌, false, None, IfOk};
+ghost use Rattle.sqlite.specs.Files.{file_state};
+ghost use Rattle.desk_cli.specs.AtRest.{IsAtRest};
+ghost use Rattle.desk_cli.specs.Delivered.{IfRan, AreAnswers, FindsAll};
+ghost use Rattle.desk_cli.specs.InFiles.{FindsLeft, ReturnsAll};
 
 use crate::on_tables::run_on_tables;
 use desk_engine::Outcome;
@@ -25,8 +23,7 @@ pub fn opened_after_stop<D: Crash + Drop>(
     conn: Connection<FileStore<D>>,
 ) -> Result<Connection<FileStore<D>>, StoreFault>
     // On disks that always return what was written: what is found is one of what a crash of the connection could leave.
-    ensures { ((disk : D) → IsTrue (D.Disk.is_clean disk)) → IfOk result (λ again. (c : Settings) (heard : List Envelope) (doubt : Option Envelope)
-        → IsLeft over_files conn c heard doubt → IsFound c heard doubt (file_state again).now) }
+    ensures { ReturnsAll D.Disk → IfOk result (FindsLeft conn) }
 {
     let mut files = conn.into_store().close();
     files.log.crash();
@@ -49,12 +46,9 @@ fn run_and_stop<D: Crash + Drop>(
     config: Config,
     texts: &[&[u8]],
 ) -> Result<(Vec<Outcome>, Connection<FileStore<D>>), StoreFault>
-    requires idle { conn.in_transaction ≡ false }
-    requires unlimited { conn.step_limit ≡ None }
-    ensures outcomes { ((disk : D) → IsTrue (D.Disk.is_clean disk)) → IfOk result (λ ran. AreOutcomes config [] (map (λ t. t.now) texts.now) ran.0.items) }
-    ensures found { ((disk : D) → IsTrue (D.Disk.is_clean disk)) → IfOk result (λ ran.
-        IsFound config (heard_all config [] (deliveries_of (map (λ t. t.now) texts.now) ran.0.items))
-        (first_doubt config (map (λ t. t.now) texts.now) ran.0.items) (file_state ran.1).now) }
+    requires at_rest { IsAtRest conn }
+    ensures outcomes { ReturnsAll D.Disk → IfRan result (λ conn. AreAnswers config texts.now) }
+    ensures found { ReturnsAll D.Disk → IfRan result (λ conn ran. FindsAll config texts.now ran (file_state conn).now) }
 {
     let (outcomes, conn) = run_on_tables(alloc, conn, config, texts);
     match outcomes {
@@ -78,11 +72,10 @@ pub fn run_through_stop(
     config: Config,
     texts: &[&[u8]],
 ) -> Result<(Vec<Outcome>, Connection<FileStore<Memory>>), StoreFault>
-    ensures outcomes { IfOk result (λ ran. AreOutcomes config [] (map (λ t. t.now) texts.now) ran.0.items) }
+    ensures outcomes { IfRan result (λ conn. AreAnswers config texts.now) }
 
     // What is found represents the log, or after a disk error possibly the log with the in-flight message.
-    ensures found { IfOk result (λ ran. IsFound config (heard_all config [] (deliveries_of (map (λ t. t.now) texts.now) ran.0.items))
-        (first_doubt config (map (λ t. t.now) texts.now) ran.0.items) (file_state ran.1).now) }
+    ensures found { IfRan result (λ conn ran. FindsAll config texts.now ran (file_state conn).now) }
 {
     match new_files(alloc) {
         Ok(conn) => run_and_stop(alloc, conn, config, texts),

@@ -2,6 +2,7 @@
 use Rattle.std.specs.Prelude.{◌≡◌, ◌≢◌, ◌⊎◌, ◌++◌, ◌∷◌, ℕ, List, [], Option, Some, None, IfSome, Result, Ok, Err, IfErr, OnOk, OnErr, codes}
 use Rattle.std.specs.Fmt.{decimal}
 use Rattle.std.specs.Io.KnownBytes.{Appends, Keeps}
+use Rattle.std.specs.declared.io.Write as write
 use Rattle.clap.specs.Simple.{App, new_app, with_rule}
 use Rattle.clap.specs.Walk.{Row, first_of}
 use Rattle.sqlite.specs.Held.{Held, state}
@@ -73,3 +74,7 @@ module _ {S : Type 0} (g : Ghosts S) (conn : Held S) (given_back : Option (Held 
     pub not_a_desk : OfBack (λ back. IsNotADesk g conn → RefusesFile g conn back (Keeps before after) result)
     pub kept : IfSome given_back (λ back. IsGivenBack (state g conn) (state g back) (λ _. ⊥))
     pub gone : given_back ≡ None → result ≡ Err Unavailable
+
+-- the same, by the writer: `w` are the ghost members of its type, `old` and `new` the writer before and after
+abbrev pub AuditsOver : {S W T : Type 0} → Ghosts S → (conn : Held S) (w : write.Ghosts W) (old new : W) → (Sure : Type 0) → (given_back : Option (Held S)) → Result T Fault → Type 0
+AuditsOver g conn w old new Sure given_back result = AuditsBy g conn given_back (w.contents old) (w.contents new) Sure result

@@ -6,10 +6,15 @@ use Rattle.desk_cli.specs.Named.{Named, import, named_as}
 use Rattle.desk_cli.specs.Options.{◌>>=◌, name_of, required_rule, or_bad, place_rule, placed, value_at}
 use Rattle.desk_cli.specs.declared.usage.BadValue.TheVariants.{Sender}
 use Rattle.std.specs.Io.KnownBytes.{Appends, Consumes, Keeps}
+use Rattle.sqlite.specs.Held.{Held}
+use Rattle.sqlite_trees.specs.declared.store.Store.{Ghosts}
 use Rattle.registry_core.specs.declared.messages.Envelope.{Envelope}
 use Rattle.registry_core.specs.Settings.{Settings}
 use Rattle.desk_wire.specs.declared.csv_faults.CsvFault.TheVariants as csv
 use Rattle.desk_engine.specs.CsvImporting.{ImportsAll, ImportsFirst, RefusesReport}
+use Rattle.desk_cli.specs.OnDesk.{OnDesk}
+use Rattle.desk_cli.specs.OnTables.{IsLeft, KeepsHeard}
+use Rattle.desk_cli.specs.Streams.{KeepsBoth, Streams}
 use Rattle.desk_cli.specs.declared.faults.Fault.{Fault}
 use Rattle.desk_cli.specs.declared.faults.Fault.TheVariants.{CsvSize, CsvEnd, CsvHeader, CsvRecord, File, Unavailable}
 
@@ -52,3 +57,12 @@ module _ (c : Settings) (heard : List Envelope) (sender : List ℕ) (Kept : List
   ImportsBy (Err CsvHeader) = RefusesReport c heard sender Kept Left left rest before after csv.Header
   ImportsBy (Err (CsvRecord n)) = RefusesReport c heard sender Kept Left left rest before after (csv.Record n)
   ImportsBy (Err _) = ⊥
+
+-- the same of the desk's file, which was given back
+abbrev pub ImportsDesk : {S T : Type 0} → Ghosts S → Held S → Settings → List Envelope → (sender : List ℕ) → Streams → Result T Fault → Type 0
+ImportsDesk g back c heard sender io result =
+    ImportsBy c heard sender (KeepsHeard g back c) (IsLeft g back c) io.left io.rest io.before io.after result
+
+-- over a connection; `back` is the connection that is returned
+abbrev pub ImportsOver : {S T : Type 0} → Ghosts S → (conn : Held S) → (sender : List ℕ) → Streams → (back : Held S) → Result T Fault → Type 0
+ImportsOver g conn sender io back result = OnDesk g conn back result (KeepsBoth io) (λ c heard. ImportsDesk g back c heard sender io result)

@@ -1,10 +1,11 @@
 -- `desk lines`: its arguments, and what it has done, by how it ended.
-use Rattle.std.specs.Prelude.{ℕ, List, [], Option, Result, Ok, Err, codes, ⊤}
+use Rattle.std.specs.Prelude.{[], Result, Ok, Err, codes, ⊤}
 use Rattle.clap.specs.Simple.{App, new_app}
 use Rattle.registry_core.specs.Settings.{Settings}
 use Rattle.desk_cli.specs.Answering.{AnswersBy}
 use Rattle.desk_cli.specs.Named.{Named, bad, lines, names}
 use Rattle.desk_cli.specs.Options.{OrBad, with_settings}
+use Rattle.desk_cli.specs.Streams.{Streams}
 use Rattle.desk_cli.specs.declared.faults.Fault.{Fault}
 
 -- its arguments
@@ -17,6 +18,6 @@ lines_named (Ok config) = names (lines config)
 lines_named (Err value) = bad value
 
 -- Which lines were answered, from the opening state on, by how it ended. The desk in memory is gone then, so this states nothing of what is
--- stored. `left` and `rest` are what the reader has left before and after, `before` and `after` what the writer has before and after.
-abbrev pub AnswersLines : (left rest before after : Option (List ℕ)) → Settings → {T : Type 0} → Result T Fault → Type 0
-AnswersLines left rest before after config result = AnswersBy config [] (λ _. ⊤) (λ _ _. ⊤) left rest before after result
+-- stored.
+abbrev pub AnswersLines : {T : Type 0} → Streams → Settings → Result T Fault → Type 0
+AnswersLines io config result = AnswersBy config [] (λ _. ⊤) (λ _ _. ⊤) io.left io.rest io.before io.after result

@@ -2,16 +2,21 @@
 use Rattle.std.specs.Prelude.{◌≡◌, ◌⊎◌, ℕ, List, [], ◌∷◌, ◌++◌, false, Option, None, Result, Ok, Err, codes}
 use Rattle.std.specs.Fmt.{decimal}
 use Rattle.std.specs.Io.KnownBytes.{Appends, Keeps}
+use Rattle.std.specs.declared.io.Write as write
 use Rattle.clap.specs.Simple.{App, new_app, with_rule}
 use Rattle.clap.specs.Walk.{Row}
 use Rattle.desk_cli.specs.Named.{Named, named_as, serve}
 use Rattle.desk_cli.specs.Numbers.{connections_of, port_of}
 use Rattle.desk_cli.specs.Options.{◌>>=◌, flag_rule, is_set, required_rule, or_bad, place_rule, placed, value_at}
+use Rattle.sqlite.specs.Held.{Held}
+use Rattle.sqlite_trees.specs.declared.store.Store.{Ghosts}
 use Rattle.registry_core.specs.declared.messages.Envelope.{Envelope}
 use Rattle.registry_core.specs.Settings.{Settings}
 use Rattle.desk_engine.specs.Deliveries.{heard_all}
 use Rattle.desk_engine.specs.Lines.{line_feed}
 use Rattle.desk_http.specs.Answered.{Delivered}
+use Rattle.desk_cli.specs.OnDesk.{OnDesk}
+use Rattle.desk_cli.specs.OnTables.{IsLeft, KeepsHeard}
 use Rattle.desk_cli.specs.Ports.{AtPorts}
 use Rattle.desk_cli.specs.declared.faults.Fault.{Fault}
 use Rattle.desk_cli.specs.declared.faults.Fault.TheVariants.{File, Network, Unavailable}
@@ -62,3 +67,14 @@ module _ (c : Settings) (heard : List Envelope) (Kept : List Envelope → Type 0
   ServesBy (Err File) = Kept heard
   ServesBy (Err Unavailable) = Left heard None × Keeps before after
   ServesBy (Err _) = ⊥
+
+-- the same of the desk's file, which was given back
+abbrev pub ServesDesk : {S T : Type 0} → Ghosts S → Held S → Settings → List Envelope → AtPorts → (port n : ℕ) → (before after : Option (List ℕ)) → Result T Fault → Type 0
+ServesDesk g back c heard ports port n before after result = ServesBy c heard (KeepsHeard g back c) (IsLeft g back c) ports port n before after result
+
+-- Over a connection. `w` are the ghost members of the writer, `old` and `new` the writer before and after, and `back` is the connection that
+-- is returned.
+abbrev pub ServesOver : {S W T : Type 0} → Ghosts S → AtPorts → (port n : ℕ) → (conn : Held S) (w : write.Ghosts W) (old new : W) (back : Held S) → Result T Fault → Type 0
+ServesOver g ports port n conn w old new back result =
+    OnDesk g conn back result (Keeps (w.contents old) (w.contents new))
+    (λ c heard. ServesDesk g back c heard ports port n (w.contents old) (w.contents new) result)

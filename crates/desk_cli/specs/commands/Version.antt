@@ -1,6 +1,7 @@
 -- `desk --version`: what it prints.
 use Rattle.std.specs.Prelude.{◌≡◌, ℕ, List, Option, Result, Ok, Err, codes}
 use Rattle.std.specs.Io.KnownBytes.{Appends}
+use Rattle.std.specs.declared.io.Write.{Ghosts}
 use Rattle.desk_cli.specs.declared.faults.Fault.{Fault}
 use Rattle.desk_cli.specs.declared.faults.Fault.TheVariants.{File}
 
@@ -12,3 +13,7 @@ version_text = codes "desk 2026-11-29\nschema 2\nRattle kit, logic dac8208d650f1
 abbrev pub PrintsVersion : (before after : Option (List ℕ)) → {T : Type 0} → Result T Fault → Type 0
 PrintsVersion before after (Ok x) = Appends before after version_text
 PrintsVersion before after (Err fault) = fault ≡ File
+
+-- the same, by the writer: `w` are the ghost members of its type, `old` and `new` the writer before and after
+abbrev pub WritesVersion : {W T : Type 0} → (w : Ghosts W) (old new : W) → Result T Fault → Type 0
+WritesVersion w old new result = PrintsVersion (w.contents old) (w.contents new) result

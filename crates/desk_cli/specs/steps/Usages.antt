@@ -1,5 +1,6 @@
 -- What clap prints for arguments that it refuses, and how a program ends if its arguments name no command.
-use Rattle.std.specs.Prelude.{◌≡◌, ◌≢◌, ℕ, List, Option, Err}
+use Rattle.std.specs.Prelude.{◌≡◌, ◌≢◌, Err}
+use Rattle.std.specs.declared.io.Write.{Ghosts}
 use Rattle.clap.specs.Values.{kind_of}
 use Rattle.clap.specs.declared.error.Error.{Error}
 use Rattle.clap.specs.declared.error.kind.ErrorKind.TheVariants.{OutOfMemory}
@@ -17,8 +18,8 @@ IsUsageOf error (Words same) = (same ≡ error) × (kind_of error ≢ OutOfMemor
 IsUsageOf error (Value value) = ⊥
 IsUsageOf error NotText = ⊥
 
--- If memory runs out, it ends as any command does. The text of a usage error isn't stated. `contents` is what the writer of standard error
--- has, and `untold` and `told` are that writer before and after.
-abbrev pub TellsUsage : {F : Type 0} → (F → Option (List ℕ)) → F → F → Ending → Usage → Type 0
-TellsUsage contents untold told ending Memory = EndsBy contents untold told ending (Err Unavailable)
-TellsUsage contents untold told ending _ = ending ≡ Misused
+-- If memory runs out, it ends as any command does. The text of a usage error isn't stated. `f` are the ghost members of the type that
+-- writes standard error, `untold` and `told` the writer before and after.
+abbrev pub TellsUsage : {F : Type 0} → (f : Ghosts F) (untold told : F) → Ending → Usage → Type 0
+TellsUsage f untold told ending Memory = EndsBy f untold told ending (Err Unavailable)
+TellsUsage f untold told ending _ = ending ≡ Misused

@@ -1,14 +1,15 @@
 //! `desk audit`: whether a file is what a desk wrote.
-ghost use Rattle.std.specs.Prelude.{◌≡◌, false, None, IfOk, IfSome};
+ghost use Rattle.std.specs.Prelude.{◌≡◌, IfOk};
 ghost use Rattle.std.specs.String.{string_bytes};
 ghost use Rattle.clap.specs.Matches.{found_of};
 ghost use Rattle.clap.specs.Walk.{rows_of};
-ghost use Rattle.sqlite_trees.specs.View.{IsClean};
-ghost use Rattle.desk_cli.specs.Faults.{Ends};
+ghost use Rattle.desk_cli.specs.Faults.{Ends, EndsWith};
 ghost use Rattle.desk_cli.specs.Named.{TellsNamed};
-ghost use Rattle.desk_cli.specs.commands.Auditing.{AuditsBy, audit_app, audit_named, audit_text};
+ghost use Rattle.desk_cli.specs.commands.Auditing.{audit_app, audit_named, audit_text, AuditsOver};
 ghost use Rattle.desk_cli.specs.steps.Auditing.{PrintsFinding, finding_of, store_of};
 ghost use Rattle.desk_cli.specs.steps.CommandLine.{IsCommand};
+ghost use Rattle.desk_cli.specs.AtRest.{IsAtRest};
+ghost use Rattle.desk_cli.specs.World.{IsCleanScratch};
 
 use super::Command;
 use crate::audit::{Finding, audited, audited_beside};
@@ -65,9 +66,9 @@ pub fn audit_command<S: Alter + Drop, W: Write, F: Write, P: Progress>(
     faults: &mut F,
     progress: &P,
 ) -> (Ending, Option<Connection<S>>)
-    requires idle { conn.in_transaction ≡ false }
-    requires unlimited { conn.step_limit ≡ None }
-    ensures { Ends F.contents faults.old faults.new result.0 (λ done. AuditsBy S.Store conn result.1 (W.contents answers.old) (W.contents answers.new) (Unit {0}) done) }
+    requires at_rest { IsAtRest conn }
+    ensures { EndsWith F.Write faults.old faults.new result
+        (AuditsOver S.Store conn W.Write answers.old answers.new (Unit {0})) }
 {
     let (done, conn) = print_audit(alloc, conn, answers, progress);
     (end(faults, done), conn)
@@ -82,12 +83,10 @@ pub fn audit_beside_command<S: Alter + Drop, B: Alter + Drop, W: Write, F: Write
     faults: &mut F,
     progress: &P,
 ) -> (Ending, Option<Connection<S>>, Option<B>)
-    requires idle { conn.in_transaction ≡ false }
-    requires unlimited { conn.step_limit ≡ None }
-    requires scratch_idle { scratch.in_transaction ≡ false }
-    requires scratch_unlimited { scratch.step_limit ≡ None }
-    ensures { Ends F.contents faults.old faults.new result.0 (λ done. AuditsBy S.Store conn result.1 (W.contents answers.old) (W.contents answers.new)
-        (IfSome result.2 (λ store. IsClean (B.Store.view store))) done) }
+    requires at_rest { IsAtRest conn }
+    requires scratch_at_rest { IsAtRest scratch }
+    ensures { Ends F.Write faults.old faults.new result.0
+        (AuditsOver S.Store conn W.Write answers.old answers.new (IsCleanScratch B.Store result.2) result.1) }
 {
     let (done, conn, store) = print_audit_beside(alloc, conn, scratch, answers, progress);
     (end(faults, done), conn, store)
@@ -100,9 +99,8 @@ fn print_audit<S: Alter + Drop, W: Write, P: Progress>(
     answers: &mut W,
     progress: &P,
 ) -> (Result<(), Fault>, Option<Connection<S>>)
-    requires idle { conn.in_transaction ≡ false }
-    requires unlimited { conn.step_limit ≡ None }
-    ensures { AuditsBy S.Store conn result.1 (W.contents answers.old) (W.contents answers.new) (Unit {0}) result.0 }
+    requires at_rest { IsAtRest conn }
+    ensures { AuditsOver S.Store conn W.Write answers.old answers.new (Unit {0}) result.1 result.0 }
 {
     let (found, conn) = audited(alloc, conn, progress);
     (print_finding(alloc, answers, found), conn)
@@ -116,12 +114,9 @@ fn print_audit_beside<S: Alter + Drop, B: Alter + Drop, W: Write, P: Progress>(
     answers: &mut W,
     progress: &P,
 ) -> (Result<(), Fault>, Option<Connection<S>>, Option<B>)
-    requires idle { conn.in_transaction ≡ false }
-    requires unlimited { conn.step_limit ≡ None }
-    requires scratch_idle { scratch.in_transaction ≡ false }
-    requires scratch_unlimited { scratch.step_limit ≡ None }
-    ensures { AuditsBy S.Store conn result.1 (W.contents answers.old) (W.contents answers.new)
-        (IfSome result.2 (λ store. IsClean (B.Store.view store))) result.0 }
+    requires at_rest { IsAtRest conn }
+    requires scratch_at_rest { IsAtRest scratch }
+    ensures { AuditsOver S.Store conn W.Write answers.old answers.new (IsCleanScratch B.Store result.2) result.1 result.0 }
 {
     let (ended, conn) = audited_beside(alloc, conn, scratch, progress);
     let (found, store) = parted(ended);

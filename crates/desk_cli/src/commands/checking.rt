@@ -1,5 +1,5 @@
 //! `desk check`: the configuration of a desk's file, and how many rows it has.
-ghost use Rattle.std.specs.Prelude.{◌≡◌, false, IfOk, None};
+ghost use Rattle.std.specs.Prelude.{◌≡◌, IfOk};
 ghost use Rattle.std.specs.String.{string_bytes};
 ghost use Rattle.clap.specs.Matches.{found_of};
 ghost use Rattle.clap.specs.Walk.{rows_of};
@@ -7,11 +7,12 @@ ghost use Rattle.desk_store.specs.Calls.{IsRead, Tells, fault_in};
 ghost use Rattle.desk_engine.specs.Reporting.{store_fault_in};
 ghost use Rattle.desk_tables.specs.Store.{meaning_of};
 ghost use Rattle.desk_cli.specs.Doing.{PrintsOver};
-ghost use Rattle.desk_cli.specs.Faults.{Ends};
 ghost use Rattle.desk_cli.specs.Named.{TellsNamed};
 ghost use Rattle.desk_cli.specs.steps.CommandLine.{IsCommand};
 ghost use Rattle.desk_cli.specs.commands.Checking.{IsCheck, check_app, check_named, check_text, named_lines, numbered_lines, settings_lines};
 ghost use Rattle.desk_cli.specs.steps.Checking.{IsCheckOf, TellsTotals};
+ghost use Rattle.desk_cli.specs.AtRest.{IsAtRest};
+ghost use Rattle.desk_cli.specs.Faults.{EndsWith};
 
 use super::Command;
 use crate::endings::Ending;
@@ -61,9 +62,9 @@ pub fn check_command<S: Alter, W: Write, F: Write>(
     answers: &mut W,
     faults: &mut F,
 ) -> (Ending, Connection<S>)
-    requires idle { conn.in_transaction ≡ false }
-    requires unlimited { conn.step_limit ≡ None }
-    ensures { Ends F.contents faults.old faults.new result.0 (PrintsOver S.Store IsCheck W.contents answers.old answers.new conn result.1) }
+    requires at_rest { IsAtRest conn }
+    ensures { EndsWith F.Write faults.old faults.new result
+        (PrintsOver S.Store IsCheck conn W.Write answers.old answers.new) }
 {
     let (done, conn) = print_check(alloc, conn, answers);
     (end(faults, done), conn)
@@ -75,9 +76,8 @@ fn print_check<S: Alter, W: Write>(
     conn: Connection<S>,
     answers: &mut W,
 ) -> (Result<(), Fault>, Connection<S>)
-    requires idle { conn.in_transaction ≡ false }
-    requires unlimited { conn.step_limit ≡ None }
-    ensures { PrintsOver S.Store IsCheck W.contents answers.old answers.new conn result.1 result.0 }
+    requires at_rest { IsAtRest conn }
+    ensures { PrintsOver S.Store IsCheck conn W.Write answers.old answers.new result.1 result.0 }
 {
     match opened(alloc, conn) {
         Ok(tables) => {

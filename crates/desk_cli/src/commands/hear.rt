@@ -1,11 +1,8 @@
 //! `desk hear`: messages from a reader, answers to a writer, over a desk's file.
-ghost use Rattle.std.specs.Prelude.{◌≡◌, false, List, None};
-ghost use Rattle.std.specs.Io.KnownBytes.{Keeps};
+ghost use Rattle.std.specs.Prelude.{List};
 ghost use Rattle.clap.specs.Matches.{found_of};
 ghost use Rattle.clap.specs.Walk.{rows_of};
-ghost use Rattle.desk_cli.specs.commands.Hear.{hear_app, hear_named, HearsBy};
-ghost use Rattle.desk_cli.specs.Doing.{OnDesk};
-ghost use Rattle.desk_cli.specs.Faults.{Ends};
+ghost use Rattle.desk_cli.specs.commands.Hear.{hear_app, hear_named, HearsBy, HearsOver};
 ghost use Rattle.desk_cli.specs.Named.{TellsNamed};
 ghost use Rattle.desk_cli.specs.steps.CommandLine.{IsCommand};
 ghost use Rattle.sqlite.specs.Held.{state};
@@ -15,6 +12,9 @@ ghost use Rattle.registry_core.specs.Settings.{Settings};
 ghost use Rattle.desk_cli.specs.RefusedFiles.{IsNotADesk, RefusesFile};
 ghost use Rattle.desk_cli.specs.OnTables.{KeepsHeard};
 ghost use Rattle.desk_cli.specs.steps.Jobs.{answers};
+ghost use Rattle.desk_cli.specs.AtRest.{IsAtRest};
+ghost use Rattle.desk_cli.specs.Streams.{KeepsBoth, streams};
+ghost use Rattle.desk_cli.specs.Faults.{EndsWith};
 
 use super::Command;
 use crate::answering::answer_lines;
@@ -64,12 +64,9 @@ pub fn hear_command<S: Alter, R: Read, W: Write, F: Write>(
     answers: &mut W,
     faults: &mut F,
 ) -> (Ending, Connection<S>)
-    requires idle { conn.in_transaction ≡ false }
-    requires unlimited { conn.step_limit ≡ None }
-    ensures { Ends F.contents faults.old faults.new result.0 (λ done. OnDesk S.Store conn result.1 done
-        (Keeps (R.remaining reader.old) (R.remaining reader.new) × Keeps (W.contents answers.old) (W.contents answers.new))
-        (λ c heard. HearsBy S.Store result.1 c heard (R.remaining reader.old) (R.remaining reader.new)
-        (W.contents answers.old) (W.contents answers.new) done)) }
+    requires at_rest { IsAtRest conn }
+    ensures { EndsWith F.Write faults.old faults.new result
+        (HearsOver S.Store conn (streams R.Read reader.old reader.new W.Write answers.old answers.new)) }
 {
     let (done, conn) = hear_lines(alloc, conn, reader, answers);
     (end(faults, done), conn)
@@ -82,13 +79,11 @@ fn hear_lines<S: Alter, R: Read, W: Write>(
     reader: &mut R,
     answers: &mut W,
 ) -> (Result<(), Fault>, Connection<S>)
-    requires idle { conn.in_transaction ≡ false }
-    requires unlimited { conn.step_limit ≡ None }
+    requires at_rest { IsAtRest conn }
     ensures hears { HasCleanDisk (state S.Store result.1) → (c : Settings) (heard : List Envelope) → KeepsHeard S.Store conn c heard
-        → HearsBy S.Store result.1 c heard (R.remaining reader.old) (R.remaining reader.new)
-        (W.contents answers.old) (W.contents answers.new) result.0 }
+        → HearsBy S.Store result.1 c heard (streams R.Read reader.old reader.new W.Write answers.old answers.new) result.0 }
     ensures not_a_desk { HasCleanDisk (state S.Store result.1) → IsNotADesk S.Store conn
-        → RefusesFile S.Store conn result.1 (Keeps (R.remaining reader.old) (R.remaining reader.new) × Keeps (W.contents answers.old) (W.contents answers.new)) result.0 }
+        → RefusesFile S.Store conn result.1 (KeepsBoth (streams R.Read reader.old reader.new W.Write answers.old answers.new)) result.0 }
     ensures clean { HasCleanDisk (state S.Store result.1) → HasCleanDisk (state S.Store conn) }
 {
     run_job(alloc, conn, &Hear, reader, answers)

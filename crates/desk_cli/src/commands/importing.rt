@@ -1,20 +1,20 @@
 //! `desk import`: a gateway's report from a reader, answers to a writer, over a desk's file.
-ghost use Rattle.std.specs.Prelude.{◌≡◌, false, List, None};
+ghost use Rattle.std.specs.Prelude.{List};
 ghost use Rattle.clap.specs.Matches.{found_of};
 ghost use Rattle.clap.specs.Walk.{rows_of};
-ghost use Rattle.desk_cli.specs.commands.Importing.{import_app, import_named, ImportsBy};
-ghost use Rattle.desk_cli.specs.Doing.{OnDesk};
-ghost use Rattle.desk_cli.specs.Faults.{Ends};
+ghost use Rattle.desk_cli.specs.commands.Importing.{import_app, import_named, ImportsOver, ImportsDesk};
 ghost use Rattle.desk_cli.specs.Named.{TellsNamed};
 ghost use Rattle.desk_cli.specs.steps.CommandLine.{IsCommand};
-ghost use Rattle.std.specs.Io.KnownBytes.{Keeps};
 ghost use Rattle.sqlite.specs.Held.{state};
 ghost use Rattle.sqlite.specs.State.{HasCleanDisk};
 ghost use Rattle.registry_core.specs.declared.messages.Envelope.{Envelope};
 ghost use Rattle.registry_core.specs.Settings.{Settings};
 ghost use Rattle.desk_cli.specs.RefusedFiles.{IsNotADesk, RefusesFile};
-ghost use Rattle.desk_cli.specs.OnTables.{IsLeft, KeepsHeard};
+ghost use Rattle.desk_cli.specs.OnTables.{KeepsHeard};
 ghost use Rattle.desk_cli.specs.steps.Jobs.{imports};
+ghost use Rattle.desk_cli.specs.AtRest.{IsAtRest};
+ghost use Rattle.desk_cli.specs.Streams.{KeepsBoth, streams};
+ghost use Rattle.desk_cli.specs.Faults.{EndsWith};
 
 use super::Command;
 use crate::endings::Ending;
@@ -73,12 +73,9 @@ pub fn import_command<S: Alter, R: Read, W: Write, F: Write, P: Progress>(
     faults: &mut F,
     progress: &P,
 ) -> (Ending, Connection<S>)
-    requires idle { conn.in_transaction ≡ false }
-    requires unlimited { conn.step_limit ≡ None }
-    ensures { Ends F.contents faults.old faults.new result.0 (λ done. OnDesk S.Store conn result.1 done
-        (Keeps (R.remaining reader.old) (R.remaining reader.new) × Keeps (W.contents answers.old) (W.contents answers.new))
-        (λ c heard. ImportsBy c heard sender.now (KeepsHeard S.Store result.1 c) (IsLeft S.Store result.1 c)
-        (R.remaining reader.old) (R.remaining reader.new) (W.contents answers.old) (W.contents answers.new) done)) }
+    requires at_rest { IsAtRest conn }
+    ensures { EndsWith F.Write faults.old faults.new result
+        (ImportsOver S.Store conn sender.now (streams R.Read reader.old reader.new W.Write answers.old answers.new)) }
 {
     let (done, conn) = hear_report(alloc, conn, sender, reader, answers, progress);
     (end(faults, done), conn)
@@ -93,13 +90,11 @@ fn hear_report<S: Alter, R: Read, W: Write, P: Progress>(
     answers: &mut W,
     progress: &P,
 ) -> (Result<(), Fault>, Connection<S>)
-    requires idle { conn.in_transaction ≡ false }
-    requires unlimited { conn.step_limit ≡ None }
+    requires at_rest { IsAtRest conn }
     ensures imports { HasCleanDisk (state S.Store result.1) → (c : Settings) (heard : List Envelope) → KeepsHeard S.Store conn c heard
-        → ImportsBy c heard sender.now (KeepsHeard S.Store result.1 c) (IsLeft S.Store result.1 c)
-        (R.remaining reader.old) (R.remaining reader.new) (W.contents answers.old) (W.contents answers.new) result.0 }
+        → ImportsDesk S.Store result.1 c heard sender.now (streams R.Read reader.old reader.new W.Write answers.old answers.new) result.0 }
     ensures not_a_desk { HasCleanDisk (state S.Store result.1) → IsNotADesk S.Store conn
-        → RefusesFile S.Store conn result.1 (Keeps (R.remaining reader.old) (R.remaining reader.new) × Keeps (W.contents answers.old) (W.contents answers.new)) result.0 }
+        → RefusesFile S.Store conn result.1 (KeepsBoth (streams R.Read reader.old reader.new W.Write answers.old answers.new)) result.0 }
     ensures clean { HasCleanDisk (state S.Store result.1) → HasCleanDisk (state S.Store conn) }
 {
     run_job(alloc, conn, &Import { sender, progress }, reader, answers)

@@ -1,11 +1,11 @@
 //! `desk init`: makes a desk in a file.
-ghost use Rattle.std.specs.Prelude.{◌≡◌, false, None};
 ghost use Rattle.clap.specs.Matches.{found_of};
 ghost use Rattle.clap.specs.Walk.{rows_of};
 ghost use Rattle.desk_cli.specs.commands.Init.{init_app, init_named, InitsBy};
 ghost use Rattle.desk_cli.specs.Faults.{Ends};
 ghost use Rattle.desk_cli.specs.Named.{TellsNamed};
 ghost use Rattle.desk_cli.specs.steps.CommandLine.{IsCommand};
+ghost use Rattle.desk_cli.specs.AtRest.{IsAtRest};
 
 use super::Command;
 use crate::endings::Ending;
@@ -51,9 +51,8 @@ pub fn init_command<S: Alter, F: Write>(
     config: Config,
     faults: &mut F,
 ) -> (Ending, Connection<S>)
-    requires idle { conn.in_transaction ≡ false }
-    requires unlimited { conn.step_limit ≡ None }
-    ensures { Ends F.contents faults.old faults.new result.0 (λ done. InitsBy S.Store conn result.1 config done) }
+    requires at_rest { IsAtRest conn }
+    ensures { Ends F.Write faults.old faults.new result.0 (λ done. InitsBy S.Store conn result.1 config done) }
 {
     let (done, conn) = make_desk(alloc, conn, config);
     (end(faults, done), conn)
@@ -65,8 +64,7 @@ fn make_desk<S: Alter>(
     conn: Connection<S>,
     config: Config,
 ) -> (Result<(), Fault>, Connection<S>)
-    requires idle { conn.in_transaction ≡ false }
-    requires unlimited { conn.step_limit ≡ None }
+    requires at_rest { IsAtRest conn }
     ensures { InitsBy S.Store conn result.1 config result.0 }
 {
     nothing_is_heard();

@@ -9,6 +9,7 @@ ghost use Rattle.desk_cli.specs.Faults.{Ends};
 ghost use Rattle.desk_cli.specs.Named.{TellsNamed};
 ghost use Rattle.desk_cli.specs.steps.CommandLine.{IsCommand};
 ghost use Rattle.desk_cli.specs.Options.{config_of};
+ghost use Rattle.desk_cli.specs.Streams.{streams};
 
 use super::Command;
 use crate::answering::answer_lines;
@@ -53,8 +54,8 @@ pub fn lines_command<R: Read, W: Write, F: Write>(
     answers: &mut W,
     faults: &mut F,
 ) -> Ending
-    ensures { Ends F.contents faults.old faults.new result (λ done. AnswersLines (R.remaining reader.old) (R.remaining reader.new)
-        (W.contents answers.old) (W.contents answers.new) config.now done) }
+    ensures { Ends F.Write faults.old faults.new result
+        (AnswersLines (streams R.Read reader.old reader.new W.Write answers.old answers.new) config.now) }
 {
     let done = answer_in_memory(alloc, config, reader, answers);
     end(faults, done)
@@ -67,8 +68,7 @@ fn answer_in_memory<R: Read, W: Write>(
     reader: &mut R,
     answers: &mut W,
 ) -> Result<(), Fault>
-    ensures answered { AnswersLines (R.remaining reader.old) (R.remaining reader.new)
-        (W.contents answers.old) (W.contents answers.new) config.now result }
+    ensures answered { AnswersLines (streams R.Read reader.old reader.new W.Write answers.old answers.new) config.now result }
 {
     nothing_is_heard();
     let mut lists = match new_lists(alloc, config) {

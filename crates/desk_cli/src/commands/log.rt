@@ -1,5 +1,5 @@
 //! `desk log`: the messages that a desk has heard, or their answers, from its file.
-ghost use Rattle.std.specs.Prelude.{◌≡◌, false, List, None};
+ghost use Rattle.std.specs.Prelude.{◌≡◌, List};
 ghost use Rattle.std.specs.Io.KnownBytes.{Keeps};
 ghost use Rattle.clap.specs.Matches.{found_of};
 ghost use Rattle.clap.specs.Walk.{rows_of};
@@ -8,14 +8,14 @@ ghost use Rattle.sqlite.specs.State.{HasCleanDisk};
 ghost use Rattle.registry_core.specs.declared.messages.Envelope.{Envelope};
 ghost use Rattle.registry_core.specs.Settings.{Settings};
 ghost use Rattle.desk_engine.specs.Log.{log_of};
-ghost use Rattle.desk_cli.specs.Doing.{OnDesk};
-ghost use Rattle.desk_cli.specs.Faults.{Ends};
 ghost use Rattle.desk_cli.specs.Named.{TellsNamed};
 ghost use Rattle.desk_cli.specs.RefusedFiles.{IsNotADesk, RefusesFile};
-ghost use Rattle.desk_cli.specs.OnTables.{IsLeft, KeepsHeard};
-ghost use Rattle.desk_cli.specs.commands.Log.{LogsBy, log_app, log_named, which_text};
+ghost use Rattle.desk_cli.specs.OnTables.{KeepsHeard};
+ghost use Rattle.desk_cli.specs.commands.Log.{log_app, log_named, which_text, LogsOver, LogsDesk};
 ghost use Rattle.desk_cli.specs.steps.CommandLine.{IsCommand};
 ghost use Rattle.desk_cli.specs.steps.Jobs.{logs};
+ghost use Rattle.desk_cli.specs.AtRest.{IsAtRest};
+ghost use Rattle.desk_cli.specs.Faults.{EndsWith};
 
 use super::Command;
 use crate::endings::Ending;
@@ -102,12 +102,9 @@ pub fn log_command<S: Alter, W: Write, F: Write>(
     answers: &mut W,
     faults: &mut F,
 ) -> (Ending, Connection<S>)
-    requires idle { conn.in_transaction ≡ false }
-    requires unlimited { conn.step_limit ≡ None }
-    ensures { Ends F.contents faults.old faults.new result.0 (λ done. OnDesk S.Store conn result.1 done
-        (Keeps (W.contents answers.old) (W.contents answers.new))
-        (λ c heard. LogsBy (log_of which c heard from count) (KeepsHeard S.Store result.1 c heard) (IsLeft S.Store result.1 c heard None)
-        (W.contents answers.old) (W.contents answers.new) done)) }
+    requires at_rest { IsAtRest conn }
+    ensures { EndsWith F.Write faults.old faults.new result
+        (LogsOver S.Store which from count conn W.Write answers.old answers.new) }
 {
     let (done, conn) = print_log(alloc, conn, from, count, which, answers);
     (end(faults, done), conn)
@@ -122,11 +119,9 @@ fn print_log<S: Alter, W: Write>(
     which: LogText,
     answers: &mut W,
 ) -> (Result<(), Fault>, Connection<S>)
-    requires idle { conn.in_transaction ≡ false }
-    requires unlimited { conn.step_limit ≡ None }
+    requires at_rest { IsAtRest conn }
     ensures logs { HasCleanDisk (state S.Store result.1) → (c : Settings) (heard : List Envelope) → KeepsHeard S.Store conn c heard
-        → LogsBy (log_of which c heard from count) (KeepsHeard S.Store result.1 c heard) (IsLeft S.Store result.1 c heard None)
-        (W.contents answers.old) (W.contents answers.new) result.0 }
+        → LogsDesk S.Store result.1 c heard which from count (W.contents answers.old) (W.contents answers.new) result.0 }
     ensures not_a_desk { HasCleanDisk (state S.Store result.1) → IsNotADesk S.Store conn
         → RefusesFile S.Store conn result.1 (Keeps (W.contents answers.old) (W.contents answers.new)) result.0 }
     ensures clean { HasCleanDisk (state S.Store result.1) → HasCleanDisk (state S.Store conn) }

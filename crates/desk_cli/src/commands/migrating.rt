@@ -1,11 +1,11 @@
 //! `desk migrate`: moves a desk's file from schema 1 to schema 2.
-ghost use Rattle.std.specs.Prelude.{◌≡◌, false, None};
 ghost use Rattle.clap.specs.Matches.{found_of};
 ghost use Rattle.clap.specs.Walk.{rows_of};
 ghost use Rattle.desk_cli.specs.commands.Migrating.{migrate_app, migrate_named, MigratesBy};
 ghost use Rattle.desk_cli.specs.Faults.{Ends};
 ghost use Rattle.desk_cli.specs.Named.{TellsNamed};
 ghost use Rattle.desk_cli.specs.steps.CommandLine.{IsCommand};
+ghost use Rattle.desk_cli.specs.AtRest.{IsAtRest};
 
 use super::Command;
 use crate::endings::Ending;
@@ -52,9 +52,8 @@ pub fn migrate_command<S: Alter, F: Write>(
     conn: Connection<S>,
     faults: &mut F,
 ) -> (Ending, Connection<S>)
-    requires idle { conn.in_transaction ≡ false }
-    requires unlimited { conn.step_limit ≡ None }
-    ensures { Ends F.contents faults.old faults.new result.0 (λ done. MigratesBy S.Store conn result.1 done) }
+    requires at_rest { IsAtRest conn }
+    ensures { Ends F.Write faults.old faults.new result.0 (λ done. MigratesBy S.Store conn result.1 done) }
 {
     let (done, conn) = move_desk(alloc, conn);
     (end(faults, done), conn)
@@ -62,8 +61,7 @@ pub fn migrate_command<S: Alter, F: Write>(
 
 /// Moves the desk, and returns the connection.
 fn move_desk<S: Alter>(alloc: Global, conn: Connection<S>) -> (Result<(), Fault>, Connection<S>)
-    requires idle { conn.in_transaction ≡ false }
-    requires unlimited { conn.step_limit ≡ None }
+    requires at_rest { IsAtRest conn }
     ensures { MigratesBy S.Store conn result.1 result.0 }
 {
     match Tables::migrate(alloc, conn) {

@@ -1,5 +1,5 @@
 //! `desk serve`: requests over HTTP, one a connection, for a desk in a file.
-ghost use Rattle.std.specs.Prelude.{◌≡◌, false, None, List, IfOk};
+ghost use Rattle.std.specs.Prelude.{◌≡◌, List, IfOk};
 ghost use Rattle.std.specs.Io.KnownBytes.{Keeps};
 ghost use Rattle.std.specs.String.{string_bytes};
 ghost use Rattle.clap.specs.Matches.{found_of};
@@ -8,18 +8,16 @@ ghost use Rattle.sqlite.specs.Held.{state};
 ghost use Rattle.sqlite.specs.State.{HasCleanDisk};
 ghost use Rattle.registry_core.specs.declared.messages.Envelope.{Envelope};
 ghost use Rattle.registry_core.specs.Settings.{Settings};
-ghost use Rattle.desk_engine.specs.InOrder.{WasInOrder};
-ghost use Rattle.desk_engine.specs.Hearing.{StoreKeeps, StoreLeaves};
-ghost use Rattle.desk_cli.specs.Doing.{OnDesk};
-ghost use Rattle.desk_cli.specs.Faults.{Ends};
 ghost use Rattle.desk_cli.specs.Named.{TellsNamed};
 ghost use Rattle.desk_cli.specs.steps.CommandLine.{IsCommand};
 ghost use Rattle.desk_cli.specs.steps.Jobs.{serves};
 ghost use Rattle.desk_cli.specs.steps.Serving.{ended};
 ghost use Rattle.desk_cli.specs.RefusedFiles.{IsNotADesk, RefusesFile};
-ghost use Rattle.desk_cli.specs.OnTables.{IsLeft, KeepsHeard};
+ghost use Rattle.desk_cli.specs.OnTables.{KeepsHeard};
 ghost use Rattle.desk_cli.specs.Ports.{at_ports};
-ghost use Rattle.desk_cli.specs.commands.Serving.{ServesBy, listening_line, serve_app, serve_named};
+ghost use Rattle.desk_cli.specs.commands.Serving.{listening_line, serve_app, serve_named, ServesOver, ServesDesk};
+ghost use Rattle.desk_cli.specs.AtRest.{IsAtRest};
+ghost use Rattle.desk_cli.specs.Faults.{EndsWith};
 
 use super::Command;
 use crate::endings::Ending;
@@ -99,13 +97,10 @@ pub fn serve_command<S: Alter, B: Network, W: Write, F: Write>(
     answers: &mut W,
     faults: &mut F,
 ) -> (Ending, Connection<S>)
-    requires idle { conn.in_transaction ≡ false }
-    requires unlimited { conn.step_limit ≡ None }
-    ensures { Ends F.contents faults.old faults.new result.0 (λ done. OnDesk S.Store conn result.1 done
-        (Keeps (W.contents answers.old) (W.contents answers.new))
-        (λ c heard. ServesBy c heard (KeepsHeard S.Store result.1 c) (IsLeft S.Store result.1 c)
+    requires at_rest { IsAtRest conn }
+    ensures { EndsWith F.Write faults.old faults.new result (ServesOver S.Store
         (at_ports B.ports network.now B.Port.meaning B.Port.Reader.remaining B.Port.Writer.contents log)
-        port connections (W.contents answers.old) (W.contents answers.new) done)) }
+        port connections conn W.Write answers.old answers.new) }
 {
     let (done, conn) = serve_desk(alloc, conn, network, port, connections, log, answers);
     (end(faults, done), conn)
@@ -121,10 +116,9 @@ fn serve_desk<S: Alter, B: Network, W: Write>(
     log: bool,
     answers: &mut W,
 ) -> (Result<(), Fault>, Connection<S>)
-    requires idle { conn.in_transaction ≡ false }
-    requires unlimited { conn.step_limit ≡ None }
+    requires at_rest { IsAtRest conn }
     ensures serves { HasCleanDisk (state S.Store result.1) → (c : Settings) (heard : List Envelope) → KeepsHeard S.Store conn c heard
-        → ServesBy c heard (KeepsHeard S.Store result.1 c) (IsLeft S.Store result.1 c)
+        → ServesDesk S.Store result.1 c heard
         (at_ports B.ports network.now B.Port.meaning B.Port.Reader.remaining B.Port.Writer.contents log)
         port connections (W.contents answers.old) (W.contents answers.new) result.0 }
     ensures not_a_desk { HasCleanDisk (state S.Store result.1) → IsNotADesk S.Store conn

@@ -1,7 +1,7 @@
 //! Whole runs of the program, with arguments, a file and a network of the tests.
 ghost use Rattle.std.specs.Prelude.{◌≡◌, ◌≢◌, false, None, IfOk};
-ghost use Rattle.desk_cli.specs.Doing.{known_alike};
 ghost use Rattle.desk_http.specs.Served.{unknown};
+ghost use Rattle.desk_cli.specs.World.{known_alike};
 
 mod audits;
 mod damaged;
