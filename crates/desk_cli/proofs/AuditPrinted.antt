@@ -11,12 +11,11 @@ use Rattle.desk_tables.specs.Adopting.{IsGivenBack}
 use Rattle.desk_cli.specs.Audit.{IsFinding}
 use Rattle.desk_cli.specs.RefusedFiles.{IsNotADesk, IsRefused, RefusesFile}
 use Rattle.desk_cli.specs.OnTables.{KeepsHeard}
-use Rattle.desk_cli.specs.commands.Auditing.{AuditsBy, IsAuditFault, IsPassed, OfBack}
+use Rattle.desk_cli.specs.commands.Auditing.{AuditsBy, IsAuditFault, IsPassed}
 use Rattle.desk_cli.specs.declared.audit.Finding.{Finding}
 use Rattle.desk_cli.specs.declared.audit.Finding.TheVariants.{InOrder, Differs}
 use Rattle.desk_cli.specs.declared.faults.Fault.{Fault}
 use Rattle.desk_cli.specs.declared.faults.Fault.TheVariants.{NotADesk, Schema, Unavailable, File}
-use Rattle.desk_cli.specs.declared.faults.Fault.TheVariants as fault
 use Rattle.desk_cli.specs.steps.Auditing.{PrintsFinding, finding_of, store_of}
 use Rattle.desk_cli.proofs.Audited.{if_some}
 

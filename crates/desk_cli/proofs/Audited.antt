@@ -1,5 +1,5 @@
 -- A connection that was audited, and opened again.
-use Rattle.std.proofs.Common.{◌≡◌, ◌≤◌, [], refl, sym, ap, ap₂, subst, ◌∙◌, arith, false, inl, IsTrue, Option, Some, None}
+use Rattle.std.proofs.Common.{◌≡◌, ◌≤◌, refl, sym, ap, ap₂, subst, ◌∙◌, arith, false, inl, IsTrue, Option, Some, None}
 use Rattle.std.specs.Prelude.{IfSome}
 use Rattle.registry_core.specs.Settings.{Settings}
 use Rattle.sqlite_trees.specs.Tree.{Trees}

@@ -1,5 +1,5 @@
 -- A part of the log that a store was asked for, printed.
-use Rattle.std.proofs.Common.{◌≡◌, ℕ, List, [], Option, Result, Ok, Err, refl, ◌∙◌}
+use Rattle.std.proofs.Common.{ℕ, List, [], Option, Result, Ok, Err, refl}
 use Rattle.std.proofs.KnownBytes.{Appends-nil}
 use Rattle.desk_cli.proofs.Opened.{err}
 use Rattle.desk_cli.specs.commands.Log.{LogsBy}

@@ -1,10 +1,10 @@
 -- A cursor that gives the rows of a tree one after another, and two such cursors in step that compare two trees.
-use Rattle.std.proofs.Common.{◌≡◌, ℕ, zero, suc, ◌+◌, ◌≤◌, List, [], ◌∷◌, ◌++◌, length, take, drop, slice_get, Some, None, Option, true, false, Bool, refl, sym, ap, ap₂, subst, ◌∙◌, arith, IsTrue}
+use Rattle.std.proofs.Common.{◌≡◌, ℕ, zero, suc, ◌+◌, ◌≤◌, List, [], ◌∷◌, ◌++◌, length, take, drop, slice_get, Some, None, Option, true, false, Bool, refl, sym, ap, ap₂, subst, ◌∙◌, arith}
 use Rattle.std.specs.Prelude.{IsSome}
 use Rattle.sqlite_value.specs.Order.{Row}
 use Rattle.sqlite_value.specs.declared.keys.Order.{Order}
 use Rattle.sqlite_trees.specs.declared.store.Direction.TheVariants.{Forward}
-use Rattle.sqlite_trees.specs.Tree.{Trees, from_key, sought}
+use Rattle.sqlite_trees.specs.Tree.{from_key, sought}
 use Rattle.sqlite_trees.specs.View.{View, IsClean, Advances, Moves, StayLive, doubt, with_cursor}
 use Rattle.desk_cli.specs.steps.Audit.{DifferFirst, OnlyMoves}
 

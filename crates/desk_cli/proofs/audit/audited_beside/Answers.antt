@@ -1,6 +1,5 @@
 -- The connection over the store that the comparison returned has the tables that it began with, so the finding is about them.
-use Rattle.std.proofs.Common.{◌≡◌, arith}
-use Rattle.sqlite.specs.Held.{state}
+use Rattle.std.proofs.Common.{arith}
 use Rattle.sqlite_trees.specs.View.{IsClean}
 use Rattle.desk_cli.proofs.Audited.{found_is, given_back_again}
 use Rattle.desk_cli.proofs.audit.audited_beside.Goals as goal

@@ -1,5 +1,5 @@
 -- The new desk represents the log that it heard, so if the rows of both are the same, the audited database is that desk.
-use Rattle.std.proofs.Common.{◌≡◌, List, arith}
+use Rattle.std.proofs.Common.{List, arith}
 use Rattle.registry_core.specs.declared.messages.Envelope.{Envelope}
 use Rattle.registry_core.specs.Heard.{IsHeard}
 use Rattle.sqlite.specs.Held.{state}

@@ -1,5 +1,5 @@
 -- Both databases have committed everything and neither store is broken, so the compared rows are those of the databases.
-use Rattle.std.proofs.Common.{◌≡◌, ◌∙◌, refl, sym, ap, subst₂, arith, IsTrue, false}
+use Rattle.std.proofs.Common.{◌∙◌, refl, sym, ap, subst₂, arith}
 use Rattle.sqlite.specs.Held.{state}
 use Rattle.sqlite_trees.specs.View.{View, IsClean}
 use Rattle.desk_cli.specs.steps.Audit.{IsFoundBeside}

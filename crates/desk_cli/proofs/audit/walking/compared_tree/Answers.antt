@@ -1,6 +1,5 @@
 -- One pair of rows more is the same; otherwise the rows differ there, one tree ends there, or both do.
-use Rattle.std.proofs.Common.{◌≡◌, ◌∙◌, sym, refl, arith, true, false, true≢false}
-use Rattle.sqlite_trees.specs.View.{IsClean}
+use Rattle.std.proofs.Common.{◌∙◌, sym, refl, arith, true, false, true≢false}
 use Rattle.desk_cli.proofs.Walked.{both_ended, front_more, item, one_ended, one_more, rows_differ, started}
 use Rattle.desk_cli.proofs.audit.walking.compared_tree.Goals as goal
 
