@@ -7,7 +7,7 @@ use Rattle.std.specs.declared.vec.IntoIter.{IntoIter}
 use Rattle.desk_cli.specs.Doing.{DoesAsked}
 use Rattle.desk_cli.specs.Faults.{EndsBy, EndsBySome, ending_of_fault}
 use Rattle.desk_cli.specs.Named.{Asked, Named, TellsNamed, bad, names, refused}
-use Rattle.desk_cli.specs.Runs.{AsksFor, DoesNamed, Given, IsNamed, Runs, given}
+use Rattle.desk_cli.specs.Runs.{AsksFor, DoesNamed, Given, IsNamed, RunsOn, given}
 use Rattle.desk_cli.specs.World.{World}
 use Rattle.desk_cli.specs.steps.Given.{IsNotGiven}
 use Rattle.desk_cli.specs.steps.Usages.{TellsUsage}
@@ -104,7 +104,7 @@ module _ {F : Type 0} (f : Ghosts F) (untold told : F) where
     does_all asked (Ok x) ended does = does
     does_all asked (Err fault) ended does = absurd (subst IsNotDone (sym ended.0) (fault_is_not_done fault))
 
-    module _ (words : Given) (runs : Runs w f untold told words) where
+    module _ (words : Given) (runs : RunsOn w f untold told words) where
       -- a run that ends well has done what was asked
       pub done_asked : w.ending ≡ Done → DoesNamed w
       done_asked is = elim runs [

@@ -57,12 +57,16 @@ module _ {S F : Type 0} (w : World S) (f : Ghosts F) (untold told : F) where
     pub ending_is : EndsBy f untold told w.ending (Err Unavailable) ⊎ ((w.ending ≡ Misused) × ((asked : Asked) → ¬ (AsksFor words asked)))
 
   -- a run with these arguments
-  abbrev pub Runs : Given → Type 0
-  Runs words = ((asked : Asked) × AsksFor words asked × Does asked) ⊎ AsksNothing words
+  abbrev pub RunsOn : Given → Type 0
+  RunsOn words = ((asked : Asked) × AsksFor words asked × Does asked) ⊎ AsksNothing words
+
+  -- a run with the arguments that std read
+  abbrev pub Runs : {Y Z : Type 0} → Result (IntoIter (String Y) Z) Error → Type 0
+  Runs arguments = RunsOn (given arguments)
 
   -- a run with some arguments
   abbrev pub RunsSome : Type 0
-  RunsSome = (words : Given) × Runs words
+  RunsSome = (words : Given) × RunsOn words
 
 -- some arguments name a command, and that did what was asked, without an error
 abbrev pub DoesNamed : {S : Type 0} → World S → Type 0

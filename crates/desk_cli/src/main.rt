@@ -20,6 +20,7 @@ mod performing;
 mod printing;
 mod program;
 mod progress;
+mod setup;
 mod sockets;
 mod stopping;
 #[cfg(test)]

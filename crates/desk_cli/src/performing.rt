@@ -3,7 +3,6 @@ ghost use Rattle.std.specs.Io.KnownBytes.{Keeps};
 ghost use Rattle.desk_cli.specs.Doing.{OnAudit, OnAuditedFile, OnDeskFile, OnFile, OnScratch, PrintsFile};
 ghost use Rattle.desk_cli.specs.Faults.{Ends};
 ghost use Rattle.desk_cli.specs.Named.{asked_by};
-ghost use Rattle.desk_cli.specs.Ports.{at_ports};
 ghost use Rattle.desk_cli.specs.commands.Checking.{IsCheck};
 ghost use Rattle.desk_cli.specs.commands.Hear.{HearsBy};
 ghost use Rattle.desk_cli.specs.commands.Init.{InitsBy};
@@ -11,7 +10,7 @@ ghost use Rattle.desk_cli.specs.commands.Migrating.{MigratesBy};
 ghost use Rattle.std.specs.Prelude.{option_map};
 ghost use Rattle.desk_cli.specs.AtRest.{IsAtRest};
 ghost use Rattle.desk_cli.specs.Streams.{KeepsBoth, streams};
-ghost use Rattle.desk_cli.specs.World.{IsCleanScratch, world_of};
+ghost use Rattle.desk_cli.specs.World.{IsCleanScratch};
 ghost use Rattle.desk_cli.specs.Runs.{Does};
 ghost use Rattle.desk_cli.specs.commands.Importing.{ImportsDesk};
 ghost use Rattle.desk_cli.specs.commands.Serving.{ServesDesk};
@@ -25,8 +24,9 @@ use crate::commands::{
 use crate::endings::Ending;
 use crate::faults::end;
 use crate::files::FileOpener;
-use crate::network::Network;
+use crate::network::{Known, Network};
 use crate::printing::{Report, print_report};
+use crate::setup::Setup;
 use desk_engine::{LogText, Progress};
 use radio_core::Name;
 use registry_core::laws::rules_are_kept;
@@ -72,9 +72,8 @@ pub(crate) fn perform<
     faults: &mut F,
     progress: &P,
 ) -> Performed<S, N::Scratch>
-    ensures { Does (world_of S.Store (N.paths files)
-        (at_ports B.ports network.now B.Port.meaning B.Port.Reader.remaining B.Port.Writer.contents)
-        (streams R.Read reader.old reader.new W.Write answers.old answers.new) N.Scratch.Store result)
+    ensures { Does
+        (⟦<N as Setup<S, B, R, W>>⟧.world files network.now reader.old reader.new answers.old answers.new result)
         F.Write faults.old faults.new (asked_by command.now) }
 {
     rules_are_kept();
@@ -234,7 +233,7 @@ fn serve_file<S: Alter, N: FileOpener<S>, B: Network, W: Write, F: Write>(
     ensures { Ends F.Write faults.old faults.new result.0 (λ done. OnDeskFile S.Store (N.paths files) result.1 done file.now
         (Keeps (W.contents answers.old) (W.contents answers.new))
         (λ back c heard. ServesDesk S.Store back c heard
-        (at_ports B.ports network.now B.Port.meaning B.Port.Reader.remaining B.Port.Writer.contents log)
+        (⟦<B as Known>⟧.at network.now log)
         port connections (W.contents answers.old) (W.contents answers.new) done)) }
 {
     on_file!(

@@ -3,12 +3,9 @@ ghost use Rattle.std.specs.Prelude.{◌≡◌, ◌≢◌, Result, Ok, Err, None,
 ghost use Rattle.std.specs.IoError.{error_kind};
 ghost use Rattle.std.specs.Vec.Iter.{into_iter_items};
 ghost use Rattle.clap.specs.Walk.{texts};
-ghost use Rattle.desk_cli.specs.Runs.{EndsUnread, Runs, given, RunsSome, DoesNamed};
+ghost use Rattle.desk_cli.specs.Runs.{EndsUnread, Runs, given, RunsSome, DoesNamed, RunsOn};
 ghost use Rattle.desk_cli.specs.steps.Given.{IsNotGiven, IsUnread};
 ghost use Rattle.desk_cli.specs.steps.Usages.{TellsUsage};
-ghost use Rattle.desk_cli.specs.Ports.{at_ports};
-ghost use Rattle.desk_cli.specs.Streams.{streams};
-ghost use Rattle.desk_cli.specs.World.{world_of};
 ghost use Rattle.desk_cli.specs.Faults.{EndsBySome};
 
 use crate::endings::{Ending, ending_of};
@@ -16,6 +13,7 @@ use crate::faults::{Fault, end};
 use crate::files::FileOpener;
 use crate::network::Network;
 use crate::performing::{Performed, perform};
+use crate::setup::Setup;
 use crate::usage::Usage;
 use crate::words::read_words;
 use desk_engine::Progress;
@@ -47,14 +45,12 @@ pub fn run<
     progress: &P,
 ) -> Performed<S, N::Scratch>
     // Some arguments name a command, and what it asks was done, by how it ended; or they name none, or can't be read.
-    ensures runs { RunsSome (world_of S.Store (N.paths files)
-        (at_ports B.ports network.now B.Port.meaning B.Port.Reader.remaining B.Port.Writer.contents)
-        (streams R.Read reader.old reader.new W.Write answers.old answers.new) N.Scratch.Store result)
+    ensures runs { RunsSome
+        (⟦<N as Setup<S, B, R, W>>⟧.world files network.now reader.old reader.new answers.old answers.new result)
         F.Write faults.old faults.new }
     // So with status 0 what a command that arguments name asks was done.
-    ensures done { result.0 ≡ Ending.Done → DoesNamed (world_of S.Store (N.paths files)
-        (at_ports B.ports network.now B.Port.meaning B.Port.Reader.remaining B.Port.Writer.contents)
-        (streams R.Read reader.old reader.new W.Write answers.old answers.new) N.Scratch.Store result) }
+    ensures done { result.0 ≡ Ending.Done → DoesNamed
+        (⟦<N as Setup<S, B, R, W>>⟧.world files network.now reader.old reader.new answers.old answers.new result) }
     // Then nothing is written to standard error. Otherwise it reports why the command failed, unless the arguments name none.
     ensures quiet { result.0 ≡ Ending.Done → faults.new ≡ faults.old }
     ensures told { result.0 ≢ Ending.Misused → EndsBySome F.Write faults.old faults.new result.0 }
@@ -94,10 +90,9 @@ pub fn run_given<
     progress: &P,
 ) -> Performed<S, N::Scratch>
     // The arguments name a command, and what it asks was done, by how it ended; or they name none, or can't be read.
-    ensures runs { Runs (world_of S.Store (N.paths files)
-        (at_ports B.ports network.now B.Port.meaning B.Port.Reader.remaining B.Port.Writer.contents)
-        (streams R.Read reader.old reader.new W.Write answers.old answers.new) N.Scratch.Store result)
-        F.Write faults.old faults.new (given arguments) }
+    ensures runs { Runs
+        (⟦<N as Setup<S, B, R, W>>⟧.world files network.now reader.old reader.new answers.old answers.new result)
+        F.Write faults.old faults.new arguments }
     ensures quiet { result.0 ≡ Ending.Done → faults.new ≡ faults.old }
     ensures told { result.0 ≢ Ending.Misused → EndsBySome F.Write faults.old faults.new result.0 }
     ensures misused { result.0 ≡ Ending.Misused
@@ -131,9 +126,8 @@ fn run_strings<
     faults: &mut F,
     progress: &P,
 ) -> Performed<S, N::Scratch>
-    ensures runs { Runs (world_of S.Store (N.paths files)
-        (at_ports B.ports network.now B.Port.meaning B.Port.Reader.remaining B.Port.Writer.contents)
-        (streams R.Read reader.old reader.new W.Write answers.old answers.new) N.Scratch.Store result)
+    ensures runs { RunsOn
+        (⟦<N as Setup<S, B, R, W>>⟧.world files network.now reader.old reader.new answers.old answers.new result)
         F.Write faults.old faults.new (Ok (map string_bytes strings.now)) }
     ensures misused { result.0 ≡ Ending.Misused
         → (reader.new ≡ reader.old) × (answers.new ≡ answers.old) × (result.1 ≡ None) }

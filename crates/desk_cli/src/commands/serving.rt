@@ -23,7 +23,7 @@ use super::Command;
 use crate::endings::Ending;
 use crate::faults::{Fault, end};
 use crate::jobs::{Job, run_job};
-use crate::network::Network;
+use crate::network::{Known, Network};
 use crate::options::{
     command_on_file, connections_at, flag, is_set, placed, port_at, required_option, with_word,
 };
@@ -99,7 +99,7 @@ pub fn serve_command<S: Alter, B: Network, W: Write, F: Write>(
 ) -> (Ending, Connection<S>)
     requires at_rest { IsAtRest conn }
     ensures { EndsWith F.Write faults.old faults.new result (ServesOver S.Store
-        (at_ports B.ports network.now B.Port.meaning B.Port.Reader.remaining B.Port.Writer.contents log)
+        (⟦<B as Known>⟧.at network.now log)
         port connections conn W.Write answers.old answers.new) }
 {
     let (done, conn) = serve_desk(alloc, conn, network, port, connections, log, answers);
@@ -119,7 +119,7 @@ fn serve_desk<S: Alter, B: Network, W: Write>(
     requires at_rest { IsAtRest conn }
     ensures serves { HasCleanDisk (state S.Store result.1) → (c : Settings) (heard : List Envelope) → KeepsHeard S.Store conn c heard
         → ServesDesk S.Store result.1 c heard
-        (at_ports B.ports network.now B.Port.meaning B.Port.Reader.remaining B.Port.Writer.contents log)
+        (⟦<B as Known>⟧.at network.now log)
         port connections (W.contents answers.old) (W.contents answers.new) result.0 }
     ensures not_a_desk { HasCleanDisk (state S.Store result.1) → IsNotADesk S.Store conn
         → RefusesFile S.Store conn result.1 (Keeps (W.contents answers.old) (W.contents answers.new)) result.0 }
