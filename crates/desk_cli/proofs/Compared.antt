@@ -20,7 +20,7 @@ use Rattle.desk_rows.specs.Rows.{Holds, Rows, reply_cells, rowids_from}
 use Rattle.desk_rows.specs.Schema.{desk_schema, reply_tree}
 use Rattle.desk_tables.specs.InOrder.{IsOfDesk, entry_in}
 use Rattle.desk_engine.specs.InOrder.{kept_after}
-use Rattle.desk_engine.proofs.KeptAfter.{length-kept_after}
+use Rattle.desk_engine.specs.Laws.{AsManyEntriesAsMessages}
 use Rattle.desk_cli.specs.declared.audit.Finding.{Finding}
 use Rattle.desk_cli.specs.declared.audit.Finding.TheVariants.{InOrder, Differs}
 use Rattle.desk_cli.specs.declared.audit.Place.{Place}
@@ -98,9 +98,9 @@ length_numbered : (n : ℕ) (rows : List Row) → length (rowids_from n rows) �
 length_numbered n [] = refl
 length_numbered n (row ∷ rows) = ap suc (length_numbered (n + 1) rows)
 
-pub replies_of : (c : Settings) (heard : List Envelope) (db : Database) → IsOfDesk c (kept_after c heard) db → length heard ≡ length (db.trees reply_tree)
-replies_of c heard db it =
-    sym (length-kept_after c heard) ∙ ap length it.in_order.entries ∙ length-map it.in_order.rows.replies entry_in
+pub replies_of : AsManyEntriesAsMessages → (c : Settings) (heard : List Envelope) (db : Database) → IsOfDesk c (kept_after c heard) db → length heard ≡ length (db.trees reply_tree)
+replies_of many c heard db it =
+    sym (many c heard) ∙ ap length it.in_order.entries ∙ length-map it.in_order.rows.replies entry_in
     ∙ sym (length-map it.in_order.rows.replies reply_cells) ∙ sym (length_numbered 1 (map reply_cells it.in_order.rows.replies)) ∙ sym (ap length it.in_order.held.ten.reply)
 
 -- ---- a connection that becomes a store
@@ -168,16 +168,16 @@ module _ {S : Type 0} (g : Ghosts S) (conn : Held S) where
   }
 
 -- the replies and all other tables are those of a desk which has heard the log
-pub is_desk : (db other : Database) → db.schema ≡ desk_schema → IsDatabase db → (c : Settings) (heard : List Envelope) → IsHeard c heard → IsOfDesk c (kept_after c heard) other
+pub is_desk : AsManyEntriesAsMessages → (db other : Database) → db.schema ≡ desk_schema → IsDatabase db → (c : Settings) (heard : List Envelope) → IsHeard c heard → IsOfDesk c (kept_after c heard) other
     → (finding : Finding) → IsFoundBeside db.trees other.trees finding → IsDeskIf c db finding
-is_desk db other schema sound c heard list desk (InOrder count) found =
+is_desk many db other schema sound c heard list desk (InOrder count) found =
     let too : IsOfDesk c (kept_after c heard) db = of_desk_too db other schema sound found.0 c (kept_after c heard) desk in
-    (heard, replies_of c heard db too ∙ found.1, list, too)
-is_desk db other schema sound c heard list desk (Differs place) found = tt
+    (heard, replies_of many c heard db too ∙ found.1, list, too)
+is_desk many db other schema sound c heard list desk (Differs place) found = tt
 
 -- the same of the database as it was before it was read
-pub is_desk_too : (old new : State) (other : Database) → IsUnchanged old new → old.now.schema ≡ desk_schema → IsDatabase old.now
+pub is_desk_too : AsManyEntriesAsMessages → (old new : State) (other : Database) → IsUnchanged old new → old.now.schema ≡ desk_schema → IsDatabase old.now
     → (c : Settings) → (heard : List Envelope) × IsHeard c heard × IsOfDesk c (kept_after c heard) other
     → (finding : Finding) → IsFoundBeside new.now.trees other.trees finding → IsDeskIf c old.now finding
-is_desk_too old new other same schema sound c log finding found =
-    is_desk old.now other schema sound c log.0 log.1 log.2 finding (subst (λ (d : Database). IsFoundBeside d.trees other.trees finding) same.0.now_is found)
+is_desk_too many old new other same schema sound c log finding found =
+    is_desk many old.now other schema sound c log.0 log.1 log.2 finding (subst (λ (d : Database). IsFoundBeside d.trees other.trees finding) same.0.now_is found)

@@ -1,5 +1,5 @@
 -- What deliveries to a new desk leave of its database, by their outcomes.
-use Rattle.std.specs.Prelude.{◌≡◌, ℕ, false, List, [], Option, Result, IfOk, Vec, map}
+use Rattle.std.specs.Prelude.{◌≡◌, ℕ, false, List, [], Option, Result, IfOk, Vec}
 use Rattle.std.specs.Borrow.{Bor}
 use Rattle.sqlite.specs.Effect.{Database}
 use Rattle.sqlite.specs.Held.{Held, state}
@@ -8,29 +8,44 @@ use Rattle.sqlite_trees.specs.declared.store.Store.{Ghosts}
 use Rattle.registry_core.specs.declared.messages.Envelope.{Envelope}
 use Rattle.registry_core.specs.Settings.{Settings}
 use Rattle.desk_engine.specs.declared.outcomes.Outcome.{Outcome}
-use Rattle.desk_engine.specs.Deliveries.{heard_all}
+use Rattle.desk_engine.specs.Deliveries.{Delivery, heard_all}
 use Rattle.desk_engine.specs.Outcomes.{AreOutcomes, deliveries_of, first_doubt, has_disk}
+use Rattle.desk_engine.specs.Repeats.{RepeatsGetFirstAnswers}
+use Rattle.desk_engine.specs.Runs.{AlwaysGoesByRules, octets_of}
+use Rattle.desk_engine.specs.Uplinks.{UplinksStayBooked}
 use Rattle.desk_cli.specs.OnTables.{HasHeard, IsFound, IsLeft, LeftHeard}
 
 -- ---- what is delivered
 
--- the texts behind references
-abbrev pub texts_of : List (Bor (List ℕ)) → List (List ℕ)
-texts_of texts = map (λ t. t.now) texts
-
 -- The desk has this configuration. These texts were delivered to it, with these outcomes.
 module _ (c : Settings) (texts : List (Bor (List ℕ))) (outcomes : List Outcome) where
+  -- the deliveries
+  abbrev pub all_deliveries : List Delivery
+  all_deliveries = deliveries_of (octets_of texts) outcomes
+
   -- the log after the deliveries
   abbrev pub all_heard : List Envelope
-  all_heard = heard_all c [] (deliveries_of (texts_of texts) outcomes)
+  all_heard = heard_all c [] all_deliveries
 
   -- the in-flight message, if one of them had a disk error
   abbrev pub all_doubt : Option Envelope
-  all_doubt = first_doubt c (texts_of texts) outcomes
+  all_doubt = first_doubt c (octets_of texts) outcomes
 
   -- each outcome is the answer of its text after the ones before it
   abbrev pub AreAnswers : Type 0
-  AreAnswers = AreOutcomes c [] (texts_of texts) outcomes
+  AreAnswers = AreOutcomes c [] (octets_of texts) outcomes
+
+  -- each repeat of a message gets its first answer
+  abbrev pub RepeatsAreSame : Type 0
+  RepeatsAreSame = RepeatsGetFirstAnswers c (octets_of texts) outcomes
+
+  -- the state after any first of the deliveries satisfies the registry's rules
+  abbrev pub KeepRulesThroughout : Type 0
+  KeepRulesThroughout = AlwaysGoesByRules c [] all_deliveries
+
+  -- an uplink that is booked after some of them stays as it is after the others
+  abbrev pub UplinksStay : Type 0
+  UplinksStay = UplinksStayBooked c [] all_deliveries
 
   -- this database, which is found after a crash, represents that log, or that log with the in-flight message
   abbrev pub FindsAll : Database → Type 0

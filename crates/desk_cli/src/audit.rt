@@ -23,6 +23,7 @@ mod walking;
 use crate::faults::Fault;
 use comparing::compared_desks;
 use desk_engine::Progress;
+use desk_engine::laws::as_many_entries_as_messages;
 use desk_store::StoreFault;
 use desk_tables::{Tables, open_desk};
 use hearing::hear_log;
@@ -201,6 +202,7 @@ fn heard_anew<S: Alter + Drop, R: Alter + Drop, P: Progress>(
     ensures fresh { IfOk result (λ ended. IsClean (S.Store.view ended.1) → IsFresh (S.Store.view ended.1)) }
 {
     nothing_is_heard();
+    as_many_entries_as_messages();
     let mut conn = conn;
     let mut tables = match Tables::create(alloc, scratch, config) {
         Ok(tables) => tables,

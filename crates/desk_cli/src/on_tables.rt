@@ -1,16 +1,14 @@
 //! The headline over tables: a desk is made, answers texts, and its database represents the log.
-ghost use Rattle.std.specs.Prelude.{List, IfOk};
+ghost use Rattle.std.specs.Prelude.{IfOk};
 ghost use Rattle.sqlite.specs.Held.{state};
 ghost use Rattle.sqlite.specs.Steps.{over_memory};
-ghost use Rattle.registry_core.specs.declared.messages.Envelope.{Envelope};
-ghost use Rattle.registry_core.specs.Settings.{Settings};
-ghost use Rattle.desk_engine.specs.Deliveries.{heard_all};
-ghost use Rattle.desk_engine.specs.Hearing.{Hears};
-ghost use Rattle.desk_engine.specs.InOrder.{WasInOrder};
-ghost use Rattle.desk_engine.specs.Outcomes.{AreOutcomes, deliveries_of, first_doubt, has_disk, has_not_a_desk};
-ghost use Rattle.desk_cli.specs.OnTables.{KeepsRules, LeavesRules};
+ghost use Rattle.desk_engine.specs.Outcomes.{AreOutcomes};
+ghost use Rattle.desk_engine.specs.Repeats.{RepeatsGetFirstAnswers};
+ghost use Rattle.desk_engine.specs.Runs.{AlwaysGoesByRules, HearsTexts, IfRun, IfRunDelivers};
+ghost use Rattle.desk_engine.specs.Uplinks.{UplinksStayBooked};
 ghost use Rattle.desk_cli.specs.AtRest.{IsAtRest};
-ghost use Rattle.desk_cli.specs.Delivered.{IfRan, IfRanOver, UnlessDisk, AreAnswers, HasAll, StoresAll, LeavesAll, texts_of, UnlessDiskOver, CommitsAll};
+ghost use Rattle.desk_cli.specs.Delivered.{AreAnswers, CommitsAll, HasAll, IfRan, IfRanOver, KeepRulesThroughout, LeavesAll, RepeatsAreSame, StoresAll, UnlessDisk, UnlessDiskOver, UplinksStay};
+ghost use Rattle.desk_cli.specs.OnTables.{KeepsRules, LeavesRules};
 
 use desk_engine::{Outcome, run};
 use desk_store::{Keeper, StoreFault};
@@ -35,6 +33,9 @@ pub fn run_on_tables<S: Alter>(
 ) -> (Result<Vec<Outcome>, StoreFault>, Connection<S>)
     requires at_rest { IsAtRest conn }
     ensures outcomes { IfRanOver S.Store result (λ conn. AreAnswers config texts.now) }
+    ensures repeats { IfRanOver S.Store result (λ conn. RepeatsAreSame config texts.now) }
+    ensures rules_before { IfRanOver S.Store result (λ conn. KeepRulesThroughout config texts.now) }
+    ensures uplinks { IfRanOver S.Store result (λ conn. UplinksStay config texts.now) }
 
     // Unless an outcome is `Disk`, the database represents exactly the log, and all of it is committed.
     ensures tables { UnlessDiskOver S.Store result (λ conn. StoresAll S.Store conn config texts.now) }
@@ -74,6 +75,9 @@ pub fn run_in_memory(
     texts: &[&[u8]],
 ) -> Result<(Vec<Outcome>, Connection<MemStore>), StoreFault>
     ensures outcomes { IfRan result (λ conn. AreAnswers config texts.now) }
+    ensures repeats { IfRan result (λ conn. RepeatsAreSame config texts.now) }
+    ensures rules_before { IfRan result (λ conn. KeepRulesThroughout config texts.now) }
+    ensures uplinks { IfRan result (λ conn. UplinksStay config texts.now) }
     ensures tables { UnlessDisk result (λ conn. HasAll over_memory conn config texts.now) }
     ensures committed { IfRan result (λ conn. CommitsAll over_memory conn config texts.now) }
     ensures rules { UnlessDisk result (λ conn ran. KeepsRules config (state over_memory conn).now) }
@@ -99,12 +103,11 @@ fn deliver_all<K: Keeper>(
     keeper: &mut K,
     texts: &[&[u8]],
 ) -> Result<Vec<Outcome>, StoreFault>
-    ensures store { IfOk result (λ outcomes. Hears K.meaning keeper.old keeper.new
-        (has_disk outcomes.items) (has_not_a_desk outcomes.items)
-        (λ c heard. heard_all c heard (deliveries_of (texts_of texts.now) outcomes.items))
-        (λ c. first_doubt c (texts_of texts.now) outcomes.items)) }
-    ensures outcomes { (c : Settings) (heard : List Envelope) → WasInOrder K.meaning c heard keeper.old keeper.new
-        → IfOk result (λ outcomes. AreOutcomes c heard (texts_of texts.now) outcomes.items) }
+    ensures store { IfOk result (HearsTexts K.meaning keeper.old keeper.new texts.now) }
+    ensures outcomes { IfRun K.meaning keeper.old keeper.new texts.now result AreOutcomes }
+    ensures repeats { IfRun K.meaning keeper.old keeper.new texts.now result (λ c _. RepeatsGetFirstAnswers c) }
+    ensures rules_before { IfRunDelivers K.meaning keeper.old keeper.new texts.now result AlwaysGoesByRules }
+    ensures uplinks { IfRunDelivers K.meaning keeper.old keeper.new texts.now result UplinksStayBooked }
 {
     match run(alloc, keeper, texts) {
         Ok(outcomes) => Ok(outcomes),

@@ -18,6 +18,7 @@ use crate::faults::{Fault, end};
 use crate::options::{command_with_settings, config_of};
 use crate::usage::Usage;
 use clap::ArgMatches;
+use desk_engine::laws::new_lists_are_in_order;
 use desk_store::Lists;
 use registry_core::Config;
 use registry_core::laws::nothing_is_heard;
@@ -71,6 +72,7 @@ fn answer_in_memory<R: Read, W: Write>(
     ensures answered { AnswersLines (streams R.Read reader.old reader.new W.Write answers.old answers.new) config.now result }
 {
     nothing_is_heard();
+    new_lists_are_in_order();
     let mut lists = match new_lists(alloc, config) {
         Ok(lists) => lists,
         Err(_) => return Err(Fault::Unavailable),

@@ -23,7 +23,7 @@ returns-in-Ok-default-default-clause-found g c = λ sure other_sure opened schem
     let log : (heard : List Envelope) × IsHeard c.args.config heard × IsOfDesk c.args.config (kept_after c.args.config heard) (state g.R.Store c.close-other.result).now =
     log_was_heard g.R.Store c.args.config c.in-Ok.tables c.hear_log.new.keeper c.close-other.result c.in_ok-hear_log.ensures.heard c.in-Ok.ensures.made
     (c.nothing_is_heard.ensures c.args.config) (c.close-other.ensures.sound other_clean) c.close-other.ensures.in_order in
-    is_desk_too (state g.S.Store c.args.conn) (state g.S.Store c.hear_log.new.conn) (state g.R.Store c.close-other.result).now same schema became.sound c.args.config log
+    is_desk_too c.as_many_entries_as_messages.ensures (state g.S.Store c.args.conn) (state g.S.Store c.hear_log.new.conn) (state g.R.Store c.close-other.result).now same schema became.sound c.args.config log
     c.in-Ok-default-default.finding
     (at_ok (IsFoundBeside (state g.S.Store c.hear_log.new.conn).now.trees (state g.R.Store c.close-other.result).now.trees) _ _ c.in-Ok-default-default.is-0
     (c.compared_desks.ensures.compared sure other_sure))

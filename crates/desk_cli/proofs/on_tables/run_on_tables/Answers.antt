@@ -10,6 +10,27 @@ returns-in-Ok-deliver_all-clause-outcomes g c = λ clean.
     let was = was_new _ _ _ (c.nothing_is_heard.ensures c.args.config) (c.in-Ok.ensures.made (ran.call.was_sound sound)) in
     c.in-Ok-deliver_all.ensures.outcomes c.args.config [] (was_in_order _ _ _ _ _ was sound)
 
+pub returns-in-Ok-deliver_all-clause-repeats : goal.returns-in-Ok-deliver_all-clause-repeats
+returns-in-Ok-deliver_all-clause-repeats g c = λ clean.
+    let sound = c.close.ensures.sound clean in
+    let ran = c.in-Ok-deliver_all.ensures.store in
+    let was = was_new _ _ _ (c.nothing_is_heard.ensures c.args.config) (c.in-Ok.ensures.made (ran.call.was_sound sound)) in
+    c.in-Ok-deliver_all.ensures.repeats c.args.config [] (was_in_order _ _ _ _ _ was sound)
+
+pub returns-in-Ok-deliver_all-clause-rules_before : goal.returns-in-Ok-deliver_all-clause-rules_before
+returns-in-Ok-deliver_all-clause-rules_before g c = λ clean.
+    let sound = c.close.ensures.sound clean in
+    let ran = c.in-Ok-deliver_all.ensures.store in
+    let was = was_new _ _ _ (c.nothing_is_heard.ensures c.args.config) (c.in-Ok.ensures.made (ran.call.was_sound sound)) in
+    c.in-Ok-deliver_all.ensures.rules_before c.args.config [] (was_in_order _ _ _ _ _ was sound)
+
+pub returns-in-Ok-deliver_all-clause-uplinks : goal.returns-in-Ok-deliver_all-clause-uplinks
+returns-in-Ok-deliver_all-clause-uplinks g c = λ clean.
+    let sound = c.close.ensures.sound clean in
+    let ran = c.in-Ok-deliver_all.ensures.store in
+    let was = was_new _ _ _ (c.nothing_is_heard.ensures c.args.config) (c.in-Ok.ensures.made (ran.call.was_sound sound)) in
+    c.in-Ok-deliver_all.ensures.uplinks c.args.config [] (was_in_order _ _ _ _ _ was sound)
+
 pub returns-in-Ok-deliver_all-clause-tables : goal.returns-in-Ok-deliver_all-clause-tables
 returns-in-Ok-deliver_all-clause-tables g c = λ clean is.
     let sound = c.close.ensures.sound clean in
