@@ -238,8 +238,8 @@ fn in_seconds(rt: &impl Abort, alloc: Global, count: u32) -> Result<Vec<Span>, A
     Ok(spans)
 }
 
-/// No contract speaks of time. The plain form would add up 2,000,000,000,000 uses here, and meets every clause of the
-/// sweep; a test may take a minute, so that this one shows that the sweep is what runs.
+/// No contract states how long a call takes. The direct algorithm would add up 2,000,000,000,000 uses here, and satisfies every clause of
+/// the sweep and of `room`; a test may take a minute, so this one shows that the sweep is what runs.
 #[test]
 fn sweeps_a_million(rt: HostRuntime) -> Result<(), Fail> {
     let spans = in_seconds(&rt, rt.alloc(), 1_000_000)?;
@@ -248,5 +248,6 @@ fn sweeps_a_million(rt: HostRuntime) -> Result<(), Fail> {
     let new = span(&rt, 7_000_500_000, 500_000);
     holds(&rt, sweep_fits(&spans, new, 1_800_500_000), "just within");
     holds(&rt, !sweep_fits(&spans, new, 1_800_499_999), "one above");
+    has_room(&rt, &[], &spans, 7_000_500_000, 1_800_500_000, 500_000);
     Ok(())
 }
