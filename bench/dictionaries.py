@@ -8,6 +8,7 @@ it, and it trusts that each line is a message in its form, for a known receiver,
 so it does no more than any program must.
 """
 
+import argparse
 import bisect
 import itertools
 import json
@@ -296,6 +297,7 @@ def told(answer, code, description):
 
 
 def main():
+    argparse.ArgumentParser(description=__doc__, formatter_class=argparse.RawDescriptionHelpFormatter).parse_args()
     desk = Desk()
     for line in sys.stdin:
         sys.stdout.write(desk.deliver(line) + "\n")

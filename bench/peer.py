@@ -10,6 +10,7 @@ line is a message in its form, for a known receiver, but for a Limit, which may 
 program must. What needs no table it takes from dictionaries.py.
 """
 
+import argparse
 import json
 import re
 import sqlite3
@@ -272,9 +273,9 @@ OPERATORS_ONLY = ["SenderAdd", "OwnerAdd", "GatewayAdd", "DeviceAdd", "DeviceMov
 
 
 def main():
-    if len(sys.argv) != 2:
-        sys.exit(__doc__)
-    desk = File(sys.argv[1])
+    words = argparse.ArgumentParser(description=__doc__, formatter_class=argparse.RawDescriptionHelpFormatter)
+    words.add_argument("file", metavar="FILE")
+    desk = File(words.parse_args().file)
     for line in sys.stdin:
         sys.stdout.write(desk.deliver(line) + "\n")
     desk.conn.close()
