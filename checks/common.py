@@ -3,6 +3,7 @@
 Those of bench/ find it by the path of checks/, which they put behind their own.
 """
 
+import itertools
 import shutil
 import signal
 import sqlite3
@@ -96,6 +97,20 @@ def removed(file):
 def reading(file):
     """A connection that only reads, and is closed at the end of its block."""
     return closing(sqlite3.connect(f"file:{file}?mode=ro", uri=True))
+
+
+def same_rows(file, wanted):
+    """Wants each of the eleven tables to have the rows of the other file, in the same order. Returns how many rows that are."""
+    count = 0
+    with reading(file) as conn, reading(wanted) as other:
+        for it, name in ((conn, file.name), (other, wanted.name)):
+            wants(it.execute("PRAGMA integrity_check").fetchall() == [("ok",)], f"SQLite finds {name} damaged")
+        for table in TABLES:
+            pairs = itertools.zip_longest(*(it.execute(f"SELECT * FROM {table}") for it in (conn, other)))
+            for number, (row, wanted_row) in enumerate(pairs, 1):
+                wants(row == wanted_row, f"row {number} of {table} in {file.name} is {row} and not {wanted_row}")
+                count += 1
+    return count
 
 
 def execute(file, text):

@@ -30,10 +30,10 @@ from collections import Counter
 from contextlib import suppress
 from pathlib import Path
 
-from common import ROOT, TABLES, Running, add_program, log_of, reading, ready, wants
+from common import ROOT, Running, add_program, log_of, ready, same_rows, wants
 from http_client import answer_of, free_port
-from kills import MALFORMED
-from mixed_operation import mixed_operation
+from kills import replies_in
+from mixed_operation import MALFORMED, mixed_operation
 
 FOLLOWER = ROOT / "examples" / "follow.py"
 # what is killed together; `hear` is the program that the follower runs
@@ -226,19 +226,6 @@ def ends_with(ran, told):
 # ---- what the files have
 
 
-def rows_of(file):
-    with reading(file) as conn:
-        wants(conn.execute("PRAGMA integrity_check").fetchall() == [("ok",)], f"SQLite finds {file.name} damaged")
-        return {table: conn.execute(f"SELECT * FROM {table}").fetchall() for table in TABLES}
-
-
-def has_rows(file, wanted):
-    for table, rows in rows_of(file).items():
-        place = next((it for it, (row, other) in enumerate(zip(rows, wanted[table])) if row != other), min(len(rows), len(wanted[table])))
-        found = f"{len(rows)} rows and not {len(wanted[table])}, {rows[place : place + 1]} and not {wanted[table][place : place + 1]}"
-        wants(rows == wanted[table], f"{file.name} has other rows in {table}, from row {place + 1} on: {found}")
-
-
 def texts_of(rows):
     """The messages, and the answers, as rows of the table reply have them: a line for each."""
     return [b"".join(row[column] + b"\n" for row in rows) for column in (3, 4)]
@@ -251,10 +238,10 @@ def printed(program, *words, given=b""):
 
 
 def compare(program, town, folder):
-    """Compares the two files, and a third one that hears the log of the first. Returns the rows."""
-    wanted = rows_of(town.file)
-    has_rows(town.standby, wanted)
-    messages, answers = texts_of(wanted["reply"])
+    """Compares the two files, and a third one that hears the log of the first. Returns how many messages and rows they have."""
+    replies = replies_in(town.file)
+    rows = same_rows(town.standby, town.file)
+    messages, answers = texts_of(replies)
     for file in (town.file, town.standby):
         wants(printed(program, "log", file) == messages, f"log prints other messages than are in {file.name}")
         wants(printed(program, "log", file, "--answers") == answers, f"log prints other answers than are in {file.name}")
@@ -262,11 +249,11 @@ def compare(program, town, folder):
     printed(program, "init", moved)
     for file in (town.standby, moved):
         wants(printed(program, "hear", file, given=messages) == answers, f"{file.name} answers the log otherwise than the desk did")
-        has_rows(file, wanted)
-    in_order = f"heard: {len(wanted['reply'])}\nin order\n".encode()
+        same_rows(file, town.file)
+    in_order = f"heard: {len(replies)}\nin order\n".encode()
     for file in (town.file, town.standby, moved):
         wants(printed(program, "audit", file) == in_order, f"an audit of {file.name} prints something else than {in_order}")
-    return wanted
+    return len(replies), rows
 
 
 def main():
@@ -282,11 +269,11 @@ def main():
     with tempfile.TemporaryDirectory() as folder:
         town = Town(program, Path(folder), lines, random.Random(given.seed))
         town.run(given.kills)
-        rows = compare(program, town, Path(folder))
+        replies, rows = compare(program, town, Path(folder))
     kills = ", ".join(f"{name} {count}" for name, count in sorted(town.kills.items()))
     print(
-        f"{len(lines)} lines, {len(rows['reply'])} messages heard, {given.kills} times something was killed ({kills}), in"
-        f" {time.monotonic() - begun:.0f} s: the standby has the same {sum(map(len, rows.values()))} rows, and gives each answer that the desk gave"
+        f"{len(lines)} lines, {replies} messages heard, {given.kills} times something was killed ({kills}), in"
+        f" {time.monotonic() - begun:.0f} s: the standby has the same {rows} rows, and gives each answer that the desk gave"
     )
 
 

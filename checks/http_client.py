@@ -1,5 +1,6 @@
 """Requests to a desk that serves, and its responses, octet for octet."""
 
+import random
 import socket
 
 
@@ -7,6 +8,18 @@ def free_port():
     with socket.socket() as bound:
         bound.bind(("127.0.0.1", 0))
         return bound.getsockname()[1]
+
+
+def lasting_port():
+    """A free port below those that connections get by themselves, so that none takes it while the desk is started again."""
+    while True:
+        port = random.randrange(20_000, 30_000)
+        with socket.socket() as bound:
+            try:
+                bound.bind(("127.0.0.1", port))
+            except OSError:
+                continue
+            return port
 
 
 def asked(port, octets, shut=False):

@@ -26,10 +26,9 @@ from pathlib import Path
 from both_stores import rows_of
 from common import add_program, reading, ready, text_of, wants
 from http_client import answer_of, free_port
-from mixed_operation import NO_MESSAGE, mixed_operation
+from mixed_operation import MALFORMED, NO_MESSAGE, mixed_operation
 import dictionaries
 
-MALFORMED = '{"ProtocolVersion":"1.0","Result":{"Description":"malformed","ResultCode":"Other"},"SenderID":"desk"}'
 LINES_A_KILL = 40
 LONGEST_RUN = 0.06
 

@@ -33,8 +33,7 @@ from pathlib import Path
 
 from both_stores import compare_rows
 from common import TABLES_OF_SCHEMA_1, add_program, copy_to, execute, log_of, reading, ready, removed, text_of, wants
-from kills import MALFORMED
-from mixed_operation import mixed_operation
+from mixed_operation import MALFORMED, mixed_operation
 from dictionaries import BANDS, most_in_an_hour
 from normal_operation import GATEWAYS
 

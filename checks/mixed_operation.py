@@ -18,6 +18,8 @@ from dictionaries import BANDS, most_in_an_hour
 from normal_operation import BASE, DEVICES, FREQUENCIES, GATEWAYS, SECOND, FIRST_DEV_EUI, JOIN_EUI, Stream
 
 NO_MESSAGE = "{"
+# the desk's answer to it
+MALFORMED = '{"ProtocolVersion":"1.0","Result":{"Description":"malformed","ResultCode":"Other"},"SenderID":"desk"}'
 
 OWNERS = ["town", "city", "village"]
 HEAD = {"ProtocolVersion", "SenderID", "ReceiverID", "TransactionID", "MessageType"}
