@@ -16,7 +16,7 @@ With --parts this is done N times, with the seeds from --first on: 500 parts of 
 store in memory is that of `desk lines` then. All answers have to be those of the plain program, which hears each message as it is
 generated, and each row in the file has to be its row. Reports aren't compared. Every tenth file also passes `desk check` and
 `desk audit`. It prints a line for each part, and at the end how many messages got which answer. --folder names where the files are
-meanwhile: in memory it takes a third of the time.
+meanwhile: in memory there are no waits for the disk.
 """
 
 import argparse

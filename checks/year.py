@@ -24,8 +24,8 @@ each of the eleven tables, in the same order, and pass an audit.
 
 It prints two lines for each month: messages, answers a second, the slowest answer, the size of the file, how long an opening takes, and
 how long the reports; then what the bridge sent, and how long the follower took. At the end it prints how often each program was killed.
-With fewer --devices it takes less time, and kills as often. --folder names where the files are meanwhile: in memory it takes half the
-time. The program is `./desk`, which is proved and built first if it isn't current, or with --program the built one in FILE.
+With fewer --devices it takes less time, and kills as often. --folder names where the files are meanwhile: in memory there are
+no waits for the disk. The program is `./desk`, which is proved and built first if it isn't current, or with --program the built one in FILE.
 """
 
 import argparse
