@@ -130,6 +130,7 @@ def changed_sources(copy):
     ran = copy.run("lint")
     holds(ran.returncode == 1 and "docs/stray.rt" in ran.stderr, f"lint with a stray source ends with {ran}")
     stray.unlink()
+    subprocess.run(["git", "add", "-A"], cwd=copy.folder, check=True)
 
 
 def mutants(copy):
