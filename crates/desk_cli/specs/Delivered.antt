@@ -32,8 +32,8 @@ module _ (c : Settings) (texts : List (Bor (List ℕ))) (outcomes : List Outcome
   all_doubt = first_doubt c (octets_of texts) outcomes
 
   -- each outcome is the answer of its text after the ones before it
-  abbrev pub AreAnswers : Type 0
-  AreAnswers = AreOutcomes c [] (octets_of texts) outcomes
+  abbrev pub AnswersAll : Type 0
+  AnswersAll = AreOutcomes c [] (octets_of texts) outcomes
 
   -- each repeat of a message gets its first answer
   abbrev pub RepeatsAreSame : Type 0
@@ -44,12 +44,12 @@ module _ (c : Settings) (texts : List (Bor (List ℕ))) (outcomes : List Outcome
   KeepRulesThroughout = AlwaysGoesByRules c [] all_deliveries
 
   -- an uplink that is booked after some of them stays as it is after the others
-  abbrev pub UplinksStay : Type 0
-  UplinksStay = UplinksStayBooked c [] all_deliveries
+  abbrev pub KeepUplinks : Type 0
+  KeepUplinks = UplinksStayBooked c [] all_deliveries
 
   -- this database, which is found after a crash, represents that log, or that log with the in-flight message
-  abbrev pub FindsAll : Database → Type 0
-  FindsAll db = IsFound c all_heard all_doubt db
+  abbrev pub FindsHeard : Database → Type 0
+  FindsHeard db = IsFound c all_heard all_doubt db
 
 -- the same, of the database of a connection
 module _ {S : Type 0} (g : Ghosts S) (conn : Held S) (c : Settings) (texts : List (Bor (List ℕ))) (outcomes : List Outcome) where

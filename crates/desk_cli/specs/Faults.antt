@@ -95,8 +95,8 @@ module _ {F : Type 0} (f : Ghosts F) (before after : F) where
     pub says : Says result
 
   -- The command ended and gave something back, and both satisfy this.
-  abbrev pub EndsWith : {X : Type 0} → Ending × X → (X → Result (Unit {0}) Fault → Type 0) → Type 0
-  EndsWith both Says = Ends both.0 (Says both.1)
+  abbrev pub EndsGiving : {X : Type 0} → Ending × X → (X → Result (Unit {0}) Fault → Type 0) → Type 0
+  EndsGiving both Says = Ends both.0 (Says both.1)
 
 -- ---- the errors of the crates below
 

@@ -7,7 +7,7 @@ ghost use Rattle.desk_engine.specs.Repeats.{RepeatsGetFirstAnswers};
 ghost use Rattle.desk_engine.specs.Runs.{AlwaysGoesByRules, HearsTexts, IfRun, IfRunDelivers};
 ghost use Rattle.desk_engine.specs.Uplinks.{UplinksStayBooked};
 ghost use Rattle.desk_cli.specs.AtRest.{IsAtRest};
-ghost use Rattle.desk_cli.specs.Delivered.{AreAnswers, CommitsAll, HasAll, IfRan, IfRanOver, KeepRulesThroughout, LeavesAll, RepeatsAreSame, StoresAll, UnlessDisk, UnlessDiskOver, UplinksStay};
+ghost use Rattle.desk_cli.specs.Delivered.{AnswersAll, CommitsAll, HasAll, IfRan, IfRanOver, KeepRulesThroughout, KeepUplinks, LeavesAll, RepeatsAreSame, StoresAll, UnlessDisk, UnlessDiskOver};
 ghost use Rattle.desk_cli.specs.OnTables.{KeepsRules, LeavesRules};
 
 use desk_engine::{Outcome, run};
@@ -32,10 +32,10 @@ pub fn run_on_tables<S: Alter>(
     texts: &[&[u8]],
 ) -> (Result<Vec<Outcome>, StoreFault>, Connection<S>)
     requires at_rest { IsAtRest conn }
-    ensures outcomes { IfRanOver S.Store result (λ conn. AreAnswers config texts.now) }
+    ensures outcomes { IfRanOver S.Store result (λ conn. AnswersAll config texts.now) }
     ensures repeats { IfRanOver S.Store result (λ conn. RepeatsAreSame config texts.now) }
     ensures rules_before { IfRanOver S.Store result (λ conn. KeepRulesThroughout config texts.now) }
-    ensures uplinks { IfRanOver S.Store result (λ conn. UplinksStay config texts.now) }
+    ensures uplinks { IfRanOver S.Store result (λ conn. KeepUplinks config texts.now) }
 
     // Unless an outcome is `Disk`, the database represents exactly the log, and all of it is committed.
     ensures tables { UnlessDiskOver S.Store result (λ conn. StoresAll S.Store conn config texts.now) }
@@ -74,10 +74,10 @@ pub fn run_in_memory(
     config: Config,
     texts: &[&[u8]],
 ) -> Result<(Vec<Outcome>, Connection<MemStore>), StoreFault>
-    ensures outcomes { IfRan result (λ conn. AreAnswers config texts.now) }
+    ensures outcomes { IfRan result (λ conn. AnswersAll config texts.now) }
     ensures repeats { IfRan result (λ conn. RepeatsAreSame config texts.now) }
     ensures rules_before { IfRan result (λ conn. KeepRulesThroughout config texts.now) }
-    ensures uplinks { IfRan result (λ conn. UplinksStay config texts.now) }
+    ensures uplinks { IfRan result (λ conn. KeepUplinks config texts.now) }
     ensures tables { UnlessDisk result (λ conn. HasAll over_memory conn config texts.now) }
     ensures committed { IfRan result (λ conn. CommitsAll over_memory conn config texts.now) }
     ensures rules { UnlessDisk result (λ conn ran. KeepsRules config (state over_memory conn).now) }

@@ -10,7 +10,7 @@ ghost use Rattle.desk_cli.specs.Doing.{PrintsOver};
 ghost use Rattle.desk_cli.specs.steps.Jobs.{prints};
 ghost use Rattle.desk_cli.specs.steps.Printing.{IsPrinted, shown, unasked};
 ghost use Rattle.desk_cli.specs.AtRest.{IsAtRest};
-ghost use Rattle.desk_cli.specs.Faults.{EndsWith};
+ghost use Rattle.desk_cli.specs.Faults.{EndsGiving};
 
 use crate::endings::Ending;
 use crate::faults::{Fault, end};
@@ -50,7 +50,7 @@ pub(crate) fn print_report<S: Alter, Q: Report, W: Write, F: Write>(
     faults: &mut F,
 ) -> (Ending, Connection<S>)
     requires at_rest { IsAtRest conn }
-    ensures { EndsWith F.Write faults.old faults.new result
+    ensures { EndsGiving F.Write faults.old faults.new result
         (PrintsOver S.Store (Q.is_answer report.now) conn W.Write answers.old answers.new) }
 {
     let (done, conn) = print_by_store(alloc, conn, report, answers);

@@ -2,7 +2,7 @@
 ghost use Rattle.std.specs.Prelude.{◌≡◌, false, None, IfOk};
 ghost use Rattle.sqlite.specs.Files.{file_state};
 ghost use Rattle.desk_cli.specs.AtRest.{IsAtRest};
-ghost use Rattle.desk_cli.specs.Delivered.{IfRan, AreAnswers, FindsAll};
+ghost use Rattle.desk_cli.specs.Delivered.{AnswersAll, FindsHeard, IfRan};
 ghost use Rattle.desk_cli.specs.InFiles.{FindsLeft, ReturnsAll};
 
 use crate::on_tables::run_on_tables;
@@ -47,8 +47,8 @@ fn run_and_stop<D: Crash + Drop>(
     texts: &[&[u8]],
 ) -> Result<(Vec<Outcome>, Connection<FileStore<D>>), StoreFault>
     requires at_rest { IsAtRest conn }
-    ensures outcomes { ReturnsAll D.Disk → IfRan result (λ conn. AreAnswers config texts.now) }
-    ensures found { ReturnsAll D.Disk → IfRan result (λ conn ran. FindsAll config texts.now ran (file_state conn).now) }
+    ensures outcomes { ReturnsAll D.Disk → IfRan result (λ conn. AnswersAll config texts.now) }
+    ensures found { ReturnsAll D.Disk → IfRan result (λ conn ran. FindsHeard config texts.now ran (file_state conn).now) }
 {
     let (outcomes, conn) = run_on_tables(alloc, conn, config, texts);
     match outcomes {
@@ -72,10 +72,10 @@ pub fn run_through_stop(
     config: Config,
     texts: &[&[u8]],
 ) -> Result<(Vec<Outcome>, Connection<FileStore<Memory>>), StoreFault>
-    ensures outcomes { IfRan result (λ conn. AreAnswers config texts.now) }
+    ensures outcomes { IfRan result (λ conn. AnswersAll config texts.now) }
 
     // What is found represents the log, or after a disk error possibly the log with the in-flight message.
-    ensures found { IfRan result (λ conn ran. FindsAll config texts.now ran (file_state conn).now) }
+    ensures found { IfRan result (λ conn ran. FindsHeard config texts.now ran (file_state conn).now) }
 {
     match new_files(alloc) {
         Ok(conn) => run_and_stop(alloc, conn, config, texts),

@@ -25,7 +25,7 @@ use Rattle.desk_engine.specs.declared.log.LogText.TheVariants.{Message, Answer}
 use Rattle.desk_engine.specs.InOrder.{entry_at, kept_after}
 use Rattle.desk_engine.specs.Lines.{input_of, line_feed}
 use Rattle.desk_engine.specs.Log.{LogEndBy, log_of, numbered_from}
-use Rattle.desk_engine.specs.steps.Logs.{HasWritten, entry_text, log_line, log_lines}
+use Rattle.desk_engine.specs.steps.Logs.{HasWrittenLines, entry_text, log_line, log_lines}
 
 -- ---- results
 
@@ -94,12 +94,12 @@ none_past (x ∷ lines) zero is = absurd (let no : ◌≡◌ {A = Option (List �
 none_past (x ∷ lines) (suc n) is = omega (arith, none_past lines n is)
 
 module _ (lines : List (List ℕ)) (before : Option (List ℕ)) where
-  pub none_written : HasWritten lines before before 0
+  pub none_written : HasWrittenLines lines before before 0
   none_written = record { count_is = refl; written = Appends-nil before }
 
   -- one line more
-  pub line_written : (mid after : Option (List ℕ)) (count : ℕ) (line : List ℕ) → HasWritten lines before mid count → slice_get lines count ≡ Some line
-      → Appends mid after (line ++ line_feed ∷ []) → HasWritten lines before after (count + 1)
+  pub line_written : (mid after : Option (List ℕ)) (count : ℕ) (line : List ℕ) → HasWrittenLines lines before mid count → slice_get lines count ≡ Some line
+      → Appends mid after (line ++ line_feed ∷ []) → HasWrittenLines lines before after (count + 1)
   line_written mid after count line has at more =
       let next : count + 1 ≡ suc count = omega arith in
       let within = slice_get_within lines count line at in
@@ -110,13 +110,13 @@ module _ (lines : List (List ℕ)) (before : Option (List ℕ)) where
       }
 
   -- all of them
-  pub all_written : (after : Option (List ℕ)) (count : ℕ) → HasWritten lines before after count → length lines ≤ count → LogEndBy lines before after (Done count)
+  pub all_written : (after : Option (List ℕ)) (count : ℕ) → HasWrittenLines lines before after count → length lines ≤ count → LogEndBy lines before after (Done count)
   all_written after count has long =
       let whole : take count lines ≡ lines = take_all count lines long in
       (subst (λ l. Appends before after (input_of l [])) whole has.written, sym has.count_is ∙ ap length whole)
 
   -- a part of the line at a place
-  pub part_written : (mid after : Option (List ℕ)) (count : ℕ) (line : List ℕ) → HasWritten lines before mid count → slice_get lines count ≡ Some line
+  pub part_written : (mid after : Option (List ℕ)) (count : ℕ) (line : List ℕ) → HasWrittenLines lines before mid count → slice_get lines count ≡ Some line
       → (octets : ℕ) × Appends mid after (take octets (line ++ line_feed ∷ [])) → LogEndBy lines before after Write
   part_written mid after count line has at part = record {
     done = take count lines;
@@ -127,7 +127,7 @@ module _ (lines : List (List ℕ)) (before : Option (List ℕ)) where
     written = subst (Appends before after) (sym (input_rest (take count lines) (take part.0 (line ++ line_feed ∷ [])))) (Appends-trans before mid after _ _ has.written part.1);
   }
 
-  pub whole_written : (after : Option (List ℕ)) (count : ℕ) (fault : StoreFault) → HasWritten lines before after count → IsUnavailability fault → LogEndBy lines before after (Unavailable fault)
+  pub whole_written : (after : Option (List ℕ)) (count : ℕ) (fault : StoreFault) → HasWrittenLines lines before after count → IsUnavailability fault → LogEndBy lines before after (Unavailable fault)
   whole_written after count fault has why =
       (record { done = take count lines; more = drop count lines; lines_are = sym (take-append-drop count lines); written = has.written }, why)
 
@@ -145,7 +145,7 @@ get_take (suc most) (x ∷ xs) zero below = refl
 get_take (suc most) (x ∷ xs) (suc count) below = get_take most xs count (omega (arith, below))
 
 module _ (which : LogText) (from most count : ℕ) (entries : List Entry) where
-  at_number : (before after : Option (List ℕ)) → HasWritten (log_lines which from most entries) before after count → count < most
+  at_number : (before after : Option (List ℕ)) → HasWrittenLines (log_lines which from most entries) before after count → count < most
       → slice_get (log_lines which from most entries) count ≡ option_map (entry_text which) (item_at entries (from + count))
   at_number before after has below = slice_get-map (entry_text which) (numbered_from from most entries) count ∙ ap (option_map (entry_text which)) (go from (has.count_is))
     where
@@ -160,7 +160,7 @@ module _ (which : LogText) (from most count : ℕ) (entries : List Entry) where
           get_take most (drop n entries) count below ∙ get_drop n entries count ∙ ap (item_at entries) same
 
   -- the line that was read is the next
-  pub next_line : (before after : Option (List ℕ)) (line : List ℕ) → HasWritten (log_lines which from most entries) before after count → count < most
+  pub next_line : (before after : Option (List ℕ)) (line : List ℕ) → HasWrittenLines (log_lines which from most entries) before after count → count < most
       → Some line ≡ option_map (log_line which) (item_at entries (from + count))
       → (text : List ℕ) × (slice_get (log_lines which from most entries) count ≡ Some text) × (line ≡ text ++ line_feed ∷ [])
   next_line before after line has below is = go (item_at entries (from + count)) (at_number before after has below) is
@@ -171,7 +171,7 @@ module _ (which : LogText) (from most count : ℕ) (entries : List Entry) where
       go (Some entry) at some = (entry_text which entry, at, cc)
 
   -- no line was there
-  pub no_line : (before after : Option (List ℕ)) → HasWritten (log_lines which from most entries) before after count → count < most
+  pub no_line : (before after : Option (List ℕ)) → HasWrittenLines (log_lines which from most entries) before after count → count < most
       → None ≡ option_map (log_line which) (item_at entries (from + count)) → length (log_lines which from most entries) ≤ count
   no_line before after has below is = none_past (log_lines which from most entries) count (at_number before after has below ∙ go (item_at entries (from + count)) is)
     where

@@ -40,13 +40,13 @@ module _ (envelopes : List Envelope) (imported : Imported) where
   heard_by_import c heard = heard_in_order c heard (take (length imported.answers.items) envelopes)
 
   -- the answers are those of the first envelopes, each after the ones before it
-  abbrev pub AnswersFirst : Settings → List Envelope → Type 0
-  AnswersFirst c heard = AreAnswers c heard (take (length imported.answers.items) envelopes) imported.answers.items
+  abbrev pub AnswersImported : Settings → List Envelope → Type 0
+  AnswersImported c heard = AreAnswers c heard (take (length imported.answers.items) envelopes) imported.answers.items
 
 module _ {K : Type 0} (m : Meaning K) (old new : K) (envelopes : List Envelope) (imported : Imported) where
   -- If the store represented a log, it represents the log after the envelopes that have an answer.
-  abbrev pub HearsFirst : Type 0
-  HearsFirst = HearsWith m old new imported.stopped (λ c heard. heard_by_import envelopes imported c heard)
+  abbrev pub HearsImported : Type 0
+  HearsImported = HearsWith m old new imported.stopped (λ c heard. heard_by_import envelopes imported c heard)
       (λ c. doubt_at_stop envelopes imported.answers.items imported.stopped)
 
   -- if it stopped with `Size`, the log by then has as many messages as it may have, or the store's medium named its own size in the last

@@ -7,9 +7,9 @@ abbrev pub HasRead : {R : Type 0} → (R → Option (List ℕ)) → R → R → 
 HasRead remaining old new octets = Consumes (remaining old) (remaining new) octets
 
 -- exactly these octets were written
-abbrev pub HasWritten : {W : Type 0} → (W → Option (List ℕ)) → W → W → List ℕ → Type 0
-HasWritten contents old new octets = Appends (contents old) (contents new) octets
+abbrev pub HasAppended : {W : Type 0} → (W → Option (List ℕ)) → W → W → List ℕ → Type 0
+HasAppended contents old new octets = Appends (contents old) (contents new) octets
 
 -- some first octets of these were written
-abbrev pub HasWrittenPart : {W : Type 0} → (W → Option (List ℕ)) → W → W → List ℕ → Type 0
-HasWrittenPart contents old new octets = (count : ℕ) × HasWritten contents old new (take count octets)
+abbrev pub HasAppendedPart : {W : Type 0} → (W → Option (List ℕ)) → W → W → List ℕ → Type 0
+HasAppendedPart contents old new octets = (count : ℕ) × HasAppended contents old new (take count octets)

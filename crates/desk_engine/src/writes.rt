@@ -1,7 +1,7 @@
 //! Writes of a whole text.
 ghost use Rattle.std.specs.Prelude.{◌++◌, ◌∷◌, [], OnErr, OnOk};
 ghost use Rattle.desk_engine.specs.Lines.{line_feed};
-ghost use Rattle.desk_engine.specs.Streams.{HasWritten, HasWrittenPart};
+ghost use Rattle.desk_engine.specs.Streams.{HasAppended, HasAppendedPart};
 
 use std::io;
 use std::io::{ErrorKind, Write};
@@ -12,7 +12,7 @@ use std::io::{ErrorKind, Write};
 ///
 /// Returns the error of a write or of the flush. How much was written isn't known then.
 pub fn write_whole<W: Write>(writer: &mut W, text: &[u8]) -> io::Result<()>
-    ensures { OnOk result (HasWritten W.contents writer.old writer.new text.now) }
+    ensures { OnOk result (HasAppended W.contents writer.old writer.new text.now) }
 {
     writer.write_all(text)?;
     writer.flush()
@@ -20,7 +20,7 @@ pub fn write_whole<W: Write>(writer: &mut W, text: &[u8]) -> io::Result<()>
 
 /// Writes a line and then its LF.
 pub(crate) fn write_with_line_feed<W: Write>(writer: &mut W, line: &[u8]) -> io::Result<()>
-    ensures { OnOk result (HasWritten W.contents writer.old writer.new (line.now ++ line_feed ∷ [])) }
+    ensures { OnOk result (HasAppended W.contents writer.old writer.new (line.now ++ line_feed ∷ [])) }
 {
     writer.write_all(line)?;
     writer.write_all(b"\n")
@@ -33,8 +33,8 @@ pub(crate) fn write_with_line_feed<W: Write>(writer: &mut W, line: &[u8]) -> io:
 /// Returns the error of a write that failed, and fails after 2^64 - 1 writes. It has written some of the octets, from the first on, or
 /// none.
 pub fn write_octets<W: Write>(writer: &mut W, octets: &[u8]) -> io::Result<()>
-    ensures whole { OnOk result (HasWritten W.contents writer.old writer.new octets.now) }
-    ensures part { OnErr result (HasWrittenPart W.contents writer.old writer.new octets.now) }
+    ensures whole { OnOk result (HasAppended W.contents writer.old writer.new octets.now) }
+    ensures part { OnErr result (HasAppendedPart W.contents writer.old writer.new octets.now) }
 {
     let mut rest = octets;
     for _ in 0..u64::MAX {

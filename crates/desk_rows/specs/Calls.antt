@@ -54,8 +54,8 @@ abbrev pub Returns : {S X : Type 0} → Ghosts S → Held S → Held S → Resul
 Returns g old new result found = Reads g old new result (λ r x. x ≡ found r)
 
 -- the same, where it returns the list `listed r` for the rows `r`
-abbrev pub Lists : {S X : Type 0} → Ghosts S → Held S → Held S → Result (Vec X Global) RowFault → (Rows → List X) → Type 0
-Lists g old new result listed = Reads g old new result (λ r all. all.items ≡ listed r)
+abbrev pub ReturnsList : {S X : Type 0} → Ghosts S → Held S → Held S → Result (Vec X Global) RowFault → (Rows → List X) → Type 0
+ReturnsList g old new result listed = Reads g old new result (λ r all. all.items ≡ listed r)
 
 -- a look-up over the tables of schema 1, which have no limits
 abbrev pub ReadsFirst : {S X : Type 0} → Ghosts S → Held S → Held S → Result X RowFault → (Rows → X → Type 0) → Type 0

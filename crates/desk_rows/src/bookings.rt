@@ -8,7 +8,7 @@ ghost use Rattle.desk_rows.specs.steps.Shown.{booking_shown};
 ghost use Rattle.desk_rows.specs.steps.Texts.{AsksFor, answer_asked, bookings_between_asked};
 ghost use Rattle.desk_rows.specs.Rows.{last_number};
 ghost use Rattle.desk_rows.specs.order.Listed.{bookings_listed};
-ghost use Rattle.desk_rows.specs.Calls.{Changes, Lists, ReadsFirst, Returns};
+ghost use Rattle.desk_rows.specs.Calls.{Changes, ReadsFirst, Returns, ReturnsList};
 ghost use Rattle.desk_rows.specs.Written.{booking_added, booking_ended};
 ghost use Rattle.desk_rows.specs.Found.{booking_found, has_answer};
 
@@ -108,7 +108,7 @@ pub fn bookings_between<S: Alter>(
     from: i64,
     to: i64,
 ) -> Result<Vec<u64>, RowFault>
-    ensures { Lists S.Store conn.old conn.new result (bookings_listed gateway.now from to) }
+    ensures { ReturnsList S.Store conn.old conn.new result (bookings_listed gateway.now from to) }
 {
     find_all(
         alloc,

@@ -1,6 +1,6 @@
 //! The table of devices.
 ghost use Rattle.std.specs.Prelude.{◌≡◌, [], ◌∷◌, ℕ, Option, codes, None, Some, IfOk, IfSome, IsTrue};
-ghost use Rattle.desk_rows.specs.Calls.{Changes, Lists, Returns};
+ghost use Rattle.desk_rows.specs.Calls.{Changes, Returns, ReturnsList};
 ghost use Rattle.sqlite_value.specs.declared.value.Value.TheVariants.{Text};
 ghost use Rattle.registry_core.specs.declared.facts.Device.{Device};
 ghost use Rattle.registry_core.specs.Ranges.{IsEui, IsName};
@@ -195,7 +195,7 @@ fn device_euis_text() -> &'static str
 
 /// Returns the DevEUIs of all devices, in order.
 pub fn device_euis<S: Alter>(alloc: Global, conn: &mut Connection<S>) -> Result<Vec<Eui>, RowFault>
-    ensures { Lists S.Store conn.old conn.new result (λ r. devices_listed r.devices) }
+    ensures { ReturnsList S.Store conn.old conn.new result (λ r. devices_listed r.devices) }
 {
     find_all(alloc, conn, device_euis_text(), &[])
 }

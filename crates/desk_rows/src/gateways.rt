@@ -1,6 +1,6 @@
 //! The table of gateways.
 ghost use Rattle.std.specs.Prelude.{◌≡◌, [], ◌∷◌, codes};
-ghost use Rattle.desk_rows.specs.Calls.{Changes, Lists, Returns};
+ghost use Rattle.desk_rows.specs.Calls.{Changes, Returns, ReturnsList};
 ghost use Rattle.desk_rows.specs.Rows.{last_number};
 ghost use Rattle.desk_rows.specs.order.Listed.{names_listed};
 ghost use Rattle.desk_rows.specs.steps.Texts.{AsksFor, all_asked};
@@ -50,7 +50,7 @@ pub fn gateway_names<S: Alter>(
     alloc: Global,
     conn: &mut Connection<S>,
 ) -> Result<Vec<Name>, RowFault>
-    ensures { Lists S.Store conn.old conn.new result (λ r. names_listed r.gateways) }
+    ensures { ReturnsList S.Store conn.old conn.new result (λ r. names_listed r.gateways) }
 {
     find_all(alloc, conn, gateway_names_text(), &[])
 }

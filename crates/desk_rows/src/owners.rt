@@ -1,6 +1,6 @@
 //! The table of owners.
 ghost use Rattle.std.specs.Prelude.{◌≡◌, [], ◌∷◌, codes};
-ghost use Rattle.desk_rows.specs.Calls.{Changes, Lists, Returns};
+ghost use Rattle.desk_rows.specs.Calls.{Changes, Returns, ReturnsList};
 ghost use Rattle.desk_rows.specs.Rows.{last_number};
 ghost use Rattle.desk_rows.specs.order.Listed.{names_listed};
 ghost use Rattle.desk_rows.specs.steps.Texts.{AsksFor, all_asked};
@@ -47,7 +47,7 @@ fn owner_names_text() -> &'static str
 
 /// Returns the names of all owners, ordered by their octets.
 pub fn owner_names<S: Alter>(alloc: Global, conn: &mut Connection<S>) -> Result<Vec<Name>, RowFault>
-    ensures { Lists S.Store conn.old conn.new result (λ r. names_listed r.owners) }
+    ensures { ReturnsList S.Store conn.old conn.new result (λ r. names_listed r.owners) }
 {
     find_all(alloc, conn, owner_names_text(), &[])
 }

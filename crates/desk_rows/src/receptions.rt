@@ -1,6 +1,6 @@
 //! The table of receptions of uplinks.
 ghost use Rattle.std.specs.Prelude.{◌≡◌, ◌<◌, ◌^◌, [], ◌∷◌, codes};
-ghost use Rattle.desk_rows.specs.Calls.{Changes, Lists, Returns};
+ghost use Rattle.desk_rows.specs.Calls.{Changes, Returns, ReturnsList};
 ghost use Rattle.registry_core.specs.declared.facts.Reception.{Reception};
 ghost use Rattle.registry_core.specs.JsonIntegers.{IsJsonInteger};
 ghost use Rattle.desk_rows.specs.order.Listed.{gateways_listed};
@@ -70,7 +70,7 @@ pub fn gateways_of<S: Alter>(
     conn: &mut Connection<S>,
     uplink: JsonInteger,
 ) -> Result<Vec<Name>, RowFault>
-    ensures { Lists S.Store conn.old conn.new result (λ r. gateways_listed uplink r.receptions) }
+    ensures { ReturnsList S.Store conn.old conn.new result (λ r. gateways_listed uplink r.receptions) }
 {
     find_all(alloc, conn, gateways_text(), &[json_integer(uplink)])
 }

@@ -1,6 +1,6 @@
 //! The table of senders.
 ghost use Rattle.std.specs.Prelude.{◌≡◌, [], ◌∷◌, codes};
-ghost use Rattle.desk_rows.specs.Calls.{Changes, Lists, Returns};
+ghost use Rattle.desk_rows.specs.Calls.{Changes, Returns, ReturnsList};
 ghost use Rattle.desk_rows.specs.Rows.{last_number, number, role_number};
 ghost use Rattle.desk_rows.specs.order.Listed.{senders_listed};
 ghost use Rattle.desk_rows.specs.steps.Texts.{AsksFor, all_asked, role_asked};
@@ -71,7 +71,7 @@ pub fn sender_names<S: Alter>(
     alloc: Global,
     conn: &mut Connection<S>,
 ) -> Result<Vec<Name>, RowFault>
-    ensures { Lists S.Store conn.old conn.new result (λ r. senders_listed r.senders) }
+    ensures { ReturnsList S.Store conn.old conn.new result (λ r. senders_listed r.senders) }
 {
     find_all(alloc, conn, sender_names_text(), &[])
 }

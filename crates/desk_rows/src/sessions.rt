@@ -1,6 +1,6 @@
 //! The table of sessions.
 ghost use Rattle.std.specs.Prelude.{◌≡◌, ℕ, ◌<◌, ◌^◌, [], ◌∷◌, codes};
-ghost use Rattle.desk_rows.specs.Calls.{Changes, Lists, ReadsFirst, Returns};
+ghost use Rattle.desk_rows.specs.Calls.{Changes, ReadsFirst, Returns, ReturnsList};
 ghost use Rattle.registry_core.specs.declared.facts.Session.{Session};
 ghost use Rattle.registry_core.specs.Listing.{sessions_of};
 ghost use Rattle.registry_core.specs.Ranges.{IsEui};
@@ -137,7 +137,7 @@ pub fn sessions_of<S: Alter>(
     conn: &mut Connection<S>,
     device: Eui,
 ) -> Result<Vec<u64>, RowFault>
-    ensures { Lists S.Store conn.old conn.new result (λ r. sessions_of (sessions_in r.sessions) device) }
+    ensures { ReturnsList S.Store conn.old conn.new result (λ r. sessions_of (sessions_in r.sessions) device) }
 {
     let octets = octets_of(device);
     find_all(alloc, conn, sessions_text(), &[blob(&octets)])

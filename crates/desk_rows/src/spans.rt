@@ -3,7 +3,7 @@ ghost use Rattle.std.specs.Prelude.{◌<◌, ◌^◌, [], ◌∷◌, codes, pos}
 ghost use Rattle.duty_core.specs.Range.{IsStart};
 ghost use Rattle.duty_core.specs.Use.{Interval};
 ghost use Rattle.registry_core.specs.declared.views.NearBooking.{NearBooking};
-ghost use Rattle.desk_rows.specs.Calls.{Lists};
+ghost use Rattle.desk_rows.specs.Calls.{ReturnsList};
 ghost use Rattle.desk_rows.specs.steps.Shown.{near_booking_shown, span_shown};
 ghost use Rattle.desk_rows.specs.steps.Texts.{AsksFor, bookings_asked, near_asked};
 ghost use Rattle.desk_rows.specs.Found.{booking_spans, near_found, uplink_spans};
@@ -64,7 +64,7 @@ pub fn bookings_of<S: Alter>(
     gateway: &Name,
     of: Band,
 ) -> Result<Vec<Span>, RowFault>
-    ensures { Lists S.Store conn.old conn.new result (booking_spans gateway.now of) }
+    ensures { ReturnsList S.Store conn.old conn.new result (booking_spans gateway.now of) }
 {
     find_all(alloc, conn, bookings_text(), &[text(gateway), band(of)])
 }
@@ -85,7 +85,7 @@ pub fn near<S: Alter>(
     gateway: &Name,
     start: u64,
 ) -> Result<Vec<NearBooking>, RowFault>
-    ensures { Lists S.Store conn.old conn.new result (near_found gateway.now (pos start)) }
+    ensures { ReturnsList S.Store conn.old conn.new result (near_found gateway.now (pos start)) }
 {
     let range = near_range(i128::from(start));
     find_all(
@@ -106,7 +106,7 @@ pub fn uplinks_of<S: Alter>(
     from: i64,
     to: i64,
 ) -> Result<Vec<Span>, RowFault>
-    ensures { Lists S.Store conn.old conn.new result (uplink_spans device of from to) }
+    ensures { ReturnsList S.Store conn.old conn.new result (uplink_spans device of from to) }
 {
     let eui = octets_of(device);
     find_all(

@@ -1,6 +1,6 @@
 //! The table of uplinks.
 ghost use Rattle.std.specs.Prelude.{◌≡◌, ◌<◌, ◌^◌, [], ◌∷◌, ℕ, codes};
-ghost use Rattle.desk_rows.specs.Calls.{Changes, Lists, ReadsFirst, Returns};
+ghost use Rattle.desk_rows.specs.Calls.{Changes, ReadsFirst, Returns, ReturnsList};
 ghost use Rattle.registry_core.specs.declared.facts.Uplink.{Uplink};
 ghost use Rattle.registry_core.specs.Derived.{last_counter};
 ghost use Rattle.registry_core.specs.Listing.{last_start};
@@ -158,7 +158,7 @@ pub fn uplinks_between<S: Alter>(
     from: i64,
     to: i64,
 ) -> Result<Vec<u64>, RowFault>
-    ensures { Lists S.Store conn.old conn.new result (uplinks_listed device from to) }
+    ensures { ReturnsList S.Store conn.old conn.new result (uplinks_listed device from to) }
 {
     let eui = octets_of(device);
     find_all(

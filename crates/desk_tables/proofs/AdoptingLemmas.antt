@@ -14,7 +14,7 @@ use Rattle.desk_rows.specs.Rows.{BookingRow, SessionRow}
 use Rattle.desk_rows.specs.Schema.{desk_schema}
 use Rattle.desk_tables.specs.InOrder.{IsOfDesk, entry_in}
 use Rattle.desk_tables.specs.Seen.{IsSeen, nothing}
-use Rattle.desk_tables.specs.Store.{IsAtRest, IsSettled, Stands}
+use Rattle.desk_tables.specs.Store.{IsSettled, IsSettledOver, Stands}
 use Rattle.desk_tables.specs.declared.tables.Tables.{Tables}
 use Rattle.desk_tables.specs.steps.Adopting.{IsAdopted, IsNotAdopted, IsStoreOver}
 use Rattle.desk_tables.specs.steps.Calls.{IsReady}
@@ -53,7 +53,7 @@ settled_read old new read idle unlimited clean ready =
     }
 
 -- a settled connection with the desk's schema is at rest
-pub at_rest : (s : State) → IsSettled s → s.now.schema ≡ desk_schema → IsAtRest s s.now
+pub at_rest : (s : State) → IsSettled s → s.now.schema ≡ desk_schema → IsSettledOver s s.now
 at_rest s settled schema = record { settled = settled; stored = refl; schema = schema }
 
 -- a store over settled tables of a desk, with their rows counted

@@ -19,7 +19,7 @@ use Rattle.desk_rows.specs.Rows.{Holds, Rows}
 use Rattle.desk_rows.specs.Schema.{desk_schema}
 use Rattle.desk_tables.specs.InOrder.{IsOfDesk}
 use Rattle.desk_tables.specs.Seen.{AreSeen, IsSeen}
-use Rattle.desk_tables.specs.Store.{IsAtRest, IsSettled, Leaves, Stands, meaning_of}
+use Rattle.desk_tables.specs.Store.{IsSettled, IsSettledOver, Leaves, Stands, meaning_of}
 use Rattle.desk_tables.specs.declared.seen.Seen.{Seen}
 use Rattle.desk_tables.specs.declared.tables.Tables.{Tables}
 use Rattle.desk_tables.specs.steps.Calls.{Asks}
@@ -70,7 +70,7 @@ failed_before old mid new fault told was read survives left checked clean not_di
     }
 
 -- a connection at rest has the desk's schema
-pub has_schema : (s : State) (db : Database) → IsAtRest s db → s.now.schema ≡ desk_schema
+pub has_schema : (s : State) (db : Database) → IsSettledOver s db → s.now.schema ≡ desk_schema
 has_schema s db it = ap (λ (d : Database). d.schema) it.stored ∙ it.schema
 
 -- what was settled, or at rest, still is
@@ -82,7 +82,7 @@ settled_on old new same it = record {
   unlimited = same.limit ∙ it.unlimited;
 }
 
-rests_on : (old new : State) (db : Database) → IsAsBefore old new → IsAtRest old db → IsAtRest new db
+rests_on : (old new : State) (db : Database) → IsAsBefore old new → IsSettledOver old db → IsSettledOver new db
 rests_on old new db same it = record { settled = settled_on old new same it.settled; stored = same.now_is ∙ it.stored; schema = it.schema }
 
 -- ---- a store after a look-up

@@ -24,7 +24,7 @@ use Rattle.desk_rows.specs.order.Changes.{RowsFollowFacts, rows_with}
 use Rattle.desk_rows.specs.order.Keys.{ChangedRowsAreThere, KeysAreFree}
 use Rattle.desk_tables.specs.InOrder.{IsOfDesk}
 use Rattle.desk_tables.specs.Seen.{AreSeen, seen_after}
-use Rattle.desk_tables.specs.Store.{HoldsKept, IsAtRest, IsSettled, Leaves, Stands, meaning_of, own_law}
+use Rattle.desk_tables.specs.Store.{HoldsKept, IsSettled, IsSettledOver, Leaves, Stands, meaning_of, own_law}
 use Rattle.desk_tables.specs.declared.effects.input.Known.{Known}
 use Rattle.desk_tables.specs.declared.tables.Tables.{Tables}
 use Rattle.desk_tables.specs.steps.Calls.{Commits, IsReady}
@@ -72,7 +72,7 @@ module _ {S : Type 0} (g : Ghosts S) (old : Tables S) (e : Envelope) (message : 
   ready : (kept : Kept) → Stands g old kept → IsReady (state g old.conn)
   ready kept it = record { is_open = it.settled.open_still; schema = it.desk.in_order.held.ten.schema; committed = it.settled.committed }
 
-  ready_at_rest : (db : Database) → IsAtRest (state g old.conn) db → IsReady (state g old.conn)
+  ready_at_rest : (db : Database) → IsSettledOver (state g old.conn) db → IsReady (state g old.conn)
   ready_at_rest db it = record { is_open = it.settled.open_still; schema = has_schema (state g old.conn) db it; committed = it.settled.committed }
 
   there : (kept : Kept) (it : Stands g old kept) → Fits effect kept.facts → IsThereAndKnown effect known it.desk.in_order.rows
@@ -126,7 +126,7 @@ module _ {S : Type 0} (g : Ghosts S) (old : Tables S) (e : Envelope) (message : 
           seen = seen_with effect (reply_row e message answer) r old.seen (state g mid).now (it.seen r it.desk.in_order.held) made;
         }
 
-    rests_after : (db : Database) → HasCleanDisk (state g mid) → IsAtRest (state g old.conn) db → IsAtRest (state g mid) (state g mid).now
+    rests_after : (db : Database) → HasCleanDisk (state g mid) → IsSettledOver (state g old.conn) db → IsSettledOver (state g mid) (state g mid).now
     rests_after db clean it =
         let was = ready_at_rest db it in
         let new = commits.ready clean was in
@@ -186,7 +186,7 @@ module _ {S : Type 0} (g : Ghosts S) (old : Tables S) (e : Envelope) (message : 
           on.0 ∙ back.0,
         )
 
-    rests_still : (db : Database) → HasCleanDisk (state g new) → IsAtRest (state g old.conn) db → is_disk (Some told) ≡ false → IsAtRest (state g new) db
+    rests_still : (db : Database) → HasCleanDisk (state g new) → IsSettledOver (state g old.conn) db → is_disk (Some told) ≡ false → IsSettledOver (state g new) db
     rests_still db clean it not_disk =
         let on = still_settled clean (ready_at_rest db it) it.settled.unlimited not_disk in
         record { settled = on.0; stored = on.1 ∙ it.stored; schema = it.schema }

@@ -40,5 +40,5 @@ module _ {S : Type 0} (g : Ghosts S) (conn : Held S) where
   IfNameTaken Then = HasMeta conn.schema → (c : Settings) → TellsMeta (state g conn).now.trees (pos first_version) c → IsLimitTaken conn.schema → Then
 
   -- the connection that is given back is as it was, if it is open and its disk is clean
-  abbrev pub IsUndone : StoreFault × Held S → Type 0
-  IsUndone back = HasCleanDisk (state g back.1) → IsTrue (state g back.1).is_open → KeepsAll (state g conn) (state g back.1)
+  abbrev pub IsUnmigrated : StoreFault × Held S → Type 0
+  IsUnmigrated back = HasCleanDisk (state g back.1) → IsTrue (state g back.1).is_open → KeepsAll (state g conn) (state g back.1)

@@ -27,7 +27,7 @@ pub record IsSettled (s : State) : Type 0 where
   pub unlimited : s.step_limit ≡ None
 
 -- a connection between two calls whose database is this, with the desk's schema, whatever rows the tables have
-pub record IsAtRest (s : State) (db : Database) : Type 0 where
+pub record IsSettledOver (s : State) (db : Database) : Type 0 where
   pub settled : IsSettled s
   pub stored : s.now ≡ db
   pub schema : db.schema ≡ desk_schema
@@ -55,7 +55,7 @@ module _ {S : Type 0} (g : Ghosts S) (k : Tables S) where
 
   -- its connection is at rest over this database; of a failed store this states nothing
   abbrev pub Rests : Database → Type 0
-  Rests db = k.failed ≡ false → IsAtRest (state g k.conn) db
+  Rests db = k.failed ≡ false → IsSettledOver (state g k.conn) db
 
 -- what a store over the tables means
 abbrev pub meaning_of : {S : Type 0} → Ghosts S → Meaning (Tables S)

@@ -9,7 +9,7 @@ ghost use Rattle.desk_rows.specs.Meta.{TellsMeta};
 ghost use Rattle.desk_rows.specs.Schema.{first_schema, first_version};
 ghost use Rattle.desk_tables.specs.Adopting.{GivesBack, IsOrUnavailable, IsStoreAt, IsStoreOf, IsUnavailable, OnlyIf};
 ghost use Rattle.desk_tables.specs.InOrder.{AreOfDesk};
-ghost use Rattle.desk_tables.specs.Migrating.{ForFirstDesk, HasTakenName, IfNameTaken, IsNoFirstDesk, IsUndone};
+ghost use Rattle.desk_tables.specs.Migrating.{ForFirstDesk, HasTakenName, IfNameTaken, IsNoFirstDesk, IsUnmigrated};
 ghost use Rattle.desk_tables.specs.Store.{meaning_of};
 ghost use Rattle.desk_tables.specs.steps.Migrating.{MakesSecond, Moves};
 ghost use Rattle.desk_rows.specs.Calls.{CommitsNothing, WhenClean};
@@ -106,7 +106,7 @@ impl<S: Alter> Tables<S> {
         ensures exists { IfErr result (OnlyIf S.Store Exists (HasTakenName S.Store conn)) }
         ensures taken { IfNameTaken S.Store conn (IfErr result (IsOrUnavailable S.Store Exists)) }
         ensures clean { IfOk result (λ t. (meaning_of S.Store).sound t → HasCleanDisk (state S.Store conn)) }
-        ensures undone { IfErr result (IsUndone S.Store conn) }
+        ensures undone { IfErr result (IsUnmigrated S.Store conn) }
         ensures given_back { ForFirstDesk S.Store conn (λ c kept. IfErr result (GivesBack S.Store conn (AreOfDesk c kept))) }
         ensures refused { IfErr result (λ back. back.0 ≡ NotADesk → GivesBack S.Store conn (λ _. ⊥) back) }
         ensures untouched { HasNoDesk S.Store conn first_schema first_version → IfErr result (GivesBack S.Store conn (λ _. ⊥)) }

@@ -3,7 +3,7 @@ ghost use Rattle.std.specs.Prelude.{◌≡◌, IfOk};
 ghost use Rattle.std.specs.String.{string_bytes};
 ghost use Rattle.clap.specs.Matches.{found_of};
 ghost use Rattle.clap.specs.Walk.{rows_of};
-ghost use Rattle.desk_cli.specs.Faults.{Ends, EndsWith};
+ghost use Rattle.desk_cli.specs.Faults.{Ends, EndsGiving};
 ghost use Rattle.desk_cli.specs.Named.{TellsNamed};
 ghost use Rattle.desk_cli.specs.commands.Auditing.{audit_app, audit_named, audit_text, AuditsOver};
 ghost use Rattle.desk_cli.specs.steps.Auditing.{PrintsFinding, finding_of, store_of};
@@ -67,7 +67,7 @@ pub fn audit_command<S: Alter + Drop, W: Write, F: Write, P: Progress>(
     progress: &P,
 ) -> (Ending, Option<Connection<S>>)
     requires at_rest { IsAtRest conn }
-    ensures { EndsWith F.Write faults.old faults.new result
+    ensures { EndsGiving F.Write faults.old faults.new result
         (AuditsOver S.Store conn W.Write answers.old answers.new (Unit {0})) }
 {
     let (done, conn) = print_audit(alloc, conn, answers, progress);

@@ -12,7 +12,7 @@ ghost use Rattle.desk_cli.specs.steps.CommandLine.{IsCommand};
 ghost use Rattle.desk_cli.specs.commands.Checking.{IsCheck, check_app, check_named, check_text, named_lines, numbered_lines, settings_lines};
 ghost use Rattle.desk_cli.specs.steps.Checking.{IsCheckOf, TellsTotals};
 ghost use Rattle.desk_cli.specs.AtRest.{IsAtRest};
-ghost use Rattle.desk_cli.specs.Faults.{EndsWith};
+ghost use Rattle.desk_cli.specs.Faults.{EndsGiving};
 
 use super::Command;
 use crate::endings::Ending;
@@ -63,7 +63,7 @@ pub fn check_command<S: Alter, W: Write, F: Write>(
     faults: &mut F,
 ) -> (Ending, Connection<S>)
     requires at_rest { IsAtRest conn }
-    ensures { EndsWith F.Write faults.old faults.new result
+    ensures { EndsGiving F.Write faults.old faults.new result
         (PrintsOver S.Store IsCheck conn W.Write answers.old answers.new) }
 {
     let (done, conn) = print_check(alloc, conn, answers);

@@ -14,7 +14,7 @@ ghost use Rattle.desk_cli.specs.OnTables.{KeepsHeard};
 ghost use Rattle.desk_cli.specs.steps.Jobs.{answers};
 ghost use Rattle.desk_cli.specs.AtRest.{IsAtRest};
 ghost use Rattle.desk_cli.specs.Streams.{KeepsBoth, streams};
-ghost use Rattle.desk_cli.specs.Faults.{EndsWith};
+ghost use Rattle.desk_cli.specs.Faults.{EndsGiving};
 
 use super::Command;
 use crate::answering::answer_lines;
@@ -65,7 +65,7 @@ pub fn hear_command<S: Alter, R: Read, W: Write, F: Write>(
     faults: &mut F,
 ) -> (Ending, Connection<S>)
     requires at_rest { IsAtRest conn }
-    ensures { EndsWith F.Write faults.old faults.new result
+    ensures { EndsGiving F.Write faults.old faults.new result
         (HearsOver S.Store conn (streams R.Read reader.old reader.new W.Write answers.old answers.new)) }
 {
     let (done, conn) = hear_lines(alloc, conn, reader, answers);

@@ -14,7 +14,7 @@ ghost use Rattle.desk_cli.specs.OnTables.{KeepsHeard};
 ghost use Rattle.desk_cli.specs.steps.Jobs.{imports};
 ghost use Rattle.desk_cli.specs.AtRest.{IsAtRest};
 ghost use Rattle.desk_cli.specs.Streams.{KeepsBoth, streams};
-ghost use Rattle.desk_cli.specs.Faults.{EndsWith};
+ghost use Rattle.desk_cli.specs.Faults.{EndsGiving};
 
 use super::Command;
 use crate::endings::Ending;
@@ -74,7 +74,7 @@ pub fn import_command<S: Alter, R: Read, W: Write, F: Write, P: Progress>(
     progress: &P,
 ) -> (Ending, Connection<S>)
     requires at_rest { IsAtRest conn }
-    ensures { EndsWith F.Write faults.old faults.new result
+    ensures { EndsGiving F.Write faults.old faults.new result
         (ImportsOver S.Store conn sender.now (streams R.Read reader.old reader.new W.Write answers.old answers.new)) }
 {
     let (done, conn) = hear_report(alloc, conn, sender, reader, answers, progress);

@@ -15,7 +15,7 @@ ghost use Rattle.desk_cli.specs.commands.Log.{log_app, log_named, which_text, Lo
 ghost use Rattle.desk_cli.specs.steps.CommandLine.{IsCommand};
 ghost use Rattle.desk_cli.specs.steps.Jobs.{logs};
 ghost use Rattle.desk_cli.specs.AtRest.{IsAtRest};
-ghost use Rattle.desk_cli.specs.Faults.{EndsWith};
+ghost use Rattle.desk_cli.specs.Faults.{EndsGiving};
 
 use super::Command;
 use crate::endings::Ending;
@@ -103,7 +103,7 @@ pub fn log_command<S: Alter, W: Write, F: Write>(
     faults: &mut F,
 ) -> (Ending, Connection<S>)
     requires at_rest { IsAtRest conn }
-    ensures { EndsWith F.Write faults.old faults.new result
+    ensures { EndsGiving F.Write faults.old faults.new result
         (LogsOver S.Store which from count conn W.Write answers.old answers.new) }
 {
     let (done, conn) = print_log(alloc, conn, from, count, which, answers);

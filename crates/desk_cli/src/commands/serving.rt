@@ -17,7 +17,7 @@ ghost use Rattle.desk_cli.specs.OnTables.{KeepsHeard};
 ghost use Rattle.desk_cli.specs.Ports.{at_ports};
 ghost use Rattle.desk_cli.specs.commands.Serving.{listening_line, serve_app, serve_named, ServesOver, ServesDesk};
 ghost use Rattle.desk_cli.specs.AtRest.{IsAtRest};
-ghost use Rattle.desk_cli.specs.Faults.{EndsWith};
+ghost use Rattle.desk_cli.specs.Faults.{EndsGiving};
 
 use super::Command;
 use crate::endings::Ending;
@@ -98,7 +98,7 @@ pub fn serve_command<S: Alter, B: Network, W: Write, F: Write>(
     faults: &mut F,
 ) -> (Ending, Connection<S>)
     requires at_rest { IsAtRest conn }
-    ensures { EndsWith F.Write faults.old faults.new result (ServesOver S.Store
+    ensures { EndsGiving F.Write faults.old faults.new result (ServesOver S.Store
         (⟦<B as Known>⟧.at network.now log)
         port connections conn W.Write answers.old answers.new) }
 {

@@ -21,6 +21,6 @@ abbrev pub log_lines : LogText → ℕ → ℕ → List Entry → List (List ℕ
 log_lines which from most entries = map (entry_text which) (numbered_from from most entries)
 
 -- the first `count` lines are written
-pub record HasWritten (lines : List (List ℕ)) (before after : Option (List ℕ)) (count : ℕ) : Type 0 where
+pub record HasWrittenLines (lines : List (List ℕ)) (before after : Option (List ℕ)) (count : ℕ) : Type 0 where
   pub count_is : length (take count lines) ≡ count
   pub written : Appends before after (input_of (take count lines) [])

@@ -4,7 +4,7 @@ use Rattle.sqlite.specs.Held.{state}
 use Rattle.sqlite.specs.State.{HasCleanDisk}
 use Rattle.desk_store.specs.Calls.{IsUnavailability}
 use Rattle.desk_rows.specs.Rows.{Holds}
-use Rattle.desk_tables.specs.Store.{IsAtRest}
+use Rattle.desk_tables.specs.Store.{IsSettledOver}
 use Rattle.desk_tables.proofs.AdoptingLemmas.{if_adopted, if_not_adopted, ready_again}
 use Rattle.desk_tables.proofs.tables.Tables.open.Goals as goal
 
@@ -40,4 +40,4 @@ returns-in-Ok-clause-rests g c = if_adopted _ _ _ _ _ c.adopt.ensures (λ t is s
     let early : HasCleanDisk (state g.S.Store c.open_desk.new.conn) = omega (arith, is.clean, sound) in
     let same = c.in-Ok.ensures.same early in
     let ready = ready_again _ _ same (c.in-Ok.ensures.desk early).0 (c.open_desk.ensures.settled early same.0.is_open) in
-    subst (IsAtRest (state g.S.Store t.conn)) same.0.now_is (is.rests sound ready up))
+    subst (IsSettledOver (state g.S.Store t.conn)) same.0.now_is (is.rests sound ready up))
