@@ -105,7 +105,7 @@ module _ {K : Type 0} (m : Meaning K) (in_order : CallsHearInOrder m) (reads : R
   request_hears old new (refused wanted) body response served = hears_none old new served.0
   request_hears old new (message count) body response (inl served) = hears_message old new body served.1 served.2
   request_hears old new (message count) body response (inr served) = hears_none old new served.1
-  request_hears old new (report wanted) body response served = hears_reads old new (store_fault_in served.answer) served.read
+  request_hears old new (report wanted) body response served = hears_reads old new (store_fault_in served.0) served.2.read
 
   end_hears : (old new : K) (serves : Response → Type 0) (closed : Type 0) (before after : Option (List ℕ)) (end : ServeEnd)
       → ((response : Response) → serves response → HearsDeliveries m old new)
@@ -153,7 +153,7 @@ module _ {K : Type 0} (m : Meaning K) (in_order : CallsHearInOrder m) (reads : R
           inl (served.0, served.1, served.2.told c _ was, refl, served.3)
       request_answers old new (message count) body response (inr served) was = inr (served.0, sym (nothing_more before undoubted), served.2)
       request_answers old new (report wanted) body response served was =
-          (served.answer, served.told c _ was, served.time, refl, served.response_is)
+          (served.0, served.2.told c _ was, served.2.time, refl, served.1)
 
       end_answers : (old new : K) (serves : Response → Type 0) (answers : Delivered → Response → Type 0) (closed : Type 0) (held holds : Option (List ℕ)) (end : ServeEnd)
           (hears : (response : Response) → serves response → HearsDeliveries m old new)

@@ -36,14 +36,16 @@ module _ {K : Type 0} (m : Meaning K) (old new : K) where
       ((length body ≡ count) × (outcome : Outcome) × IsDelivered body outcome × (response ≡ outcome_response outcome))
       ⊎ ((length body < count) × (new ≡ old) × (response ≡ cut_body))
 
-  -- A text was asked for once, and this is the response. The store is only read, and represents the same log.
-  pub record ServesReport (wanted : Report) (response : Response) : Type 0 where
-    pub answer : Result (List ℕ) ReportFault
-    pub response_is : response ≡ report_response (kind_of wanted) answer
+  -- A report was asked for once, with this answer. The store is only read, and represents the same log.
+  pub record MakesReport (wanted : Report) (answer : Result (List ℕ) ReportFault) : Type 0 where
     pub read : IsRead m old new (store_fault_in answer)
     pub time : RefusesTime wanted answer
     pub told : (c : Settings) (heard : List Envelope) → WasInOrder m c heard old new → IsAnswer c heard wanted answer
     pub order : (c : Settings) (heard : List Envelope) → WasInOrder m c heard old new → IsInOrder m c new heard
+
+  -- A report was asked for once, and this is the response to its answer.
+  abbrev pub ServesReport : Report → Response → Type 0
+  ServesReport wanted response = (answer : Result (List ℕ) ReportFault) × (response ≡ report_response (kind_of wanted) answer) × MakesReport wanted answer
 
   -- what was done for a request with this body, and the response
   abbrev pub ServesRequest : Request → List ℕ → Response → Type 0

@@ -2,5 +2,6 @@
 pub mod Answering
 pub mod Fields
 pub mod Heads
+pub mod Reports
 pub mod Requests
 pub mod Targets

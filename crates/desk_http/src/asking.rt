@@ -9,11 +9,11 @@ ghost use Rattle.desk_http.specs.steps.Requests.{request_of};
 ghost use Rattle.desk_http.specs.steps.Targets.{named_in_path, resource_of};
 
 use crate::fields::{BodyLength, body_length, has_origin, has_transfer_encoding};
+use crate::reports::Wanted;
 use crate::targets::{Route, method_of, names_of, path_of, route_of};
-use desk_engine::{ListOf, LogText, message_number};
+use desk_engine::{LogText, message_number};
 use httparse::spans::HeaderSpan;
 use matchit::InsertError;
-use registry_core::JsonInteger;
 use std::alloc::Global;
 
 /// What a request's head asks for, or why it is refused at once.
@@ -31,15 +31,8 @@ pub(crate) enum Asked {
     TooLong,
     /// The delivery of a body of this many octets.
     Deliver(u32),
-    OwnerReport,
-    BandReport,
-    Room,
-    /// The log from this message on.
-    Log(LogText, JsonInteger),
-    Listing(ListOf),
-    Device,
-    Receptions,
-    Downlinks,
+    /// A report.
+    Report(Wanted),
     /// The path has no message number where the log needs one.
     BadNumber,
 }
@@ -95,15 +88,15 @@ fn asked_by_route(route: Route, path: &str, octets: &[u8], headers: &[HeaderSpan
 {
     match route {
         Route::Messages => asked_of_messages(octets, headers),
-        Route::OwnerReport => Asked::OwnerReport,
-        Route::BandReport => Asked::BandReport,
-        Route::Room => Asked::Room,
+        Route::OwnerReport => Asked::Report(Wanted::OwnerReport),
+        Route::BandReport => Asked::Report(Wanted::BandReport),
+        Route::Room => Asked::Report(Wanted::Room),
         Route::Log => asked_of_log(LogText::Message, names_of(path)),
         Route::Answers => asked_of_log(LogText::Answer, names_of(path)),
-        Route::Listing(of) => Asked::Listing(of),
-        Route::Device => Asked::Device,
-        Route::Receptions => Asked::Receptions,
-        Route::Downlinks => Asked::Downlinks,
+        Route::Listing(of) => Asked::Report(Wanted::Listing(of)),
+        Route::Device => Asked::Report(Wanted::Device),
+        Route::Receptions => Asked::Report(Wanted::Receptions),
+        Route::Downlinks => Asked::Report(Wanted::Downlinks),
     }
 }
 
@@ -112,7 +105,7 @@ fn asked_of_log(which: LogText, from: &str) -> Asked
     ensures { (path : List ℕ) → request_of path result ≡ asked_by_number which (message_number from.now) }
 {
     match message_number(from) {
-        Some(from) => Asked::Log(which, from),
+        Some(from) => Asked::Report(Wanted::Log(which, from)),
         None => Asked::BadNumber,
     }
 }

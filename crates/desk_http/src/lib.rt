@@ -9,6 +9,7 @@ mod heads;
 pub mod laws;
 mod listening;
 mod network_faults;
+mod reports;
 mod responses;
 mod serving;
 mod targets;
