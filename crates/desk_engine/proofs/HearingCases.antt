@@ -32,7 +32,7 @@ use Rattle.desk_engine.specs.InOrder.{HasNoRoom, IsInOrder, Survives, entries_of
 use Rattle.desk_engine.specs.Outcomes.{IfRefused, IsOutcome, IsUnheardEnvelope, doubt_of, outcome_fault, is_unavailable}
 use Rattle.desk_engine.specs.steps.Hearing.{HearsNew, IsDecided, Repeats, Says}
 use Rattle.desk_engine.specs.Told.{AnswerText, RefusalText, Told, told_of_envelope, told_of_refusal, told_of_reply}
-use Rattle.desk_engine.proofs.KeptAfter.{length-kept_after}
+use Rattle.desk_engine.proofs.KeptAfter.{as_many_entries}
 use Rattle.desk_engine.proofs.Places.{cases_option, entry_of-entries_of, has_pair-pair_place, no_place, same_envelope, stands_for}
 use Rattle.desk_engine.proofs.Replies.{heard_with-new, reply-known, reply-stranger}
 
@@ -198,7 +198,7 @@ pub had_room : {X T : Type 0} (c : Settings) (heard : List Envelope) (r : Result
     → is_ok r ≡ true → length heard < most_heard
 had_room c heard r no_room answered = elim (cases_lt (length heard) most_heard) [
   | inl room ↦ room
-  | inr full ↦ let n = length-kept_after c heard in let k : true ≡ false = sym answered ∙ (no_room (omega arith)).0 in cc
+  | inr full ↦ let n = as_many_entries c heard in let k : true ≡ false = sym answered ∙ (no_room (omega arith)).0 in cc
 ]
 
 pub list_more : (c : Settings) (heard : List Envelope) (e : Envelope) → HeardListsStay → IsHeard c heard → length heard < most_heard → IsEnvelope e
@@ -231,11 +231,11 @@ pub survives_fault : {K : Type 0} (m : Meaning K) (c : Settings) (new : K) (hear
     → Survives m c new heard (doubt_of e (Unavailable fault))
 survives_fault m c new heard e Disk shut alone full list doubt = elim (cases_lt (length heard) most_heard) [
   | inl room ↦ inr (e, refl, record { is_failed = shut; list = list room; left = doubt refl })
-  | inr no_room ↦ let n = length-kept_after c heard in inl (full (omega arith))
+  | inr no_room ↦ let n = as_many_entries c heard in inl (full (omega arith))
 ]
 survives_fault m c new heard e fault shut alone full list doubt = inl (alone shut)
 
 -- a store without room for an entry has none for an envelope
 pub no_room : {K : Type 0} (m : Meaning K) (c : Settings) (new : K) (heard : List Envelope) → (most_heard ≤ length (kept_after c heard).entries) ⊎ m.out_of_space new → HasNoRoom m new heard
-no_room m c new heard (inl full) = let n = length-kept_after c heard in inl (omega arith)
+no_room m c new heard (inl full) = let n = as_many_entries c heard in inl (omega arith)
 no_room m c new heard (inr out_of_space) = inr out_of_space

@@ -29,9 +29,9 @@ length-answers_after c s [] = refl
 length-answers_after c s (h ∷ hs) = ap suc (length-answers_after c (step c s h).0 hs)
 
 -- a store has as many entries as messages were heard
-pub length-kept_after : (c : Settings) (heard : List Envelope) → length (kept_after c heard).entries ≡ length heard
+pub as_many_entries : (c : Settings) (heard : List Envelope) → length (kept_after c heard).entries ≡ length heard
 unfolding kept_after
-length-kept_after c heard = length-answers_after c (opening c) heard
+as_many_entries c heard = length-answers_after c (opening c) heard
 
 abbrev made : State → List Entry → Kept
 made facts entries = record { facts = facts; entries = entries }

@@ -30,11 +30,13 @@ pub fn deliveries_add_at_the_end()
 {}
 
 /// What a store represents after a log has as many entries as the log has messages.
+#[tactic(auto, using(crate::proofs::KeptAfter::as_many_entries))]
 pub fn as_many_entries_as_messages()
     ensures { AsManyEntriesAsMessages }
 {}
 
 /// New lists of a configuration represent the empty log.
+#[tactic(auto, using(crate::proofs::NewLists::was_made))]
 pub fn new_lists_are_in_order()
     ensures { NewListsAreInOrder }
 {}
