@@ -60,14 +60,20 @@ fn copy_rows<S: Alter>(
     Ok(())
 }
 
+/// The tables and indexes of schema 1 go into a database that has nothing.
+pub(super) fn make_first_tables<S: Alter>(conn: &mut Connection<S>) -> Result<(), Fail> {
+    for statement in &FIRST_SCHEMA {
+        conn.execute_batch(statement)?;
+    }
+    Ok(())
+}
+
 /// The tables of schema 1 go into a database that has nothing, with the rows of a desk that has heard the ten messages.
 pub(crate) fn make_first<R: Abort + AllocGlobal, S: Alter>(
     rt: &R,
     conn: &mut Connection<S>,
 ) -> Result<(), Fail> {
-    for statement in &FIRST_SCHEMA {
-        conn.execute_batch(statement)?;
-    }
+    make_first_tables(conn)?;
     let mut from = heard(rt, &deliveries(rt.alloc())?)?;
     copy_rows(rt.alloc(), &mut from, conn)?;
     conn.execute_batch("UPDATE meta SET version = 1")?;

@@ -3,6 +3,7 @@
 use super::data_frames::HEARD;
 use super::downlinks::{DEVICE_EUI, UP_1};
 use super::holding::holds;
+use super::migrating::make_first_tables;
 use super::rows::Exchange::Frames;
 use super::rows::Told::Framed;
 use super::rows::{Delivery, Exchange, Heard, delivery_of};
@@ -11,29 +12,9 @@ use sqlite::{Connection, MemStore, params};
 use std::alloc::Global;
 use std::test::Fail;
 
-/// The statement that makes the table of limits, which schema 1 lacks.
+/// The statement that makes the table of limits, letter for letter: files have it. Schema 2 is schema 1 and this.
 pub(crate) const LIMIT_TABLE: &str =
     "CREATE TABLE band_limit (gateway TEXT NOT NULL, band INTEGER NOT NULL, value INTEGER NOT NULL, PRIMARY KEY (gateway, band)) STRICT";
-
-/// What made the tables and indexes, letter for letter: files have it.
-#[rattlefmt::skip]
-static SCHEMA: [&str; 15] = [
-    "CREATE TABLE meta (id INTEGER PRIMARY KEY, version INTEGER NOT NULL, receiver TEXT NOT NULL, operator TEXT NOT NULL, base INTEGER NOT NULL, addresses INTEGER NOT NULL) STRICT",
-    "CREATE TABLE sender (name TEXT PRIMARY KEY, role INTEGER NOT NULL) STRICT",
-    "CREATE TABLE reply (seq INTEGER PRIMARY KEY, sender TEXT NOT NULL, number INTEGER NOT NULL, message BLOB NOT NULL, answer BLOB NOT NULL, UNIQUE (sender, number)) STRICT",
-    "CREATE TABLE owner (name TEXT PRIMARY KEY) STRICT",
-    "CREATE TABLE gateway (name TEXT PRIMARY KEY) STRICT",
-    "CREATE TABLE device (eui BLOB PRIMARY KEY, join_eui BLOB NOT NULL, owner TEXT NOT NULL, floor INTEGER) STRICT",
-    "CREATE TABLE session (number INTEGER PRIMARY KEY, device BLOB NOT NULL, nonce INTEGER NOT NULL, next_down INTEGER NOT NULL, UNIQUE (device, nonce)) STRICT",
-    "CREATE TABLE uplink (number INTEGER PRIMARY KEY, session INTEGER NOT NULL, kind INTEGER NOT NULL, counter INTEGER NOT NULL, octets BLOB NOT NULL, start INTEGER NOT NULL, airtime INTEGER NOT NULL, band INTEGER NOT NULL, UNIQUE (session, kind, counter)) STRICT",
-    "CREATE TABLE copy (uplink INTEGER NOT NULL, gateway TEXT NOT NULL, ended INTEGER NOT NULL, freq INTEGER NOT NULL, dr INTEGER NOT NULL, PRIMARY KEY (uplink, gateway)) STRICT",
-    "CREATE TABLE booking (number INTEGER PRIMARY KEY, uplink INTEGER NOT NULL, gateway TEXT NOT NULL, session INTEGER NOT NULL, kind INTEGER NOT NULL, band INTEGER NOT NULL, start INTEGER NOT NULL, airtime INTEGER NOT NULL, state INTEGER NOT NULL) STRICT",
-    "CREATE INDEX device_owner ON device (owner, eui)",
-    "CREATE INDEX uplink_start ON uplink (session, start)",
-    "CREATE INDEX booking_start ON booking (gateway, start)",
-    "CREATE INDEX booking_uplink ON booking (uplink)",
-    LIMIT_TABLE,
-];
 
 /// The rows of all tables but the replies.
 #[rattlefmt::skip]
@@ -119,7 +100,9 @@ fn insert_replies(conn: &mut Connection<MemStore>, deliveries: &[Delivery]) -> R
 /// The tables, and all their rows.
 fn filled(alloc: Global, deliveries: &[Delivery]) -> Result<Connection<MemStore>, Fail> {
     let mut conn = Connection::open_in_memory(alloc)?;
-    for statement in SCHEMA.iter().chain(&ROWS) {
+    make_first_tables(&mut conn)?;
+    conn.execute_batch(LIMIT_TABLE)?;
+    for statement in &ROWS {
         conn.execute_batch(statement)?;
     }
     insert_replies(&mut conn, deliveries)?;
