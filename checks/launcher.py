@@ -83,6 +83,7 @@ if "sleep" in sys.argv:
 sys.exit(7)
 """
 CRATES = ["low", "middle", "desk_cli"]
+SCRIPTS = ["page.py", "follow.py"]
 tried = 0
 
 
@@ -104,6 +105,9 @@ class Repository:
         (folder / "bin/rt").write_text(RT)
         (folder / "bin/rt").chmod(0o755)
         shutil.copy(ROOT / "desk", folder)
+        (folder / "examples").mkdir()
+        for name in SCRIPTS:
+            shutil.copy(ROOT / "examples" / name, folder / "examples")
         (folder / "crates.txt").write_text("low:\nmiddle: low\ndesk_cli: low middle\n")
         for name in CRATES:
             (folder / "crates" / name / "src").mkdir(parents=True)
@@ -200,8 +204,11 @@ def commands():
         to.mkdir()
         for _ in range(2):
             ran = it.run("install", "to")
-            holds((ran.returncode, ran.stdout, ran.stderr) == (0, "", "desk: the program is to/desk\n"), f"install ends with {ran}")
+            holds((ran.returncode, ran.stdout, ran.stderr) == (0, "", "desk: the program is to/desk, with page.py and follow.py beside it\n"), f"install ends with {ran}")
             holds((to / "desk").read_text() == PROGRAM and os.access(to / "desk", os.X_OK), "install copies another program")
+            for name in SCRIPTS:
+                same = (to / name).read_text() == (ROOT / "examples" / name).read_text()
+                holds(same and os.access(to / name, os.X_OK), f"install copies another {name}")
         (to / "desk").unlink()
         (to / "desk").mkdir()
         holds(it.run("install", "to").returncode == 1, "install replaces a folder")
