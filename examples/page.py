@@ -231,6 +231,10 @@ def message_row(number, message, answer):
     )
 
 
+def counted(things, name):
+    return f"{len(things)} {name}{'' if len(things) == 1 else 's'}"
+
+
 def page(desk, now):
     owners = [line["owner"] for line in desk.table("owners")]
     devices = sorted(desk.table("devices"), key=lambda device: device["owner"])
@@ -241,6 +245,7 @@ def page(desk, now):
     cards = "".join(owner_card(owner, owned.get(owner, []), now) for owner in owners)
     bars = "".join(gateway_card(*it) for it in rooms)
     rows = [message_row(*it) for it in messages]
+    counts = ", ".join((counted(devices, "device"), counted(owners, "owner"), counted(gateways, "gateway")))
     return f"""<!DOCTYPE html>
 <html lang="en">
 <head>
@@ -251,7 +256,7 @@ def page(desk, now):
 </head>
 <body>
 <h1>The desk at {escape(str(desk))}</h1>
-<p class="when">as of {day_and_time(now)} UTC: {len(devices)} devices, {len(owners)} owners, {len(gateways)} gateways</p>
+<p class="when">as of {day_and_time(now)} UTC: {counts}</p>
 <h2>Gateways</h2>
 <p class="weak">The use of each sub-band in the hour that ends now, against its limit.</p>
 <div class="cards">{bars or "<p class=weak>none</p>"}</div>
