@@ -13,8 +13,8 @@ transmission of a gateway has a booking of its own that isn't dropped: begin, fr
 booking. The journal's answers are the desk's, no hour of a sub-band is above its limit, and the room that is left after a gateway's
 last downlink is the one that a plain computation finds. `desk audit` finds the file in order, with as many messages as it has replies.
 
-It prints what it saw, and each thing that isn't as it should be; then it fails. The program is `./desk`, which is proved and built
-first if it isn't current, or with --program the built one in FILE.
+It prints what it saw, and each thing that isn't as it should be; then it fails, and states whether the machine is too slow. The
+program is `./desk`, which is proved and built first if it isn't current, or with --program the built one in FILE.
 """
 
 import argparse
@@ -57,6 +57,7 @@ IN_TIME_US = 2_000_000
 CLOCKS_APART_US, LONGEST_LATE_US = 1_000, 15_000_000
 START_SECONDS = 30
 HOUR_US, LONGEST_DOWNLINK_US = 3_600_000_000, 3_000_000
+SHORT_PAUSE_SECONDS, LONG_PAUSE_SECONDS = 0.01, 0.2
 
 
 # ---- the programs, which are killed and started again
@@ -94,6 +95,25 @@ class Killer(threading.Thread):
     def end(self):
         self.ended.set()
         self.join(START_SECONDS)
+
+
+class Pauses(threading.Thread):
+    """How long the longest of many short pauses took. The town is in real time, so a machine on which it's long is too slow for it."""
+
+    def __init__(self):
+        super().__init__(daemon=True)
+        self.longest = 0
+
+    def run(self):
+        while True:
+            begun = time.monotonic()
+            time.sleep(SHORT_PAUSE_SECONDS)
+            self.longest = max(self.longest, time.monotonic() - begun)
+
+    def __str__(self):
+        if self.longest < LONG_PAUSE_SECONDS:
+            return ""
+        return f" (a pause of {SHORT_PAUSE_SECONDS * 1000:.0f} ms took {self.longest * 1000:.0f} ms: this machine is too slow or too busy for a town in real time)"
 
 
 # ---- one run
@@ -477,10 +497,12 @@ def main():
     given = words.parse_args()
     program = ready(given.program)
     subprocess.run([sys.executable, "-m", "unittest", "--quiet"], cwd=EXAMPLE, check=True)
+    pauses = Pauses()
+    pauses.start()
     wrong = [what for seed in given.seeds for what in run_seed(program, seed, given)]
     for what in wrong[:40]:
         print(what, file=sys.stderr)
-    wants(not wrong, f"{len(wrong)} things aren't as they should be")
+    wants(not wrong, f"{len(wrong)} things aren't as they should be{pauses}")
     print(f"{len(given.seeds)} towns: every frame is booked once, every report is there, every transmission has its booking")
 
 
