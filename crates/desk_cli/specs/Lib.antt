@@ -1,5 +1,4 @@
 pub mod Answering
-pub mod AtRest
 pub mod Audit
 pub mod CommandLine
 pub mod ConnectionLog

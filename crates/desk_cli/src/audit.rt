@@ -13,7 +13,7 @@ ghost use Rattle.desk_cli.specs.Audit.{IsFinding};
 ghost use Rattle.desk_cli.specs.RefusedFiles.{IsNotADesk, IsRefused};
 ghost use Rattle.desk_cli.specs.OnTables.{KeepsHeard};
 ghost use Rattle.desk_cli.specs.steps.Audit.{BecameStore, IsDeskIf};
-ghost use Rattle.desk_cli.specs.AtRest.{IsAtRest};
+ghost use Rattle.desk_tables.specs.AtRest.{IsAtRest};
 
 mod comparing;
 mod hearing;

@@ -1,6 +1,7 @@
 //! Opens the file of a desk.
-ghost use Rattle.std.specs.Prelude.{◌≡◌, false, None, IfOk, IfErr};
+ghost use Rattle.std.specs.Prelude.{◌≡◌, IfOk, IfErr};
 ghost use Rattle.sqlite_wal.specs.Files.{image_at};
+ghost use Rattle.desk_tables.specs.AtRest.{IsAtRest};
 ghost use Rattle.desk_cli.specs.Doing.{IsScratchFault};
 ghost use Rattle.desk_cli.specs.InFiles.{Shows};
 ghost use Rattle.desk_cli.specs.World.{AtPaths, known_alike};
@@ -31,8 +32,7 @@ pub trait FileOpener<S: Alter>: Drop + Sized {
     fn open(self, path: &str) -> Result<Connection<S>, Fault>
         ensures opened { IfOk result (λ conn. (paths self).opens path.now conn) }
         ensures unopened { IfErr result (λ fault. (paths self).unopened path.now) }
-        ensures idle { IfOk result (λ conn. conn.in_transaction ≡ false) }
-        ensures unlimited { IfOk result (λ conn. conn.step_limit ≡ None) }
+        ensures at_rest { IfOk result IsAtRest }
         ensures fault { IfErr result (λ fault. fault ≡ Fault.File) };
 
     /// Makes a new file at the path for a scratch database, opens that, and removes its name. So the file is gone when the program ends.
@@ -44,8 +44,7 @@ pub trait FileOpener<S: Alter>: Drop + Sized {
     fn make_scratch(&self, alloc: Global, path: &str) -> Result<Connection<Self::Scratch>, Fault>
         ensures made { IfOk result (λ conn. (paths self.now).free path.now) }
         ensures unmade { IfErr result ((paths self.now).unfree path.now) }
-        ensures idle { IfOk result (λ conn. conn.in_transaction ≡ false) }
-        ensures unlimited { IfOk result (λ conn. conn.step_limit ≡ None) }
+        ensures at_rest { IfOk result IsAtRest }
         ensures fault { IfErr result IsScratchFault };
 
     /// Opens the database of the file, which is made if there is none.
@@ -56,8 +55,7 @@ pub trait FileOpener<S: Alter>: Drop + Sized {
     fn make(self, path: &str) -> Result<Connection<S>, Fault>
         ensures made { IfOk result (λ conn. (paths self).makes path.now conn) }
         ensures unmade { IfErr result (λ fault. (paths self).unmade path.now) }
-        ensures idle { IfOk result (λ conn. conn.in_transaction ≡ false) }
-        ensures unlimited { IfOk result (λ conn. conn.step_limit ≡ None) }
+        ensures at_rest { IfOk result IsAtRest }
         ensures fault { IfErr result (λ fault. fault ≡ Fault.File) };
 }
 
@@ -77,8 +75,7 @@ impl<T: Start> HostFiles<'_, T> {
     ///
     /// Returns `File` if it can't be opened.
     fn opened_new(&self, path: &str) -> Result<Connection<FileStore<File>>, Fault>
-        ensures idle { IfOk result (λ conn. conn.in_transaction ≡ false) }
-        ensures unlimited { IfOk result (λ conn. conn.step_limit ≡ None) }
+        ensures at_rest { IfOk result IsAtRest }
         ensures fault { IfErr result (λ fault. fault ≡ Fault.File) }
     {
         match Connection::open(self.rt, path) {

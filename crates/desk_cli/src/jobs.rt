@@ -7,7 +7,7 @@ ghost use Rattle.registry_core.specs.Settings.{Settings};
 ghost use Rattle.desk_cli.specs.RefusedFiles.{IsNotADesk, RefusesFile};
 ghost use Rattle.desk_cli.specs.OnTables.{KeepsHeard, WasOpened};
 ghost use Rattle.desk_cli.specs.steps.Jobs.{Done, DoesByStore};
-ghost use Rattle.desk_cli.specs.AtRest.{IsAtRest};
+ghost use Rattle.desk_tables.specs.AtRest.{IsAtRest};
 ghost use Rattle.desk_cli.specs.Streams.{KeepsBoth, streams};
 
 use crate::faults::Fault;

@@ -6,7 +6,7 @@ ghost use Rattle.desk_engine.specs.Outcomes.{AreOutcomes};
 ghost use Rattle.desk_engine.specs.Repeats.{RepeatsGetFirstAnswers};
 ghost use Rattle.desk_engine.specs.Runs.{AlwaysGoesByRules, HearsTexts, IfRun, IfRunDelivers};
 ghost use Rattle.desk_engine.specs.Uplinks.{UplinksStayBooked};
-ghost use Rattle.desk_cli.specs.AtRest.{IsAtRest};
+ghost use Rattle.desk_tables.specs.AtRest.{IsAtRest};
 ghost use Rattle.desk_cli.specs.Delivered.{AnswersAll, CommitsAll, HasAll, IfRan, IfRanOver, KeepRulesThroughout, KeepUplinks, LeavesAll, RepeatsAreSame, StoresAll, UnlessDisk, UnlessDiskOver};
 ghost use Rattle.desk_cli.specs.OnTables.{KeepsRules, LeavesRules};
 

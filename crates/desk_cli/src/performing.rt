@@ -8,7 +8,7 @@ ghost use Rattle.desk_cli.specs.commands.Hear.{HearsBy};
 ghost use Rattle.desk_cli.specs.commands.Init.{InitsBy};
 ghost use Rattle.desk_cli.specs.commands.Migrating.{MigratesBy};
 ghost use Rattle.std.specs.Prelude.{option_map};
-ghost use Rattle.desk_cli.specs.AtRest.{IsAtRest};
+ghost use Rattle.desk_tables.specs.AtRest.{IsAtRest};
 ghost use Rattle.desk_cli.specs.Streams.{KeepsBoth, streams};
 ghost use Rattle.desk_cli.specs.World.{IsCleanScratch};
 ghost use Rattle.desk_cli.specs.Runs.{Does};

@@ -9,7 +9,7 @@ ghost use Rattle.desk_engine.specs.Reporting.{store_fault_in};
 ghost use Rattle.desk_cli.specs.Doing.{PrintsOver};
 ghost use Rattle.desk_cli.specs.steps.Jobs.{prints};
 ghost use Rattle.desk_cli.specs.steps.Printing.{IsPrinted, shown, unasked};
-ghost use Rattle.desk_cli.specs.AtRest.{IsAtRest};
+ghost use Rattle.desk_tables.specs.AtRest.{IsAtRest};
 ghost use Rattle.desk_cli.specs.Faults.{EndsGiving};
 
 use crate::endings::Ending;

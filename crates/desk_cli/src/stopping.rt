@@ -1,7 +1,7 @@
 //! The machine crashes, and the files of a desk are opened again.
-ghost use Rattle.std.specs.Prelude.{◌≡◌, false, None, IfOk};
+ghost use Rattle.std.specs.Prelude.{IfOk};
 ghost use Rattle.sqlite.specs.Files.{file_state};
-ghost use Rattle.desk_cli.specs.AtRest.{IsAtRest};
+ghost use Rattle.desk_tables.specs.AtRest.{IsAtRest};
 ghost use Rattle.desk_cli.specs.Delivered.{AnswersAll, FindsHeard, IfRan};
 ghost use Rattle.desk_cli.specs.InFiles.{FindsLeft, ReturnsAll};
 
@@ -85,8 +85,7 @@ pub fn run_through_stop(
 
 /// Returns a connection to files in memory that have nothing.
 fn new_files(alloc: Global) -> Result<Connection<FileStore<Memory>>, StoreFault>
-    ensures idle { IfOk result (λ conn. conn.in_transaction ≡ false) }
-    ensures unlimited { IfOk result (λ conn. conn.step_limit ≡ None) }
+    ensures at_rest { IfOk result IsAtRest }
 {
     let files = Files {
         log: Memory::new(alloc),

@@ -1,5 +1,6 @@
 //! Worked rows: what is delivered to a new desk, and how it is answered. They are checked for each kind of store that tests can make.
-ghost use Rattle.std.specs.Prelude.{◌≡◌, false, None, IfOk};
+ghost use Rattle.std.specs.Prelude.{IfOk};
+ghost use Rattle.desk_tables.specs.AtRest.{IsAtRest};
 
 mod audits;
 mod csv_reports;
@@ -84,8 +85,7 @@ impl Reopened for Tables<MemStore> {
 
 /// Returns the connection, with no limit of steps and in no transaction.
 pub(crate) fn ready<S: Alter + Drop>(conn: Connection<S>) -> Result<Connection<S>, &'static str>
-    ensures idle { IfOk result (λ conn. conn.in_transaction ≡ false) }
-    ensures unlimited { IfOk result (λ conn. conn.step_limit ≡ None) }
+    ensures at_rest { IfOk result IsAtRest }
 {
     let mut conn = conn;
     conn.set_step_limit(None);

@@ -95,10 +95,6 @@ module _ {S : Type 0} (g : Ghosts S) (conn : Held S) where
 
 -- ---- a store that is closed
 
--- no transaction, and no limit on steps
-abbrev pub IsIdle : {S : Type 0} → Held S → Type 0
-IsIdle conn = (conn.in_transaction ≡ false) × (conn.step_limit ≡ None)
-
 module _ {S : Type 0} (g : Ghosts S) (t : Tables S) where
   -- `Then` is true of what it represents, if it is sound and not failed
   abbrev pub ForWhatItHolds : (Kept → Type 0) → Type 0

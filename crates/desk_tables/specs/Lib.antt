@@ -1,4 +1,5 @@
 pub mod Adopting
+pub mod AtRest
 pub mod InOrder
 pub mod Migrating
 pub mod Opening

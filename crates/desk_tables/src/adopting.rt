@@ -1,12 +1,13 @@
 //! Makes, opens and closes a store over a connection.
-ghost use Rattle.std.specs.Prelude.{◌≡◌, ◌≢◌, ◌↔◌, None, false, IfErr, IfOk};
+ghost use Rattle.std.specs.Prelude.{◌≡◌, ◌≢◌, ◌↔◌, false, IfErr, IfOk};
 ghost use Rattle.sqlite.specs.Held.{state};
 ghost use Rattle.sqlite.specs.State.{HasCleanDisk};
 ghost use Rattle.desk_store.specs.declared.faults.StoreFault.TheVariants.{Exists, NotADesk, SchemaVersion};
 ghost use Rattle.desk_rows.specs.Meta.{IsConfig};
 ghost use Rattle.desk_rows.specs.Schema.{desk_schema, no_schema, schema_version};
 ghost use Rattle.desk_rows.specs.order.Changes.{opening_rows};
-ghost use Rattle.desk_tables.specs.Adopting.{ClosesTo, ForDesk, ForWhatItHolds, ForWhereItRests, GivesBack, HasStored, IsIdle, IsNoDesk, IsNot, IsStoreAt, IsStoreOf, IsUnavailable, LeavesItsOwn, OnlyIf, RestsOn, opening_kept};
+ghost use Rattle.desk_tables.specs.Adopting.{ClosesTo, ForDesk, ForWhatItHolds, ForWhereItRests, GivesBack, HasStored, IsNoDesk, IsNot, IsStoreAt, IsStoreOf, IsUnavailable, LeavesItsOwn, OnlyIf, RestsOn, opening_kept};
+ghost use Rattle.desk_tables.specs.AtRest.{IsAtRest};
 ghost use Rattle.desk_tables.specs.Opening.{HasOtherVersion, IfOtherVersion, IsTaken, TreesHold};
 ghost use Rattle.desk_tables.specs.Seen.{nothing};
 ghost use Rattle.desk_tables.specs.Store.{meaning_of};
@@ -39,8 +40,7 @@ impl<S: Alter> Tables<S> {
         conn: Connection<S>,
         config: Config,
     ) -> Result<Tables<S>, (StoreFault, Connection<S>)>
-        requires idle { conn.in_transaction ≡ false }
-        requires unlimited { conn.step_limit ≡ None }
+        requires at_rest { IsAtRest conn }
         ensures made { IfOk result (IsStoreOf S.Store config (opening_kept config)) }
         ensures config { IsConfig config }
         ensures blank { IfOk result (λ t. conn.schema ≡ no_schema) }
@@ -84,8 +84,7 @@ impl<S: Alter> Tables<S> {
         alloc: Global,
         conn: Connection<S>,
     ) -> Result<Tables<S>, (StoreFault, Connection<S>)>
-        requires idle { conn.in_transaction ≡ false }
-        requires unlimited { conn.step_limit ≡ None }
+        requires at_rest { IsAtRest conn }
         ensures desk { IfOk result (IsStoreAt S.Store conn desk_schema schema_version) }
         ensures in_order { ForDesk S.Store conn (λ c kept. IfOk result (IsStoreOf S.Store c kept)) }
         ensures unavailable { ForDesk S.Store conn (λ c kept. IfErr result (IsUnavailable S.Store)) }
@@ -110,8 +109,7 @@ impl<S: Alter> Tables<S> {
         conn: Connection<S>,
         config: Config,
     ) -> Result<Tables<S>, (StoreFault, Connection<S>)>
-        requires idle { conn.in_transaction ≡ false }
-        requires unlimited { conn.step_limit ≡ None }
+        requires at_rest { IsAtRest conn }
         ensures { IsAdopted S.Store conn config result }
     {
         let mut conn = conn;
@@ -150,7 +148,7 @@ impl<S: Alter> Tables<S> {
     pub fn close(self) -> Connection<S>
         ensures sound { HasCleanDisk (state S.Store result) → (meaning_of S.Store).sound self }
         ensures in_order { ForWhatItHolds S.Store self (ClosesTo S.Store self result) }
-        ensures rest { ForWhatItHolds S.Store self (λ kept. IsIdle result) }
+        ensures rest { ForWhatItHolds S.Store self (λ kept. IsAtRest result) }
         ensures stored { ForWhereItRests S.Store self (HasStored S.Store result) }
         ensures left { LeavesItsOwn S.Store self result }
     {

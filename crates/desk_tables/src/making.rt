@@ -13,6 +13,7 @@ ghost use Rattle.desk_rows.specs.Rows.{Holds};
 ghost use Rattle.desk_rows.specs.Schema.{no_schema};
 ghost use Rattle.desk_rows.specs.Written.{sender_added};
 ghost use Rattle.desk_rows.specs.order.Changes.{opening_rows};
+ghost use Rattle.desk_tables.specs.AtRest.{IsAtRest};
 ghost use Rattle.desk_tables.specs.Opening.{IsTaken, KeepsAll, TreesHold, WhenOpen};
 
 use crate::desk_shape::{is_blank, is_taken};
@@ -84,8 +85,7 @@ pub(crate) fn make_desk<S: Alter>(
     conn: &mut Connection<S>,
     config: &Config,
 ) -> Result<(), StoreFault>
-    requires idle { conn.old.in_transaction ≡ false }
-    requires unlimited { conn.old.step_limit ≡ None }
+    requires at_rest { IsAtRest conn.old }
     ensures blank { OnOk result (conn.old.schema ≡ no_schema) }
     ensures exists { (result ≡ Err Exists) ↔ IsTaken conn.old.schema }
     ensures not_a_desk { conn.old.schema ≢ no_schema → ¬ IsTaken conn.old.schema → result ≡ Err NotADesk }

@@ -1,5 +1,5 @@
 //! Moves the tables of schema 1 to schema 2.
-ghost use Rattle.std.specs.Prelude.{◌≡◌, ◌⊎◌, pos, false, None, Err, IfOk, IfErr, OnOk, OnErr};
+ghost use Rattle.std.specs.Prelude.{◌≡◌, ◌⊎◌, pos, false, Err, IfOk, IfErr, OnOk, OnErr};
 ghost use Rattle.registry_core.specs.Settings.{Settings};
 ghost use Rattle.sqlite.specs.Held.{state};
 ghost use Rattle.sqlite.specs.State.{HasCleanDisk, IsUnchanged};
@@ -8,6 +8,7 @@ ghost use Rattle.desk_store.specs.declared.faults.StoreFault.TheVariants.{Exists
 ghost use Rattle.desk_rows.specs.Meta.{TellsMeta};
 ghost use Rattle.desk_rows.specs.Schema.{first_schema, first_version};
 ghost use Rattle.desk_tables.specs.Adopting.{GivesBack, IsOrUnavailable, IsStoreAt, IsStoreOf, IsUnavailable, OnlyIf};
+ghost use Rattle.desk_tables.specs.AtRest.{IsAtRest};
 ghost use Rattle.desk_tables.specs.InOrder.{AreOfDesk};
 ghost use Rattle.desk_tables.specs.Migrating.{ForFirstDesk, HasTakenName, IfNameTaken, IsNoFirstDesk, IsUnmigrated};
 ghost use Rattle.desk_tables.specs.Store.{meaning_of};
@@ -30,8 +31,7 @@ use std::alloc::Global;
 /// Returns the configuration of the desk whose tables of schema 1 the database has. Returns `Exists` if the name of the table that schema 1
 /// lacks is taken.
 fn first_desk<S: Alter>(conn: &mut Connection<S>) -> Result<Config, StoreFault>
-    requires idle { conn.old.in_transaction ≡ false }
-    requires unlimited { conn.old.step_limit ≡ None }
+    requires at_rest { IsAtRest conn.old }
     ensures desk { IfClean S.Store conn.new (IfOk result (HasDesk S.Store conn.old first_schema first_version)) }
     ensures in_order { HasCleanDisk (state S.Store conn.new) → conn.old.schema ≡ first_schema → (c : Settings)
         → TellsMeta (state S.Store conn.old).now.trees (pos first_version) c → IfErr result IsUnavailability }
@@ -95,8 +95,7 @@ impl<S: Alter> Tables<S> {
         alloc: Global,
         conn: Connection<S>,
     ) -> Result<Tables<S>, (StoreFault, Connection<S>)>
-        requires idle { conn.in_transaction ≡ false }
-        requires unlimited { conn.step_limit ≡ None }
+        requires at_rest { IsAtRest conn }
         ensures desk { IfOk result (IsStoreAt S.Store conn first_schema first_version) }
         ensures in_order { ForFirstDesk S.Store conn (λ c kept. IfOk result (IsStoreOf S.Store c kept)) }
         ensures unavailable { ForFirstDesk S.Store conn (λ c kept. IfErr result (IsUnavailable S.Store)) }

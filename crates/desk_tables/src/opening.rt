@@ -1,5 +1,5 @@
 //! Checks that the tables of a database are a desk's.
-ghost use Rattle.std.specs.Prelude.{◌≡◌, ◌≢◌, ℤ, false, None, Err, IfOk, IfErr, OnOk, OnErr};
+ghost use Rattle.std.specs.Prelude.{◌≡◌, ◌≢◌, ℤ, false, Err, IfOk, IfErr, OnOk, OnErr};
 ghost use Rattle.registry_core.specs.Settings.{Settings};
 ghost use Rattle.sqlite.specs.Held.{state};
 ghost use Rattle.sqlite.specs.State.{HasCleanDisk, IsUnchanged};
@@ -8,6 +8,7 @@ ghost use Rattle.desk_store.specs.declared.faults.StoreFault.TheVariants.{Exists
 ghost use Rattle.desk_rows.specs.Meta.{HasMeta, IsConfig, TellsMeta};
 ghost use Rattle.desk_rows.specs.Schema.{desk_schema, schema_version};
 ghost use Rattle.desk_rows.specs.Calls.{CommitsNothing, WhenClean};
+ghost use Rattle.desk_tables.specs.AtRest.{IsAtRest};
 ghost use Rattle.desk_tables.specs.Opening.{HasDesk, HasNoDesk, HasOtherVersion, IfClean, IfOtherVersion, KeepsAll, WhenOpen, WithRows};
 
 use crate::desk_shape::{has_meta, is_desk};
@@ -23,8 +24,7 @@ pub(crate) fn config_at<S: Alter>(
     conn: &mut Connection<S>,
     version: i64,
 ) -> Result<Config, StoreFault>
-    requires idle { conn.old.in_transaction ≡ false }
-    requires unlimited { conn.old.step_limit ≡ None }
+    requires at_rest { IsAtRest conn.old }
     ensures told { HasCleanDisk (state S.Store conn.new) → IfOk result (λ c. HasMeta conn.old.schema × TellsMeta (state S.Store conn.old).now.trees version c) }
     ensures in_order { HasCleanDisk (state S.Store conn.new) → HasMeta conn.old.schema → (c : Settings) → TellsMeta (state S.Store conn.old).now.trees version c
         → IfErr result IsUnavailability }
@@ -57,8 +57,7 @@ pub(crate) fn config_at<S: Alter>(
 /// Returns the configuration of the desk that the database has. Returns `NotADesk` if the schema or the row of meta isn't a desk's, and
 /// `SchemaVersion` if that row has another version, whatever other tables there are.
 pub fn open_desk<S: Alter>(conn: &mut Connection<S>) -> Result<Config, StoreFault>
-    requires idle { conn.old.in_transaction ≡ false }
-    requires unlimited { conn.old.step_limit ≡ None }
+    requires at_rest { IsAtRest conn.old }
     ensures desk { IfClean S.Store conn.new (IfOk result (HasDesk S.Store conn.old desk_schema schema_version)) }
     ensures in_order { WithRows S.Store conn.old conn.new (λ r. IfOk result (λ c. c ≡ r.settings)) }
     ensures unavailable { WithRows S.Store conn.old conn.new (λ r. IsConfig r.settings → IfErr result IsUnavailability) }

@@ -1,5 +1,6 @@
 //! The scratch database in memory.
-ghost use Rattle.std.specs.Prelude.{◌≡◌, false, None, refl, IfOk};
+ghost use Rattle.std.specs.Prelude.{◌≡◌, refl, IfOk};
+ghost use Rattle.desk_tables.specs.AtRest.{IsAtRest};
 
 use sqlite::{Connection, Error, FileStore, Files, Options};
 use sqlite_disk::{Disk, Memory, Tally};
@@ -78,8 +79,7 @@ impl<D: Disk> Disk for Unsynced<D> {
 pub(crate) fn scratch_in_memory(
     alloc: Global,
 ) -> Result<Connection<FileStore<Unsynced<Memory>>>, Error>
-    ensures idle { IfOk result (λ conn. conn.in_transaction ≡ false) }
-    ensures unlimited { IfOk result (λ conn. conn.step_limit ≡ None) }
+    ensures at_rest { IfOk result IsAtRest }
 {
     let files = Files {
         log: Unsynced {

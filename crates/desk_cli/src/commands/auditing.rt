@@ -8,7 +8,7 @@ ghost use Rattle.desk_cli.specs.Named.{TellsNamed};
 ghost use Rattle.desk_cli.specs.commands.Auditing.{audit_app, audit_named, audit_text, AuditsOver};
 ghost use Rattle.desk_cli.specs.steps.Auditing.{PrintsFinding, finding_of, store_of};
 ghost use Rattle.desk_cli.specs.steps.CommandLine.{IsCommand};
-ghost use Rattle.desk_cli.specs.AtRest.{IsAtRest};
+ghost use Rattle.desk_tables.specs.AtRest.{IsAtRest};
 ghost use Rattle.desk_cli.specs.World.{IsCleanScratch};
 
 use super::Command;

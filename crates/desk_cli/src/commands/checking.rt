@@ -11,7 +11,7 @@ ghost use Rattle.desk_cli.specs.Named.{TellsNamed};
 ghost use Rattle.desk_cli.specs.steps.CommandLine.{IsCommand};
 ghost use Rattle.desk_cli.specs.commands.Checking.{IsCheck, check_app, check_named, check_text, named_lines, numbered_lines, settings_lines};
 ghost use Rattle.desk_cli.specs.steps.Checking.{IsCheckOf, TellsTotals};
-ghost use Rattle.desk_cli.specs.AtRest.{IsAtRest};
+ghost use Rattle.desk_tables.specs.AtRest.{IsAtRest};
 ghost use Rattle.desk_cli.specs.Faults.{EndsGiving};
 
 use super::Command;

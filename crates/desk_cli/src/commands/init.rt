@@ -5,7 +5,7 @@ ghost use Rattle.desk_cli.specs.commands.Init.{init_app, init_named, InitsBy};
 ghost use Rattle.desk_cli.specs.Faults.{Ends};
 ghost use Rattle.desk_cli.specs.Named.{TellsNamed};
 ghost use Rattle.desk_cli.specs.steps.CommandLine.{IsCommand};
-ghost use Rattle.desk_cli.specs.AtRest.{IsAtRest};
+ghost use Rattle.desk_tables.specs.AtRest.{IsAtRest};
 
 use super::Command;
 use crate::endings::Ending;

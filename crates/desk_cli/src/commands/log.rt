@@ -14,7 +14,7 @@ ghost use Rattle.desk_cli.specs.OnTables.{KeepsHeard};
 ghost use Rattle.desk_cli.specs.commands.Log.{log_app, log_named, which_text, LogsOver, LogsDesk};
 ghost use Rattle.desk_cli.specs.steps.CommandLine.{IsCommand};
 ghost use Rattle.desk_cli.specs.steps.Jobs.{logs};
-ghost use Rattle.desk_cli.specs.AtRest.{IsAtRest};
+ghost use Rattle.desk_tables.specs.AtRest.{IsAtRest};
 ghost use Rattle.desk_cli.specs.Faults.{EndsGiving};
 
 use super::Command;

@@ -5,7 +5,7 @@ ghost use Rattle.desk_cli.specs.commands.Migrating.{migrate_app, migrate_named, 
 ghost use Rattle.desk_cli.specs.Faults.{Ends};
 ghost use Rattle.desk_cli.specs.Named.{TellsNamed};
 ghost use Rattle.desk_cli.specs.steps.CommandLine.{IsCommand};
-ghost use Rattle.desk_cli.specs.AtRest.{IsAtRest};
+ghost use Rattle.desk_tables.specs.AtRest.{IsAtRest};
 
 use super::Command;
 use crate::endings::Ending;

@@ -16,7 +16,7 @@ ghost use Rattle.desk_cli.specs.RefusedFiles.{IsNotADesk, RefusesFile};
 ghost use Rattle.desk_cli.specs.OnTables.{KeepsHeard};
 ghost use Rattle.desk_cli.specs.Ports.{at_ports};
 ghost use Rattle.desk_cli.specs.commands.Serving.{listening_line, serve_app, serve_named, ServesOver, ServesDesk};
-ghost use Rattle.desk_cli.specs.AtRest.{IsAtRest};
+ghost use Rattle.desk_tables.specs.AtRest.{IsAtRest};
 ghost use Rattle.desk_cli.specs.Faults.{EndsGiving};
 
 use super::Command;

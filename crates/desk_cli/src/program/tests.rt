@@ -1,6 +1,7 @@
 //! Whole runs of the program, with arguments, a file and a network of the tests.
-ghost use Rattle.std.specs.Prelude.{◌≡◌, ◌≢◌, false, None, IfOk};
+ghost use Rattle.std.specs.Prelude.{◌≡◌, ◌≢◌, IfOk};
 ghost use Rattle.desk_http.specs.Served.{unknown};
+ghost use Rattle.desk_tables.specs.AtRest.{IsAtRest};
 ghost use Rattle.desk_cli.specs.World.{known_alike};
 
 mod audits;
@@ -63,8 +64,7 @@ struct OneFile<S: Alter> {
 
 impl<S: Alter + Drop> OneFile<S> {
     fn opened(self) -> Result<Connection<S>, &'static str>
-        ensures idle { IfOk result (λ conn. conn.in_transaction ≡ false) }
-        ensures unlimited { IfOk result (λ conn. conn.step_limit ≡ None) }
+        ensures at_rest { IfOk result IsAtRest }
     {
         let Some(conn) = self.conn else {
             return Err("no file");

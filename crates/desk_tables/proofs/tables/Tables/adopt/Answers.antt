@@ -9,7 +9,7 @@ returns-in-Ok g c = rw c.over.ensures (record {
   clean = c.counted.ensures.second.read.clean;
   holds = λ clean ready kept is.
       let same = c.in-Ok.ensures.second.read.leaves ready.schema ready.is_open clean in
-      let settled = settled_read _ _ c.in-Ok.ensures.second.read c.requires.idle c.requires.unlimited clean ready in
+      let settled = settled_read _ _ c.in-Ok.ensures.second.read c.requires.at_rest.0 c.requires.at_rest.1 clean ready in
       record {
         configuration = refl;
         up = refl;
@@ -19,7 +19,7 @@ returns-in-Ok g c = rw c.over.ensures (record {
         rests = (_, λ up. record { settled = settled; stored = same.0.now_is; schema = ready.schema });
       };
   rests = λ clean ready up. record {
-    settled = settled_read _ _ c.in-Ok.ensures.second.read c.requires.idle c.requires.unlimited clean ready;
+    settled = settled_read _ _ c.in-Ok.ensures.second.read c.requires.at_rest.0 c.requires.at_rest.1 clean ready;
     stored = (c.in-Ok.ensures.second.read.leaves ready.schema ready.is_open clean).0.now_is;
     schema = ready.schema;
   };

@@ -12,7 +12,7 @@ returns-in-Ok-clause-made g c clean = let settled : IsSettled (state g.S.Store c
   open_still = c.in-Ok.ensures.open clean;
   autocommit = c.make_desk.ensures.idle;
   committed = c.make_desk.ensures.settled clean (c.in-Ok.ensures.open clean);
-  unlimited = c.make_desk.ensures.crash.limit ∙ c.requires.unlimited;
+  unlimited = c.make_desk.ensures.crash.limit ∙ c.requires.at_rest.1;
 } in record {
   configuration = refl;
   up = refl;

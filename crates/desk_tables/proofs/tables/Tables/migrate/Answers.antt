@@ -136,7 +136,7 @@ returns-in-Ok-move_tables-clause-in_order g c settings kept is = rw c.over.ensur
       open_still = ready.is_open;
       autocommit = c.move_tables.ensures.mode;
       committed = ready.committed;
-      unlimited = c.move_tables.ensures.limit ∙ at.limit ∙ c.requires.unlimited;
+      unlimited = c.move_tables.ensures.limit ∙ at.limit ∙ c.requires.at_rest.1;
     } in
     record {
       configuration = told;

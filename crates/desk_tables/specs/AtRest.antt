@@ -1,4 +1,4 @@
--- A connection that a command is given.
+-- A connection between two calls.
 use Rattle.std.specs.Prelude.{◌≡◌, false, None}
 use Rattle.sqlite.specs.Held.{Held}
 
