@@ -2,7 +2,7 @@
 ghost use Rattle.std.specs.Prelude.{IfOk};
 ghost use Rattle.sqlite.specs.Files.{file_state};
 ghost use Rattle.desk_tables.specs.AtRest.{IsAtRest};
-ghost use Rattle.desk_cli.specs.Delivered.{AnswersAll, FindsHeard, IfRan};
+ghost use Rattle.desk_cli.specs.Delivered.{AnswersAll, FindsHeard, IfRan, KeepRulesThroughout, KeepUplinks, RepeatsAreSame};
 ghost use Rattle.desk_cli.specs.InFiles.{FindsLeft, ReturnsAll};
 
 use crate::on_tables::run_on_tables;
@@ -48,6 +48,9 @@ fn run_and_stop<D: Crash + Drop>(
 ) -> Result<(Vec<Outcome>, Connection<FileStore<D>>), StoreFault>
     requires at_rest { IsAtRest conn }
     ensures outcomes { ReturnsAll D.Disk → IfRan result (λ conn. AnswersAll config texts.now) }
+    ensures repeats { ReturnsAll D.Disk → IfRan result (λ conn. RepeatsAreSame config texts.now) }
+    ensures rules_before { ReturnsAll D.Disk → IfRan result (λ conn. KeepRulesThroughout config texts.now) }
+    ensures uplinks { ReturnsAll D.Disk → IfRan result (λ conn. KeepUplinks config texts.now) }
     ensures found { ReturnsAll D.Disk → IfRan result (λ conn ran. FindsHeard config texts.now ran (file_state conn).now) }
 {
     let (outcomes, conn) = run_on_tables(alloc, conn, config, texts);
@@ -73,6 +76,9 @@ pub fn run_through_stop(
     texts: &[&[u8]],
 ) -> Result<(Vec<Outcome>, Connection<FileStore<Memory>>), StoreFault>
     ensures outcomes { IfRan result (λ conn. AnswersAll config texts.now) }
+    ensures repeats { IfRan result (λ conn. RepeatsAreSame config texts.now) }
+    ensures rules_before { IfRan result (λ conn. KeepRulesThroughout config texts.now) }
+    ensures uplinks { IfRan result (λ conn. KeepUplinks config texts.now) }
 
     // What is found represents the log, or after a disk error possibly the log with the in-flight message.
     ensures found { IfRan result (λ conn ran. FindsHeard config texts.now ran (file_state conn).now) }

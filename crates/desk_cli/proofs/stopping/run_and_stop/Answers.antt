@@ -6,6 +6,18 @@ pub returns-in-Ok-opened_after_stop-clause-outcomes : goal.returns-in-Ok-opened_
 returns-in-Ok-opened_after_stop-clause-outcomes g c = λ always.
     rw c.in-Ok.is at (c.run_on_tables-outcomes.ensures.outcomes (is_clean always c.run_on_tables-outcomes.result.1.store))
 
+pub returns-in-Ok-opened_after_stop-clause-repeats : goal.returns-in-Ok-opened_after_stop-clause-repeats
+returns-in-Ok-opened_after_stop-clause-repeats g c = λ always.
+    rw c.in-Ok.is at (c.run_on_tables-outcomes.ensures.repeats (is_clean always c.run_on_tables-outcomes.result.1.store))
+
+pub returns-in-Ok-opened_after_stop-clause-rules_before : goal.returns-in-Ok-opened_after_stop-clause-rules_before
+returns-in-Ok-opened_after_stop-clause-rules_before g c = λ always.
+    rw c.in-Ok.is at (c.run_on_tables-outcomes.ensures.rules_before (is_clean always c.run_on_tables-outcomes.result.1.store))
+
+pub returns-in-Ok-opened_after_stop-clause-uplinks : goal.returns-in-Ok-opened_after_stop-clause-uplinks
+returns-in-Ok-opened_after_stop-clause-uplinks g c = λ always.
+    rw c.in-Ok.is at (c.run_on_tables-outcomes.ensures.uplinks (is_clean always c.run_on_tables-outcomes.result.1.store))
+
 pub returns-in-Ok-opened_after_stop-clause-found : goal.returns-in-Ok-opened_after_stop-clause-found
 returns-in-Ok-opened_after_stop-clause-found g c = λ always.
     let crash = rw c.in-Ok.is at (c.run_on_tables-outcomes.ensures.crash (is_clean always c.run_on_tables-outcomes.result.1.store)) in
