@@ -31,8 +31,8 @@ use Rattle.desk_cli.specs.commands.Version.{PrintsVersion}
 use Rattle.desk_cli.specs.declared.faults.Fault.{Fault}
 use Rattle.desk_cli.specs.declared.faults.Fault.TheVariants.{Exists, Unavailable, File}
 
--- A command on a file. Either the file gave a connection, and the command did this with it and returned it. Or the file can't be opened or
--- made, the error is `File`, no connection is returned, and the streams are untouched.
+-- A command on a file. Either the file gave a connection, and the command did this with it and returned it; which connection, only `Gives`
+-- states. Or the file can't be opened or made, the error is `File`, no connection is returned, and the streams are untouched.
 abbrev pub OnFile : {S T : Type 0} → (Text → Held S → Type 0) → (Text → Type 0) → Option (Held S) → Result T Fault → Text → Type 0 → (Held S → Held S → Type 0) → Type 0
 OnFile {S} Gives GivesNone given_back result file Untouched Does =
     ((conn back : Held S) × Gives file conn × (given_back ≡ Some back) × Does conn back)
